@@ -1,0 +1,79 @@
+//! Chances.
+
+ghost use Rattle.std.specs.Prelude.{◌≡◌, ◌↔◌, ◌≤◌, ℕ, IsSome, IfSome};
+ghost use Rattle.trlab_words.specs.Chances.{happens_on};
+ghost use Rattle.trlab_words.specs.declared.chance.TheConstants.{CERTAIN};
+
+use std::marker::Model;
+
+/// The chance that always happens, in parts of 2^31.
+pub const CERTAIN: u32 = 2147483648;
+
+/// A chance, in parts of 2^31: from 0, which never happens, to `CERTAIN`.
+#[derive(Clone, Copy, Debug, PartialEq, Eq)]
+pub struct Chance {
+    parts: u32,
+}
+
+impl Model for Chance {
+    ghost Value = { ℕ };
+
+    ghost view = { λ chance. chance.parts };
+
+    ghost invariant = { λ chance. chance.parts ≤ CERTAIN };
+
+    ghost inverse = { λ parts. record { parts = parts } };
+}
+
+impl Chance {
+    /// The chance of so many parts of 2^31, where they are no more than the whole.
+    pub fn new(parts: u32) -> Option<Chance>
+        ensures in_range { IsSome result ↔ (parts ≤ CERTAIN) }
+        ensures value { IfSome result (λ chance. chance ≡ parts) }
+    {
+        if parts <= CERTAIN {
+            Some(Chance { parts })
+        } else {
+            None
+        }
+    }
+
+    /// The parts of 2^31.
+    pub fn get(self) -> u32
+        ensures value { result ≡ self }
+        ensures in_range { result ≤ CERTAIN }
+    {
+        self.parts
+    }
+}
+
+/// Whether a chance happens on a random word: where half of the word is below the chance's parts.
+pub fn happens(word: u32, chance: Chance) -> bool
+    ensures { result ≡ happens_on chance word }
+{
+    word / 2 < chance.parts
+}
+
+#[cfg(test)]
+mod tests {
+    use super::{CERTAIN, Chance, happens};
+
+    #[test]
+    fn chances_are_cut_at_half_of_the_word(rt: HostRuntime) {
+        // The first word of the zero key, and the least chance that happens on it.
+        let word = 2917185654;
+        for (parts, wanted) in [(1458592827, false), (1458592828, true)] {
+            let happened = Chance::new(parts).map(|chance| happens(word, chance));
+            assert_eq!(rt; happened, Some(wanted), "at {parts}");
+        }
+    }
+
+    #[test]
+    fn chances_are_at_most_certain(rt: HostRuntime) {
+        assert_eq!(rt;
+            Chance::new(CERTAIN).map(|chance| chance.get()),
+            Some(2147483648)
+        );
+        assert_eq!(rt; Chance::new(2147483649), None);
+    }
+}
