@@ -1,0 +1,10 @@
+pub mod Ring
+pub mod StandingOrder
+pub mod MotionLaws
+pub mod MotionByCar
+pub mod MotionExists
+pub mod MotionInOrder
+pub mod CrossingLaws
+pub mod PictureLaws
+pub mod RoadKeeps
+pub mod Numbers

@@ -1,0 +1,155 @@
+-- Each number below the count of cars is present, and a car has one place in the standing order.
+use Rattle.std.proofs.Common.{◌≡◌, ◌≢◌, ℕ, zero, suc, ◌+◌, ◌-◌, ◌<◌, ◌≤◌, Some, None, List, [], ◌∷◌, length, get_or, take, replicate, map, refl, sym, ◌∙◌, ap, subst, inl, inr, ◌⊎◌, arith, length-append}
+use Rattle.std.specs.Prelude.{sum_by}
+use Rattle.std.proofs.lemmas.Bool.{cases_lt, cases_eq, cases_order}
+use Rattle.std.proofs.lemmas.List.{length-map, get_or-replicate, get_or_append_left, get_or-append_right}
+use Rattle.std.proofs.lemmas.List.Sums.{sum_by-cons}
+use Rattle.trlab_road.specs.declared.car.Car.{Car}
+use Rattle.trlab_road.specs.Cells.{Stands, Cell, Lane, Cells, cell, cars, lane_cars}
+use Rattle.trlab_road.specs.Legal.{Legal}
+use Rattle.trlab_road.specs.Standing.{standing_from, standing_lanes, standing, rank}
+use Rattle.trlab_road.proofs.Ring.{inside}
+use Rattle.trlab_road.proofs.MotionLaws.{fewer_cars}
+use Rattle.trlab_road.proofs.StandingOrder.{standing_on, standing_on_lanes, standing_cell, length-standing_from, length-standing_lanes}
+use Rattle.trlab_road.proofs.StandingOrder.{rank_is, lane_cars-some}
+
+-- the cell that holds a car
+abbrev pub car_cell : Car → Cell
+car_cell car = Some (car.number, car.speed)
+
+-- cells of cars are all taken
+pub all_taken : (xs : List Car) → lane_cars (map car_cell xs) ≡ length xs
+all_taken [] = refl
+all_taken (x ∷ xs) = lane_cars-some (x.number, x.speed) (map car_cell xs) ∙ ap suc (all_taken xs)
+
+-- a lane with a car in each cell
+pub full : (n : ℕ) → lane_cars (replicate n (Some (0, 0))) ≡ n
+full zero = refl
+full (suc n) = lane_cars-some (0, 0) (replicate n (Some (0, 0))) ∙ ap suc (full n)
+
+abbrev no_one : Car
+no_one = record { number = 0; lane = 0; place = 0; speed = 0 }
+
+-- how many cars stand before a car of a list of lanes
+abbrev before : ℕ → List Lane → Car → ℕ
+before base lanes car = sum_by lane_cars (take (car.lane - base) lanes) + lane_cars (take car.place (get_or lanes (car.lane - base) []))
+
+first_before : (base : ℕ) (lane : Lane) (lanes : List Lane) (car : Car) (k : ℕ) → car.lane - base ≡ 0
+    → lane_cars (take car.place lane) ≡ k → before base (lane ∷ lanes) car ≡ k
+first_before base lane lanes car k e h = rw e (let z : 0 + lane_cars (take car.place lane) ≡ k = omega arith in z)
+
+next_before : (base : ℕ) (lane : Lane) (lanes : List Lane) (car : Car) (k n : ℕ)
+    → car.lane - base ≡ suc (car.lane - suc base) → n ≡ lane_cars lane → n ≤ k
+    → before (suc base) lanes car ≡ k - n → before base (lane ∷ lanes) car ≡ k
+next_before base lane lanes car k n e size past rest =
+    let f = sum_by-cons lane_cars lane (take (car.lane - suc base) lanes) in
+    rw e (omega (arith, f, size, rest))
+
+kth_before : (base : ℕ) (lanes : List Lane) (k : ℕ) → k < length (standing_lanes base lanes)
+    → before base lanes (get_or (standing_lanes base lanes) k no_one) ≡ k
+kth_before base [] k h = absurd (omega arith)
+kth_before base (lane ∷ lanes) k h =
+    let n = length (standing_from base 0 lane) in
+    elim (cases_lt k n) [
+      | inl below ↦
+          let car = get_or (standing_from base 0 lane) k no_one in
+          let on = standing_on base 0 lane k no_one below in
+          let zeroth : car.lane - base ≡ 0 = let e = on.of_lane in omega arith in
+          let r = rank_is base 0 lane k no_one below in
+          let e : car.place - 0 ≡ car.place = omega arith in
+          rw (get_or_append_left (standing_from base 0 lane) (standing_lanes (suc base) lanes) no_one k below)
+          (first_before base lane lanes car k zeroth (rw e at r))
+      | inr past ↦
+          let total = length-append (standing_from base 0 lane) (standing_lanes (suc base) lanes) in
+          let car = get_or (standing_lanes (suc base) lanes) (k - n) no_one in
+          let on = standing_on_lanes (suc base) lanes (k - n) no_one (omega arith) in
+          let low = on.from in
+          let rest = kth_before (suc base) lanes (k - n) (omega arith) in
+          let later : car.lane - base ≡ suc (car.lane - suc base) = omega arith in
+          let size = length-standing_from base 0 lane in
+          rw (get_or-append_right (standing_from base 0 lane) (standing_lanes (suc base) lanes) n k no_one refl past)
+          (next_before base lane lanes car k n later size past rest)
+    ]
+
+-- a car has one place in the standing order
+pub rank_of_kth : (road : Cells) (k : ℕ) → k < cars road → let car = get_or (standing road) k no_one in rank road car.lane car.place ≡ k
+rank_of_kth road k h =
+    let e : (get_or (standing road) k no_one).lane - 0 ≡ (get_or (standing road) k no_one).lane = omega arith in
+    rw e at (kth_before 0 road.lanes k (rw length-standing_lanes h))
+
+module _ (road : Cells) (legal : Legal road) where
+  -- the number of the k-th car
+  abbrev number_at : ℕ → ℕ
+  number_at k = (get_or (standing road) k no_one).number
+
+  -- two cars of one number are one
+  number_once : (k m : ℕ) → k < cars road → m < cars road → number_at k ≡ number_at m → k ≡ m
+  number_once k m low high same =
+      let a = get_or (standing road) k no_one in
+      let b = get_or (standing road) m no_one in
+      let here = standing_cell road k no_one low in
+      let there = standing_cell road m no_one high in
+      let c = legal.once a.lane a.place b.lane b.place a.number a.speed b.speed here (subst (λ (i : ℕ). cell road b.lane b.place ≡ Some (i, b.speed)) (sym same) there) in
+      sym (rank_of_kth road k low) ∙ ap (λ i. rank road i a.place) c.0 ∙ ap (rank road b.lane) c.1 ∙ rank_of_kth road m high
+
+  car_at : (k : ℕ) → k < length (map car_cell (standing road)) → k < cars road
+  car_at k h = let a = length-map (standing road) car_cell in let b = length-standing_lanes 0 road.lanes in omega arith
+
+  in_order : lane_cars (map car_cell (standing road)) ≡ cars road
+  in_order = all_taken (standing road) ∙ length-standing_lanes 0 road.lanes
+
+  -- without number i, the numbers move together
+  abbrev Squeezed : ℕ → ℕ → ℕ → Type 0
+  Squeezed i a y = ((a < i) × (y ≡ a)) ⊎ ((i < a) × (suc y ≡ a))
+
+  squeezed_once : (i a b y : ℕ) → Squeezed i a y → Squeezed i b y → a ≡ b
+  squeezed_once i a b y (inl p) (inl q) = let e = p.1 in let f = q.1 in omega arith
+  squeezed_once i a b y (inl p) (inr q) = let e = p.1 in let f = q.1 in let g = p.0 in let h = q.0 in omega arith
+  squeezed_once i a b y (inr p) (inl q) = let e = p.1 in let f = q.1 in let g = p.0 in let h = q.0 in omega arith
+  squeezed_once i a b y (inr p) (inr q) = let e = p.1 in let f = q.1 in omega arith
+
+  squeeze : (i a n : ℕ) → a < n → i < n → a ≢ i → (y : ℕ) × ((suc y < n) × Squeezed i a y)
+  squeeze i a n low on other =
+      elim (cases_order a i) [
+        | inl e ↦ absurd (other e)
+        | inr different ↦ elim different [
+          | inl less ↦ (a, (omega arith, inl (less, refl)))
+          | inr more ↦ (a - 1, ((let k : suc (a - 1) < n = omega arith in k), inr (more, (let k : suc (a - 1) ≡ a = omega arith in k))))
+        ]
+      ]
+
+  missing : (i : ℕ) → i < cars road → ((k : ℕ) → k < cars road → number_at k ≢ i) → ⊥
+  missing i on none =
+      let n = cars road in
+      let most = fewer_cars (map car_cell (standing road)) (replicate (n - 1) (Some (0, 0))) (λ x y. (x < n) × Squeezed i (number_at x) y)
+      (λ x a h.
+      let low = car_at x (inside (map car_cell (standing road)) x a h) in
+      let below = let c = standing_cell road x no_one low in legal.numbered (get_or (standing road) x no_one).lane (get_or (standing road) x no_one).place (number_at x) (get_or (standing road) x no_one).speed c in
+      let s = squeeze i (number_at x) n below on (none x low) in
+      (s.0, ((0, 0), get_or-replicate (n - 1) s.0 (Some (0, 0)) None (let k = s.1.0 in omega arith), (low, s.1.1))))
+      (λ x z y h g. number_once x z h.0 g.0 (squeezed_once i (number_at x) (number_at z) y h.1 g.1)) in
+      let a = in_order in
+      let b = full (n - 1) in
+      omega (arith, most, a, b, on)
+
+  find : (i n : ℕ) → ((k : ℕ) × ((k < n) × (number_at k ≡ i))) ⊎ ((k : ℕ) → k < n → number_at k ≢ i)
+  find i zero = inr (λ k h. absurd (omega arith))
+  find i (suc n) =
+      elim (find i n) [
+        | inl found ↦ inl (found.0, ((let k = found.1.0 in omega arith), found.1.1))
+        | inr none ↦ elim (cases_eq (number_at n) i) [
+          | inl here ↦ inl (n, (omega arith, here))
+          | inr other ↦ inr (λ k h. elim (cases_eq k n) [ inl e ↦ subst (λ j. number_at j ≢ i) (sym e) other | inr less ↦ none k (omega arith) ])
+        ]
+      ]
+
+  -- each number below the count of cars is present
+  pub all_present : (i : ℕ) → i < cars road → Stands road i
+  all_present i on =
+      elim (find i (cars road)) [
+        | inl found ↦
+            let car = get_or (standing road) found.0 no_one in
+            let c = standing_cell road found.0 no_one found.1.0 in
+            (car.lane, (car.place, (car.speed, subst (λ j. cell road car.lane car.place ≡ Some (j, car.speed)) found.1.1 c)))
+        | inr none ↦ absurd (missing i on none)
+      ]

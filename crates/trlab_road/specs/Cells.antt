@@ -1,0 +1,50 @@
+-- Roads as contracts see them: a speed limit and lanes of cells on a ring.
+use Rattle.std.specs.Prelude.{◌≡◌, ℕ, is_some, Option, Some, None, List, [], slice_index_or, count_by, sum_by, map, Vec}
+use Rattle.std.specs.Global.{Global}
+
+-- a cell is empty, or holds a car: its number and its speed
+abbrev pub Cell : Type 0
+Cell = Option (ℕ × ℕ)
+
+-- a lane is the list of its cells; the cell after the last is the first
+abbrev pub Lane : Type 0
+Lane = List Cell
+
+-- a road: its speed limit and its lanes
+pub record Cells : Type 0 where
+  pub limit : ℕ
+  pub lanes : List Lane
+
+-- what a lane has at a place
+abbrev pub at : Lane → ℕ → Cell
+at lane x = slice_index_or lane x None
+
+-- a lane of the road
+abbrev pub lane_of : Cells → ℕ → Lane
+lane_of road l = slice_index_or road.lanes l []
+
+-- what the road has at a lane and a place
+abbrev pub cell : Cells → ℕ → ℕ → Cell
+cell road l x = at (lane_of road l) x
+
+-- how many cars a lane has
+abbrev pub lane_cars : Lane → ℕ
+lane_cars lane = count_by is_some lane
+
+-- how many cars the road has
+abbrev pub cars : Cells → ℕ
+cars road = sum_by lane_cars road.lanes
+
+-- a car of this number stands somewhere on the road
+abbrev pub Stands : Cells → ℕ → Type 0
+Stands road number =
+    (l : ℕ) × ((x : ℕ) × ((speed : ℕ) × (cell road l x ≡ Some (number, speed))))
+
+-- two functions of lane and place give the same answer for each car of the road
+abbrev pub SameAtCars : {X : Type 0} → (ℕ → ℕ → X) → (ℕ → ℕ → X) → Cells → Type 0
+SameAtCars answer other road =
+    (l x number speed : ℕ) → cell road l x ≡ Some (number, speed) → answer l x ≡ other l x
+
+-- the lanes that vectors of cells are
+abbrev pub lanes_of : List (Vec Cell Global) → List Lane
+lanes_of lanes = map (λ (v : Vec Cell Global). v.items) lanes

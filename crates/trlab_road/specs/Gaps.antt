@@ -1,0 +1,41 @@
+-- Gaps: runs of empty cells along a lane, which is a ring.
+use Rattle.std.specs.Prelude.{ℕ, zero, suc, ◌+◌, ◌-◌, ◌%◌, Bool, true, cond, ◌&&◌, is_none, length}
+use Rattle.trlab_road.specs.Cells.{Lane, at}
+
+-- the place j cells ahead of x on a ring of n cells
+abbrev pub ahead : ℕ → ℕ → ℕ → ℕ
+ahead n x j = (x + j) % n
+
+-- the place j cells behind x on a ring of n cells
+abbrev pub behind : ℕ → ℕ → ℕ → ℕ
+behind n x j = (x + (n - j)) % n
+
+-- the first g cells of a way, those at its places 1 to g, are empty
+abbrev pub is_clear : Lane → (ℕ → ℕ) → ℕ → Bool
+is_clear lane way zero = true
+is_clear lane way (suc g) = is_clear lane way g && is_none (at lane (way (suc g)))
+
+-- the greatest number up to n that passes a test, or 0
+abbrev pub greatest : (ℕ → Bool) → ℕ → ℕ
+greatest test zero = zero
+greatest test (suc n) = cond (test (suc n)) (suc n) (greatest test n)
+
+-- the longest run of empty cells along a way, at most all cells of the lane but one
+abbrev pub clear_cells : Lane → (ℕ → ℕ) → ℕ
+clear_cells lane way = greatest (is_clear lane way) (length lane - 1)
+
+-- the gap ahead of a place: the empty cells up to the next car (Nagel and Schreckenberg 1992)
+abbrev pub gap : Lane → ℕ → ℕ
+gap lane x = clear_cells lane (ahead (length lane) x)
+
+-- is the side cell, the cell of the other lane beside x, empty?
+abbrev pub side : Lane → ℕ → Bool
+side other x = is_none (at other x)
+
+-- the gap ahead on the other lane, 0 where the side cell is taken (Rickert and others 1996)
+abbrev pub sidegap : Lane → ℕ → ℕ
+sidegap other x = cond (side other x) (clear_cells other (ahead (length other) x)) 0
+
+-- the gap behind on the other lane, 0 where the side cell is taken (Rickert and others 1996)
+abbrev pub sideback : Lane → ℕ → ℕ
+sideback other x = cond (side other x) (clear_cells other (behind (length other) x)) 0

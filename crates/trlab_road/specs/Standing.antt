@@ -1,0 +1,24 @@
+-- The standing order of the cars of a road: lane by lane, place rising.
+use Rattle.std.specs.Prelude.{ℕ, suc, ◌+◌, Some, None, List, [], ◌∷◌, ◌++◌, sum_by, take}
+use Rattle.trlab_road.specs.declared.car.Car.{Car}
+use Rattle.trlab_road.specs.Cells.{Lane, Cells, lane_of, lane_cars}
+
+-- the cars of the cells of lane l from place x on, by rising place
+abbrev pub standing_from : ℕ → ℕ → Lane → List Car
+standing_from l x [] = []
+standing_from l x (None ∷ cells) = standing_from l (suc x) cells
+standing_from l x (Some car ∷ cells) =
+    record { number = car.0; lane = l; place = x; speed = car.1 } ∷ standing_from l (suc x) cells
+
+-- the cars of lanes, of which the first is lane l
+abbrev pub standing_lanes : ℕ → List Lane → List Car
+standing_lanes l [] = []
+standing_lanes l (lane ∷ lanes) = standing_from l 0 lane ++ standing_lanes (suc l) lanes
+
+-- the cars of a road in standing order
+abbrev pub standing : Cells → List Car
+standing road = standing_lanes 0 road.lanes
+
+-- how many cars stand before a place, in standing order
+abbrev pub rank : Cells → ℕ → ℕ → ℕ
+rank road l x = sum_by lane_cars (take l road.lanes) + lane_cars (take x (lane_of road l))

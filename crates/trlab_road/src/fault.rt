@@ -1,0 +1,42 @@
+//! Why a road cannot be made.
+
+ghost use Rattle.std.specs.Prelude.{◌≡◌};
+ghost use Rattle.trlab_road.specs.declared.fault.RoadFault.TheVariants.{Memory};
+
+use std::alloc::AllocError;
+use thiserror::Error;
+
+/// The first fault of what a road was to be made of, in the order of the variants up to
+/// `SpeedAboveLimit`.
+#[derive(Clone, Copy, Debug, PartialEq, Eq, Error)]
+pub enum RoadFault {
+    /// Neither one nor two lanes.
+    #[error("a road has one or two lanes")]
+    Lanes,
+    /// A lane with no cell or too many, or lanes of unequal length.
+    #[error("the lanes have no cell, too many or unequal lengths")]
+    Length,
+    /// A speed limit of 0, or above the greatest.
+    #[error("the speed limit is out of range")]
+    Limit,
+    /// The byte at a lane and a place is neither a point nor a digit.
+    #[error("no cell is written like that on lane {lane} at place {place}")]
+    Character { lane: u32, place: u32 },
+    /// The speed at a lane and a place is above the limit.
+    #[error("the speed on lane {lane} at place {place} is above the limit")]
+    SpeedAboveLimit { lane: u32, place: u32 },
+    /// Memory ran out.
+    #[error("memory ran out")]
+    Memory,
+    /// More cars than cells.
+    #[error("more cars than cells")]
+    TooManyCars,
+}
+
+impl From<AllocError> for RoadFault {
+    ghost from_gives = { λ _ fault. fault ≡ Memory };
+
+    fn from(_: AllocError) -> RoadFault {
+        RoadFault::Memory
+    }
+}

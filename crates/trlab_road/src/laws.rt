@@ -1,0 +1,47 @@
+//! Laws of pictures and of the two phases of a step, for every road and whichever code moves the
+//! cars.
+//!
+//! Each law is the contract of a function with nothing to do.
+
+ghost use Rattle.trlab_road.specs.Laws.{LegalRoadShown, NoFaultInGood, OneFirstFault, OneRoadShown};
+ghost use Rattle.trlab_road.specs.Laws.{AllNumbersStand, MotionByCars, MotionIsClean, MotionKeepsCars};
+ghost use Rattle.trlab_road.specs.Laws.{MotionKeepsLegal, OneRoadAfterMotion, SomeRoadAfterMotion};
+ghost use Rattle.trlab_road.specs.Laws.{CrossingByCars, CrossingIsClean, CrossingKeepsLegal};
+ghost use Rattle.trlab_road.specs.Laws.{OneRoadAfterCrossing};
+
+/// Pictures show one road, which is legal where they are good, and else have one first fault.
+pub fn pictures_show_one_road()
+    ensures one_road { OneRoadShown }
+    ensures legal { LegalRoadShown }
+    ensures one_fault { OneFirstFault }
+    ensures no_fault { NoFaultInGood }
+{}
+
+/// Answers that fit lead to one road by the motion, and only the answers at cars count.
+pub fn motion_gives_one_road()
+    ensures some_road { SomeRoadAfterMotion }
+    ensures one_road { OneRoadAfterMotion }
+    ensures by_cars { MotionByCars }
+{}
+
+/// Where the answers fit, the motion of a legal road is clean and gives a legal road with as many
+/// cars.
+pub fn motion_is_clean()
+    ensures clean { MotionIsClean }
+    ensures legal { MotionKeepsLegal }
+    ensures same_cars { MotionKeepsCars }
+{}
+
+/// A legal road has a car of each number below the count of its cars.
+pub fn all_numbers_stand()
+    ensures { AllNumbersStand }
+{}
+
+/// Crossing leads to one road, and only the answers at cars count. Where cars cross to empty cells
+/// alone, the crossing of a legal road is clean and gives a legal road.
+pub fn crossing_is_clean()
+    ensures one_road { OneRoadAfterCrossing }
+    ensures by_cars { CrossingByCars }
+    ensures clean { CrossingIsClean }
+    ensures legal { CrossingKeepsLegal }
+{}

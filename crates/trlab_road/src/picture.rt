@@ -1,0 +1,61 @@
+//! Cells and speeds as bytes of pictures.
+
+ghost use Rattle.std.specs.Prelude.{◌≡◌, ◌≤◌, ◌↔◌, ℕ, Some, IfOk, IsTrue};
+ghost use Rattle.trlab_road.specs.declared.bounds.TheConstants.{GREATEST_LIMIT};
+ghost use Rattle.trlab_road.specs.Cells.{at};
+ghost use Rattle.trlab_road.specs.Pictures.{ShowsCell, ShowsSpeed, byte_speed, picture, speed_byte};
+
+use crate::bounds::GREATEST_LIMIT;
+use crate::lane::Cell;
+use std::alloc::{AllocError, Global};
+
+/// The byte of an empty cell.
+pub const EMPTY: u8 = b'.';
+
+/// The byte of a speed: its digit.
+pub fn speed_byte(speed: u32) -> u8
+    requires { speed ≤ GREATEST_LIMIT }
+    ensures { result ≡ speed_byte speed }
+{
+    b'0' + speed as u8
+}
+
+/// The speed that a digit shows.
+pub fn byte_speed(byte: u8) -> u32
+    requires { ShowsSpeed GREATEST_LIMIT byte }
+    ensures { result ≡ byte_speed byte }
+{
+    u32::from(byte - b'0')
+}
+
+/// Does a byte show a speed up to the greatest one?
+pub fn shows_speed(most: u32, byte: u8) -> bool
+    requires { most ≤ GREATEST_LIMIT }
+    ensures { IsTrue result ↔ ShowsSpeed most byte }
+{
+    speed_byte(0) <= byte && byte <= speed_byte(most)
+}
+
+/// Does a byte show a cell, whose speed is within the limit?
+pub fn shows_cell(limit: u32, byte: u8) -> bool
+    requires { limit ≤ GREATEST_LIMIT }
+    ensures { IsTrue result ↔ ShowsCell limit byte }
+{
+    byte == EMPTY || shows_speed(limit, byte)
+}
+
+/// The picture of a lane: a point for an empty cell, the digit of the speed for a car.
+pub fn picture_of(alloc: Global, lane: &[Cell]) -> Result<Vec<u8>, AllocError>
+    requires { (x number speed : ℕ)
+        → at lane.now x ≡ Some (number, speed) → speed ≤ GREATEST_LIMIT }
+    ensures { IfOk result (λ bytes. bytes.items ≡ picture lane.now) }
+{
+    let mut bytes = Vec::with_capacity(alloc, lane.len())?;
+    for cell in lane {
+        bytes.push(match *cell {
+            None => EMPTY,
+            Some((_, speed)) => speed_byte(speed),
+        })?;
+    }
+    Ok(bytes)
+}
