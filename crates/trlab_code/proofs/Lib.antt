@@ -1,0 +1,5 @@
+pub mod Rows
+pub mod Injective
+pub mod Spelt
+pub mod Apart
+pub mod Whole

@@ -1,0 +1,26 @@
+-- Instructions read one after another.
+use Rattle.std.proofs.Common.{◌≡◌, ℕ, ◌+◌, ◌*◌, List, [], ◌∷◌, ◌++◌, take, drop, arith, below_more}
+use Rattle.std.proofs.Math.Seq.{take-add}
+use Rattle.std.proofs.lemmas.List.{drop-drop}
+use Rattle.std.proofs.lemmas.List.Concat.{flat_map-append}
+use Rattle.std.specs.List.{flat_map}
+use Rattle.trlab_code.specs.declared.instruction.Instr.{Instr}
+use Rattle.trlab_code.specs.Spelling.{instr_bytes, Spells}
+use Rattle.trlab_code.specs.Faults.{GoodBefore, SpellsInstr, bytes_at}
+
+-- one more instruction
+pub rows_more : (bytes : List ℕ) (instrs : List Instr) (pc : ℕ) (i : Instr) → flat_map instr_bytes instrs ≡ take (8 * pc) (drop 8 bytes) → bytes_at bytes pc ≡ instr_bytes i → flat_map instr_bytes (instrs ++ i ∷ []) ≡ take (8 * (pc + 1)) (drop 8 bytes)
+rows_more bytes instrs pc i spelt here =
+    let next : 8 * (pc + 1) ≡ 8 * pc + 8 = omega arith in
+    let joined = flat_map-append instr_bytes instrs (i ∷ []) in
+    let cut = take-add (8 * pc) 8 (drop 8 bytes) in
+    let same = drop-drop (8 * pc) 8 bytes in
+    cc
+
+-- all is well before the next instruction
+pub good_more : (bytes : List ℕ) (pc : ℕ) (i : Instr) → GoodBefore bytes pc → Spells i (bytes_at bytes pc) → GoodBefore bytes (pc + 1)
+good_more bytes pc i before here = record {
+  header = before.header;
+  room = before.room;
+  rows = below_more (λ k. SpellsInstr (bytes_at bytes k)) pc before.rows (i, here);
+}

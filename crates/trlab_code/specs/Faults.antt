@@ -1,0 +1,72 @@
+-- The first fault of bytes that spell no program, in the order in which a reader meets it.
+use Rattle.std.specs.Prelude.{◌≡◌, ℕ, ◌+◌, ◌*◌, ◌<◌, ◌≤◌, List, length, take, drop, slice_index, ◌⊎◌}
+use Rattle.trlab_code.specs.declared.kind.Kind.{Kind}
+use Rattle.trlab_code.specs.declared.instruction.Instr.{Instr}
+use Rattle.trlab_code.specs.declared.fault.CodeFault.{CodeFault}
+use Rattle.trlab_code.specs.declared.fault.CodeFault.TheVariants as fault
+use Rattle.trlab_code.specs.declared.header.TheConstants.{MAGIC, VERSION, HEADER_BYTES}
+use Rattle.trlab_code.specs.declared.row.TheConstants.{INSTR_BYTES}
+use Rattle.trlab_code.specs.declared.program.TheConstants.{MOST_INSTRUCTIONS}
+use Rattle.trlab_code.specs.Spelling.{kind_byte, Spells, IsOpcode}
+
+-- the count of instructions that a header states, its lower byte first
+abbrev pub stated_count : List ℕ → ℕ
+stated_count bytes = slice_index bytes 6 + 256 * slice_index bytes 7
+
+-- the eight bytes of the instruction at pc
+abbrev pub bytes_at : List ℕ → ℕ → List ℕ
+bytes_at bytes pc = take INSTR_BYTES (drop (HEADER_BYTES + INSTR_BYTES * pc) bytes)
+
+-- what is asked of the header, in this order
+abbrev pub HasHeader : List ℕ → Type 0
+HasHeader bytes = HEADER_BYTES ≤ length bytes
+
+abbrev pub HasMagic : List ℕ → Type 0
+HasMagic bytes = take 4 bytes ≡ MAGIC
+
+abbrev pub HasVersion : List ℕ → Type 0
+HasVersion bytes = slice_index bytes 4 ≡ VERSION
+
+abbrev pub HasKind : List ℕ → Type 0
+HasKind bytes = (kind : Kind) × (slice_index bytes 5 ≡ kind_byte kind)
+
+abbrev pub HasCount : List ℕ → Type 0
+HasCount bytes = (1 ≤ stated_count bytes) × (stated_count bytes ≤ MOST_INSTRUCTIONS)
+
+-- the bytes have room for the stated instructions
+abbrev pub HasRoom : List ℕ → Type 0
+HasRoom bytes = HEADER_BYTES + INSTR_BYTES * stated_count bytes ≤ length bytes
+
+-- eight bytes with the opcode of an instruction
+abbrev pub HasOpcode : List ℕ → Type 0
+HasOpcode row = IsOpcode (slice_index row 0)
+
+-- eight bytes that spell an instruction with fields in range
+abbrev pub SpellsInstr : List ℕ → Type 0
+SpellsInstr row = (i : Instr) × Spells i row
+
+-- a header as it has to be
+pub record GoodHeader (bytes : List ℕ) : Type 0 where
+  pub whole : HasHeader bytes
+  pub magic : HasMagic bytes
+  pub version : HasVersion bytes
+  pub kind : HasKind bytes
+  pub count : HasCount bytes
+
+-- all is well before the instruction at pc
+pub record GoodBefore (bytes : List ℕ) (pc : ℕ) : Type 0 where
+  pub header : GoodHeader bytes
+  pub room : HasRoom bytes
+  pub rows : (k : ℕ) → k < pc → SpellsInstr (bytes_at bytes k)
+
+-- the first fault of bytes; memory may run out at any time
+abbrev pub FirstFault : List ℕ → CodeFault → Type 0
+FirstFault bytes fault.Short = (¬ (HasHeader bytes)) ⊎ (GoodHeader bytes × ¬ (HasRoom bytes))
+FirstFault bytes fault.Magic = HasHeader bytes × ¬ (HasMagic bytes)
+FirstFault bytes fault.Version = HasHeader bytes × HasMagic bytes × ¬ (HasVersion bytes)
+FirstFault bytes fault.Kind = HasHeader bytes × HasMagic bytes × HasVersion bytes × ¬ (HasKind bytes)
+FirstFault bytes fault.Count = HasHeader bytes × HasMagic bytes × HasVersion bytes × HasKind bytes × ¬ (HasCount bytes)
+FirstFault bytes (fault.Opcode pc) = (pc < stated_count bytes) × GoodBefore bytes pc × ¬ (HasOpcode (bytes_at bytes pc))
+FirstFault bytes (fault.Field pc) = (pc < stated_count bytes) × GoodBefore bytes pc × HasOpcode (bytes_at bytes pc) × ¬ (SpellsInstr (bytes_at bytes pc))
+FirstFault bytes fault.Trailing = GoodBefore bytes (stated_count bytes) × (HEADER_BYTES + INSTR_BYTES * stated_count bytes < length bytes)
+FirstFault bytes fault.Memory = Unit {0}

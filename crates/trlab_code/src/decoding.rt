@@ -1,0 +1,75 @@
+//! From bytes to programs.
+
+ghost use Rattle.std.specs.Prelude.{◌≡◌, ◌≢◌, ◌*◌, ◌<◌, ◌≤◌, ◌⊎◌, ℕ, length, take, drop, vec_len, All, MatchResult, IfOk, IfErr};
+ghost use Rattle.std.specs.List.{flat_map};
+ghost use Rattle.trlab_code.specs.Program.{Program, InRange, IsProgram};
+ghost use Rattle.trlab_code.specs.Spelling.{spelling, instr_bytes, Spells};
+ghost use Rattle.trlab_code.specs.Faults.{GoodHeader, GoodBefore, HasRoom, SpellsInstr, FirstFault, stated_count, bytes_at};
+ghost use Rattle.trlab_code.specs.declared.fault.CodeFault.{CodeFault};
+
+use crate::fault::CodeFault;
+use crate::header::{HEADER_BYTES, Header};
+use crate::instruction::Instr;
+use crate::program::Code;
+use crate::row::{self, INSTR_BYTES, Row};
+use std::alloc::Global;
+
+/// The instruction at pc, where all is well before it.
+fn instr_at(bytes: &[u8], pc: u32) -> Result<Instr, CodeFault>
+    requires inside { pc < stated_count bytes.now }
+    requires before { GoodBefore bytes.now pc }
+    ensures { MatchResult result (λ i. Spells i (bytes_at bytes.now pc)) (FirstFault bytes.now) }
+{
+    let row = Row::read(bytes, HEADER_BYTES + INSTR_BYTES * pc as usize);
+    match row::instruction_of(row) {
+        Some(instr) => Ok(instr),
+        None if row::is_opcode(row.opcode) => Err(CodeFault::Field(pc)),
+        None => Err(CodeFault::Opcode(pc)),
+    }
+}
+
+/// The instructions that follow a good header.
+fn instrs(alloc: Global, bytes: &[u8], count: u32) -> Result<Vec<Instr>, CodeFault>
+    requires header { GoodHeader bytes.now }
+    requires room { HasRoom bytes.now }
+    requires count { count ≡ stated_count bytes.now }
+    ensures length { IfOk result (λ instrs. vec_len instrs ≡ count) }
+    ensures in_range { IfOk result (λ instrs. All InRange instrs.items) }
+    ensures spelt { IfOk result (λ instrs.
+        flat_map instr_bytes instrs.items ≡ take (INSTR_BYTES * count) (drop HEADER_BYTES bytes.now)) }
+    ensures rows { IfOk result (λ _. GoodBefore bytes.now count) }
+    ensures fault { IfErr result (FirstFault bytes.now) }
+{
+    let mut instrs = Vec::with_capacity(alloc, count as usize)?;
+    for pc in 0..count {
+        let instr = instr_at(bytes, pc)?;
+        instrs.push(instr).map_err(|_| CodeFault::Memory)?;
+    }
+    Ok(instrs)
+}
+
+/// The program that bytes spell: a header of 8 bytes, and 8 bytes for each instruction.
+///
+/// The header is `TRLB`, version 1, the kind (0 motion, 1 change), and the count in two bytes, the
+/// lower first. An instruction is its opcode, three fields of a byte, and a number in four bytes,
+/// the lowest first; what an instruction does not use is 0. Other bytes are refused by their first
+/// fault, in the order of `CodeFault`; where the bytes end early, the header is judged before.
+pub fn decode(alloc: Global, bytes: &[u8]) -> Result<Code, CodeFault>
+    ensures exact { MatchResult result (λ code. bytes.now ≡ spelling code) (FirstFault bytes.now) }
+    ensures program { IfOk result IsProgram }
+
+    // Each program is found, but where memory runs out.
+    ensures found { (program : Program) → IsProgram program → bytes.now ≡ spelling program
+        → (result ≡ Ok program) ⊎ (result ≡ Err CodeFault.Memory) }
+
+    // Each fault is told, but where memory runs out.
+    ensures told { (fault : CodeFault) → FirstFault bytes.now fault → fault ≢ CodeFault.Memory
+        → (result ≡ Err fault) ⊎ (result ≡ Err CodeFault.Memory) }
+{
+    let header = Header::read(bytes)?;
+    let instrs = instrs(alloc, bytes, header.count)?;
+    if HEADER_BYTES + INSTR_BYTES * (header.count as usize) < bytes.len() {
+        return Err(CodeFault::Trailing);
+    }
+    Ok(Code::of(header.kind, instrs))
+}

@@ -1,0 +1,26 @@
+//! From programs to bytes.
+
+ghost use Rattle.std.specs.Prelude.{◌≡◌, IfOk};
+ghost use Rattle.trlab_code.specs.Spelling.{spelling};
+
+use crate::header::{HEADER_BYTES, Header};
+use crate::program::Code;
+use crate::row::{self, INSTR_BYTES};
+use std::alloc::{AllocError, Global};
+
+/// The bytes that spell a program.
+pub fn encode(alloc: Global, code: &Code) -> Result<Vec<u8>, AllocError>
+    ensures { IfOk result (λ bytes. bytes.items ≡ spelling code.now) }
+{
+    let instrs = code.instrs();
+    let header = Header {
+        kind: code.kind(),
+        count: instrs.len() as u32,
+    };
+    let mut bytes = Vec::with_capacity(alloc, HEADER_BYTES + INSTR_BYTES * instrs.len())?;
+    bytes.extend_from_slice(&header.bytes())?;
+    for instr in instrs {
+        bytes.extend_from_slice(&row::row_of(*instr).bytes())?;
+    }
+    Ok(bytes)
+}

@@ -1,0 +1,41 @@
+//! What is wrong with bytes that spell no program.
+
+ghost use Rattle.std.specs.Prelude.{◌≡◌};
+ghost use Rattle.trlab_code.specs.declared.fault.CodeFault.TheVariants.{Memory};
+
+use std::alloc::AllocError;
+use thiserror::Error;
+
+/// The first fault of bytes that spell no program. Instructions are counted from 0.
+///
+/// The header is judged from left to right, then the length for its count, then each instruction in
+/// turn, its opcode first, and last what follows them. Fewer than 8 bytes are `Short`.
+#[derive(Clone, Copy, Debug, PartialEq, Eq, Error)]
+pub enum CodeFault {
+    #[error("the bytes end too early")]
+    Short,
+    #[error("the bytes do not begin with `TRLB`")]
+    Magic,
+    #[error("the version is not 1")]
+    Version,
+    #[error("the kind is neither 0 nor 1")]
+    Kind,
+    #[error("the count of instructions is not 1 to 128")]
+    Count,
+    #[error("instruction {0} has an opcode of no instruction")]
+    Opcode(u32),
+    #[error("instruction {0} has a field out of range")]
+    Field(u32),
+    #[error("bytes follow the last instruction")]
+    Trailing,
+    #[error("out of memory")]
+    Memory,
+}
+
+impl From<AllocError> for CodeFault {
+    ghost from_gives = { λ _ fault. fault ≡ Memory };
+
+    fn from(_: AllocError) -> CodeFault {
+        CodeFault::Memory
+    }
+}

@@ -1,0 +1,80 @@
+//! The header of a program's bytes.
+
+ghost use Rattle.std.specs.Prelude.{◌≡◌, ◌≤◌, length, take, IfOk, IfErr};
+ghost use Rattle.trlab_code.specs.Spelling.{kind_byte, header};
+ghost use Rattle.trlab_code.specs.Faults.{GoodHeader, HasRoom, FirstFault, stated_count};
+
+use crate::fault::CodeFault;
+use crate::kind::Kind;
+use crate::program::MOST_INSTRUCTIONS;
+use crate::row::INSTR_BYTES;
+
+/// The bytes that every spelling of a program begins with.
+pub const MAGIC: [u8; 4] = *b"TRLB";
+
+/// The version of the spelling.
+pub const VERSION: u8 = 1;
+
+/// How many bytes a header has.
+pub const HEADER_BYTES: usize = 8;
+
+/// What a header says.
+#[derive(Clone, Copy)]
+pub(crate) struct Header {
+    pub kind: Kind,
+    pub count: u32,
+}
+
+/// The byte of a kind.
+fn kind_byte(kind: Kind) -> u8
+    ensures { result ≡ kind_byte kind }
+{
+    match kind {
+        Kind::Motion => 0,
+        Kind::Change => 1,
+    }
+}
+
+impl Header {
+    /// The header that bytes begin with, where they have room for the instructions that it states.
+    pub(crate) fn read(bytes: &[u8]) -> Result<Header, CodeFault>
+        ensures good { IfOk result (λ h. GoodHeader bytes.now) }
+        ensures room { IfOk result (λ h. HasRoom bytes.now) }
+        ensures count { IfOk result (λ h. stated_count bytes.now ≡ h.count) }
+        ensures spelt { IfOk result (λ h. take HEADER_BYTES bytes.now ≡ header h.kind h.count) }
+        ensures fault { IfErr result (FirstFault bytes.now) }
+    {
+        if bytes.len() < HEADER_BYTES {
+            return Err(CodeFault::Short);
+        }
+        if !bytes.starts_with(&MAGIC) {
+            return Err(CodeFault::Magic);
+        }
+        if bytes[4] != VERSION {
+            return Err(CodeFault::Version);
+        }
+        let kind = match bytes[5] {
+            0 => Kind::Motion,
+            1 => Kind::Change,
+            _ => return Err(CodeFault::Kind),
+        };
+        let count = u32::from(u16::from_le_bytes([bytes[6], bytes[7]]));
+        if count == 0 || count as usize > MOST_INSTRUCTIONS {
+            return Err(CodeFault::Count);
+        }
+        if bytes.len() - HEADER_BYTES < INSTR_BYTES * (count as usize) {
+            return Err(CodeFault::Short);
+        }
+        Ok(Header { kind, count })
+    }
+
+    /// The bytes of the header, the count's lower byte first.
+    pub(crate) fn bytes(self) -> [u8; HEADER_BYTES]
+        requires { self.count ≤ MOST_INSTRUCTIONS }
+        ensures { result ≡ header self.kind self.count }
+    {
+        let [t, r, l, b] = MAGIC;
+        let [low, high] = (self.count as u16).to_le_bytes();
+        [t, r, l, b, VERSION, kind_byte(self.kind), low, high]
+    }
+}

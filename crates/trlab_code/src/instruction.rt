@@ -1,0 +1,139 @@
+//! The instructions of driver programs.
+
+ghost use Rattle.std.specs.Prelude.{◌≡◌, ◌<◌};
+
+/// The places that hold values while a program runs: eight registers, and behind them six inputs.
+pub const PLACES: usize = 14;
+
+/// One of the eight registers.
+#[derive(Clone, Copy, Debug, PartialEq, Eq)]
+pub enum Register {
+    R0,
+    R1,
+    R2,
+    R3,
+    R4,
+    R5,
+    R6,
+    R7,
+}
+
+impl Register {
+    ghost use Rattle.trlab_code.specs.Machine.{place};
+
+    /// The place of the register: 0 to 7.
+    pub fn place(self) -> usize
+        ensures value { result ≡ place self }
+        ensures in_range { result < PLACES }
+    {
+        self as usize
+    }
+}
+
+/// A number that a car sees. Only programs of kind `Change` see the last three.
+#[derive(Clone, Copy, Debug, PartialEq, Eq)]
+pub enum Input {
+    /// The car's speed before the step, in cells a step.
+    Speed,
+    /// The greatest speed on this road.
+    Limit,
+    /// The empty cells ahead on the car's own lane.
+    Gap,
+    /// The empty cells ahead on the other lane.
+    SideGap,
+    /// The empty cells behind on the other lane.
+    SideBack,
+    /// The car's lane, 0 or 1.
+    Lane,
+}
+
+impl Input {
+    ghost use Rattle.trlab_code.specs.Machine.{input_place};
+
+    /// The place of the input: 8 to 13.
+    pub fn place(self) -> usize
+        ensures value { result ≡ input_place self }
+        ensures in_range { result < PLACES }
+    {
+        8 + self as usize
+    }
+}
+
+/// An instruction. The first register of one that writes is where the result goes.
+///
+/// Jumps name the index of an instruction; ends are `Go`, `Cross` and `Stay`.
+#[derive(Clone, Copy, Debug, PartialEq, Eq)]
+pub enum Instr {
+    /// A number.
+    Num(Register, u32),
+    /// A number that the car sees.
+    Get(Register, Input),
+    /// Whether the cell beside the car is empty.
+    Side(Register),
+    /// Whether a chance, in parts of 2^31, happens on a random word, 0 to 15.
+    Draw(Register, u8, u32),
+    /// A register, number or flag.
+    Copy(Register, Register),
+    /// The sum of two registers.
+    Add(Register, Register, Register),
+    /// The difference of two registers.
+    Sub(Register, Register, Register),
+    /// A register times a number.
+    Mul(Register, Register, u32),
+    /// A register divided by a number above 0, rounded down.
+    Div(Register, Register, u32),
+    /// The smaller of two registers.
+    Min(Register, Register, Register),
+    /// The greater of two registers.
+    Max(Register, Register, Register),
+    /// The other truth value.
+    Not(Register, Register),
+    /// Whether two flags are true.
+    And(Register, Register, Register),
+    /// Whether one of two flags is true.
+    Or(Register, Register, Register),
+    /// A jump.
+    Jump(u32),
+    /// A jump where the first register is less than the second.
+    JumpLess(Register, Register, u32),
+    /// A jump where the first register is at most the second.
+    JumpAtMost(Register, Register, u32),
+    /// A jump where the flag is true.
+    JumpTrue(Register, u32),
+    /// A jump where the flag is false.
+    JumpFalse(Register, u32),
+    /// The end of a motion program: the car's new speed.
+    Go(Register),
+    /// An end of a change program: the car crosses.
+    Cross,
+    /// An end of a change program: the car stays on its lane.
+    Stay,
+}
+
+impl Instr {
+    ghost use Rattle.trlab_code.specs.Flow.{falls, target};
+
+    /// The instruction to which a jump can go.
+    pub fn target(self) -> Option<u32>
+        ensures { result ≡ target self }
+    {
+        match self {
+            Instr::Jump(target)
+            | Instr::JumpLess(_, _, target)
+            | Instr::JumpAtMost(_, _, target)
+            | Instr::JumpTrue(_, target)
+            | Instr::JumpFalse(_, target) => Some(target),
+            _ => None,
+        }
+    }
+
+    /// Whether the next instruction may follow.
+    pub fn falls(self) -> bool
+        ensures { result ≡ falls self }
+    {
+        !matches!(
+            self,
+            Instr::Jump(_) | Instr::Go(_) | Instr::Cross | Instr::Stay
+        )
+    }
+}

@@ -1,0 +1,10 @@
+//! The two kinds of driver programs.
+
+/// What a driver program decides.
+#[derive(Clone, Copy, Debug, PartialEq, Eq)]
+pub enum Kind {
+    /// The speed of a car, and with it how far the car goes in this step.
+    Motion,
+    /// Whether a car crosses to the other lane.
+    Change,
+}

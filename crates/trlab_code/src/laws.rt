@@ -1,0 +1,27 @@
+//! Laws of spellings and their faults.
+
+ghost use Rattle.std.specs.Prelude.{◌≡◌, ◌≢◌, ℕ, List};
+ghost use Rattle.trlab_code.specs.Program.{Program, IsProgram};
+ghost use Rattle.trlab_code.specs.Spelling.{spelling};
+ghost use Rattle.trlab_code.specs.Faults.{FirstFault};
+ghost use Rattle.trlab_code.specs.declared.fault.CodeFault.{CodeFault};
+
+/// Two programs with one spelling are one program.
+#[tactic(auto, using(crate::proofs::Injective::same_program))]
+pub fn one_spelling()
+    ensures { (first second : Program) → spelling first ≡ spelling second → first ≡ second }
+{}
+
+/// The spelling of a program has no fault, but that memory may run out.
+#[tactic(auto, using(crate::proofs::Spelt::no_fault))]
+pub fn no_fault()
+    ensures { (program : Program) (fault : CodeFault) → IsProgram program
+        → FirstFault (spelling program) fault → fault ≡ CodeFault.Memory }
+{}
+
+/// Bytes have one first fault, but that memory may run out.
+#[tactic(auto, using(crate::proofs::Apart::one_fault))]
+pub fn one_fault()
+    ensures { (bytes : List ℕ) (first second : CodeFault) → FirstFault bytes first → FirstFault bytes second
+        → first ≢ CodeFault.Memory → second ≢ CodeFault.Memory → first ≡ second }
+{}

@@ -1,0 +1,94 @@
+//! Programs whose fields are in range.
+
+ghost use Rattle.std.specs.Prelude.{◌≡◌, ◌↔◌, ◌≤◌, IsTrue, MatchOption};
+ghost use Rattle.trlab_code.specs.Program.{Program, InRange, IsProgram, Draws};
+
+use crate::instruction::Instr;
+use crate::kind::Kind;
+use std::marker::Model;
+
+/// The most instructions of a program.
+pub const MOST_INSTRUCTIONS: usize = 128;
+
+/// How many random words a program can draw on.
+pub const WORDS: usize = 16;
+
+/// The chance that always happens, in parts of 2^31.
+pub const CERTAIN: u32 = 2147483648;
+
+/// A program of 1 to 128 instructions whose fields are in range.
+#[derive(Debug, Drop)]
+pub struct Code {
+    kind: Kind,
+    instrs: Vec<Instr>,
+}
+
+impl Model for Code {
+    ghost use Rattle.trlab_code.specs.Program.{Program, IsProgram};
+
+    ghost Value = { Program };
+
+    ghost view = { λ code. record { kind = code.kind; instrs = code.instrs.items } };
+
+    ghost invariant = { λ code. IsProgram (record { kind = code.kind; instrs = code.instrs.items }) };
+}
+
+/// Whether the fields of an instruction are in range.
+pub(crate) fn is_in_range(instr: Instr) -> bool
+    ensures { IsTrue result ↔ InRange instr }
+{
+    match instr {
+        Instr::Draw(_, word, chance) => usize::from(word) < WORDS && chance <= CERTAIN,
+        Instr::Div(_, _, divisor) => 1 <= divisor,
+        _ => true,
+    }
+}
+
+impl Code {
+    /// The program of these instructions, where there are 1 to 128 and their fields are in range.
+    pub fn new(kind: Kind, instrs: Vec<Instr>) -> Option<Code>
+        ensures { let program : Program = record { kind = kind; instrs = instrs.items } in
+            MatchOption result (¬ (IsProgram program)) (λ code. code ≡ program) }
+    {
+        if instrs.is_empty() || instrs.len() > MOST_INSTRUCTIONS {
+            return None;
+        }
+        if instrs.iter().all(|instr| is_in_range(*instr)) {
+            Some(Code { kind, instrs })
+        } else {
+            None
+        }
+    }
+
+    /// The program of instructions that are known to make one.
+    pub(crate) fn of(kind: Kind, instrs: Vec<Instr>) -> Code
+        requires { IsProgram (record { kind = kind; instrs = instrs.items }) }
+        ensures { result ≡ record { kind = kind; instrs = instrs.items } }
+    {
+        Code { kind, instrs }
+    }
+
+    /// The program's kind.
+    pub fn kind(&self) -> Kind
+        ensures { result ≡ self.now.kind }
+    {
+        self.kind
+    }
+
+    /// The instructions in their order.
+    pub fn instrs(&self) -> &[Instr]
+        ensures value { result.now ≡ self.now.instrs }
+        ensures program { IsProgram self.now }
+    {
+        &self.instrs
+    }
+
+    /// Whether the program draws on random words.
+    pub fn draws(&self) -> bool
+        ensures { IsTrue result ↔ Draws self.now.instrs }
+    {
+        self.instrs
+            .iter()
+            .any(|instr| matches!(instr, Instr::Draw(..)))
+    }
+}

@@ -1,0 +1,139 @@
+//! What a car sees.
+
+ghost use Rattle.std.specs.Prelude.{◌≡◌, IsNone, IfSome};
+ghost use Rattle.trlab_code.specs.Views.{IsView, motion_view, change_view};
+
+use std::marker::Model;
+
+/// The greatest speed limit of a road, in cells a step.
+pub const GREATEST_LIMIT: u32 = 9;
+
+/// The greatest gap that a car can see: one cell less than the longest lane.
+pub const GREATEST_GAP: u32 = 99999;
+
+/// What a car sees: numbers of cells, but for its lane.
+#[derive(Clone, Copy, Debug, PartialEq, Eq)]
+pub struct View {
+    pub speed: u32,
+    pub limit: u32,
+    pub gap: u32,
+    /// Is the cell beside the car empty?
+    pub side: bool,
+    pub sidegap: u32,
+    pub sideback: u32,
+    pub lane: u32,
+}
+
+/// What a motion program sees: the speed at most the limit, the limit 1 to 9, the gap at most 99999.
+#[derive(Clone, Copy, Debug, PartialEq, Eq)]
+pub struct MotionView {
+    view: View,
+}
+
+impl Model for MotionView {
+    ghost use Rattle.trlab_code.specs.declared.view.View.{View};
+    ghost use Rattle.trlab_code.specs.Views.{IsView};
+
+    ghost Value = { View };
+
+    ghost view = { λ seen. seen.view };
+
+    ghost invariant = { λ seen. IsView seen.view };
+
+    ghost inverse = { λ view. record { view = view } };
+}
+
+impl MotionView {
+    /// The view of a car, where its numbers are in range. What is seen of the other lane is nothing.
+    pub fn new(speed: u32, limit: u32, gap: u32) -> Option<MotionView>
+        ensures none { IsNone result → ¬ (IsView (motion_view speed limit gap)) }
+        ensures some { IfSome result (λ seen. seen ≡ motion_view speed limit gap) }
+    {
+        if 1 <= limit && limit <= GREATEST_LIMIT && speed <= limit && gap <= GREATEST_GAP {
+            Some(MotionView {
+                view: View {
+                    speed,
+                    limit,
+                    gap,
+                    side: false,
+                    sidegap: 0,
+                    sideback: 0,
+                    lane: 0,
+                },
+            })
+        } else {
+            None
+        }
+    }
+
+    /// The numbers that are seen.
+    pub fn get(self) -> View
+        ensures value { result ≡ self }
+        ensures in_range { IsView self }
+    {
+        let MotionView { view } = self;
+        view
+    }
+}
+
+/// What a change program sees: a `MotionView`, and of the other lane gaps of at most 99999 and the lane, 0 or 1.
+#[derive(Clone, Copy, Debug, PartialEq, Eq)]
+pub struct ChangeView {
+    view: View,
+}
+
+impl Model for ChangeView {
+    ghost use Rattle.trlab_code.specs.declared.view.View.{View};
+    ghost use Rattle.trlab_code.specs.Views.{IsView};
+
+    ghost Value = { View };
+
+    ghost view = { λ seen. seen.view };
+
+    ghost invariant = { λ seen. IsView seen.view };
+
+    ghost inverse = { λ view. record { view = view } };
+}
+
+impl ChangeView {
+    /// The view of a car, where its numbers are in range.
+    pub fn new(
+        speed: u32,
+        limit: u32,
+        gap: u32,
+        side: bool,
+        sidegap: u32,
+        sideback: u32,
+        lane: u32,
+    ) -> Option<ChangeView>
+        ensures none { IsNone result
+            → ¬ (IsView (change_view speed limit gap side sidegap sideback lane)) }
+        ensures some { IfSome result
+            (λ seen. seen ≡ change_view speed limit gap side sidegap sideback lane) }
+    {
+        let view = View {
+            speed,
+            limit,
+            gap,
+            side,
+            sidegap,
+            sideback,
+            lane,
+        };
+        let ahead = 1 <= limit && limit <= GREATEST_LIMIT && speed <= limit && gap <= GREATEST_GAP;
+        if ahead && sidegap <= GREATEST_GAP && sideback <= GREATEST_GAP && lane <= 1 {
+            Some(ChangeView { view })
+        } else {
+            None
+        }
+    }
+
+    /// What is seen.
+    pub fn get(self) -> View
+        ensures value { result ≡ self }
+        ensures in_range { IsView self }
+    {
+        let ChangeView { view } = self;
+        view
+    }
+}
