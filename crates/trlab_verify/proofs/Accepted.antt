@@ -1,0 +1,92 @@
+-- What is accepted is of its kind, and its control goes forward.
+use Rattle.std.proofs.Common.{◌≡◌, ℕ, zero, suc, ◌<◌, ◌&&◌, refl, subst, arith, inl, inr, List, length, Bool, true, false, IsTrue, Option, Some, None, nat_eq, nat_le}
+use Rattle.std.specs.Prelude.{slice_get}
+use Rattle.std.proofs.lemmas.Bool.{eqb-true, leb-false}
+use Rattle.std.proofs.lemmas.Option.{slice_get_within}
+use Rattle.trlab_code.specs.declared.kind.Kind.{Kind}
+use Rattle.trlab_code.specs.declared.kind.Kind.TheVariants.{Motion, Change}
+use Rattle.trlab_code.specs.declared.instruction.Instr.{Instr}
+use Rattle.trlab_code.specs.declared.instruction.Instr.TheVariants.{Go, Cross, Stay}
+use Rattle.trlab_code.specs.Program.{Program, IsProgram}
+use Rattle.trlab_code.specs.Flow.{target, falls, is_end}
+use Rattle.trlab_verify.specs.Checked.{IsChecked}
+use Rattle.trlab_verify.specs.Longest.{Way, IsLongest, IsForward, on_target}
+use Rattle.trlab_verify.specs.Notes.{Note, note_at}
+use Rattle.trlab_verify.specs.Verdict.{may_stand, fault_of, fault_at, IsAccepted}
+use Rattle.trlab_verify.proofs.Steps.{IsClear, clear, not_false}
+use Rattle.trlab_verify.proofs.Runs.{sound}
+use Rattle.trlab_verify.proofs.Ways.{either_of, both_of}
+
+-- an instruction with no fault has a note with which it passes each test
+no_fault : (kind own : Kind) (len pc : ℕ) (note : Option Note) (i : Instr) →
+    fault_of kind own len pc note (Some i) ≡ None → (m : Note) × IsClear kind own len pc m i
+no_fault kind own len pc None i h = absurd (cc h)
+no_fault kind own len pc (Some m) i h = (m, clear kind own len pc m i h)
+
+all_clear : (kind : Kind) (program : Program) → IsAccepted kind program → (pc : ℕ) (i : Instr) →
+    slice_get program.instrs pc ≡ Some i → (m : Note) × IsClear kind program.kind (length program.instrs) pc m i
+unfolding fault_at
+all_clear kind program accepted pc i e =
+    let h = accepted pc (slice_get_within program.instrs pc i e) in
+    no_fault kind program.kind (length program.instrs) pc (note_at kind program.instrs pc) i (subst (λ z. fault_of kind program.kind (length program.instrs) pc (note_at kind program.instrs pc) z ≡ None) e h)
+
+-- an end is allowed in programs of one kind alone
+end_kind : (kind own : Kind) (i : Instr) → is_end i ≡ true → may_stand kind own i ≡ true → own ≡ kind
+end_kind Motion Motion i e h = refl
+end_kind Change Change i e h = refl
+end_kind Motion Change (Go a) e h = absurd (cc h)
+end_kind Motion Change Cross e h = absurd (cc h)
+end_kind Motion Change Stay e h = absurd (cc h)
+end_kind Motion Change i e h = absurd (cc e)
+end_kind Change Motion (Go a) e h = absurd (cc h)
+end_kind Change Motion Cross e h = absurd (cc h)
+end_kind Change Motion Stay e h = absurd (cc h)
+end_kind Change Motion i e h = absurd (cc e)
+
+way_end : (code : List Instr) (n pc : ℕ) → Way code pc n →
+    (q : ℕ) × ((i : Instr) × (slice_get code q ≡ Some i) × IsTrue (is_end i))
+way_end code zero pc w = absurd w
+way_end code (suc zero) pc w = (pc, w)
+way_end code (suc (suc n)) pc (q, f, w) = way_end code (suc n) q w
+
+kind_is : (kind : Kind) (program : Program) (n : ℕ) → IsAccepted kind program → Way program.instrs 0 n → program.kind ≡ kind
+kind_is kind program n accepted w =
+    let (q, (i, e, end)) = way_end program.instrs n 0 w in
+    let (m, c) = all_clear kind program accepted q i e in
+    end_kind kind program.kind i end (not_false _ c.allowed)
+
+-- an accepted program with its longest way is a checked program
+pub checked : (kind : Kind) (program : Program) (budget : ℕ) → IsProgram program → IsAccepted kind program →
+    IsLongest program.instrs 0 budget → IsChecked kind (record { program = program; budget = budget })
+checked kind program budget is accepted longest = record {
+  program = is;
+  kind_is = kind_is kind program budget accepted longest.way;
+  safe = sound kind program budget accepted longest;
+  longest = longest;
+}
+
+target_ahead : (t : Option ℕ) (len pc q : ℕ) → on_target (λ t. nat_le t pc) t ≡ false →
+    on_target (λ t. nat_le len t) t ≡ false → on_target (nat_eq q) t ≡ true → (pc < q) × (q < len)
+target_ahead None len pc q forward within e = absurd (cc e)
+target_ahead (Some t) len pc q forward within e =
+    let same : q ≡ t = eqb-true q t e in
+    let above : pc < t = leb-false t pc forward in
+    let below : t < len = leb-false len t within in
+    (omega arith, omega arith)
+
+next_ahead : (b : Bool) (len pc q : ℕ) → (b && nat_le len (suc pc)) ≡ false → b ≡ true → nat_eq q (suc pc) ≡ true →
+    (pc < q) × (q < len)
+next_ahead false len pc q h b e = absurd (cc b)
+next_ahead true len pc q h b e =
+    let same : q ≡ suc pc = eqb-true q (suc pc) e in
+    let below : suc pc < len = leb-false len (suc pc) h in
+    (omega arith, omega arith)
+
+-- control goes forward in an accepted program
+pub forward : (kind : Kind) (program : Program) → IsAccepted kind program → IsForward program.instrs
+forward kind program accepted pc q (i, e, h) =
+    let (m, c) = all_clear kind program accepted pc i e in
+    elim (either_of (falls i && nat_eq q (suc pc)) (on_target (nat_eq q) (target i)) h) [
+      | inl next ↦ let f = both_of (falls i) (nat_eq q (suc pc)) next in next_ahead (falls i) (length program.instrs) pc q c.follows f.0 f.1
+      | inr jumps ↦ target_ahead (target i) (length program.instrs) pc q c.forward c.within jumps
+    ]

@@ -1,0 +1,28 @@
+-- The ways through a program, and the longest of them.
+use Rattle.std.specs.Prelude.{◌≡◌, ℕ, zero, suc, ◌<◌, ◌≤◌, ◌&&◌, ◌||◌, List, length, Bool, false, IsTrue, Option, Some, None, nat_eq, slice_get}
+use Rattle.trlab_code.specs.declared.instruction.Instr.{Instr}
+use Rattle.trlab_code.specs.Flow.{target, falls, is_end}
+
+-- whether a jump's target passes a test
+abbrev pub on_target : (ℕ → Bool) → Option ℕ → Bool
+on_target test None = false
+on_target test (Some t) = test t
+
+-- the instruction at q may come after the one at pc: as the next, or as a jump's target
+abbrev pub Follows : List Instr → ℕ → ℕ → Type 0
+Follows code pc q = (i : Instr) × (slice_get code pc ≡ Some i) × (IsTrue ((falls i && nat_eq q (suc pc)) || on_target (nat_eq q) (target i)))
+
+-- a way of n instructions from pc to an end, the end counted
+abbrev pub Way : List Instr → ℕ → ℕ → Type 0
+Way code pc zero = ⊥
+Way code pc (suc zero) = (i : Instr) × (slice_get code pc ≡ Some i) × IsTrue (is_end i)
+Way code pc (suc (suc n)) = (q : ℕ) × Follows code pc q × Way code q (suc n)
+
+-- some way from pc has n instructions, and none has more
+pub record IsLongest (code : List Instr) (pc n : ℕ) : Type 0 where
+  pub way : Way code pc n
+  pub most : (m : ℕ) → Way code pc m → m ≤ n
+
+-- control goes forward and stays in the code
+abbrev pub IsForward : List Instr → Type 0
+IsForward code = (pc q : ℕ) → Follows code pc q → (pc < q) × (q < length code)

@@ -1,0 +1,58 @@
+//! What two notes agree on.
+
+ghost use Rattle.std.specs.Prelude.{◌≡◌, ℕ, ◌+◌, ◌*◌, ◌<◌, min, slice_index, slice_index_or};
+ghost use Rattle.trlab_verify.specs.declared.note.Said.TheVariants.{Nothing};
+ghost use Rattle.trlab_verify.specs.Notes.{told, known, joined, said_by_both};
+ghost use Rattle.trlab_verify.specs.Noted.{note_of};
+
+use crate::note::{LEVELS, Noted, Said};
+use trlab_code::PLACES;
+
+/// What both say of a value.
+fn common_said(a: Said, b: Said) -> Said
+    ensures { result ≡ said_by_both a b }
+{
+    match (a, b) {
+        (Said::Between(low, high), Said::Between(other_low, other_high)) => {
+            Said::Between(low.min(other_low), high.max(other_high))
+        }
+        (Said::Implies(p), Said::Implies(q)) => Said::Implies(p && q),
+        _ => Said::Nothing,
+    }
+}
+
+/// What both notes say of each place.
+fn common_places(a: &Noted, b: &Noted) -> [Said; PLACES]
+    ensures { (x : ℕ) → x < PLACES →
+        slice_index_or result x Nothing ≡ said_by_both (told (note_of a.now) x) (told (note_of b.now) x) }
+{
+    let mut said = [Said::Nothing; PLACES];
+    for x in 0..PLACES {
+        said[x] = common_said(a.told(x), b.told(x));
+    }
+    said
+}
+
+/// The lesser of what the notes know of each two places.
+fn common_levels(a: &Noted, b: &Noted) -> [u8; LEVELS]
+    ensures { (x y : ℕ) → x < PLACES → y < PLACES →
+        slice_index result (PLACES * x + y) ≡ min (known (note_of a.now) x y) (known (note_of b.now) x y) }
+{
+    let mut levels = [0; LEVELS];
+    for i in 0..LEVELS {
+        let (x, y) = (i / PLACES, i % PLACES);
+        levels[i] = a.known(x, y).min(b.known(x, y));
+    }
+    levels
+}
+
+/// The note of what two notes agree on.
+pub fn join(a: &Noted, b: &Noted) -> Noted
+    ensures { note_of result ≡ joined (note_of a.now) (note_of b.now) }
+{
+    Noted {
+        said: common_places(a, b),
+        levels: common_levels(a, b),
+        side: a.side && b.side,
+    }
+}

@@ -1,0 +1,69 @@
+//! Accepted motion programs.
+
+ghost use Rattle.std.specs.Prelude.{◌≡◌, ◌↔◌, IsTrue, IfOk};
+ghost use Rattle.trlab_code.specs.declared.kind.Kind.TheVariants.{Motion as OfMotion};
+ghost use Rattle.trlab_verify.specs.Checked.{IsChecked};
+
+use crate::copies::{are_same, copy_of};
+use std::alloc::{AllocError, Global};
+use std::marker::Model;
+use trlab_code::Code;
+
+/// An accepted motion program: safe for every view and all random words within its budget.
+#[derive(Debug, Drop)]
+pub struct Motion {
+    code: Code,
+    budget: u32,
+}
+
+impl Model for Motion {
+    ghost use Rattle.trlab_code.specs.declared.kind.Kind.TheVariants.{Motion as OfMotion};
+    ghost use Rattle.trlab_verify.specs.Checked.{Checked, IsChecked};
+
+    ghost Value = { Checked };
+
+    ghost view = { λ motion. record { program = motion.code; budget = motion.budget } };
+
+    ghost invariant = { λ motion. IsChecked OfMotion (record { program = motion.code; budget = motion.budget }) };
+}
+
+impl Motion {
+    /// An accepted program with its longest way.
+    pub(crate) fn new(code: Code, budget: u32) -> Motion
+        requires { IsChecked OfMotion (record { program = code; budget = budget }) }
+        ensures program { result.program ≡ code }
+        ensures budget { result.budget ≡ budget }
+    {
+        Motion { code, budget }
+    }
+
+    /// The program.
+    pub fn code(&self) -> &Code
+        ensures value { result.now ≡ self.now.program }
+        ensures checked { IsChecked OfMotion self.now }
+    {
+        &self.code
+    }
+
+    /// How many instructions a run takes at most, the end counted.
+    pub fn budget(&self) -> u32
+        ensures { result ≡ self.now.budget }
+    {
+        self.budget
+    }
+
+    /// A copy of the program.
+    pub fn copy(&self, alloc: Global) -> Result<Motion, AllocError>
+        ensures { IfOk result (λ copy. copy ≡ self.now) }
+    {
+        let code = copy_of(alloc, self.code())?;
+        Ok(Motion::new(code, self.budget))
+    }
+
+    /// Whether two programs are one: the same instructions.
+    pub fn equals(&self, other: &Motion) -> bool
+        ensures { IsTrue result ↔ (self.now ≡ other.now) }
+    {
+        are_same(self.code(), other.code())
+    }
+}

@@ -1,0 +1,52 @@
+//! The verifier: the checked program of a code, or why there is none.
+
+ghost use Rattle.std.specs.Prelude.{◌≡◌, MatchResult, IfOk, IfErr};
+ghost use Rattle.trlab_code.specs.declared.kind.Kind.TheVariants.{Motion as OfMotion, Change as OfChange};
+ghost use Rattle.trlab_verify.specs.Checked.{IsChecked};
+ghost use Rattle.trlab_verify.specs.Faults.{Tells};
+ghost use Rattle.trlab_verify.specs.Verdict.{IsAccepted};
+
+use crate::budget::longest_way;
+use crate::change::Change;
+use crate::fault::VerifyFault;
+use crate::motion::Motion;
+use crate::verdict::{Refusal, verdict};
+use std::alloc::Global;
+use trlab_code::{Code, Kind};
+
+/// The longest way through a program that is accepted as one of this kind, or why it is not.
+fn budget_of(alloc: Global, kind: Kind, code: &Code) -> Result<u32, VerifyFault>
+    ensures accepted { IfOk result (λ budget. IsAccepted kind code.now) }
+    ensures checked { IfOk result (λ budget. IsChecked kind (record { program = code.now; budget = budget })) }
+    ensures refused { IfErr result (λ fault. Tells kind code.now fault) }
+{
+    match verdict(alloc, kind, code) {
+        Ok(None) => Ok(longest_way(code.instrs())),
+        Ok(Some(Refusal { at, reason })) => Err(VerifyFault::Why { at, reason }),
+        Err(_) => Err(VerifyFault::Memory),
+    }
+}
+
+/// The code as a checked motion program, or the same code and why it is refused.
+pub fn verify_motion(alloc: Global, code: Code) -> Result<Motion, (Code, VerifyFault)>
+    ensures accepted { IfOk result (λ motion. (motion.program ≡ code) × IsAccepted OfMotion code) }
+    ensures same { IfErr result (λ refused. refused.0 ≡ code) }
+    ensures refused { IfErr result (λ refused. Tells OfMotion code refused.1) }
+{
+    match budget_of(alloc, Kind::Motion, &code) {
+        Ok(budget) => Ok(Motion::new(code, budget)),
+        Err(fault) => Err((code, fault)),
+    }
+}
+
+/// The code as a checked change program, or the same code and why it is refused.
+pub fn verify_change(alloc: Global, code: Code) -> Result<Change, (Code, VerifyFault)>
+    ensures accepted { IfOk result (λ change. (change.program ≡ code) × IsAccepted OfChange code) }
+    ensures same { IfErr result (λ refused. refused.0 ≡ code) }
+    ensures refused { IfErr result (λ refused. Tells OfChange code refused.1) }
+{
+    match budget_of(alloc, Kind::Change, &code) {
+        Ok(budget) => Ok(Change::new(code, budget)),
+        Err(fault) => Err((code, fault)),
+    }
+}
