@@ -1,0 +1,5 @@
+use Rattle.trlab_machine.proofs.Choices.{change_answers}
+use Rattle.trlab_machine.proofs.laws.change_answers.Goals as goal
+
+pub returns : goal.returns
+returns c = change_answers
