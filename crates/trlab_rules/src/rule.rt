@@ -1,0 +1,45 @@
+//! What drives the cars of a road.
+
+ghost use Rattle.std.specs.Prelude.{◌≡◌, option_map};
+ghost use Rattle.trlab_rules.specs.Rules.{Programs};
+
+use std::marker::Model;
+use trlab_verify::{Change, Motion};
+
+/// A motion program, and for two lanes perhaps a change program.
+#[derive(Debug, Drop)]
+pub struct Rule {
+    motion: Motion,
+    change: Option<Change>,
+}
+
+impl Model for Rule {
+    ghost use Rattle.trlab_rules.specs.Rules.{Programs};
+
+    ghost Value = { Programs };
+
+    ghost view = { λ rule. record { motion = rule.motion; change = rule.change } };
+}
+
+impl Rule {
+    /// The rule of a motion program and perhaps a change program.
+    pub fn new(motion: Motion, change: Option<Change>) -> Rule
+        ensures { result ≡ record { motion = motion; change = change } }
+    {
+        Rule { motion, change }
+    }
+
+    /// The program that answers each car's new speed.
+    pub fn motion(&self) -> &Motion
+        ensures { result.now ≡ self.now.motion }
+    {
+        &self.motion
+    }
+
+    /// The program that answers whether a car crosses, if there is one.
+    pub fn change(&self) -> Option<&Change>
+        ensures { option_map (λ change. change.now) result ≡ self.now.change }
+    {
+        self.change.as_ref()
+    }
+}

@@ -1,0 +1,7 @@
+pub mod NextLaws
+pub mod RunLaws
+pub mod Totals
+pub mod Parts
+pub mod Stepped
+pub mod PartLaws
+pub mod Drawn

@@ -1,0 +1,94 @@
+-- Runs under a sheet of rules for one lane: each step has a road, and one only.
+use Rattle.std.proofs.Common.{◌≡◌, ℕ, zero, suc, Bool, true, false, Option, Some, None, [], ◌∷◌, refl, sym, ◌∙◌, ap, subst, inl, inr, ◌⊎◌, arith}
+use Rattle.std.proofs.lemmas.Bool.{leb-true, le-leb}
+use Rattle.std.specs.Prelude.{All, IsSome, nat_le, unwrap_or, if◌then◌else◌}
+use Rattle.trlab_road.specs.Cells.{Cells}
+use Rattle.trlab_rules.specs.Rules.{Programs}
+use Rattle.trlab_step.specs.declared.tally.StepTally.{StepTally}
+use Rattle.trlab_step.specs.Next.{IsNext}
+use Rattle.trlab_step.specs.Run.{Seed, Sheet, in_force, no_tally, tally_sum, dice_at, RoadAt, TallyAt}
+use Rattle.trlab_step.specs.Laws.{IsOneLaneRule, IsOneLaneSheet, LegalLike, RoadExists, RoadIsOne, RunGoesOn}
+use Rattle.trlab_step.proofs.NextLaws.{next_road_exists, next_road_is_one}
+
+-- the rule in force is that of the first entry, or the one in force by the others
+of_entry : (b : Bool) (others : Option Programs) (first rule : Programs) → (if b then Some (unwrap_or others first) else None) ≡ Some rule → (first ≡ rule) ⊎ (others ≡ Some rule)
+of_entry true None first rule h = inl cc
+of_entry true (Some other) first rule h = inr h
+of_entry false others first rule h = absurd cc
+
+-- the rule in force is one of the sheet
+pub force_all : (P : Programs → Type 0) (sheet : Sheet) (step : ℕ) (rule : Programs) → All (λ (entry : ℕ × Programs). P entry.1) sheet → in_force sheet step ≡ Some rule → P rule
+force_all P [] step rule all h = absurd cc
+force_all P (entry ∷ sheet) step rule all h =
+    elim (of_entry (nat_le entry.0 step) (in_force sheet step) entry.1 rule h) [
+      | inl first ↦ subst P first (all 0 entry (omega arith))
+      | inr later ↦ force_all P sheet step rule (λ k d below. all (suc k) d (omega arith)) later
+    ]
+
+has_begun : (b : Bool) (rule : Programs) → IsSome (if b then Some rule else None) → b ≡ true
+has_begun true rule h = refl
+has_begun false rule h = absurd cc
+
+-- a sheet that begins at step 0 has a rule in force at each step
+pub some_force : (sheet : Sheet) (step : ℕ) → IsSome (in_force sheet 0) → (rule : Programs) × (in_force sheet step ≡ Some rule)
+some_force [] step h = absurd cc
+some_force (entry ∷ sheet) step h =
+    let early = leb-true entry.0 0 (has_begun (nat_le entry.0 0) (unwrap_or (in_force sheet 0) entry.1) h) in
+    (unwrap_or (in_force sheet step) entry.1, rw (le-leb entry.0 step (omega arith)) refl)
+
+-- a run goes on from its road at a step to the next road under the rule in force
+pub run_goes_on : RunGoesOn
+run_goes_on seed sheet step road next sum tally rule comes under is =
+    (road, sum, rule, tally, comes, record { under = under; next = is; counted = refl })
+
+next_like : (old middle new : Cells) → LegalLike old middle → LegalLike middle new → LegalLike old new
+next_like old middle new a b = record {
+  legal = b.legal;
+  same_lanes = b.same_lanes ∙ a.same_lanes;
+  same_limit = b.same_limit ∙ a.same_limit;
+  same_count = b.same_count ∙ a.same_count;
+}
+
+pub road_exists : RoadExists
+road_exists seed sheet zero legal is = (seed.road, no_tally, (refl, refl), record { legal = legal; same_lanes = refl; same_limit = refl; same_count = refl })
+road_exists seed sheet (suc step) legal is =
+    let before = road_exists seed sheet step legal is in
+    let rule = some_force sheet step is.from_start in
+    let lane = force_all IsOneLaneRule sheet step rule.0 is.rules rule.1 in
+    let next = next_road_exists rule.0 (dice_at seed step) before.0 lane before.3.legal in
+    let sum = if nat_le seed.warm step then tally_sum before.1 next.1 else before.1 in
+    (next.0, sum, run_goes_on seed sheet step before.0 next.0 before.1 next.1 rule.0 before.2 rule.1 next.2, next_like seed.road before.0 next.0 before.3 next.4)
+
+one_rule : {a b : Programs} → Some a ≡ Some b → a ≡ b
+one_rule h = cc
+
+pub road_is_one : RoadIsOne
+road_is_one seed sheet zero road other sum count a b = (a.0 ∙ sym b.0, a.1 ∙ sym b.1)
+road_is_one seed sheet (suc step) road other sum count a b =
+    let before = road_is_one seed sheet step a.0 b.0 a.1 b.1 a.4 b.4 in
+    let rule = one_rule (sym a.5.under ∙ b.5.under) in
+    let ruled = subst (λ (r : Programs). IsNext r (dice_at seed step) a.0 road a.3) rule a.5.next in
+    let next = subst (λ (c : Cells). IsNext b.2 (dice_at seed step) c road a.3) before.0 ruled in
+    let same = next_road_is_one b.2 (dice_at seed step) b.0 road other a.3 b.3 next b.5.next in
+    let total : StepTally → StepTally → StepTally = λ s t. if nat_le seed.warm step then tally_sum s t else s in
+    (same.0, a.5.counted ∙ ap (λ s. total s a.3) before.1 ∙ ap (total b.1) same.1 ∙ sym b.5.counted)
+
+-- a run has one road only at each step, whatever was counted
+pub road_at_is_one : (seed : Seed) (sheet : Sheet) (step : ℕ) (road other : Cells) → RoadAt seed sheet step road → RoadAt seed sheet step other → road ≡ other
+road_at_is_one seed sheet step road other a b = (road_is_one seed sheet step road other a.0 b.0 a.1 b.1).0
+
+-- a run has one sum of tallies only at each step
+pub tally_at_is_one : (seed : Seed) (sheet : Sheet) (step : ℕ) (sum count : StepTally) → TallyAt seed sheet step sum → TallyAt seed sheet step count → sum ≡ count
+tally_at_is_one seed sheet step sum count a b = (road_is_one seed sheet step a.0 b.0 sum count a.1 b.1).1
+
+-- a sheet of one rule has it in force at each step
+pub one_rule_in_force : (rule : Programs) (step : ℕ) → in_force ((0, rule) ∷ []) step ≡ Some rule
+one_rule_in_force rule step = rw (le-leb 0 step (omega arith)) refl
+
+all_of_one : (rule : Programs) → IsOneLaneRule rule → All (λ (entry : ℕ × Programs). IsOneLaneRule entry.1) ((0, rule) ∷ [])
+all_of_one rule is zero d below = is
+all_of_one rule is (suc k) d below = absurd (omega arith)
+
+-- a sheet of one rule for one lane is a sheet for one lane
+pub one_rule_sheet : (rule : Programs) → IsOneLaneRule rule → IsOneLaneSheet ((0, rule) ∷ [])
+one_rule_sheet rule is = record { from_start = refl; rules = all_of_one rule is }

@@ -1,0 +1,8 @@
+use Rattle.trlab_step.specs.Answers.{dice_of, FitsPart, SpeedsPart}
+use Rattle.trlab_step.proofs.answers.move_part.Given as goal
+
+abbrev pub invariant-loop-k : goal.invariant-loop-k
+invariant-loop-k l = record {
+  speeds : SpeedsPart l.motion (dice_of l.fn.key.0 l.number l.step) l.road l.from l.k l.speeds.items;
+  fits : FitsPart l.road l.from l.speeds.items;
+}

@@ -1,0 +1,4 @@
+pub mod Answers
+pub mod Next
+pub mod Run
+pub mod Laws

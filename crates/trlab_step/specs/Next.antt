@@ -1,0 +1,48 @@
+-- One step of a road: the sideways phase, then the motion phase, each for all cars at once.
+use Rattle.std.specs.Prelude.{◌≡◌, ℕ, Bool, Option, Some, None, sum_by, count_by, nat_eq}
+use Rattle.trlab_road.specs.declared.car.Car.{Car}
+use Rattle.trlab_road.specs.Cells.{Cells}
+use Rattle.trlab_road.specs.Standing.{standing}
+use Rattle.trlab_road.specs.Crossing.{Crosses}
+use Rattle.trlab_road.specs.Motion.{Moves}
+use Rattle.trlab_verify.specs.Checked.{Checked}
+use Rattle.trlab_rules.specs.Rules.{Programs}
+use Rattle.trlab_step.specs.declared.tally.StepTally.{StepTally}
+use Rattle.trlab_step.specs.Answers.{Dice, Speeds, Crossers}
+
+-- the sum of the speeds of a road's cars
+abbrev pub total_speed : Cells → ℕ
+total_speed road = sum_by (λ (car : Car). car.speed) (standing road)
+
+-- how many cars of a road stand
+abbrev pub stopped_cars : Cells → ℕ
+stopped_cars road = count_by (λ (car : Car). nat_eq car.speed 0) (standing road)
+
+-- how many cars of a road cross
+abbrev pub crossing_cars : (ℕ → ℕ → Bool) → Cells → ℕ
+crossing_cars crosses road = count_by (λ (car : Car). crosses car.lane car.place) (standing road)
+
+-- the sideways phase: with a change program the cars that it lets cross do so,
+-- without one no car does
+abbrev pub Sideways : Option Checked → Dice → Cells → Cells → ℕ → Type 0
+Sideways None dice road middle changes = (middle ≡ road) × (changes ≡ 0)
+Sideways (Some change) dice road middle changes =
+    (crosses : ℕ → ℕ → Bool) × Crossers change dice road crosses × Crosses crosses road middle
+    × (changes ≡ crossing_cars crosses road)
+
+-- the motion phase: each car goes ahead by the speed that its motion program answers on this very road
+abbrev pub Onward : Checked → Dice → Cells → Cells → Type 0
+Onward motion dice road next =
+    (speeds : ℕ → ℕ → ℕ) × Speeds motion dice road speeds × Moves speeds road next
+
+-- a step of a road under a rule, over the road between the two phases
+-- (Nagel and Schreckenberg 1992 for the parallel motion, Rickert and others 1996 for the lane change before it)
+pub record Step (rule : Programs) (dice : Dice) (road middle next : Cells) (tally : StepTally) : Type 0 where
+  pub sideways : Sideways rule.change dice road middle tally.changes
+  pub onward : Onward rule.motion dice middle next
+  pub distance : tally.distance ≡ total_speed next
+  pub stopped : tally.stopped ≡ stopped_cars next
+
+-- the next road under a rule, and what is counted on the way
+abbrev pub IsNext : Programs → Dice → Cells → Cells → StepTally → Type 0
+IsNext rule dice road next tally = (middle : Cells) × Step rule dice road middle next tally

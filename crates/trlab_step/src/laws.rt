@@ -1,0 +1,40 @@
+//! Laws of answers, and of steps and runs on one lane, whichever code asks the cars and moves them.
+//!
+//! Each law is the contract of a function with nothing to do.
+
+ghost use Rattle.trlab_step.specs.Laws.{NextRoadExists, NextRoadIsOne, RoadExists, RoadIsOne, RunGoesOn, SpeedsAreOne, SpeedsJoin};
+
+/// The cars of a part of the standing order have one list of speeds, and the lists of parts make up
+/// that of the whole: it is all one who asks the cars, and in which order.
+pub fn parts_make_the_whole()
+    ensures one { SpeedsAreOne }
+    ensures join { SpeedsJoin }
+{}
+
+/// Under a rule of an accepted motion program alone each legal road has a next road. It is legal,
+/// with as many lanes and cars and the same limit, and no car went onto or through another.
+pub fn next_road_exists()
+    ensures { NextRoadExists }
+{}
+
+/// Under any rule a road has one next road only, and one tally.
+pub fn next_road_is_one()
+    ensures { NextRoadIsOne }
+{}
+
+/// A run from a legal road, under a sheet of such rules that begins at step 0, comes to a legal
+/// road at each step.
+pub fn road_exists()
+    ensures { RoadExists }
+{}
+
+/// A run comes to one road only at each step, and to one sum of tallies.
+pub fn road_is_one()
+    ensures { RoadIsOne }
+{}
+
+/// A run that has come to a road goes on to its next road under the rule in force, whose tally is
+/// added from the step on where the count begins.
+pub fn run_goes_on()
+    ensures { RunGoesOn }
+{}

@@ -1,0 +1,17 @@
+//! One step of a road under a rule.
+#![tactic(auto)]
+
+mod answers;
+mod fault;
+pub mod laws;
+mod phases;
+mod step;
+mod tally;
+#[cfg(test)]
+mod tests;
+
+pub use answers::move_part;
+pub use fault::StepFault;
+pub use phases::commit_motion;
+pub use step::step_road;
+pub use tally::StepTally;

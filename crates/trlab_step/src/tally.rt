@@ -1,0 +1,34 @@
+//! What is counted in a step.
+
+ghost use Rattle.std.specs.Prelude.{◌≡◌, ◌<◌, ◌^◌, count_by, length, nat_eq, sum};
+
+/// What is counted in a step, or summed over several.
+#[derive(Clone, Copy, Debug, PartialEq, Eq)]
+pub struct StepTally {
+    /// The cells that all cars went: the sum of their new speeds.
+    pub distance: u64,
+    /// The cars whose new speed is 0.
+    pub stopped: u64,
+    /// The cars that crossed to the other lane.
+    pub changes: u64,
+}
+
+/// The tally of the cars' new speeds, where no car crossed.
+pub fn tally_of(speeds: &[u32]) -> StepTally
+    requires { length speeds.now < 2 ^ 32 }
+    ensures distance { result.distance ≡ sum speeds.now }
+    ensures stopped { result.stopped ≡ count_by (λ speed. nat_eq speed 0) speeds.now }
+    ensures changes { result.changes ≡ 0 }
+{
+    let mut distance = 0;
+    let mut stopped = 0;
+    for speed in speeds {
+        distance += u64::from(*speed);
+        stopped += u64::from(*speed == 0);
+    }
+    StepTally {
+        distance,
+        stopped,
+        changes: 0,
+    }
+}
