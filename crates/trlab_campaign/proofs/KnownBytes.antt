@@ -1,0 +1,52 @@
+-- Known bytes over several calls.
+use Rattle.std.proofs.Common.{ℕ, ◌+◌, ◌≤◌, List, [], ◌++◌, length, take, drop, refl, arith, append_assoc, sym, ◌∙◌, ap, length-append, append-nil, take-add, subst}
+use Rattle.std.proofs.Math.Seq.{take-length}
+use Rattle.std.specs.Prelude.{Option, None, Some, IfSome}
+use Rattle.std.specs.Io.KnownBytes.{Appends, Consumes, Keeps}
+use Rattle.trlab_campaign.specs.Device.{AppendsFront}
+
+pub consumes_none : (a : Option (List ℕ)) → Consumes a a []
+consumes_none None = tt
+consumes_none (Some xs) = refl
+
+pub consumes_more : (a b c : Option (List ℕ)) (xs ys : List ℕ) → Consumes a b xs → Consumes b c ys → Consumes a c (xs ++ ys)
+consumes_more None b c xs ys p q = tt
+consumes_more (Some x) None c xs ys p q = absurd p
+consumes_more (Some x) (Some y) None xs ys p q = absurd q
+consumes_more (Some x) (Some y) (Some z) xs ys p q = p ∙ ap (λ t. xs ++ t) q ∙ sym (append_assoc xs ys z)
+
+-- a call that left the bytes as they were
+pub consumes_kept : (a b c : Option (List ℕ)) (xs : List ℕ) → Consumes a b xs → Keeps b c → Consumes a c xs
+consumes_kept None b c xs p q = tt
+consumes_kept (Some x) None c xs p q = absurd p
+consumes_kept (Some x) (Some y) None xs p q = absurd q
+consumes_kept (Some x) (Some y) (Some z) xs p q = p ∙ ap (λ t. xs ++ t) (sym q)
+
+-- so many bytes were there
+pub consumes_length : (a b : Option (List ℕ)) (xs : List ℕ) → Consumes a b xs → IfSome a (λ all. length xs ≤ length all)
+consumes_length None b xs p = tt
+consumes_length (Some x) None xs p = absurd p
+consumes_length (Some x) (Some y) xs p = omega (arith, ap length p, length-append xs y)
+
+pub appends_none : (a : Option (List ℕ)) → Appends a a []
+appends_none None = tt
+appends_none (Some xs) = sym (append-nil xs)
+
+pub appends_more : (a b c : Option (List ℕ)) (xs ys : List ℕ) → Appends a b xs → Appends b c ys → Appends a c (xs ++ ys)
+appends_more None b c xs ys p q = tt
+appends_more (Some x) None c xs ys p q = absurd p
+appends_more (Some x) (Some y) None xs ys p q = absurd q
+appends_more (Some x) (Some y) (Some z) xs ys p q = q ∙ ap (λ t. t ++ ys) p ∙ append_assoc x xs ys
+
+pub appends_kept : (a b c : Option (List ℕ)) (xs : List ℕ) → Appends a b xs → Keeps b c → Appends a c xs
+appends_kept None b c xs p q = tt
+appends_kept (Some x) None c xs p q = absurd p
+appends_kept (Some x) (Some y) None xs p q = absurd q
+appends_kept (Some x) (Some y) (Some z) xs p q = q ∙ p
+
+-- of a text whose first `done` bytes are there, `count` more
+pub appends_part : (a b c : Option (List ℕ)) (text : List ℕ) (done count : ℕ) → Appends a b (take done text) → Appends b c (take count (drop done text)) → Appends a c (take (done + count) text)
+appends_part a b c text done count p q = rw (take-add done count text) (appends_more a b c (take done text) (take count (drop done text)) p q)
+
+pub front_kept : (a b c : Option (List ℕ)) (text : List ℕ) → Appends a b text → Keeps b c → AppendsFront a c text
+front_kept a b c text p q = record { count = length text; front = subst (λ (t : List ℕ). Appends a c t) (sym (take-length text)) (appends_kept a b c text p q) }

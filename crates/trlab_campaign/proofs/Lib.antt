@@ -1,0 +1,13 @@
+pub mod Cuts
+pub mod KnownBytes
+pub mod Numbers
+pub mod Owed
+pub mod Readings
+pub mod JobLines
+pub mod Running
+pub mod Endings
+pub mod OneReading
+pub mod OneLanes
+pub mod OneCode
+pub mod OneText
+pub mod Said

@@ -1,0 +1,42 @@
+-- Rules and readings that say one thing only.
+use Rattle.std.proofs.Common.{◌≡◌, ℕ, List, [], ◌∷◌, sym, ◌∙◌, ap, subst}
+use Rattle.std.specs.Prelude.{Result, Ok, Err}
+use Rattle.trlab_campaign.specs.declared.fault.Cause.{Cause}
+use Rattle.trlab_campaign.specs.Lines.{Place}
+use Rattle.trlab_campaign.specs.Reading.{Fault, Rule, Reading, said, After, ◌>>=◌, in_line, NextLine, line, no_more, exactly}
+
+-- a rule by which a line says one thing
+abbrev pub OneRule : {A : Type 0} → Rule A → Type 0
+OneRule {A} rule = (text : List ℕ) (a b : Result A Cause) → rule text a → rule text b → a ≡ b
+
+-- a reading by which lines say one thing
+abbrev pub OneReading : {A : Type 0} → Reading A → Type 0
+OneReading {A} reading = (place : Place) (a b : Result (A × Place) Fault) → reading place a → reading place b → a ≡ b
+
+pub exactly_one : {A : Type 0} (rule : List ℕ → Result A Cause) → OneRule (exactly rule)
+exactly_one rule text a b p q = p ∙ sym q
+
+next_one : {A : Type 0} (rule : Rule A) (number : ℕ) (left : List (List ℕ)) (a b : Result (A × Place) Fault) → OneRule rule
+    → NextLine rule number left a → NextLine rule number left b → a ≡ b
+next_one rule number [] a b one p q = p ∙ sym q
+next_one rule number (text ∷ left) a b one p q = p.1.1 ∙ ap (in_line number left) (one text p.0 q.0 p.1.0 q.1.0) ∙ sym q.1.1
+
+pub line_one : {A : Type 0} (rule : Rule A) → OneRule rule → OneReading (line rule)
+line_one rule one place a b p q = next_one rule place.number place.left a b one p q
+
+after_one : {A B : Type 0} (next : A → Reading B) (found : Result (A × Place) Fault) (a b : Result (B × Place) Fault) → ((x : A) → OneReading (next x))
+    → After next found a → After next found b → a ≡ b
+after_one next (Ok found) a b ones p q = ones found.0 found.1 a b p q
+after_one next (Err fault) a b ones p q = p ∙ sym q
+
+pub then_one : {A B : Type 0} (first : Reading A) (next : A → Reading B) → OneReading first → ((x : A) → OneReading (next x)) → OneReading (first >>= next)
+then_one {A} {B} first next one ones place a b p q =
+    let same = one place p.0 q.0 p.1.0 q.1.0 in
+    let rest = subst (λ (found : Result (A × Place) Fault). After next found a) same p.1.1 in
+    after_one next q.0 a b ones rest q.1.1
+
+pub said_one : {A : Type 0} (x : A) → OneReading (said x)
+said_one x place a b p q = p ∙ sym q
+
+pub no_more_one : OneReading no_more
+no_more_one place a b p q = p ∙ sym q

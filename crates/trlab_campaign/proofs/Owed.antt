@@ -1,0 +1,42 @@
+-- A text that is written piece by piece.
+use Rattle.std.proofs.Common.{ℕ, List, [], ◌++◌, length, take, drop, refl, append_assoc, append-nil, sym, ◌∙◌, ap, subst}
+use Rattle.std.proofs.Math.Seq.{take-append_seam}
+use Rattle.std.proofs.lemmas.List.{take-append-drop}
+use Rattle.std.specs.Prelude.{Option}
+use Rattle.std.specs.Io.KnownBytes.{Appends, Keeps}
+use Rattle.trlab_campaign.specs.Device.{AppendsFront, Owes}
+use Rattle.trlab_campaign.proofs.KnownBytes.{appends_none, appends_more, appends_kept}
+
+-- before the first piece
+pub owes_all : (whole : List ℕ) (old : Option (List ℕ)) → Owes whole whole old old
+owes_all whole old = record { done = []; parts = refl; wrote = appends_none old }
+
+-- after a piece
+pub owes_less : (whole next rest : List ℕ) (old a b : Option (List ℕ)) → Owes whole (next ++ rest) old a → Appends a b next → Owes whole rest old b
+owes_less whole next rest old a b owes wrote = record {
+  done = owes.done ++ next;
+  parts = owes.parts ∙ sym (append_assoc owes.done next rest);
+  wrote = appends_more old a b owes.done next owes.wrote wrote;
+}
+
+-- where it stops, a front was written
+pub owes_stop : (whole rest : List ℕ) (old a : Option (List ℕ)) → Owes whole rest old a → AppendsFront old a whole
+owes_stop whole rest old a owes =
+    record { count = length owes.done; front = subst (λ (t : List ℕ). Appends old a t) (sym (ap (take (length owes.done)) owes.parts ∙ take-append_seam owes.done rest)) owes.wrote }
+
+-- where it stops within a piece
+pub owes_front : (whole next rest : List ℕ) (old a b : Option (List ℕ)) → Owes whole (next ++ rest) old a → AppendsFront a b next → AppendsFront old b whole
+owes_front whole next rest old a b owes front =
+    owes_stop whole (drop front.count next ++ rest) old b (record {
+      done = owes.done ++ take front.count next;
+      parts = owes.parts ∙ ap (λ t. owes.done ++ t) (ap (λ t. t ++ rest) (sym (take-append-drop front.count next)) ∙ append_assoc (take front.count next) (drop front.count next) rest) ∙ sym (append_assoc owes.done (take front.count next) (drop front.count next ++ rest));
+      wrote = appends_more old a b owes.done (take front.count next) owes.wrote front.front;
+    })
+
+-- where nothing is owed, all was written
+pub owes_none : (whole : List ℕ) (old a : Option (List ℕ)) → Owes whole [] old a → Appends old a whole
+owes_none whole old a owes = subst (λ (t : List ℕ). Appends old a t) (sym (owes.parts ∙ append-nil owes.done)) owes.wrote
+
+-- the last call kept the bytes
+pub owes_kept : (whole : List ℕ) (old a b : Option (List ℕ)) → Owes whole [] old a → Keeps a b → Appends old b whole
+owes_kept whole old a b owes keeps = appends_kept old a b whole (owes_none whole old a owes) keeps

@@ -1,0 +1,14 @@
+use Rattle.std.proofs.Common.{◌≡◌, ◌≤◌, ◌+◌, ◌-◌, false, vec_len}
+use Rattle.std.specs.Io.KnownBytes.{Consumes}
+use Rattle.trlab_campaign.specs.declared.text.TheConstants.{TEXT_LIMIT}
+use Rattle.trlab_campaign.proofs.device.whole.read_text.Given as goal
+
+abbrev pub invariant-loop-piece : goal.invariant-loop-piece
+invariant-loop-piece g l = record {
+  read : Consumes (g.S.Source.left l.fn.reader) (g.S.Source.left l.reader) l.text.items;
+  small : vec_len l.text ≤ TEXT_LIMIT + 1;
+  works : g.S.Source.failed l.reader ≡ false;
+}
+
+abbrev pub decreases-loop-piece : goal.decreases-loop-piece
+decreases-loop-piece g l = TEXT_LIMIT + 1 - vec_len l.text

@@ -1,0 +1,84 @@
+use Rattle.std.proofs.Common.{◌≡◌, [], arith}
+use Rattle.std.proofs.lemmas.Grind.{common_steps}
+use Rattle.std.specs.Prelude.{Ok, Err}
+use Rattle.trlab_campaign.specs.Lines.{Place}
+use Rattle.trlab_campaign.specs.Reading.{line, exactly, no_more}
+use Rattle.trlab_campaign.specs.Job.{Job, road_line, key_line, limit_line, lanes, rule, steps_line}
+use Rattle.trlab_campaign.proofs.JobLines.{after_road, after_key, after_limit, after_lanes, after_rule, after_steps, after_all, stops, behind_road, behind_key, behind_limit, behind_lanes, behind_rule, behind_steps, behind_all, lines_say, lines_fail}
+use Rattle.trlab_campaign.proofs.job.read_lines.Goals as goal
+
+pub returns-in_err-place-clause-told : goal.returns-in_err-place-clause-told
+returns-in_err-place-clause-told c =
+    let fault : c.from_residual.result ≡ Err c.in_err-place.field-0.0 = grind (arith, common_steps) in
+    rw fault (lines_fail c.args.text.now c.start.result c.in_err-place.field-0.0 c.start.ensures
+    (stops (line (exactly road_line)) (λ _. after_road) c.start.result c.in_err-place.field-0.0 c.in_err-place.ensures))
+
+pub returns-in_err-key-clause-told : goal.returns-in_err-key-clause-told
+returns-in_err-key-clause-told c =
+    let fault : c.from_residual-in_err-key.result ≡ Err c.in_err-key.field-0.0 = grind (arith, common_steps) in
+    rw fault (lines_fail c.args.text.now c.start.result c.in_err-key.field-0.0 c.start.ensures
+    (behind_road c.start.result c.in_ok-place.place (Err c.in_err-key.field-0.0) c.in_ok-place.ensures
+    (stops (line (exactly key_line)) after_key c.in_ok-place.place c.in_err-key.field-0.0 c.in_err-key.ensures)))
+
+pub returns-in_err-limit-clause-told : goal.returns-in_err-limit-clause-told
+returns-in_err-limit-clause-told c =
+    let fault : c.from_residual-in_err-limit.result ≡ Err c.in_err-limit.field-0.0 = grind (arith, common_steps) in
+    rw fault (lines_fail c.args.text.now c.start.result c.in_err-limit.field-0.0 c.start.ensures
+    (behind_road c.start.result c.in_ok-place.place (Err c.in_err-limit.field-0.0) c.in_ok-place.ensures
+    (behind_key c.in_ok-key.key c.in_ok-place.place c.in_ok-key.place (Err c.in_err-limit.field-0.0) c.in_ok-key.ensures
+    (stops (line (exactly limit_line)) (after_limit c.in_ok-key.key) c.in_ok-key.place c.in_err-limit.field-0.0 c.in_err-limit.ensures))))
+
+pub returns-in_err-road-clause-told : goal.returns-in_err-road-clause-told
+returns-in_err-road-clause-told c =
+    let fault : c.from_residual-in_err-road.result ≡ Err c.in_err-road.field-0.0 = grind (arith, common_steps) in
+    rw fault (lines_fail c.args.text.now c.start.result c.in_err-road.field-0.0 c.start.ensures
+    (behind_road c.start.result c.in_ok-place.place (Err c.in_err-road.field-0.0) c.in_ok-place.ensures
+    (behind_key c.in_ok-key.key c.in_ok-place.place c.in_ok-key.place (Err c.in_err-road.field-0.0) c.in_ok-key.ensures
+    (behind_limit c.in_ok-key.key c.in_ok-limit.limit c.in_ok-key.place c.in_ok-limit.place (Err c.in_err-road.field-0.0) c.in_ok-limit.ensures
+    (stops (lanes c.in_ok-limit.limit) (after_lanes c.in_ok-key.key) c.in_ok-limit.place c.in_err-road.field-0.0 c.in_err-road.ensures.told)))))
+
+pub returns-in_err-first-clause-told : goal.returns-in_err-first-clause-told
+returns-in_err-first-clause-told c =
+    let fault : c.from_residual-in_err-first.result ≡ Err c.in_err-first.field-0.0 = grind (arith, common_steps) in
+    rw fault (lines_fail c.args.text.now c.start.result c.in_err-first.field-0.0 c.start.ensures
+    (behind_road c.start.result c.in_ok-place.place (Err c.in_err-first.field-0.0) c.in_ok-place.ensures
+    (behind_key c.in_ok-key.key c.in_ok-place.place c.in_ok-key.place (Err c.in_err-first.field-0.0) c.in_ok-key.ensures
+    (behind_limit c.in_ok-key.key c.in_ok-limit.limit c.in_ok-key.place c.in_ok-limit.place (Err c.in_err-first.field-0.0) c.in_ok-limit.ensures
+    (behind_lanes c.in_ok-key.key c.in_ok-limit.limit c.in_ok-road.road c.in_ok-limit.place c.in_ok-road.place (Err c.in_err-first.field-0.0) c.in_ok-road.ensures.told
+    (stops rule (after_rule c.in_ok-key.key c.in_ok-road.road) c.in_ok-road.place c.in_err-first.field-0.0 c.in_err-first.ensures.told))))))
+
+pub returns-in_err-steps-clause-told : goal.returns-in_err-steps-clause-told
+returns-in_err-steps-clause-told c =
+    let fault : c.from_residual-in_err-steps.result ≡ Err c.in_err-steps.field-0.0 = grind (arith, common_steps) in
+    rw fault (lines_fail c.args.text.now c.start.result c.in_err-steps.field-0.0 c.start.ensures
+    (behind_road c.start.result c.in_ok-place.place (Err c.in_err-steps.field-0.0) c.in_ok-place.ensures
+    (behind_key c.in_ok-key.key c.in_ok-place.place c.in_ok-key.place (Err c.in_err-steps.field-0.0) c.in_ok-key.ensures
+    (behind_limit c.in_ok-key.key c.in_ok-limit.limit c.in_ok-key.place c.in_ok-limit.place (Err c.in_err-steps.field-0.0) c.in_ok-limit.ensures
+    (behind_lanes c.in_ok-key.key c.in_ok-limit.limit c.in_ok-road.road c.in_ok-limit.place c.in_ok-road.place (Err c.in_err-steps.field-0.0) c.in_ok-road.ensures.told
+    (behind_rule c.in_ok-key.key c.in_ok-road.road c.in_ok-first.first c.in_ok-road.place c.in_ok-first.place (Err c.in_err-steps.field-0.0) c.in_ok-first.ensures.told
+    (stops (line (exactly steps_line)) (after_steps c.in_ok-key.key c.in_ok-road.road c.in_ok-first.first) c.in_ok-first.place c.in_err-steps.field-0.0 c.in_err-steps.ensures)))))))
+
+pub returns-in_err-no_more-clause-told : goal.returns-in_err-no_more-clause-told
+returns-in_err-no_more-clause-told c =
+    let fault : c.from_residual-in_err-no_more.result ≡ Err c.in_err-no_more.field-0.0 = grind (arith, common_steps) in
+    rw fault (lines_fail c.args.text.now c.start.result c.in_err-no_more.field-0.0 c.start.ensures
+    (behind_road c.start.result c.in_ok-place.place (Err c.in_err-no_more.field-0.0) c.in_ok-place.ensures
+    (behind_key c.in_ok-key.key c.in_ok-place.place c.in_ok-key.place (Err c.in_err-no_more.field-0.0) c.in_ok-key.ensures
+    (behind_limit c.in_ok-key.key c.in_ok-limit.limit c.in_ok-key.place c.in_ok-limit.place (Err c.in_err-no_more.field-0.0) c.in_ok-limit.ensures
+    (behind_lanes c.in_ok-key.key c.in_ok-limit.limit c.in_ok-road.road c.in_ok-limit.place c.in_ok-road.place (Err c.in_err-no_more.field-0.0) c.in_ok-road.ensures.told
+    (behind_rule c.in_ok-key.key c.in_ok-road.road c.in_ok-first.first c.in_ok-road.place c.in_ok-first.place (Err c.in_err-no_more.field-0.0) c.in_ok-first.ensures.told
+    (behind_steps c.in_ok-key.key c.in_ok-road.road c.in_ok-first.first c.in_ok-steps.steps c.in_ok-first.place c.in_ok-steps.place (Err c.in_err-no_more.field-0.0) c.in_ok-steps.ensures
+    (stops no_more (after_all c.in_ok-key.key c.in_ok-road.road c.in_ok-first.first c.in_ok-steps.steps) c.in_ok-steps.place c.in_err-no_more.field-0.0 c.in_err-no_more.ensures))))))))
+
+pub returns-clause-told : goal.returns-clause-told
+returns-clause-told c =
+    let after : Place = c.in_ok-no_more.field-0.1 in
+    let said : Job = record { key = c.in_ok-key.key; road = c.in_ok-road.road; first = c.in_ok-first.first; later = []; steps = c.in_ok-steps.steps } in
+    rw c.new.ensures.items (lines_say c.args.text.now c.start.result after said c.start.ensures
+    (behind_road c.start.result c.in_ok-place.place (Ok (said, after)) c.in_ok-place.ensures
+    (behind_key c.in_ok-key.key c.in_ok-place.place c.in_ok-key.place (Ok (said, after)) c.in_ok-key.ensures
+    (behind_limit c.in_ok-key.key c.in_ok-limit.limit c.in_ok-key.place c.in_ok-limit.place (Ok (said, after)) c.in_ok-limit.ensures
+    (behind_lanes c.in_ok-key.key c.in_ok-limit.limit c.in_ok-road.road c.in_ok-limit.place c.in_ok-road.place (Ok (said, after)) c.in_ok-road.ensures.told
+    (behind_rule c.in_ok-key.key c.in_ok-road.road c.in_ok-first.first c.in_ok-road.place c.in_ok-first.place (Ok (said, after)) c.in_ok-first.ensures.told
+    (behind_steps c.in_ok-key.key c.in_ok-road.road c.in_ok-first.first c.in_ok-steps.steps c.in_ok-first.place c.in_ok-steps.place (Ok (said, after)) c.in_ok-steps.ensures
+    (behind_all c.in_ok-key.key c.in_ok-road.road c.in_ok-first.first c.in_ok-steps.steps c.in_ok-steps.place after c.in_ok-no_more.ensures))))))))

@@ -1,0 +1,47 @@
+use Rattle.std.proofs.Common.{◌≡◌, ◌+◌, ◌-◌, arith}
+use Rattle.std.proofs.lemmas.Grind.{common_steps}
+use Rattle.std.specs.Prelude.{Err}
+use Rattle.trlab_campaign.specs.Plain.{said_by}
+use Rattle.trlab_campaign.specs.declared.run.pictures.WriteFault.TheVariants.{Memory}
+use Rattle.trlab_campaign.proofs.Running.{begin, wrote, went_on, stop_within, stop_behind, last_whole, last_front}
+use Rattle.trlab_campaign.proofs.run.pictures.write_pictures.Goals as goal
+
+pub loop-step-init : goal.loop-step-init
+loop-step-init g c =
+    let all : c.args.job.steps - 0 ≡ c.args.job.steps = omega arith in
+    record { underway = rw all (begin (said_by c.args.job) _ c.requires.plain); works = c.requires.works }
+
+pub returns-in_err-write_step-clause-front : goal.returns-in_err-write_step-clause-front
+returns-in_err-write_step-clause-front g c =
+    let fault : c.from_residual.result ≡ Err c.in_err-write_step.field-0.0 = grind (arith, common_steps) in
+    rw fault (stop_within (said_by c.args.job) c.loop-step.step _ _ _ _ _ c.loop-step.invariant.underway c.in_err-write_step.ensures.front)
+
+pub returns-in_err-road-clause-front : goal.returns-in_err-road-clause-front
+returns-in_err-road-clause-front g c =
+    let fault : c.from_residual-in_err-road.result ≡ Err Memory = grind (arith, common_steps) in
+    let written = wrote (said_by c.args.job) c.loop-step.step (c.args.job.steps - c.loop-step.step) _ _ _ _ c.loop-step.invariant.underway c.in_ok-write_step.ensures.whole in
+    rw fault (stop_behind (said_by c.args.job) c.loop-step.step _ _ _ _ written)
+
+pub loop-step-preserved : goal.loop-step-preserved
+loop-step-preserved g c =
+    let left : c.args.job.steps - c.loop-step.step ≡ c.args.job.steps - (c.loop-step.step + 1) + 1 = omega arith in
+    let underway = rw left at c.loop-step.invariant.underway in
+    let written = wrote (said_by c.args.job) c.loop-step.step (c.args.job.steps - (c.loop-step.step + 1) + 1) _ _ _ _ underway c.in_ok-write_step.ensures.whole in
+    record {
+      underway = went_on (said_by c.args.job) c.loop-step.step _ _ _ c.in_ok-road.ensures.0 _ _ written c.in_ok-road.ensures.1;
+      works = c.in_ok-write_step.ensures.works;
+    }
+
+pub returns-clause-whole : goal.returns-clause-whole
+returns-clause-whole g c =
+    let last : c.loop-step.step ≡ c.args.job.steps = omega arith in
+    let left : c.args.job.steps - c.loop-step.step ≡ 0 = omega arith in
+    let underway = rw (left, last) at c.loop-step.invariant.underway in
+    last_whole c.write_step-2.result (said_by c.args.job) c.args.job.steps _ _ _ _ underway c.write_step-2.ensures.whole
+
+pub returns-clause-front : goal.returns-clause-front
+returns-clause-front g c =
+    let last : c.loop-step.step ≡ c.args.job.steps = omega arith in
+    let left : c.args.job.steps - c.loop-step.step ≡ 0 = omega arith in
+    let underway = rw (left, last) at c.loop-step.invariant.underway in
+    last_front c.write_step-2.result (said_by c.args.job) c.args.job.steps _ _ _ _ underway c.write_step-2.ensures.front

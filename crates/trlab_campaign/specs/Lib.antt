@@ -1,0 +1,10 @@
+pub mod Lines
+pub mod Words
+pub mod Reading
+pub mod Job
+pub mod Plain
+pub mod Device
+pub mod Watched
+pub mod Output
+pub mod Ending
+pub mod Laws

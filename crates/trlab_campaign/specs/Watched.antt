@@ -1,0 +1,11 @@
+-- Readers and writers of std that remember a failure.
+use Rattle.std.specs.Prelude.{Bool}
+use Rattle.trlab_campaign.specs.declared.device.watched.Watched.{Watched}
+
+-- the reader or writer
+abbrev pub inner_of : {X : Type 0} → Watched X → X
+inner_of watched = watched.inner
+
+-- whether a call of it has failed
+abbrev pub has_failed : {X : Type 0} → Watched X → Bool
+has_failed watched = watched.failed

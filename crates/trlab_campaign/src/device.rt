@@ -1,0 +1,50 @@
+//! What a text is read from, and what one is written to.
+
+mod watched;
+mod whole;
+
+ghost use Rattle.std.specs.Prelude.{◌≡◌, ℕ, ◌≤◌, ◌<◌, ◌||◌, List, length, Option, Bool, IfOk, is_err};
+ghost use Rattle.std.specs.Io.KnownBytes.{ReadConsumes, WriteAppends, Keeps};
+
+use thiserror::Error;
+pub use watched::Watched;
+pub use whole::{ReadFault, read_text, write_last, write_text};
+
+/// A call of a reader or a writer has failed.
+#[derive(Clone, Copy, Debug, PartialEq, Eq, Error)]
+#[error("a device failed")]
+pub struct DeviceError;
+
+/// What a text is read from.
+pub trait Source {
+    // The bytes that are left to read, where they are told.
+    ghost left: { Self → Option (List ℕ) };
+    // Whether a call has failed.
+    ghost failed: { Self → Bool };
+
+    /// Reads into the front of the buffer, and answers how many bytes; none only at the end.
+    fn take(&mut self, buffer: &mut [u8]) -> Result<usize, DeviceError>
+        ensures count { IfOk result (λ n. n ≤ length buffer.new) }
+        ensures bytes { ReadConsumes (left self.old) (left self.new) result buffer.new }
+        ensures fails { failed self.new ≡ (failed self.old || is_err result) };
+}
+
+/// What a text is written to.
+pub trait Sink {
+    // The bytes that were written, where they are told.
+    ghost written: { Self → Option (List ℕ) };
+    // Whether a call has failed.
+    ghost failed: { Self → Bool };
+
+    /// Writes a front of the bytes, and answers how many; at least one where there is one.
+    fn put(&mut self, bytes: &[u8]) -> Result<usize, DeviceError>
+        ensures count { IfOk result (λ n. n ≤ length bytes.now) }
+        ensures some { IfOk result (λ n. 0 < length bytes.now → 0 < n) }
+        ensures bytes { WriteAppends (written self.old) (written self.new) result bytes.now }
+        ensures fails { failed self.new ≡ (failed self.old || is_err result) };
+
+    /// Hands on what was written.
+    fn flush(&mut self) -> Result<(), DeviceError>
+        ensures bytes { Keeps (written self.old) (written self.new) }
+        ensures fails { failed self.new ≡ (failed self.old || is_err result) };
+}

@@ -1,0 +1,89 @@
+//! Readers and writers of std that remember a failure.
+
+ghost use Rattle.std.specs.Prelude.{◌≡◌, false};
+
+use crate::device::{DeviceError, Sink, Source};
+use std::io::{Read, Write};
+
+/// A reader or a writer, and whether a call of it has failed.
+#[derive(Drop)]
+pub struct Watched<X> {
+    inner: X,
+    failed: bool,
+}
+
+impl<X> Watched<X> {
+    ghost use Rattle.trlab_campaign.specs.Watched.{inner_of, has_failed};
+
+    /// One that has not failed.
+    pub fn new(inner: X) -> Watched<X>
+        ensures inner { inner_of result ≡ inner }
+        ensures fresh { has_failed result ≡ false }
+    {
+        Watched {
+            inner,
+            failed: false,
+        }
+    }
+
+    /// What was watched.
+    pub fn into_inner(self) -> X
+        ensures { result ≡ inner_of self }
+    {
+        let Watched { inner, .. } = self;
+        inner
+    }
+}
+
+impl<X: Read> Source for Watched<X> {
+    ghost use Rattle.trlab_campaign.specs.Watched.{inner_of, has_failed};
+
+    ghost left = { λ watched. X.remaining (inner_of watched) };
+
+    ghost failed = { has_failed };
+
+    fn take(&mut self, buffer: &mut [u8]) -> Result<usize, DeviceError> {
+        match self.inner.read(buffer) {
+            Ok(count) => Ok(count),
+            Err(_) => {
+                self.failed = true;
+                Err(DeviceError)
+            }
+        }
+    }
+}
+
+impl<X: Write> Sink for Watched<X> {
+    ghost use Rattle.trlab_campaign.specs.Watched.{inner_of, has_failed};
+
+    ghost written = { λ watched. X.contents (inner_of watched) };
+
+    ghost failed = { has_failed };
+
+    fn put(&mut self, bytes: &[u8]) -> Result<usize, DeviceError> {
+        match self.inner.write(bytes) {
+            Ok(count) => {
+                // A writer that takes nothing would be asked for ever.
+                if count == 0 && !bytes.is_empty() {
+                    self.failed = true;
+                    return Err(DeviceError);
+                }
+                Ok(count)
+            }
+            Err(_) => {
+                self.failed = true;
+                Err(DeviceError)
+            }
+        }
+    }
+
+    fn flush(&mut self) -> Result<(), DeviceError> {
+        match self.inner.flush() {
+            Ok(()) => Ok(()),
+            Err(_) => {
+                self.failed = true;
+                Err(DeviceError)
+            }
+        }
+    }
+}

@@ -1,0 +1,89 @@
+//! Whole texts, read and written.
+
+ghost use Rattle.std.specs.Prelude.{◌≡◌, ◌+◌, ◌≤◌, ◌<◌, ◌||◌, ◌↔◌, length, false, true, IfOk, OnOk, OnErr, IfErr, IfSome, is_err};
+ghost use Rattle.std.specs.Io.KnownBytes.{Appends, Consumes, IsAtEnd};
+ghost use Rattle.trlab_campaign.specs.Device.{AppendsFront, ConsumesUpTo};
+ghost use Rattle.trlab_campaign.specs.declared.device.whole.ReadFault.TheVariants.{Device, TooBig};
+
+use crate::device::{DeviceError, Sink, Source};
+use crate::text::TEXT_LIMIT;
+use std::alloc::Global;
+use thiserror::Error;
+
+/// Why a text was not read.
+#[derive(Clone, Copy, Debug, PartialEq, Eq, Error)]
+pub enum ReadFault {
+    /// One byte more has come than a text may have.
+    #[error("the text is too long")]
+    TooBig,
+    #[error("out of memory")]
+    Memory,
+    #[error("the reader failed")]
+    Device,
+}
+
+/// Reads a text to its end, of which at most one byte more is taken than a text may have.
+#[tactic(auto, using(crate::proofs::KnownBytes::consumes_more, crate::proofs::KnownBytes::consumes_kept, crate::proofs::KnownBytes::consumes_length, crate::proofs::KnownBytes::consumes_none))]
+pub fn read_text<S: Source>(alloc: Global, reader: &mut S) -> Result<Vec<u8>, ReadFault>
+    requires { S.failed reader.old ≡ false }
+    ensures text { IfOk result
+        (λ text. Consumes (S.left reader.old) (S.left reader.new) text.items) }
+    ensures small { IfOk result (λ text. length text.items ≤ TEXT_LIMIT) }
+    ensures whole { OnOk result (IsAtEnd (S.left reader.new)) }
+    ensures big { IfErr result (λ fault. fault ≡ TooBig
+        → IfSome (S.left reader.old) (λ all. TEXT_LIMIT < length all)) }
+    ensures read { ConsumesUpTo (TEXT_LIMIT + 1) (S.left reader.old) (S.left reader.new) }
+    ensures fails { IfErr result (λ fault. (S.failed reader.new ≡ true) ↔ (fault ≡ Device)) }
+    ensures works { OnOk result (S.failed reader.new ≡ false) }
+{
+    let mut text = Vec::new(alloc);
+    let mut piece = [0u8; 4096];
+    while text.len() <= TEXT_LIMIT {
+        let room = (TEXT_LIMIT + 1 - text.len()).min(4096);
+        let count = match reader.take(&mut piece[..room]) {
+            Ok(count) => count,
+            Err(DeviceError) => return Err(ReadFault::Device),
+        };
+        if count == 0 {
+            return Ok(text);
+        }
+        if text.extend_from_slice(&piece[..count]).is_err() {
+            return Err(ReadFault::Memory);
+        }
+    }
+    Err(ReadFault::TooBig)
+}
+
+/// Writes a whole text.
+#[tactic(auto, using(crate::proofs::KnownBytes::appends_part))]
+pub fn write_text<K: Sink>(writer: &mut K, text: &[u8]) -> Result<(), DeviceError>
+    ensures whole { OnOk result
+        (Appends (K.written writer.old) (K.written writer.new) text.now) }
+    ensures front { OnErr result
+        (AppendsFront (K.written writer.old) (K.written writer.new) text.now) }
+    ensures fails { K.failed writer.new ≡ (K.failed writer.old || is_err result) }
+{
+    let mut done = 0;
+    while done < text.len() {
+        let (_, rest) = text.split_at(done);
+        let count = writer.put(rest)?;
+        done += count;
+    }
+    Ok(())
+}
+
+/// Writes a whole text, and hands it on.
+#[tactic(auto, using(crate::proofs::KnownBytes::appends_kept, crate::proofs::KnownBytes::front_kept))]
+pub fn write_last<K: Sink>(writer: &mut K, text: &[u8]) -> Result<(), DeviceError>
+    ensures whole { OnOk result
+        (Appends (K.written writer.old) (K.written writer.new) text.now) }
+    ensures front { OnErr result
+        (AppendsFront (K.written writer.old) (K.written writer.new) text.now) }
+    ensures fails { K.failed writer.new ≡ (K.failed writer.old || is_err result) }
+{
+    write_text(writer, text)?;
+    match writer.flush() {
+        Ok(()) => Ok(()),
+        Err(DeviceError) => Err(DeviceError),
+    }
+}

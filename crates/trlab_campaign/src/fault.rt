@@ -1,0 +1,120 @@
+//! What is wrong with a text.
+
+ghost use Rattle.std.specs.Prelude.{◌≡◌};
+ghost use Rattle.trlab_campaign.specs.Reading.{fault_at};
+ghost use Rattle.trlab_campaign.specs.Output.{cause_number, code_fault_number, road_fault_number};
+
+use thiserror::Error;
+use trlab_code::CodeFault;
+use trlab_road::RoadFault;
+
+/// What is wrong in a line of a text.
+#[derive(Clone, Copy, Debug, PartialEq, Eq, Error)]
+pub enum Cause {
+    /// Not the line that must stand here, a wrong count of words, or the text has ended.
+    #[error("not the line that must stand here")]
+    Line,
+    /// No number, or one outside its range.
+    #[error("not a number in its range")]
+    Number,
+    /// The key is not 64 hexadecimal digits.
+    #[error("not a key of 64 hexadecimal digits")]
+    Key,
+    /// The bytes of a program are not hexadecimal.
+    #[error("not in hexadecimal digits")]
+    Hex,
+    /// The text is longer than a text may be.
+    #[error("the text is too long")]
+    TooBig,
+    /// The bytes spell no program of the kind that must stand here.
+    #[error("no program: {0}")]
+    Code(CodeFault),
+    /// The lanes show no road.
+    #[error("no road: {0}")]
+    Road(RoadFault),
+    /// The verifier refuses the program, for this reason.
+    #[error("the program is refused for reason {0}")]
+    Verdict(u32),
+}
+
+impl Cause {
+    /// The number of the cause in the line of a refused text.
+    pub fn number(self) -> u64
+        ensures { result ≡ cause_number self }
+    {
+        match self {
+            Cause::Line => 1,
+            Cause::Number => 2,
+            Cause::Key => 3,
+            Cause::Hex => 8,
+            Cause::TooBig => 9,
+            Cause::Code(fault) => 20 + code_fault_number(fault),
+            Cause::Road(fault) => 30 + road_fault_number(fault),
+            Cause::Verdict(reason) => 40 + u64::from(reason),
+        }
+    }
+}
+
+/// The number of a fault of a program's bytes.
+fn code_fault_number(fault: CodeFault) -> u64
+    ensures { result ≡ code_fault_number fault }
+{
+    match fault {
+        CodeFault::Short => 1,
+        CodeFault::Magic => 2,
+        CodeFault::Version => 3,
+        CodeFault::Kind => 4,
+        CodeFault::Count => 5,
+        CodeFault::Opcode(_) => 6,
+        CodeFault::Field(_) => 7,
+        CodeFault::Trailing => 8,
+        CodeFault::Memory => 9,
+    }
+}
+
+/// The number of a fault of a road's pictures.
+fn road_fault_number(fault: RoadFault) -> u64
+    ensures { result ≡ road_fault_number fault }
+{
+    match fault {
+        RoadFault::Lanes => 1,
+        RoadFault::Length => 2,
+        RoadFault::Limit => 3,
+        RoadFault::Character { .. } => 4,
+        RoadFault::SpeedAboveLimit { .. } => 5,
+        RoadFault::Memory => 6,
+        RoadFault::TooManyCars => 7,
+    }
+}
+
+/// Why a line was not read.
+#[derive(Clone, Copy, Debug, PartialEq, Eq, Error)]
+pub enum LineFault {
+    /// What is wrong in the line.
+    #[error("{0}")]
+    Wrong(Cause),
+    #[error("out of memory")]
+    Memory,
+}
+
+impl LineFault {
+    /// The same of the text, whose line this is.
+    pub fn at(self, line: u32) -> TextFault
+        ensures { result ≡ fault_at line self }
+    {
+        match self {
+            LineFault::Wrong(cause) => TextFault::At { line, cause },
+            LineFault::Memory => TextFault::Memory,
+        }
+    }
+}
+
+/// Why a text was not read.
+#[derive(Clone, Copy, Debug, PartialEq, Eq, Error)]
+pub enum TextFault {
+    /// The first fault of the text, with the number of its line.
+    #[error("line {line}: {cause}")]
+    At { line: u32, cause: Cause },
+    #[error("out of memory")]
+    Memory,
+}

@@ -1,0 +1,21 @@
+//! Job texts in, pictures of roads out.
+#![tactic(auto)]
+
+mod device;
+mod end;
+mod fault;
+mod job;
+pub mod laws;
+mod output;
+mod run;
+mod text;
+
+pub use device::{DeviceError, Sink, Source, Watched};
+pub use end::End;
+pub use fault::{Cause, TextFault};
+pub use job::{Job, read_job};
+pub use run::{MOST_WORKERS, run_job_text};
+pub use text::{MOST_STEPS, TEXT_LIMIT};
+
+#[cfg(test)]
+mod tests;

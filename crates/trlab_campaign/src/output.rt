@@ -1,0 +1,31 @@
+//! The lines that are written.
+
+ghost use Rattle.std.specs.Prelude.{◌≡◌, ◌++◌, IfOk, OnOk};
+ghost use Rattle.std.specs.String.{string_bytes};
+ghost use Rattle.trlab_campaign.specs.Output.{fault_line, step_text};
+
+use crate::fault::Cause;
+use std::alloc::{AllocError, Global};
+use trlab_road::Road;
+
+/// Adds the text of a step: its line, and the picture of each lane.
+pub fn push_step(alloc: Global, out: &mut Vec<u8>, step: u32, road: &Road) -> Result<(), AllocError>
+    ensures { OnOk result (out.new.items ≡ out.old.items ++ step_text step road.now) }
+{
+    let line = format!(in alloc; "step {step}\n")?;
+    out.extend_from_slice(line.as_bytes())?;
+    for lane in 0..road.lanes() {
+        let picture = road.picture(alloc, lane)?;
+        out.extend_from_slice(&picture)?;
+        out.push(b'\n')?;
+    }
+    Ok(())
+}
+
+/// The line of a refused text: where its first fault is, and the number of the cause.
+pub fn fault_line(alloc: Global, line: u32, cause: Cause) -> Result<String, AllocError>
+    ensures { IfOk result (λ text. string_bytes text ≡ fault_line (record { line = line; cause = cause })) }
+{
+    let number = cause.number();
+    format!(in alloc; "fault line {line} cause {number}\n")
+}

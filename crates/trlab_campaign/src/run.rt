@@ -1,0 +1,65 @@
+//! Runs of job texts.
+
+mod pictures;
+mod refusal;
+
+ghost use Rattle.std.specs.Prelude.{◌≡◌, ◌+◌, ◌≤◌, ◌||◌, ◌↔◌, true, false, IfSome};
+ghost use Rattle.trlab_campaign.specs.Device.{ConsumesUpTo};
+ghost use Rattle.trlab_campaign.specs.Output.{EndsSo};
+ghost use Rattle.trlab_campaign.specs.declared.end.End.TheVariants.{DeviceFault};
+
+use crate::device::{ReadFault, Sink, Source, read_text};
+use crate::end::End;
+use crate::fault::{Cause, TextFault};
+use crate::job::read_job;
+use crate::run::pictures::run_job;
+use crate::run::refusal::refuse;
+use crate::text::TEXT_LIMIT;
+use std::alloc::{AllocGlobal, Global};
+
+/// The most workers of a run.
+pub const MOST_WORKERS: u32 = 16;
+
+/// Runs the job that a text states, or refuses the text.
+fn run_text<K: Sink>(alloc: Global, text: &[u8], writer: &mut K) -> End
+    requires { K.failed writer.old ≡ false }
+    ensures answer { EndsSo result text.now (K.written writer.old) (K.written writer.new) }
+    ensures device { (result ≡ DeviceFault) ↔ (K.failed writer.new ≡ true) }
+{
+    match read_job(alloc, text) {
+        Ok(job) => run_job(alloc, job, writer),
+        Err(TextFault::At { line, cause }) => refuse(alloc, line, cause, writer),
+        Err(TextFault::Memory) => End::Memory,
+    }
+}
+
+/// Reads a job text, and writes the picture of its road at each step, or the line of the text's
+/// first fault.
+///
+/// The whole text is read and judged before a byte is written. Where memory runs out or a call of
+/// the reader or writer fails, what was written is the front of the whole output. The output does
+/// not depend on the number of workers, which is 1 to 16; so far all work is done by the caller.
+pub fn run_job_text<R: AllocGlobal, S: Source, K: Sink>(
+    rt: &R,
+    reader: &mut S,
+    writer: &mut K,
+    workers: u32,
+) -> End
+    requires reader_works { S.failed reader.old ≡ false }
+    requires writer_works { K.failed writer.old ≡ false }
+    requires some_worker { 1 ≤ workers }
+    requires few_workers { workers ≤ MOST_WORKERS }
+    // Where the reader tells its bytes, and the writer those that it has.
+    ensures answer { IfSome (S.left reader.old)
+        (λ text. EndsSo result text (K.written writer.old) (K.written writer.new)) }
+    ensures device { (result ≡ DeviceFault) ↔ ((S.failed reader.new || K.failed writer.new) ≡ true) }
+    ensures read { ConsumesUpTo (TEXT_LIMIT + 1) (S.left reader.old) (S.left reader.new) }
+{
+    let alloc = rt.alloc();
+    match read_text(alloc, reader) {
+        Ok(text) => run_text(alloc, &text, writer),
+        Err(ReadFault::TooBig) => refuse(alloc, 0, Cause::TooBig, writer),
+        Err(ReadFault::Memory) => End::Memory,
+        Err(ReadFault::Device) => End::DeviceFault,
+    }
+}
