@@ -17,19 +17,23 @@ stated_count bytes = slice_index bytes 6 + 256 * slice_index bytes 7
 abbrev pub bytes_at : List ℕ → ℕ → List ℕ
 bytes_at bytes pc = take INSTR_BYTES (drop (HEADER_BYTES + INSTR_BYTES * pc) bytes)
 
--- what is asked of the header, in this order
+-- the bytes have room for a header
 abbrev pub HasHeader : List ℕ → Type 0
 HasHeader bytes = HEADER_BYTES ≤ length bytes
 
+-- they begin with the four bytes of every program
 abbrev pub HasMagic : List ℕ → Type 0
 HasMagic bytes = take 4 bytes ≡ MAGIC
 
+-- then comes the version
 abbrev pub HasVersion : List ℕ → Type 0
 HasVersion bytes = slice_index bytes 4 ≡ VERSION
 
+-- then the byte of a kind
 abbrev pub HasKind : List ℕ → Type 0
 HasKind bytes = (kind : Kind) × (slice_index bytes 5 ≡ kind_byte kind)
 
+-- then the count of instructions, which a program may have
 abbrev pub HasCount : List ℕ → Type 0
 HasCount bytes = (1 ≤ stated_count bytes) × (stated_count bytes ≤ MOST_INSTRUCTIONS)
 

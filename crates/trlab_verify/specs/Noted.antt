@@ -13,6 +13,7 @@ level_at levels = table (λ x y. slice_index levels (PLACES * x + y))
 abbrev pub note_of : Noted → Note
 note_of kept = record { said = λ x. slice_index_or kept.said x Nothing; level = level_at kept.levels; side = kept.side }
 
+-- the note that stands for what the code noted, if it has
 abbrev pub maybe_note : Option Noted → Option Note
 maybe_note None = None
 maybe_note (Some kept) = Some (note_of kept)

@@ -29,15 +29,17 @@ with_side side Nothing = Nothing
 with_side side (Between lo hi) = Between lo hi
 with_side side (Implies imp) = Implies (imp || side)
 
+-- what a note tells of a place, the side cell considered
 unfoldable pub told : Note → ℕ → Said
 told note x = with_side note.side (note.said x)
 
--- the ends of a range
+-- the lower end of a range
 abbrev pub low : Said → ℕ
 low Nothing = 0
 low (Between lo hi) = lo
 low (Implies imp) = 0
 
+-- the upper end of a range
 abbrev pub high : Said → ℕ
 high Nothing = 0
 high (Between lo hi) = hi
@@ -67,12 +69,12 @@ known note x y = known_of (note.said x) (note.said y) (nat_eq x y) (note.level x
 abbrev pub table : (ℕ → ℕ → ℕ) → ℕ → ℕ → ℕ
 table level x y = if nat_lt x PLACES && nat_lt y PLACES then level x y else 0
 
--- what is said of the places at the start: no register is set, and what the car sees has its range;
--- a motion program sees nothing of the other lane
+-- what is said of an input that only a change program sees
 abbrev pub said_aside : Kind → ℕ → Said
 said_aside Motion hi = Nothing
 said_aside Change hi = Between 0 hi
 
+-- what is said of the places at the start: no register is set, and what the car sees has its range
 abbrev pub ranges : Kind → List Said
 ranges kind =
     Nothing ∷ Nothing ∷ Nothing ∷ Nothing ∷ Nothing ∷ Nothing ∷ Nothing ∷ Nothing
@@ -84,6 +86,7 @@ ranges kind =
     ∷ said_aside kind 1
     ∷ []
 
+-- nothing is said of a place that there is not
 abbrev pub said_or_nothing : Option Said → Said
 said_or_nothing None = Nothing
 said_or_nothing (Some said) = said
@@ -138,7 +141,14 @@ result_said m (Max d a b) =
 result_said m (Not d a) = Implies false
 result_said m (And d a b) = Implies (implies (told m (place a)) || implies (told m (place b)))
 result_said m (Or d a b) = Implies (implies (told m (place a)) && implies (told m (place b)))
-result_said m _ = Nothing
+result_said m (Jump t) = Nothing
+result_said m (JumpLess a b t) = Nothing
+result_said m (JumpAtMost a b t) = Nothing
+result_said m (JumpTrue a t) = Nothing
+result_said m (JumpFalse a t) = Nothing
+result_said m (Go a) = Nothing
+result_said m Cross = Nothing
+result_said m Stay = Nothing
 
 -- the level of an instruction's result to y; a flag has none
 abbrev pub result_to : Note → Instr → ℕ → ℕ
@@ -152,7 +162,21 @@ result_to m (Sub d a b) y = sharper (known m (place a) y) (low (m.said (place b)
 result_to m (Div d a n) y = known m (place a) y
 result_to m (Min d a b) y = max (known m (place a) y) (known m (place b) y)
 result_to m (Max d a b) y = min (known m (place a) y) (known m (place b) y)
-result_to m _ y = 0
+result_to m (Num d n) y = 0
+result_to m (Side d) y = 0
+result_to m (Draw d k t) y = 0
+result_to m (Mul d a n) y = 0
+result_to m (Not d a) y = 0
+result_to m (And d a b) y = 0
+result_to m (Or d a b) y = 0
+result_to m (Jump t) y = 0
+result_to m (JumpLess a b t) y = 0
+result_to m (JumpAtMost a b t) y = 0
+result_to m (JumpTrue a t) y = 0
+result_to m (JumpFalse a t) y = 0
+result_to m (Go a) y = 0
+result_to m Cross y = 0
+result_to m Stay y = 0
 
 -- the level of y to an instruction's result
 abbrev pub to_result : Note → Instr → ℕ → ℕ
@@ -164,7 +188,23 @@ to_result m (Add d a b) y =
     max (sharper (known m y (place a)) (low q)) (sharper (known m y (place b)) (low p))
 to_result m (Min d a b) y = min (known m y (place a)) (known m y (place b))
 to_result m (Max d a b) y = max (known m y (place a)) (known m y (place b))
-to_result m _ y = 0
+to_result m (Num d n) y = 0
+to_result m (Side d) y = 0
+to_result m (Draw d k t) y = 0
+to_result m (Sub d a b) y = 0
+to_result m (Mul d a n) y = 0
+to_result m (Div d a n) y = 0
+to_result m (Not d a) y = 0
+to_result m (And d a b) y = 0
+to_result m (Or d a b) y = 0
+to_result m (Jump t) y = 0
+to_result m (JumpLess a b t) y = 0
+to_result m (JumpAtMost a b t) y = 0
+to_result m (JumpTrue a t) y = 0
+to_result m (JumpFalse a t) y = 0
+to_result m (Go a) y = 0
+to_result m Cross y = 0
+to_result m Stay y = 0
 
 -- the note after a write of d: what is now said of d, its levels to the others, theirs to it, and what was noted of the others
 unfoldable pub written : Note → ℕ → Said → (ℕ → ℕ) → (ℕ → ℕ) → Note
@@ -222,14 +262,33 @@ abbrev pub jump : Note → Instr → Note
 jump m (JumpLess a b t) = learnt m (place a) (place b) 2
 jump m (JumpAtMost a b t) = learnt m (place a) (place b) 1
 jump m (JumpTrue a t) = trusted m (place a)
-jump m _ = m
+jump m (Num d n) = m
+jump m (Get d k) = m
+jump m (Side d) = m
+jump m (Draw d k t) = m
+jump m (Copy d a) = m
+jump m (Add d a b) = m
+jump m (Sub d a b) = m
+jump m (Mul d a n) = m
+jump m (Div d a n) = m
+jump m (Min d a b) = m
+jump m (Max d a b) = m
+jump m (Not d a) = m
+jump m (And d a b) = m
+jump m (Or d a b) = m
+jump m (Jump t) = m
+jump m (JumpFalse a t) = m
+jump m (Go a) = m
+jump m Cross = m
+jump m Stay = m
 
--- what two notes agree on
+-- what two notes agree on of one place
 abbrev pub said_by_both : Said → Said → Said
 said_by_both (Between a b) (Between c d) = Between (min a c) (max b d)
 said_by_both (Implies p) (Implies q) = Implies (p && q)
 said_by_both _ _ = Nothing
 
+-- what two notes agree on of all places
 unfoldable pub joined : Note → Note → Note
 joined m n = record {
   said = λ x. said_by_both (told m x) (told n x);
@@ -248,17 +307,20 @@ abbrev pub if_here : Bool → Option Note → Option Note
 if_here true edge = edge
 if_here false edge = None
 
+-- a jump's target is q
 abbrev pub is_target : Option ℕ → ℕ → Bool
 is_target None q = false
 is_target (Some t) q = nat_eq q t
 
--- the notes that an instruction at pc sends to the one at q, as the next and as a jump's target
+-- the note that the instruction at pc sends to the one at q as the next one
 abbrev pub fall_to : ℕ → Note → Instr → ℕ → Option Note
 fall_to pc m i q = if_here (nat_eq q (suc pc)) (fall m i)
 
+-- the note that an instruction sends to the one at q as its jump's target
 abbrev pub jump_to : Note → Instr → ℕ → Option Note
 jump_to m i q = if_here (is_target (target i) q) (Some (jump m i))
 
+-- the notes that have come to q, with those that the instruction at pc sends there
 abbrev pub with_edges : ℕ → Option Note → Option Instr → ℕ → Option Note → Option Note
 with_edges pc (Some m) (Some i) q old = with_edge (with_edge old (fall_to pc m i q)) (jump_to m i q)
 with_edges pc _ _ q old = old
