@@ -1,0 +1,89 @@
+-- A text that is cut behind its first line.
+use Rattle.std.proofs.Common.{◌≡◌, ◌==◌, ℕ, suc, ◌+◌, ◌<◌, ◌≤◌, List, [], ◌∷◌, ◌++◌, length, take, drop, get_or, refl, sym, ◌∙◌, ap, arith, Bool, true, false, cond, add-one, nat_lt, drop-cons}
+use Rattle.std.specs.Prelude.{None, Some}
+use Rattle.std.specs.List.{position, position_or_len}
+use Rattle.std.proofs.lemmas.Bool.{ltb-false, eqb-true, eq-eqb, ne_eqb}
+use Rattle.std.proofs.lemmas.List.{take-append-drop, get_or-take, length-take-le}
+use Rattle.std.proofs.lemmas.List.Quantifiers.{position-Some}
+use Rattle.std.proofs.lemmas.List.Sums.{fails_before_first}
+use Rattle.trlab_asm.specs.Lines.{lines_of, HasNoEnd}
+
+rest_has_no_end : (c : ℕ) (line : List ℕ) → HasNoEnd (c ∷ line) → HasNoEnd line
+rest_has_no_end c line none = λ k d inside. none (suc k) d (omega arith)
+
+first_is_no_end : (c : ℕ) (line : List ℕ) → HasNoEnd (c ∷ line) → (c == 10) ≡ false
+first_is_no_end c line none = ne_eqb c 10 (none 0 0 (omega arith))
+
+-- what stands before an LF is a line, and the rest has the other lines
+pub line_and_rest : (line rest : List ℕ) → HasNoEnd line → lines_of (line ++ (10 ∷ rest)) ≡ line ∷ lines_of rest
+unfolding lines_of
+line_and_rest [] rest none = refl
+line_and_rest (c ∷ line) rest none = rw (first_is_no_end c line none, line_and_rest line rest (rest_has_no_end c line none)) refl
+
+-- a text without an LF is one line
+pub last_line : (c : ℕ) (line : List ℕ) → HasNoEnd (c ∷ line) → lines_of (c ∷ line) ≡ (c ∷ line) ∷ []
+unfolding lines_of
+last_line c [] none = rw (first_is_no_end c [] none) refl
+last_line c (d ∷ line) none = rw (first_is_no_end c (d ∷ line) none, last_line d line (rest_has_no_end c (d ∷ line) none)) refl
+
+-- no bytes are no line
+pub no_line : lines_of [] ≡ []
+unfolding lines_of
+no_line = refl
+
+-- a text of no length has no line
+pub no_line_in : (text : List ℕ) → length text ≡ 0 → lines_of text ≡ []
+unfolding lines_of
+no_line_in [] empty = refl
+no_line_in (c ∷ text) empty = absurd (omega arith)
+
+-- nor has it a byte
+pub no_byte_in : (text : List ℕ) → length text ≡ 0 → text ≡ []
+no_byte_in [] empty = refl
+no_byte_in (c ∷ text) empty = absurd (omega arith)
+
+abbrev is_end : ℕ → Bool
+is_end byte = byte == 10
+
+differs : (c : ℕ) → (c == 10) ≡ false → c ≡ 10 → ⊥
+differs c other same = let both : true ≡ false = sym (eq-eqb c 10 same) ∙ other in cc
+
+past_the_end : (p n : ℕ) (b : Bool) → nat_lt p n ≡ b → cond b (Some p) None ≡ None → n ≤ p
+past_the_end p n true e none = cc
+past_the_end p n false e none = ltb-false p n e
+
+-- where no LF is found
+pub nowhere : (text : List ℕ) → position (λ byte. byte == 10) text ≡ None → HasNoEnd text
+nowhere text none =
+    let beyond : length text ≤ position_or_len (λ byte. byte == 10) text = past_the_end (position_or_len (λ byte. byte == 10) text) (length text) (nat_lt (position_or_len (λ byte. byte == 10) text) (length text)) refl none in
+    λ k d inside. differs (get_or text k d) (fails_before_first (λ byte. byte == 10) text k d (omega arith))
+
+-- where one is found, before that there is none
+pub none_before : (text : List ℕ) (end : ℕ) → position (λ byte. byte == 10) text ≡ Some end → HasNoEnd (take end text)
+none_before text end found =
+    let at = position-Some (λ byte. byte == 10) text end 0 found in
+    λ k d inside.
+    let below : k < end = omega (arith, length-take-le end text (omega (arith, at.0))) in
+    let others = position-Some (λ byte. byte == 10) text end d found in
+    rw (get_or-take end text k d below) (differs (get_or text k d) (others.2 k below))
+
+-- it stands in the text
+pub end_inside : (text : List ℕ) (end : ℕ) → position (λ byte. byte == 10) text ≡ Some end → end < length text
+end_inside text end found = (position-Some (λ byte. byte == 10) text end 0 found).0
+
+-- and the text is what stands before it, the LF, and what stands behind
+pub end_between : (text : List ℕ) (end : ℕ) → position (λ byte. byte == 10) text ≡ Some end → text ≡ take end text ++ (10 ∷ drop (end + 1) text)
+end_between text end found =
+    let at = position-Some (λ byte. byte == 10) text end 0 found in
+    let is : get_or text end 0 ≡ 10 = eqb-true (get_or text end 0) 10 at.1 in
+    let inside = at.0 in
+    sym (take-append-drop end text) ∙ rw (drop-cons text end 0, is, add-one) refl
+
+-- so the lines are the one before it, and those behind it
+pub line_before : (text : List ℕ) (end : ℕ) → position (λ byte. byte == 10) text ≡ Some end → lines_of text ≡ take end text ∷ lines_of (drop (end + 1) text)
+line_before text end found = ap lines_of (end_between text end found) ∙ line_and_rest (take end text) (drop (end + 1) text) (none_before text end found)
+
+-- where none is found, the text is one line
+pub only_line : (text : List ℕ) → 0 < length text → position (λ byte. byte == 10) text ≡ None → lines_of text ≡ text ∷ []
+only_line [] some none = absurd (omega arith)
+only_line (c ∷ text) some none = last_line c text (nowhere (c ∷ text) none)

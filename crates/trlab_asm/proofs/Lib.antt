@@ -1,0 +1,9 @@
+pub mod Cuts
+pub mod Digits
+pub mod Passes
+pub mod PrintedFrom
+pub mod Plain
+pub mod Printed
+pub mod PrintedInstrs
+pub mod PrintedLines
+pub mod Reread

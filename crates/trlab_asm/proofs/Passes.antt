@@ -1,0 +1,59 @@
+-- The two passes, one step after the other.
+use Rattle.std.proofs.Common.{◌≡◌, ℕ, suc, ◌+◌, ◌<◌, ◌≤◌, List, [], ◌∷◌, ◌++◌, length, drop, get_or, refl, arith, sym, ap, append_assoc, append-nil, add-one, drop-cons}
+use Rattle.std.specs.Prelude.{Result, Ok, Err}
+use Rattle.std.proofs.Math.ListN.{drop_of_length-le}
+use Rattle.std.proofs.lemmas.Bool.{ne_eqb}
+use Rattle.trlab_code.specs.declared.instruction.Instr.{Instr}
+use Rattle.trlab_asm.specs.Operands.{◌>>=◌}
+use Rattle.trlab_asm.specs.Reading.{Labels, Line, line_says}
+use Rattle.trlab_asm.specs.Assembly.{Parts, Read, in_line, with_line, first_pass, finished, second_pass, instrs_of}
+use Rattle.trlab_asm.specs.declared.fault.AsmFault.{AsmFault}
+
+-- a line that says something
+pub first_next : (parts : Parts) (number : ℕ) (line : List ℕ) (left : List (List ℕ)) (said : Line) → Ok said ≡ in_line number (line_says parts.labels (length parts.reads) line)
+    → first_pass parts number (line ∷ left) ≡ first_pass (with_line parts number said) (number + 1) left
+unfolding first_pass
+first_next parts number line left said e = rw (← e) refl
+
+-- a line that has a fault
+pub first_fault : (parts : Parts) (number : ℕ) (line : List ℕ) (left : List (List ℕ)) (fault : AsmFault) → Err fault ≡ in_line number (line_says parts.labels (length parts.reads) line)
+    → first_pass parts number (line ∷ left) ≡ Err fault
+unfolding first_pass
+first_fault parts number line left fault e = rw (← e) refl
+
+-- the end of the lines
+pub first_end : (parts : Parts) (number : ℕ) → first_pass parts number [] ≡ Ok parts
+unfolding first_pass
+first_end parts number = refl
+
+-- some instructions, and those that are still to come
+abbrev pub following : List Instr → Result (List Instr) AsmFault → Result (List Instr) AsmFault
+following front rest = rest >>= λ instrs. Ok (front ++ instrs)
+
+regroup : (front : List Instr) (instr : Instr) (rest : Result (List Instr) AsmFault) → following front (rest >>= λ instrs. Ok (instr ∷ instrs)) ≡ following (front ++ (instr ∷ [])) rest
+regroup front instr (Ok instrs) = ap Ok (sym (append_assoc front (instr ∷ []) instrs))
+regroup front instr (Err fault) = refl
+
+-- an instruction whose label is found
+pub second_next : (labels : Labels) (reads : List Read) (i : ℕ) (d : Read) (front : List Instr) (instr : Instr) → i < length reads → Ok instr ≡ finished labels (get_or reads i d)
+    → following front (second_pass labels (drop i reads)) ≡ following (front ++ (instr ∷ [])) (second_pass labels (drop (i + 1) reads))
+unfolding second_pass
+second_next labels reads i d front instr inside e = rw (add-one, drop-cons reads i d, ← e) (regroup front instr (second_pass labels (drop (suc i) reads)))
+
+-- an instruction whose label is not
+pub second_fault : (labels : Labels) (reads : List Read) (i : ℕ) (d : Read) (front : List Instr) (fault : AsmFault) → i < length reads → Err fault ≡ finished labels (get_or reads i d)
+    → following front (second_pass labels (drop i reads)) ≡ Err fault
+unfolding second_pass
+second_fault labels reads i d front fault inside e = rw (drop-cons reads i d, ← e) refl
+
+-- the end of the instructions
+pub second_end : (labels : Labels) (reads : List Read) (i : ℕ) (front : List Instr) → length reads ≤ i → following front (second_pass labels (drop i reads)) ≡ Ok front
+unfolding second_pass
+second_end labels reads i front past = rw (drop_of_length-le reads past) (ap Ok (append-nil front))
+
+-- where there is an instruction, the second pass tells the rest
+pub some_instrs : (parts : Parts) (reads : List Read) (labels : Labels) → 0 < length reads → reads ≡ parts.reads → labels ≡ parts.labels → instrs_of parts ≡ second_pass labels reads
+some_instrs parts reads labels some all known = rw (all, known) (some_of parts (rw all at some))
+  where
+    some_of : (parts : Parts) → 0 < length parts.reads → instrs_of parts ≡ second_pass parts.labels parts.reads
+    some_of parts some = rw (ne_eqb (length parts.reads) 0 (λ e. absurd (omega arith))) refl

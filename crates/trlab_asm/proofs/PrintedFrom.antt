@@ -1,0 +1,16 @@
+-- The canonical text, from one instruction to the next.
+use Rattle.std.proofs.Common.{◌≡◌, ℕ, ◌+◌, ◌<◌, ◌≤◌, List, ◌∷◌, ◌++◌, length, drop, get_or, refl, append_assoc, append-nil, add-one, drop-cons}
+use Rattle.std.proofs.Math.ListN.{drop_of_length-le}
+use Rattle.trlab_code.specs.declared.instruction.Instr.{Instr}
+use Rattle.trlab_asm.specs.Canonical.{line_text, is_target, text_from}
+
+-- a line that is printed, and the lines behind it
+pub text_next : (instrs : List Instr) (pc : ℕ) (d : Instr) (front : List ℕ) → pc < length instrs
+    → (front ++ line_text (length instrs) (is_target instrs pc) pc (get_or instrs pc d)) ++ (10 ∷ text_from instrs (pc + 1) (drop (pc + 1) instrs)) ≡ front ++ text_from instrs pc (drop pc instrs)
+unfolding text_from
+text_next instrs pc d front inside = rw (drop-cons instrs pc d, append_assoc, add-one) refl
+
+-- no line is left behind the last instruction
+pub text_end : (instrs : List Instr) (pc : ℕ) (front : List ℕ) → length instrs ≤ pc → front ++ text_from instrs pc (drop pc instrs) ≡ front
+unfolding text_from
+text_end instrs pc front past = rw (drop_of_length-le instrs past, append-nil) refl

@@ -1,0 +1,13 @@
+use Rattle.std.proofs.Common.{◌≡◌, length, drop, All}
+use Rattle.trlab_code.specs.Program.{InRange}
+use Rattle.trlab_asm.specs.Held.{pcs}
+use Rattle.trlab_asm.specs.Assembly.{second_pass}
+use Rattle.trlab_asm.proofs.Passes.{following}
+use Rattle.trlab_asm.proofs.assembly.instrs_of.Given as goal
+
+abbrev pub invariant-loop-read : goal.invariant-loop-read
+invariant-loop-read l = record {
+  says : following l.instrs.items (second_pass (pcs l.labels) (drop l.read-index l.reads)) ≡ second_pass (pcs l.labels) l.reads;
+  count : length l.instrs.items ≡ l.read-index;
+  in_range : All InRange l.instrs.items;
+}

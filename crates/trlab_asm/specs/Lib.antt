@@ -1,0 +1,9 @@
+pub mod Lines
+pub mod Cutting
+pub mod Names
+pub mod Operands
+pub mod Reading
+pub mod Assembly
+pub mod Held
+pub mod Canonical
+pub mod Laws

@@ -1,0 +1,16 @@
+-- The lines of a text.
+use Rattle.std.specs.Prelude.{◌≡◌, ◌≢◌, ℕ, ◌==◌, ◌⊎◌, List, [], ◌∷◌, ◌++◌, All, if◌then◌else◌}
+use Rattle.std.specs.List.{onto_first}
+
+-- the lines of a text: LF ends each, and may be missing at the last
+unfoldable pub lines_of : List ℕ → List (List ℕ)
+lines_of [] = []
+lines_of (c ∷ text) = if c == 10 then [] ∷ lines_of text else onto_first c (lines_of text)
+
+-- a text is a line, an LF and a rest; or it is a line alone, and the rest is empty
+abbrev pub BeginsWithLine : List ℕ → List ℕ → List ℕ → Type 0
+BeginsWithLine text line rest = (text ≡ line ++ (10 ∷ rest)) ⊎ ((text ≡ line) × (rest ≡ []))
+
+-- no byte of a line is an LF
+abbrev pub HasNoEnd : List ℕ → Type 0
+HasNoEnd line = All (λ byte. byte ≢ 10) line

@@ -1,0 +1,159 @@
+-- The operands of an instruction. Several are separated by commas, and each may have blanks beside it.
+use Rattle.std.specs.Prelude.{ℕ, ◌-◌, ◌==◌, ◌&&◌, ◌||◌, not, Bool, List, length, take, drop, codes, bytes_eq, nat_le, nat_lt, Option, None, Some, Result, Ok, Err, slice_index, if◌then◌else◌}
+use Rattle.std.specs.List.{list_all}
+use Rattle.std.specs.Char.{is_ascii_digit, is_ascii_alphanumeric}
+use Rattle.std.specs.Str.Parse.{digits_value}
+use Rattle.trlab_code.specs.declared.instruction.Register.{Register}
+use Rattle.trlab_code.specs.declared.instruction.Input.{Input}
+use Rattle.trlab_code.specs.declared.program.TheConstants.{WORDS, CERTAIN}
+use Rattle.trlab_asm.specs.Cutting.{cut, only_word}
+use Rattle.trlab_asm.specs.Names.{register_named, input_named}
+use Rattle.trlab_asm.specs.declared.fault.Why.{Why}
+use Rattle.trlab_asm.specs.declared.fault.Why.TheVariants.{Operand, Number}
+use Rattle.trlab_asm.specs.declared.numbers.TheConstants.{GREATEST_NUMBER, MOST_DIGITS}
+use Rattle.trlab_asm.specs.declared.target.TheConstants.{LONGEST_LABEL}
+
+infixl 10 ◌>>=◌
+-- goes on with the value, and stops at the first fault
+abbrev pub ◌>>=◌ : {A B E : Type 0} → Result A E → (A → Result B E) → Result B E
+(Ok x) >>= f = f x
+(Err e) >>= f = Err e
+
+-- an operand that must be there in this form
+abbrev pub wanted : {A : Type 0} → Option A → Result A Why
+wanted None = Err Operand
+wanted (Some x) = Ok x
+
+-- the one word of an operand
+abbrev pub word : List ℕ → Result (List ℕ) Why
+word text = wanted (only_word text)
+
+-- a register
+abbrev pub register : List ℕ → Result Register Why
+register text = word text >>= λ name. wanted (register_named name)
+
+-- an input
+abbrev pub input : List ℕ → Result Input Why
+input text = word text >>= λ name. wanted (input_named name)
+
+-- digits alone
+abbrev pub all_digits : List ℕ → Bool
+all_digits text = list_all (λ c. is_ascii_digit c) text
+
+-- one digit or more, and nothing else
+abbrev pub is_numeral : List ℕ → Bool
+is_numeral text = nat_lt 0 (length text) && all_digits text
+
+-- the digits of a word that has the form of a number
+abbrev pub digits_of : List ℕ → Result (List ℕ) Why
+digits_of text = if is_numeral text then Ok text else Err Operand
+
+-- the digits of an operand that has the form of a number
+abbrev pub numeral : List ℕ → Result (List ℕ) Why
+numeral text = word text >>= digits_of
+
+-- the number that ten digits or fewer stand for, where it is from low to high
+abbrev pub ranged : ℕ → ℕ → List ℕ → Result ℕ Why
+ranged low high digits =
+    if nat_le (length digits) MOST_DIGITS && (nat_le low (digits_value 10 digits) && nat_le (digits_value 10 digits) high) then Ok (digits_value 10 digits) else Err Number
+
+-- a number from low to high
+abbrev pub number : ℕ → ℕ → List ℕ → Result ℕ Why
+number low high text = numeral text >>= ranged low high
+
+-- where a jump goes: a pc; or the pc that a label names, which is not known yet and is written as 0
+pub record Target : Type 0 where
+  pub pc : ℕ
+  pub label : Option (List ℕ)
+
+-- letters, digits and `_` alone
+abbrev pub all_label_bytes : List ℕ → Bool
+all_label_bytes text = list_all (λ c. is_ascii_alphanumeric c || c == 95) text
+
+-- 1 to 32 letters, digits or `_`, and no digit first
+abbrev pub is_label : List ℕ → Bool
+is_label text = (nat_lt 0 (length text) && nat_le (length text) LONGEST_LABEL) && (not (is_ascii_digit (slice_index text 0)) && all_label_bytes text)
+
+-- a target that is a pc
+abbrev pub at_pc : ℕ → Result Target Why
+at_pc pc = Ok (record { pc = pc; label = None })
+
+-- what follows a front of a text
+abbrev pub behind : List ℕ → List ℕ → Option (List ℕ)
+behind front text = if bytes_eq (take (length front) text) front then Some (drop (length front) text) else None
+
+-- the pc of `@` and digits
+abbrev pub pc_named : List ℕ → Result Target Why
+pc_named text = do
+  digits ← wanted (behind (codes "@") text)
+  digits ← digits_of digits
+  pc ← ranged 0 GREATEST_NUMBER digits
+  at_pc pc
+
+-- a target that is a label, or a pc
+abbrev pub target_named : List ℕ → Result Target Why
+target_named text = if is_label text then Ok (record { pc = 0; label = Some text }) else pc_named text
+
+-- a jump's operand
+abbrev pub target : List ℕ → Result Target Why
+target text = word text >>= target_named
+
+infixr 15 ◌then◌
+-- what stands before the first comma, and then what stands behind it
+abbrev pub ◌then◌ : {A B : Type 0} → (List ℕ → Result A Why) → (List ℕ → Result B Why) → List ℕ → Result (A × B) Why
+(first then rest) text = do
+  parts ← wanted (cut 44 text)
+  x ← first parts.0
+  y ← rest parts.1
+  Ok (x, y)
+
+-- the shapes of operands, beside `register` and `target`
+
+-- no operand
+abbrev pub no_operand : List ℕ → Result (Unit {0}) Why
+no_operand text = word text >>= λ none. if length none == 0 then Ok tt else Err Operand
+
+-- two registers
+abbrev pub two_registers : List ℕ → Result (Register × Register) Why
+two_registers = register then register
+
+-- three registers
+abbrev pub three_registers : List ℕ → Result (Register × (Register × Register)) Why
+three_registers = register then two_registers
+
+-- a register and an input
+abbrev pub register_input : List ℕ → Result (Register × Input) Why
+register_input = register then input
+
+-- a register and a number
+abbrev pub register_number : List ℕ → Result (Register × ℕ) Why
+register_number = register then number 0 GREATEST_NUMBER
+
+-- two registers and a number that is at least low
+abbrev pub two_registers_number : ℕ → List ℕ → Result (Register × (Register × ℕ)) Why
+two_registers_number low = register then register then number low GREATEST_NUMBER
+
+-- the number of a random word, and a chance in parts of 2 ^ 31: the forms of both before the ranges of both
+abbrev pub word_chance : List ℕ → Result (ℕ × ℕ) Why
+word_chance text = do
+  digits ← (numeral then numeral) text
+  k ← ranged 0 (WORDS - 1) digits.0
+  t ← ranged 0 CERTAIN digits.1
+  Ok (k, t)
+
+-- a register, the number of a random word, and a chance
+abbrev pub register_word_chance : List ℕ → Result (Register × (ℕ × ℕ)) Why
+register_word_chance = register then word_chance
+
+-- a register and a target
+abbrev pub register_target : List ℕ → Result (Register × Target) Why
+register_target = register then target
+
+-- two registers and a target
+abbrev pub two_registers_target : List ℕ → Result (Register × (Register × Target)) Why
+two_registers_target = register then register_target
+
+-- a result with its value seen in another way
+abbrev pub seen : {A B E : Type 0} → (A → B) → Result A E → Result B E
+seen view (Ok x) = Ok (view x)
+seen view (Err e) = Err e

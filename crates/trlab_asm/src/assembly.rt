@@ -1,0 +1,108 @@
+//! From the text of a program to the program.
+
+ghost use Rattle.std.specs.Prelude.{◌≡◌, ◌≤◌, ◌⊎◌, vec_len, All, MatchResult, IfOk};
+ghost use Rattle.trlab_code.specs.Program.{InRange};
+ghost use Rattle.trlab_code.specs.declared.program.TheConstants.{MOST_INSTRUCTIONS};
+ghost use Rattle.trlab_asm.specs.Lines.{lines_of};
+ghost use Rattle.trlab_asm.specs.Held.{pcs, parts_held};
+ghost use Rattle.trlab_asm.specs.Assembly.{nothing, first_pass, aimed, finished, instrs_of, code_of, OutOfMemory};
+
+use crate::fault::{AsmFault, Why};
+use crate::labels::Labels;
+use crate::lines::next_line;
+use crate::parts::{Parts, Read};
+use std::alloc::{AllocError, Global};
+use trlab_code::{Code, Instr, Kind};
+
+/// The first pass: the labels and the instructions that the lines say, or the first fault.
+fn read_parts(alloc: Global, text: &[u8]) -> Result<Parts<'_>, AsmFault>
+    ensures { MatchResult result
+        (λ parts. first_pass nothing 1 (lines_of text.now) ≡ Ok (parts_held parts))
+        (λ fault. (first_pass nothing 1 (lines_of text.now) ≡ Err fault) ⊎ OutOfMemory fault) }
+{
+    let mut parts = Parts::new(alloc);
+    let mut left = text;
+    let mut number = 1;
+    while let Some((line, rest)) = next_line(left) {
+        let said = parts.says(number, line)?;
+        parts.add(number, said)?;
+        left = rest;
+        number += 1;
+    }
+    Ok(parts)
+}
+
+/// A jump with another target; other instructions have none.
+fn aimed(pc: u32, instr: Instr) -> Instr
+    ensures value { result ≡ aimed pc instr }
+    ensures in_range { InRange instr → InRange result }
+{
+    match instr {
+        Instr::Jump(_) => Instr::Jump(pc),
+        Instr::JumpLess(a, b, _) => Instr::JumpLess(a, b, pc),
+        Instr::JumpAtMost(a, b, _) => Instr::JumpAtMost(a, b, pc),
+        Instr::JumpTrue(a, _) => Instr::JumpTrue(a, pc),
+        Instr::JumpFalse(a, _) => Instr::JumpFalse(a, pc),
+        _ => instr,
+    }
+}
+
+/// An instruction that was read, with the pc of its label, if it names one.
+fn finished<'a>(labels: &Labels<'a>, read: &Read<'a>) -> Result<Instr, AsmFault>
+    ensures value { result ≡ finished (pcs labels.now) read.now }
+    ensures in_range { IfOk result InRange }
+{
+    let draft = read.draft();
+    let Some(name) = draft.label() else {
+        return Ok(draft.instr());
+    };
+    match labels.get(name) {
+        Some(pc) => Ok(aimed(pc, draft.instr())),
+        None => Err(AsmFault {
+            line: read.line(),
+            why: Why::NoLabel,
+        }),
+    }
+}
+
+/// The second pass: the instructions with their targets, or the first fault.
+fn instrs_of(alloc: Global, parts: &Parts<'_>) -> Result<Vec<Instr>, AsmFault>
+    ensures told { MatchResult result
+        (λ instrs. instrs_of (parts_held parts.now) ≡ Ok instrs.items)
+        (λ fault. (instrs_of (parts_held parts.now) ≡ Err fault) ⊎ OutOfMemory fault) }
+    ensures some { IfOk result (λ instrs. 1 ≤ vec_len instrs) }
+    ensures few { IfOk result (λ instrs. vec_len instrs ≤ MOST_INSTRUCTIONS) }
+    ensures in_range { IfOk result (λ instrs. All InRange instrs.items) }
+{
+    let reads = parts.reads();
+    if reads.is_empty() {
+        return Err(AsmFault {
+            line: 0,
+            why: Why::Empty,
+        });
+    }
+    let labels = parts.labels();
+    let mut instrs = Vec::with_capacity(alloc, reads.len())?;
+    for read in reads {
+        let instr = finished(labels, read)?;
+        instrs.push(instr).map_err(AllocError::from)?;
+    }
+    Ok(instrs)
+}
+
+/// The program of this kind that a text says, or the first fault of the text.
+///
+/// Each line has a label, an instruction, both or none; from `;` on it is a comment. Names may be
+/// used before the line that they label. Whether the kind allows an instruction is not judged here.
+pub fn assemble(alloc: Global, kind: Kind, text: &[u8]) -> Result<Code, AsmFault>
+    ensures told { MatchResult result
+        (λ code. code_of kind (lines_of text.now) ≡ Ok code)
+        (λ fault. (code_of kind (lines_of text.now) ≡ Err fault) ⊎ OutOfMemory fault) }
+{
+    let parts = read_parts(alloc, text)?;
+    let instrs = instrs_of(alloc, &parts)?;
+    match Code::new(kind, instrs) {
+        Some(code) => Ok(code),
+        None => unreachable!(),
+    }
+}

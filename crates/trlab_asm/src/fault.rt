@@ -1,0 +1,51 @@
+//! What is wrong in the text of a program.
+
+ghost use Rattle.std.specs.Prelude.{◌≡◌};
+ghost use Rattle.trlab_asm.specs.declared.fault.Why.TheVariants.{Memory};
+
+use std::alloc::AllocError;
+use thiserror::Error;
+
+/// What is wrong, with its number.
+///
+/// In a line, read from left to right, a label that is there twice or that is none comes first, then
+/// the instruction's name, then its room, then the form of all operands, then their ranges. Lines are
+/// read in order. `Empty` comes behind all these, and then `NoLabel`, again in the order of lines.
+#[derive(Clone, Copy, Debug, PartialEq, Eq, Error)]
+pub enum Why {
+    #[error("no instruction has this name, or no label can")]
+    Word = 1,
+    #[error("an operand has another form, or there are more or fewer")]
+    Operand = 2,
+    #[error("a number is out of its range, or has more than 10 digits")]
+    Number = 3,
+    #[error("the label stands in an earlier line")]
+    LabelTwice = 4,
+    #[error("no line has this label")]
+    NoLabel = 5,
+    #[error("a program has at most 128 instructions")]
+    TooLong = 6,
+    #[error("there is no instruction")]
+    Empty = 7,
+    #[error("out of memory")]
+    Memory = 8,
+}
+
+/// The first fault of a text. Lines are counted from 1; `Empty` and `Memory` stand at line 0.
+#[derive(Clone, Copy, Debug, PartialEq, Eq, Error)]
+#[error("line {line}: {why}")]
+pub struct AsmFault {
+    pub line: usize,
+    pub why: Why,
+}
+
+impl From<AllocError> for AsmFault {
+    ghost from_gives = { λ _ fault. fault ≡ record { line = 0; why = Memory } };
+
+    fn from(_: AllocError) -> AsmFault {
+        AsmFault {
+            line: 0,
+            why: Why::Memory,
+        }
+    }
+}

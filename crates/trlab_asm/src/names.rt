@@ -1,0 +1,193 @@
+//! The names of registers, inputs and instructions.
+
+ghost use Rattle.std.specs.Prelude.{◌≡◌, bytes_eq};
+ghost use Rattle.std.specs.List.{find};
+ghost use Rattle.trlab_asm.specs.Names.{register_text, input_text, mnemonic_text, register_named, input_named, mnemonic_named};
+
+use trlab_code::{Input, Register};
+
+/// All registers.
+pub(crate) const REGISTERS: [Register; 8] = [
+    Register::R0,
+    Register::R1,
+    Register::R2,
+    Register::R3,
+    Register::R4,
+    Register::R5,
+    Register::R6,
+    Register::R7,
+];
+
+/// All inputs.
+pub(crate) const INPUTS: [Input; 6] = [
+    Input::Speed,
+    Input::Limit,
+    Input::Gap,
+    Input::SideGap,
+    Input::SideBack,
+    Input::Lane,
+];
+
+/// The name of an instruction.
+#[derive(Clone, Copy, Debug, PartialEq, Eq)]
+pub(crate) enum Mnemonic {
+    Num,
+    Get,
+    Side,
+    Draw,
+    Copy,
+    Add,
+    Sub,
+    Mul,
+    Div,
+    Min,
+    Max,
+    Not,
+    And,
+    Or,
+    Jump,
+    JumpLess,
+    JumpAtMost,
+    JumpTrue,
+    JumpFalse,
+    Go,
+    Cross,
+    Stay,
+}
+
+/// All names of instructions.
+pub(crate) const MNEMONICS: [Mnemonic; 22] = [
+    Mnemonic::Num,
+    Mnemonic::Get,
+    Mnemonic::Side,
+    Mnemonic::Draw,
+    Mnemonic::Copy,
+    Mnemonic::Add,
+    Mnemonic::Sub,
+    Mnemonic::Mul,
+    Mnemonic::Div,
+    Mnemonic::Min,
+    Mnemonic::Max,
+    Mnemonic::Not,
+    Mnemonic::And,
+    Mnemonic::Or,
+    Mnemonic::Jump,
+    Mnemonic::JumpLess,
+    Mnemonic::JumpAtMost,
+    Mnemonic::JumpTrue,
+    Mnemonic::JumpFalse,
+    Mnemonic::Go,
+    Mnemonic::Cross,
+    Mnemonic::Stay,
+];
+
+/// The text of a register.
+pub(crate) fn register_text(register: Register) -> &'static [u8]
+    ensures { result.now ≡ register_text register }
+{
+    match register {
+        Register::R0 => b"r0",
+        Register::R1 => b"r1",
+        Register::R2 => b"r2",
+        Register::R3 => b"r3",
+        Register::R4 => b"r4",
+        Register::R5 => b"r5",
+        Register::R6 => b"r6",
+        Register::R7 => b"r7",
+    }
+}
+
+/// The text of an input.
+pub(crate) fn input_text(input: Input) -> &'static [u8]
+    ensures { result.now ≡ input_text input }
+{
+    match input {
+        Input::Speed => b"speed",
+        Input::Limit => b"limit",
+        Input::Gap => b"gap",
+        Input::SideGap => b"sidegap",
+        Input::SideBack => b"sideback",
+        Input::Lane => b"lane",
+    }
+}
+
+/// The text of an instruction's name.
+pub(crate) fn mnemonic_text(name: Mnemonic) -> &'static [u8]
+    ensures { result.now ≡ mnemonic_text name }
+{
+    match name {
+        Mnemonic::Num => b"num",
+        Mnemonic::Get => b"get",
+        Mnemonic::Side => b"side",
+        Mnemonic::Draw => b"draw",
+        Mnemonic::Copy => b"copy",
+        Mnemonic::Add => b"add",
+        Mnemonic::Sub => b"sub",
+        Mnemonic::Mul => b"mul",
+        Mnemonic::Div => b"div",
+        Mnemonic::Min => b"min",
+        Mnemonic::Max => b"max",
+        Mnemonic::Not => b"not",
+        Mnemonic::And => b"and",
+        Mnemonic::Or => b"or",
+        Mnemonic::Jump => b"jump",
+        Mnemonic::JumpLess => b"jlt",
+        Mnemonic::JumpAtMost => b"jle",
+        Mnemonic::JumpTrue => b"jtrue",
+        Mnemonic::JumpFalse => b"jfalse",
+        Mnemonic::Go => b"go",
+        Mnemonic::Cross => b"cross",
+        Mnemonic::Stay => b"stay",
+    }
+}
+
+/// The register of a text.
+pub(crate) fn register_named(word: &[u8]) -> Option<Register>
+    ensures { result ≡ register_named word.now }
+{
+    register_among(&REGISTERS, word)
+}
+
+/// The first of these registers that has a text.
+fn register_among(registers: &[Register], word: &[u8]) -> Option<Register>
+    ensures { result ≡ find (λ register. bytes_eq (register_text register) word.now) registers.now }
+{
+    registers
+        .iter()
+        .copied()
+        .find(|register| register_text(*register) == word)
+}
+
+/// The input of a text.
+pub(crate) fn input_named(word: &[u8]) -> Option<Input>
+    ensures { result ≡ input_named word.now }
+{
+    input_among(&INPUTS, word)
+}
+
+/// The first of these inputs that has a text.
+fn input_among(inputs: &[Input], word: &[u8]) -> Option<Input>
+    ensures { result ≡ find (λ input. bytes_eq (input_text input) word.now) inputs.now }
+{
+    inputs
+        .iter()
+        .copied()
+        .find(|input| input_text(*input) == word)
+}
+
+/// The instruction's name of a text.
+pub(crate) fn mnemonic_named(word: &[u8]) -> Option<Mnemonic>
+    ensures { result ≡ mnemonic_named word.now }
+{
+    mnemonic_among(&MNEMONICS, word)
+}
+
+/// The first of these names that has a text.
+fn mnemonic_among(names: &[Mnemonic], word: &[u8]) -> Option<Mnemonic>
+    ensures { result ≡ find (λ name. bytes_eq (mnemonic_text name) word.now) names.now }
+{
+    names
+        .iter()
+        .copied()
+        .find(|name| mnemonic_text(*name) == word)
+}

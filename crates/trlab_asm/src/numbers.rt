@@ -1,0 +1,71 @@
+//! Numbers in the text of a program.
+
+ghost use Rattle.std.specs.Prelude.{◌≡◌, ◌≤◌, true, length, IfOk};
+ghost use Rattle.std.specs.Str.Parse.{digits_value};
+ghost use Rattle.trlab_asm.specs.Operands.{all_digits, is_numeral, digits_of, ranged, seen};
+
+use crate::fault::Why;
+
+/// The greatest number of a program.
+pub(crate) const GREATEST_NUMBER: u32 = 4294967295;
+
+/// The most digits of a number.
+pub(crate) const MOST_DIGITS: usize = 10;
+
+/// Are all bytes digits?
+fn all_digits(text: &[u8]) -> bool
+    ensures { result ≡ all_digits text.now }
+{
+    text.iter().all(|byte| byte.is_ascii_digit())
+}
+
+/// Has a word the form of a number?
+fn is_numeral(text: &[u8]) -> bool
+    ensures { result ≡ is_numeral text.now }
+{
+    !text.is_empty() && all_digits(text)
+}
+
+/// The digits of a word that has the form of a number.
+pub(crate) fn digits_of(text: &[u8]) -> Result<&[u8], Why>
+    ensures value { seen (λ digits. digits.now) result ≡ digits_of text.now }
+    ensures digits { IfOk result (λ digits. all_digits digits.now ≡ true) }
+{
+    if is_numeral(text) {
+        Ok(text)
+    } else {
+        Err(Why::Operand)
+    }
+}
+
+/// The number that digits stand for.
+#[tactic(auto, using(crate::proofs::Digits::value_step))]
+fn value(digits: &[u8]) -> u64
+    requires digits { all_digits digits.now ≡ true }
+    requires few { length digits.now ≤ MOST_DIGITS }
+    ensures { result ≡ digits_value 10 digits.now }
+{
+    let mut value = 0;
+    for digit in digits {
+        value = value * 10 + u64::from(*digit - b'0');
+    }
+    value
+}
+
+/// The number that digits stand for, where it is from low to high.
+pub(crate) fn ranged(low: u32, high: u32, digits: &[u8]) -> Result<u32, Why>
+    requires { all_digits digits.now ≡ true }
+    ensures value { result ≡ ranged low high digits.now }
+    ensures low { IfOk result (λ n. low ≤ n) }
+    ensures high { IfOk result (λ n. n ≤ high) }
+{
+    if digits.len() > MOST_DIGITS {
+        return Err(Why::Number);
+    }
+    let n = value(digits);
+    if u64::from(low) <= n && n <= u64::from(high) {
+        Ok(n as u32)
+    } else {
+        Err(Why::Number)
+    }
+}

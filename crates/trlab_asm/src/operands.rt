@@ -1,0 +1,184 @@
+//! The operands of an instruction, in each of the shapes that they have.
+
+ghost use Rattle.std.specs.Prelude.{◌≡◌, ◌≤◌, ◌<◌, true, IfOk};
+ghost use Rattle.trlab_code.specs.declared.program.TheConstants.{WORDS, CERTAIN};
+ghost use Rattle.trlab_asm.specs.Cutting.{cut};
+ghost use Rattle.trlab_asm.specs.Operands.{wanted, word, register, input, all_digits, numeral, number, target, no_operand, two_registers, three_registers, register_input, register_number, two_registers_number, word_chance, register_word_chance, register_target, two_registers_target, seen};
+
+use crate::cutting::{cut, only_word};
+use crate::fault::Why;
+use crate::names::{input_named, register_named};
+use crate::numbers::{GREATEST_NUMBER, digits_of, ranged};
+use crate::target::{Target, target_named};
+use trlab_code::{CERTAIN, Input, Register, WORDS};
+
+/// What stands before the first comma, and what stands behind it.
+fn comma(text: &[u8]) -> Result<(&[u8], &[u8]), Why>
+    ensures { seen (λ parts. (parts.0.now, parts.1.now)) result ≡ wanted (cut 44 text.now) }
+{
+    match cut(text, b',') {
+        Some(parts) => Ok(parts),
+        None => Err(Why::Operand),
+    }
+}
+
+/// The one word of an operand.
+fn word(text: &[u8]) -> Result<&[u8], Why>
+    ensures { seen (λ word. word.now) result ≡ word text.now }
+{
+    match only_word(text) {
+        Some(word) => Ok(word),
+        None => Err(Why::Operand),
+    }
+}
+
+/// A register.
+pub(crate) fn register(text: &[u8]) -> Result<Register, Why>
+    ensures { result ≡ register text.now }
+{
+    match register_named(word(text)?) {
+        Some(register) => Ok(register),
+        None => Err(Why::Operand),
+    }
+}
+
+/// An input.
+fn input(text: &[u8]) -> Result<Input, Why>
+    ensures { result ≡ input text.now }
+{
+    match input_named(word(text)?) {
+        Some(input) => Ok(input),
+        None => Err(Why::Operand),
+    }
+}
+
+/// The digits of an operand that has the form of a number.
+fn numeral(text: &[u8]) -> Result<&[u8], Why>
+    ensures value { seen (λ digits. digits.now) result ≡ numeral text.now }
+    ensures digits { IfOk result (λ digits. all_digits digits.now ≡ true) }
+{
+    digits_of(word(text)?)
+}
+
+/// A number that is at least low.
+fn number(low: u32, text: &[u8]) -> Result<u32, Why>
+    ensures value { result ≡ number low GREATEST_NUMBER text.now }
+    ensures low { IfOk result (λ n. low ≤ n) }
+{
+    let digits = numeral(text)?;
+    ranged(low, GREATEST_NUMBER, digits)
+}
+
+/// A jump's operand.
+pub(crate) fn target(text: &[u8]) -> Result<Target<'_>, Why>
+    ensures { result ≡ target text.now }
+{
+    target_named(word(text)?)
+}
+
+/// No operand.
+pub(crate) fn no_operand(text: &[u8]) -> Result<(), Why>
+    ensures { result ≡ no_operand text.now }
+{
+    if word(text)?.is_empty() {
+        Ok(())
+    } else {
+        Err(Why::Operand)
+    }
+}
+
+/// Two registers.
+pub(crate) fn two_registers(text: &[u8]) -> Result<(Register, Register), Why>
+    ensures { result ≡ two_registers text.now }
+{
+    let (first, rest) = comma(text)?;
+    Ok((register(first)?, register(rest)?))
+}
+
+/// Three registers.
+pub(crate) fn three_registers(text: &[u8]) -> Result<(Register, (Register, Register)), Why>
+    ensures { result ≡ three_registers text.now }
+{
+    let (first, rest) = comma(text)?;
+    Ok((register(first)?, two_registers(rest)?))
+}
+
+/// A register and an input.
+pub(crate) fn register_input(text: &[u8]) -> Result<(Register, Input), Why>
+    ensures { result ≡ register_input text.now }
+{
+    let (first, rest) = comma(text)?;
+    Ok((register(first)?, input(rest)?))
+}
+
+/// A register and a number.
+pub(crate) fn register_number(text: &[u8]) -> Result<(Register, u32), Why>
+    ensures { result ≡ register_number text.now }
+{
+    let (first, rest) = comma(text)?;
+    Ok((register(first)?, number(0, rest)?))
+}
+
+/// Two registers and a number that is at least low.
+pub(crate) fn two_registers_number(
+    low: u32,
+    text: &[u8],
+) -> Result<(Register, (Register, u32)), Why>
+    ensures value { result ≡ two_registers_number low text.now }
+    ensures low { IfOk result (λ operands. low ≤ operands.1.1) }
+{
+    let (first, rest) = comma(text)?;
+    let d = register(first)?;
+    let (second, rest) = comma(rest)?;
+    let a = register(second)?;
+    let n = number(low, rest)?;
+    Ok((d, (a, n)))
+}
+
+/// The number of a random word, and a chance in parts of 2^31.
+///
+/// The forms of both are judged before the ranges of both.
+fn word_chance(text: &[u8]) -> Result<(u32, u32), Why>
+    ensures value { result ≡ word_chance text.now }
+    ensures word { IfOk result (λ operands. operands.0 < WORDS) }
+    ensures chance { IfOk result (λ operands. operands.1 ≤ CERTAIN) }
+{
+    let (first, rest) = comma(text)?;
+    let word = numeral(first)?;
+    let chance = numeral(rest)?;
+    let word = ranged(0, WORDS as u32 - 1, word)?;
+    let chance = ranged(0, CERTAIN, chance)?;
+    Ok((word, chance))
+}
+
+/// A register, the number of a random word, and a chance in parts of 2^31.
+pub(crate) fn register_word_chance(text: &[u8]) -> Result<(Register, (u32, u32)), Why>
+    ensures value { result ≡ register_word_chance text.now }
+    ensures word { IfOk result (λ operands. operands.1.0 < WORDS) }
+    ensures chance { IfOk result (λ operands. operands.1.1 ≤ CERTAIN) }
+{
+    let (first, rest) = comma(text)?;
+    let d = register(first)?;
+    let draw = word_chance(rest)?;
+    Ok((d, draw))
+}
+
+/// A register and a target.
+pub(crate) fn register_target(text: &[u8]) -> Result<(Register, Target<'_>), Why>
+    ensures { result ≡ register_target text.now }
+{
+    let (first, rest) = comma(text)?;
+    let a = register(first)?;
+    let to = target(rest)?;
+    Ok((a, to))
+}
+
+/// Two registers and a target.
+pub(crate) fn two_registers_target(text: &[u8]) -> Result<(Register, (Register, Target<'_>)), Why>
+    ensures { result ≡ two_registers_target text.now }
+{
+    let (first, rest) = comma(text)?;
+    let a = register(first)?;
+    let others = register_target(rest)?;
+    Ok((a, others))
+}

@@ -1,0 +1,111 @@
+//! What the first pass over a text has read.
+
+ghost use Rattle.std.specs.Prelude.{◌≡◌, ◌≤◌, length};
+ghost use Rattle.trlab_code.specs.declared.program.TheConstants.{MOST_INSTRUCTIONS};
+
+use crate::draft::Draft;
+use crate::fault::AsmFault;
+use crate::labels::Labels;
+use crate::reading::{Line, read_line};
+use std::alloc::{AllocError, Global};
+use std::marker::Model;
+
+/// An instruction as it was read, and the number of its line.
+#[derive(Drop)]
+pub(crate) struct Read<'a> {
+    line: usize,
+    draft: Draft<'a>,
+}
+
+impl<'a> Model for Read<'a> {
+    ghost use Rattle.trlab_asm.specs.Assembly.{Read as Reading};
+
+    ghost Value = { Reading };
+
+    ghost view = { λ read. record { line = read.line; draft = read.draft } };
+}
+
+impl<'a> Read<'a> {
+    /// The number of its line.
+    pub(crate) fn line(&self) -> usize
+        ensures { result ≡ self.now.line }
+    {
+        self.line
+    }
+
+    /// The instruction.
+    pub(crate) fn draft(&self) -> &Draft<'a>
+        ensures { result.now ≡ self.now.draft }
+    {
+        &self.draft
+    }
+}
+
+/// The labels and the instructions of a text.
+#[derive(Drop)]
+pub(crate) struct Parts<'a> {
+    labels: Labels<'a>,
+    reads: Vec<Read<'a>>,
+    ghost few: { length reads.items ≤ MOST_INSTRUCTIONS },
+}
+
+impl<'a> Parts<'a> {
+    ghost use Rattle.std.specs.Prelude.{◌<◌, IfOk, OnOk, OnSome, length};
+    ghost use Rattle.trlab_asm.specs.Reading.{line_says};
+    ghost use Rattle.trlab_asm.specs.Assembly.{nothing, in_line, with_line};
+    ghost use Rattle.trlab_asm.specs.Held.{pcs, parts_held};
+
+    /// Of no line.
+    pub(crate) fn new(alloc: Global) -> Parts<'a>
+        ensures { parts_held result ≡ nothing }
+    {
+        Parts {
+            labels: Labels::new(alloc),
+            reads: Vec::new(alloc),
+        }
+    }
+
+    /// The labels.
+    pub(crate) fn labels(&self) -> &Labels<'a>
+        ensures { pcs result.now ≡ (parts_held self.now).labels }
+    {
+        &self.labels
+    }
+
+    /// The instructions.
+    pub(crate) fn reads(&self) -> &[Read<'a>]
+        ensures value { result.now ≡ (parts_held self.now).reads }
+        ensures few { length result.now ≤ MOST_INSTRUCTIONS }
+    {
+        &self.reads
+    }
+
+    /// What the line of a number says, or its fault.
+    pub(crate) fn says(&self, number: usize, line: &'a [u8]) -> Result<Line<'a>, AsmFault>
+        ensures value { result ≡ in_line number
+            (line_says (parts_held self.now).labels (length (parts_held self.now).reads) line.now) }
+        ensures room { IfOk result (λ said. OnSome said.draft (length (parts_held self.now).reads < MOST_INSTRUCTIONS)) }
+    {
+        read_line(&self.labels, self.reads.len(), line).map_err(|why| AsmFault {
+            line: number,
+            why,
+        })
+    }
+
+    /// The line of a number more: its label names the next instruction.
+    pub(crate) fn add(&mut self, number: usize, line: Line<'a>) -> Result<(), AllocError>
+        requires { OnSome line.draft (length (parts_held self.old).reads < MOST_INSTRUCTIONS) }
+        ensures { OnOk result (parts_held self.new ≡ with_line (parts_held self.old) number line.entry) }
+    {
+        if let Some(name) = line.label {
+            self.labels.add(name, self.reads.len() as u32)?;
+        }
+        if let Some(draft) = line.draft {
+            self.reads.push(Read {
+                line: number,
+                draft,
+            })?;
+        }
+        Ok(())
+    }
+}
