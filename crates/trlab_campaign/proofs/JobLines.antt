@@ -1,26 +1,31 @@
 -- The lines of a job text, one after another.
-use Rattle.std.proofs.Common.{◌≡◌, ℕ, List, [], refl, subst}
+use Rattle.std.proofs.Common.{◌≡◌, ℕ, List, length, refl, subst}
 use Rattle.std.specs.Prelude.{Result, Ok, Err}
 use Rattle.trlab_road.specs.Cells.{Cells}
 use Rattle.trlab_rules.specs.Rules.{Programs}
+use Rattle.trlab_step.specs.Run.{Sheet}
 use Rattle.trlab_campaign.specs.declared.fault.TextFault.{TextFault}
 use Rattle.trlab_campaign.specs.declared.fault.TextFault.TheVariants.{At, Memory}
-use Rattle.trlab_campaign.specs.Lines.{Place}
-use Rattle.trlab_campaign.specs.Reading.{Reading, ◌>>=◌, ◌>>◌, said, line, no_more, exactly, Told}
-use Rattle.trlab_campaign.specs.Job.{Job, job, start, road_line, key_line, limit_line, lanes, rule, steps_line, LinesSay}
+use Rattle.trlab_campaign.specs.Lines.{Place, start}
+use Rattle.trlab_campaign.specs.Reading.{Reading, ◌>>=◌, ◌>>◌, said, line, exactly, Told}
+use Rattle.trlab_campaign.specs.Lanes.{lanes}
+use Rattle.trlab_campaign.specs.RuleParts.{rule}
+use Rattle.trlab_campaign.specs.Later.{later_rules}
+use Rattle.trlab_campaign.specs.Job.{Job, job, road_line, key_line, limit_line, steps_line, LinesSay}
+use Rattle.trlab_campaign.proofs.Readings.{goes_on}
 
 -- what is read behind each line
-abbrev pub after_all : List ℕ → Cells → Programs → ℕ → Unit {0} → Reading Job
-after_all key road first steps end = said (record { key = key; road = road; first = first; later = []; steps = steps })
+abbrev pub after_all : List ℕ → Cells → Programs → ℕ → Sheet → Reading Job
+after_all key road first steps later = said (record { key = key; road = road; first = first; later = later; steps = steps })
 
 abbrev pub after_steps : List ℕ → Cells → Programs → ℕ → Reading Job
-after_steps key road first steps = no_more >>= after_all key road first steps
+after_steps key road first steps = later_rules (length road.lanes) steps >>= after_all key road first steps
 
 abbrev pub after_rule : List ℕ → Cells → Programs → Reading Job
 after_rule key road first = line (exactly steps_line) >>= after_steps key road first
 
 abbrev pub after_lanes : List ℕ → Cells → Reading Job
-after_lanes key road = rule >>= after_rule key road
+after_lanes key road = rule (length road.lanes) >>= after_rule key road
 
 abbrev pub after_limit : List ℕ → ℕ → Reading Job
 after_limit key limit = lanes limit >>= after_lanes key
@@ -33,19 +38,6 @@ after_road = line (exactly key_line) >>= after_key
 
 abbrev pub whole : Reading Job
 whole = line (exactly road_line) >> after_road
-
--- a reading goes on behind what was said
-goes_on : {A B : Type 0} (first : Reading A) (next : A → Reading B) (place after : Place) (x : A) (out : Result (B × Place) TextFault)
-    → first place (Ok (x, after)) → Told (next x after) out → Told ((first >>= next) place) out
-goes_on first next place after x (Ok found) says rest = (Ok (x, after), (says, rest))
-goes_on first next place after x (Err (At line cause)) says rest = (Ok (x, after), (says, rest))
-goes_on first next place after x (Err Memory) says rest = tt
-
--- a reading stops at a fault
-pub stops : {A B : Type 0} (first : Reading A) (next : A → Reading B) (place : Place) (fault : TextFault)
-    → Told {A = A × Place} (first place) (Err fault) → Told {A = B × Place} ((first >>= next) place) (Err fault)
-stops first next place (At line cause) says = (Err (record { line = line; cause = cause }), (says, refl))
-stops first next place Memory says = tt
 
 -- behind each line that was read
 pub behind_road : (at after : Place) (out : Result (Job × Place) TextFault) → line (exactly road_line) at (Ok (tt, after)) → Told (after_road after) out → Told (whole at) out
@@ -60,15 +52,15 @@ behind_limit key limit at after out says rest = goes_on (line (exactly limit_lin
 pub behind_lanes : (key : List ℕ) (limit : ℕ) (road : Cells) (at after : Place) (out : Result (Job × Place) TextFault) → lanes limit at (Ok (road, after)) → Told (after_lanes key road after) out → Told (after_limit key limit at) out
 behind_lanes key limit road at after out says rest = goes_on (lanes limit) (after_lanes key) at after road out says rest
 
-pub behind_rule : (key : List ℕ) (road : Cells) (first : Programs) (at after : Place) (out : Result (Job × Place) TextFault) → rule at (Ok (first, after)) → Told (after_rule key road first after) out → Told (after_lanes key road at) out
-behind_rule key road first at after out says rest = goes_on rule (after_rule key road) at after first out says rest
+pub behind_rule : (key : List ℕ) (road : Cells) (first : Programs) (at after : Place) (out : Result (Job × Place) TextFault) → rule (length road.lanes) at (Ok (first, after)) → Told (after_rule key road first after) out → Told (after_lanes key road at) out
+behind_rule key road first at after out says rest = goes_on (rule (length road.lanes)) (after_rule key road) at after first out says rest
 
 pub behind_steps : (key : List ℕ) (road : Cells) (first : Programs) (steps : ℕ) (at after : Place) (out : Result (Job × Place) TextFault) → line (exactly steps_line) at (Ok (steps, after)) → Told (after_steps key road first steps after) out → Told (after_rule key road first at) out
 behind_steps key road first steps at after out says rest = goes_on (line (exactly steps_line)) (after_steps key road first) at after steps out says rest
 
-pub behind_all : (key : List ℕ) (road : Cells) (first : Programs) (steps : ℕ) (at after : Place) → no_more at (Ok (tt, after))
-    → after_steps key road first steps at (Ok (record { key = key; road = road; first = first; later = []; steps = steps }, after))
-behind_all key road first steps at after says = (Ok (tt, after), (says, refl))
+pub behind_all : (key : List ℕ) (road : Cells) (first : Programs) (steps : ℕ) (later : Sheet) (at after : Place) → later_rules (length road.lanes) steps at (Ok (later, after))
+    → after_steps key road first steps at (Ok (record { key = key; road = road; first = first; later = later; steps = steps }, after))
+behind_all key road first steps later at after says = (Ok (later, after), (says, refl))
 
 -- what the lines of a text say, from the place before the first of them on
 pub lines_say : (text : List ℕ) (begin after : Place) (x : Job) → begin ≡ start text → whole begin (Ok (x, after)) → LinesSay text (Ok x)

@@ -1,59 +1,41 @@
--- The pictures of lanes say one thing only.
-use Rattle.std.proofs.Common.{◌≡◌, ℕ, List, [], ◌∷◌, refl, sym, ◌∙◌, ap, subst, inl, inr}
-use Rattle.std.specs.Prelude.{◌≢◌, ◌⊎◌, Result, Ok, Err, codes}
+-- Lanes say one thing only.
+use Rattle.std.proofs.Common.{◌≡◌, ◌≢◌, ℕ, List, ◌∷◌, sym, ◌∙◌, ap, subst}
+use Rattle.std.specs.Prelude.{Option, Result, Ok, Err, codes, option_to_list}
 use Rattle.trlab_road.specs.declared.fault.RoadFault.{RoadFault}
 use Rattle.trlab_road.specs.declared.fault.RoadFault.TheVariants.{Memory}
 use Rattle.trlab_road.specs.Cells.{Cells}
 use Rattle.trlab_road.specs.Legal.{Legal}
 use Rattle.trlab_road.specs.Pictures.{Shows, FirstFault, GoodPictures}
 use Rattle.trlab_road.proofs.PictureLaws.{one_shown, one_fault, no_fault, pictures_good}
-use Rattle.trlab_campaign.specs.declared.fault.Cause.{Cause}
-use Rattle.trlab_campaign.specs.declared.fault.Cause.TheVariants.{Line, Number, Key, Hex, TooBig, Code, Road, Verdict}
-use Rattle.trlab_campaign.specs.Job.{LanesSay, LaneSays, lane_line, word_behind}
-use Rattle.trlab_campaign.proofs.OneReading.{OneRule}
-
--- the legal road that pictures show
-abbrev SaysRoad : ℕ → List (List ℕ) → Result Cells Cause → Type 0
-SaysRoad limit pictures says = (road : Cells) × (says ≡ Ok road) × Legal road × Shows limit pictures road
-
--- their first fault
-abbrev SaysFault : ℕ → List (List ℕ) → Result Cells Cause → Type 0
-SaysFault limit pictures says = (fault : RoadFault) × (says ≡ Err (Road fault)) × FirstFault limit pictures fault × (fault ≢ Memory)
-
-lanes_cases : (limit : ℕ) (pictures : List (List ℕ)) (says : Result Cells Cause) → LanesSay limit pictures says
-    → SaysRoad limit pictures says ⊎ SaysFault limit pictures says
-lanes_cases limit pictures (Ok road) p = inl (road, refl, p.0, p.1)
-lanes_cases limit pictures (Err Line) p = absurd p
-lanes_cases limit pictures (Err Number) p = absurd p
-lanes_cases limit pictures (Err Key) p = absurd p
-lanes_cases limit pictures (Err Hex) p = absurd p
-lanes_cases limit pictures (Err TooBig) p = absurd p
-lanes_cases limit pictures (Err (Code fault)) p = absurd p
-lanes_cases limit pictures (Err (Road fault)) p = inr (fault, refl, p.0, p.1)
-lanes_cases limit pictures (Err (Verdict reason)) p = absurd p
+use Rattle.trlab_campaign.specs.declared.fault.Cause.TheVariants.{Road}
+use Rattle.trlab_campaign.specs.Words.{next_word_is}
+use Rattle.trlab_campaign.specs.Reading.{Fault, line, exactly, ◌>>=◌, before}
+use Rattle.trlab_campaign.specs.Lanes.{LanesSay, line_of_fault, last_line, lane_word, second_lane, shown, lanes}
+use Rattle.trlab_campaign.proofs.OneReading.{OneReading, exactly_one, line_one, then_one, perhaps_one}
 
 -- what shows a legal road has no fault
-not_both : (limit : ℕ) (pictures : List (List ℕ)) (a b : Result Cells Cause) → SaysRoad limit pictures a → SaysFault limit pictures b → ⊥
-not_both limit pictures a b x y =
-    let drawn = subst (λ (ps : List (List ℕ)). GoodPictures x.0.limit ps) x.3.drawn (pictures_good x.0 x.2) in
-    let good = subst (λ (n : ℕ). GoodPictures n pictures) x.3.same_limit drawn in
-    y.3 (no_fault limit pictures y.0 good y.2)
+not_both : (limit : ℕ) (pictures : List (List ℕ)) (road : Cells) (wrong : RoadFault) → Legal road → Shows limit pictures road → FirstFault limit pictures wrong → wrong ≢ Memory → ⊥
+not_both limit pictures road wrong legal shows first real =
+    let drawn = subst (λ (ps : List (List ℕ)). GoodPictures road.limit ps) shows.drawn (pictures_good road legal) in
+    let good = subst (λ (n : ℕ). GoodPictures n pictures) shows.same_limit drawn in
+    real (no_fault limit pictures wrong good first)
 
-pub lanes_one : (limit : ℕ) (pictures : List (List ℕ)) (a b : Result Cells Cause) → LanesSay limit pictures a → LanesSay limit pictures b → a ≡ b
-lanes_one limit pictures a b p q = elim (lanes_cases limit pictures a p) [
-  | inl x ↦ elim (lanes_cases limit pictures b q) [
-    | inl y ↦ x.1 ∙ ap Ok (one_shown limit pictures x.0 y.0 x.3 y.3) ∙ sym y.1
-    | inr y ↦ absurd (not_both limit pictures a b x y)
-  ]
-  | inr x ↦ elim (lanes_cases limit pictures b q) [
-    | inl y ↦ absurd (not_both limit pictures b a y x)
-    | inr y ↦ x.1 ∙ ap (λ fault. Err (Road fault)) (one_fault limit pictures x.0 y.0 x.2 y.2 x.3 y.3) ∙ sym y.1
-  ]
-]
+pub lanes_say_one : (first last limit : ℕ) (pictures : List (List ℕ)) (a b : Result Cells Fault) → LanesSay first last limit pictures a → LanesSay first last limit pictures b → a ≡ b
+lanes_say_one first last limit pictures (Ok road) (Ok other) p q = ap Ok (one_shown limit pictures road other p.1 q.1)
+lanes_say_one first last limit pictures (Ok road) (Err fault) p q = absurd (not_both limit pictures road q.0 p.0 p.1 q.1.0 q.1.1.0)
+lanes_say_one first last limit pictures (Err fault) (Ok road) p q = absurd (not_both limit pictures road p.0 q.0 q.1 p.1.0 p.1.1.0)
+lanes_say_one first last limit pictures (Err fault) (Err other) p q =
+    let at : RoadFault → Fault = λ wrong. record { line = line_of_fault first last wrong; cause = Road wrong } in
+    ap Err (p.1.1.1 ∙ ap at (one_fault limit pictures p.0 q.0 p.1.0 q.1.0 p.1.1.0 q.1.1.0) ∙ sym q.1.1.1)
 
-lane_one_of : (limit : ℕ) (word : Result (List ℕ) Cause) (a b : Result Cells Cause) → LaneSays limit word a → LaneSays limit word b → a ≡ b
-lane_one_of limit (Ok bytes) a b p q = lanes_one limit (bytes ∷ []) a b p q
-lane_one_of limit (Err cause) a b p q = p ∙ sym q
+shown_one : (first limit : ℕ) (picture : List ℕ) (second : Option (List ℕ)) → OneReading (shown first limit picture second)
+shown_one first limit picture second place a b p q =
+    p.1.1 ∙ ap (before place) (lanes_say_one first (last_line first second) limit (picture ∷ option_to_list second) p.0 q.0 p.1.0 q.1.0) ∙ sym q.1.1
 
-pub lane_one : (limit : ℕ) → OneRule (lane_line limit)
-lane_one limit text a b p q = lane_one_of limit (word_behind (codes "lane ") text) a b p q
+second_one : OneReading second_lane
+second_one place = perhaps_one (next_word_is (codes "lane") place.left) (line (exactly lane_word)) (line_one (exactly lane_word) (exactly_one lane_word)) place
+
+pub lanes_one : (limit : ℕ) → OneReading (lanes limit)
+lanes_one limit place =
+    then_one (line (exactly lane_word)) (λ picture. second_lane >>= shown place.number limit picture) (line_one (exactly lane_word) (exactly_one lane_word))
+    (λ picture. then_one second_lane (shown place.number limit picture) second_one (λ second. shown_one place.number limit picture second)) place

@@ -1,9 +1,9 @@
 -- Rules and readings that say one thing only.
-use Rattle.std.proofs.Common.{◌≡◌, ℕ, List, [], ◌∷◌, sym, ◌∙◌, ap, subst}
-use Rattle.std.specs.Prelude.{Result, Ok, Err}
+use Rattle.std.proofs.Common.{◌≡◌, ℕ, Bool, true, false, List, [], ◌∷◌, sym, ◌∙◌, ap, subst}
+use Rattle.std.specs.Prelude.{Option, None, Some, Result, Ok, Err}
 use Rattle.trlab_campaign.specs.declared.fault.Cause.{Cause}
 use Rattle.trlab_campaign.specs.Lines.{Place}
-use Rattle.trlab_campaign.specs.Reading.{Fault, Rule, Reading, said, After, ◌>>=◌, in_line, NextLine, line, no_more, exactly}
+use Rattle.trlab_campaign.specs.Reading.{Fault, Rule, Reading, said, After, ◌>>=◌, in_line, NextLine, line, exactly, perhaps}
 
 -- a rule by which a line says one thing
 abbrev pub OneRule : {A : Type 0} → Rule A → Type 0
@@ -16,7 +16,7 @@ OneReading {A} reading = (place : Place) (a b : Result (A × Place) Fault) → r
 pub exactly_one : {A : Type 0} (rule : List ℕ → Result A Cause) → OneRule (exactly rule)
 exactly_one rule text a b p q = p ∙ sym q
 
-next_one : {A : Type 0} (rule : Rule A) (number : ℕ) (left : List (List ℕ)) (a b : Result (A × Place) Fault) → OneRule rule
+pub next_one : {A : Type 0} (rule : Rule A) (number : ℕ) (left : List (List ℕ)) (a b : Result (A × Place) Fault) → OneRule rule
     → NextLine rule number left a → NextLine rule number left b → a ≡ b
 next_one rule number [] a b one p q = p ∙ sym q
 next_one rule number (text ∷ left) a b one p q = p.1.1 ∙ ap (in_line number left) (one text p.0 q.0 p.1.0 q.1.0) ∙ sym q.1.1
@@ -38,5 +38,6 @@ then_one {A} {B} first next one ones place a b p q =
 pub said_one : {A : Type 0} (x : A) → OneReading (said x)
 said_one x place a b p q = p ∙ sym q
 
-pub no_more_one : OneReading no_more
-no_more_one place a b p q = p ∙ sym q
+pub perhaps_one : {A : Type 0} (there : Bool) (reading : Reading A) → OneReading reading → OneReading (perhaps there reading)
+perhaps_one {A} true reading one = then_one reading (λ (x : A). said (Some x)) one (λ x. said_one (Some x))
+perhaps_one {A} false reading one = said_one {A = Option A} None

@@ -2,33 +2,32 @@
 use Rattle.std.proofs.Common.{◌≡◌, ℕ, zero, suc, ◌+◌, ◌<◌, List, ◌++◌, length, flat_map, refl, sym, ◌∙◌, ap, subst, Bool, true, false, arith}
 use Rattle.std.specs.Prelude.{Result, Ok, Err, nat_lt}
 use Rattle.std.specs.List.{range_with_len}
-use Rattle.trlab_code.specs.declared.kind.Kind.TheVariants.{Motion}
 use Rattle.trlab_road.specs.Cells.{Cells}
 use Rattle.trlab_step.proofs.RunLaws.{road_at_is_one}
 use Rattle.trlab_campaign.specs.declared.text.TheConstants.{TEXT_LIMIT}
 use Rattle.trlab_campaign.specs.Lines.{Place}
-use Rattle.trlab_campaign.specs.Reading.{Fault, line, exactly, no_more, said}
-use Rattle.trlab_campaign.specs.Job.{Job, job, start, road_line, key_line, limit_line, lane_line, lanes, own_line, code_line, rule, steps_line, LinesSay, SizedText, seed_of, sheet_of}
+use Rattle.trlab_campaign.specs.Reading.{Fault, line, exactly, said, SizedText, WholeText}
+use Rattle.trlab_campaign.specs.Lines.{start}
+use Rattle.trlab_campaign.specs.Lanes.{lanes}
+use Rattle.trlab_campaign.specs.RuleParts.{rule}
+use Rattle.trlab_campaign.specs.Later.{later_rules}
+use Rattle.trlab_campaign.specs.Job.{Job, job, road_line, key_line, limit_line, steps_line, LinesSay, seed_of, sheet_of}
 use Rattle.trlab_campaign.specs.Output.{step_text, OutputFor}
 use Rattle.trlab_campaign.specs.Laws.{TextSaysOneThing, TextHasOneOutput}
 use Rattle.trlab_campaign.proofs.JobLines.{after_road, after_key, after_limit, after_lanes, after_rule, after_steps, after_all}
-use Rattle.trlab_campaign.proofs.OneReading.{OneReading, exactly_one, line_one, then_one, said_one, no_more_one}
-use Rattle.trlab_campaign.proofs.OneLanes.{lane_one}
-use Rattle.trlab_campaign.proofs.OneCode.{code_one}
-
-rule_one : OneReading rule
-rule_one = then_one (line (exactly own_line)) _ (line_one (exactly own_line) (exactly_one own_line))
-    (λ _. then_one (line (code_line Motion)) _ (line_one (code_line Motion) (code_one Motion)) (λ motion. said_one _))
+use Rattle.trlab_campaign.proofs.OneReading.{OneReading, exactly_one, line_one, then_one, said_one}
+use Rattle.trlab_campaign.proofs.OneLanes.{lanes_one}
+use Rattle.trlab_campaign.proofs.OneRule.{rule_one, later_rules_one}
 
 job_one : OneReading job
 unfolding job
 job_one = then_one (line (exactly road_line)) (λ _. after_road) (line_one (exactly road_line) (exactly_one road_line))
     (λ _. then_one (line (exactly key_line)) after_key (line_one (exactly key_line) (exactly_one key_line))
     (λ key. then_one (line (exactly limit_line)) (after_limit key) (line_one (exactly limit_line) (exactly_one limit_line))
-    (λ limit. then_one (lanes limit) (after_lanes key) (line_one (lane_line limit) (lane_one limit))
-    (λ road. then_one rule (after_rule key road) rule_one
+    (λ limit. then_one (lanes limit) (after_lanes key) (lanes_one limit)
+    (λ road. then_one (rule (length road.lanes)) (after_rule key road) (rule_one (length road.lanes))
     (λ first. then_one (line (exactly steps_line)) (after_steps key road first) (line_one (exactly steps_line) (exactly_one steps_line))
-    (λ steps. then_one no_more (after_all key road first steps) no_more_one (λ end. said_one _)))))))
+    (λ steps. then_one (later_rules (length road.lanes) steps) (after_all key road first steps) (later_rules_one (length road.lanes) steps) (λ later. said_one _)))))))
 
 -- what was said, or another job
 abbrev said_or : Job → Result (Job × Place) Fault → Job
@@ -41,12 +40,18 @@ lines_one text (Ok x) (Err fault) p q = let same = job_one (start text) (Ok (x, 
 lines_one text (Err fault) (Ok y) p q = let same = job_one (start text) (Err fault) (Ok (y, q.0)) p q.1 in cc
 lines_one text (Err fault) (Err other) p q = let same = job_one (start text) (Err fault) (Err other) p q in cc
 
-sized_one : (long : Bool) (text : List ℕ) (a b : Result Job Fault) → SizedText long text a → SizedText long text b → a ≡ b
-sized_one true text a b p q = p ∙ sym q
-sized_one false text a b p q = lines_one text a b p q
+sized_one : {A : Type 0} (Says : List ℕ → Result A Fault → Type 0) (long : Bool) (text : List ℕ) (a b : Result A Fault)
+    → ((a b : Result A Fault) → Says text a → Says text b → a ≡ b) → SizedText Says long text a → SizedText Says long text b → a ≡ b
+sized_one Says true text a b one p q = p ∙ sym q
+sized_one Says false text a b one p q = one a b p q
+
+-- what a text says is one thing where what its lines say is
+pub whole_one : {A : Type 0} (Says : List ℕ → Result A Fault → Type 0) (text : List ℕ) (a b : Result A Fault)
+    → ((a b : Result A Fault) → Says text a → Says text b → a ≡ b) → WholeText Says text a → WholeText Says text b → a ≡ b
+whole_one Says text a b one p q = sized_one Says (nat_lt TEXT_LIMIT (length text)) text a b one p q
 
 pub one_thing : TextSaysOneThing
-one_thing text says other p q = sized_one (nat_lt TEXT_LIMIT (length text)) text says other p q
+one_thing text says other p q = whole_one LinesSay text says other (lines_one text) p q
 
 -- the texts of steps where two runs have the same roads
 texts_agree : (roads others : ℕ → Cells) (from count : ℕ) → ((s : ℕ) → s < from + count → roads s ≡ others s)

@@ -1,12 +1,40 @@
--- What is written of a run, and how a run ends whose whole output is known.
-use Rattle.std.specs.Prelude.{ℕ, List, Option}
+-- How an engine ends, by what it has written.
+use Rattle.std.specs.Prelude.{◌≡◌, ℕ, ◌⊎◌, Bool, true, false, List, Option}
+use Rattle.std.specs.Io.KnownBytes.{Appends, Keeps}
 use Rattle.trlab_road.specs.Cells.{Cells}
-use Rattle.std.specs.Io.KnownBytes.{Appends}
 use Rattle.trlab_campaign.specs.declared.end.End.{End}
 use Rattle.trlab_campaign.specs.declared.end.End.TheVariants.{Done, Refused, Memory, DeviceFault}
 use Rattle.trlab_campaign.specs.Device.{AppendsFront}
 use Rattle.trlab_campaign.specs.Job.{Job}
 use Rattle.trlab_campaign.specs.Output.{IsRunText}
+
+-- the whole outputs that there may be, each with whether it is a refusal
+abbrev pub Outputs : Type 1
+Outputs = Bool → List ℕ → Type 0
+
+-- a whole output was written, which is a refusal or is none
+abbrev pub WroteAll : Outputs → Bool → Option (List ℕ) → Option (List ℕ) → Type 0
+WroteAll IsWhole refused old new = (out : List ℕ) × (IsWhole refused out × Appends old new out)
+
+-- nothing was written, or a front of a whole output
+abbrev pub WroteFront : Outputs → Option (List ℕ) → Option (List ℕ) → Type 0
+WroteFront IsWhole old new =
+    Keeps old new
+    ⊎ ((refused : Bool) × ((out : List ℕ) × (IsWhole refused out × AppendsFront old new out)))
+
+-- an engine ended so: a text with a fault, or a program that is refused, has an output that is a refusal
+abbrev pub EndsSo : Outputs → End → Option (List ℕ) → Option (List ℕ) → Type 0
+EndsSo IsWhole Done old new = WroteAll IsWhole false old new
+EndsSo IsWhole Refused old new = WroteAll IsWhole true old new
+EndsSo IsWhole Memory old new = WroteFront IsWhole old new
+EndsSo IsWhole DeviceFault old new = WroteFront IsWhole old new
+
+-- the writing of one whole output ended so
+abbrev pub OutputEnds : Bool → List ℕ → End → Option (List ℕ) → Option (List ℕ) → Type 0
+OutputEnds refused out Done old new = (refused ≡ false) × Appends old new out
+OutputEnds refused out Refused old new = (refused ≡ true) × Appends old new out
+OutputEnds refused out Memory old new = AppendsFront old new out
+OutputEnds refused out DeviceFault old new = AppendsFront old new out
 
 -- the pictures of a job's road at each step were written
 abbrev pub WrotePictures : Job → Option (List ℕ) → Option (List ℕ) → Type 0
@@ -24,10 +52,3 @@ JobEnds Done job old new = WrotePictures job old new
 JobEnds Refused job old new = ⊥
 JobEnds Memory job old new = WroteSome job old new
 JobEnds DeviceFault job old new = WroteSome job old new
-
--- the refusal of a text ended so, by a line
-abbrev pub RefusalEnds : End → List ℕ → Option (List ℕ) → Option (List ℕ) → Type 0
-RefusalEnds Done line old new = ⊥
-RefusalEnds Refused line old new = Appends old new line
-RefusalEnds Memory line old new = AppendsFront old new line
-RefusalEnds DeviceFault line old new = AppendsFront old new line

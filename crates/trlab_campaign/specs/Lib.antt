@@ -1,10 +1,17 @@
 pub mod Lines
 pub mod Words
 pub mod Reading
+pub mod Lanes
+pub mod RuleLines
+pub mod Programs
+pub mod RuleParts
+pub mod Later
 pub mod Job
 pub mod Plain
 pub mod Device
 pub mod Watched
+pub mod Refusal
 pub mod Output
+pub mod Check
 pub mod Ending
 pub mod Laws

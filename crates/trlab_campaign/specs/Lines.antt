@@ -1,16 +1,15 @@
--- The lines of a text.
-use Rattle.std.specs.Prelude.{◌≡◌, ℕ, ◌+◌, ◌==◌, List, [], ◌∷◌, if◌then◌else◌}
-use Rattle.std.specs.List.{onto_first}
-
--- the lines of a text: LF ends each, and may be missing at the last
-unfoldable pub lines_of : List ℕ → List (List ℕ)
-lines_of [] = []
-lines_of (c ∷ text) = if c == 10 then [] ∷ lines_of text else onto_first c (lines_of text)
+-- Places between the lines of a text.
+use Rattle.std.specs.Prelude.{◌≡◌, ℕ, ◌+◌, List, ◌∷◌}
+use Rattle.trlab_asm.specs.Lines.{lines_of}
 
 -- the lines that are left of a text, and the number of the first
 pub record Place : Type 0 where
   pub number : ℕ
   pub left : List (List ℕ)
+
+-- the place before the first line of a text
+abbrev pub start : List ℕ → Place
+start text = record { number = 1; left = lines_of text }
 
 -- the next line of a place, and the place after it
 abbrev pub IsNextLine : Place → List ℕ → Place → Type 0

@@ -1,12 +1,13 @@
 -- Readings: what the lines that are left of a text say, or the first fault in them.
-use Rattle.std.specs.Prelude.{◌≡◌, ℕ, ◌+◌, List, [], ◌∷◌, Result, Ok, Err}
+use Rattle.std.specs.Prelude.{◌≡◌, ℕ, ◌+◌, Bool, true, false, List, [], ◌∷◌, length, nat_lt, Option, None, Some, Result, Ok, Err}
 use Rattle.trlab_campaign.specs.Lines.{Place}
 use Rattle.trlab_campaign.specs.declared.fault.Cause.{Cause}
-use Rattle.trlab_campaign.specs.declared.fault.Cause.TheVariants.{Line}
+use Rattle.trlab_campaign.specs.declared.fault.Cause.TheVariants.{Line, TooBig}
 use Rattle.trlab_campaign.specs.declared.fault.LineFault.{LineFault}
 use Rattle.trlab_campaign.specs.declared.fault.LineFault.TheVariants.{Wrong, Memory as NoMemory}
 use Rattle.trlab_campaign.specs.declared.fault.TextFault.{TextFault}
 use Rattle.trlab_campaign.specs.declared.fault.TextFault.TheVariants.{At, Memory}
+use Rattle.trlab_campaign.specs.declared.text.TheConstants.{TEXT_LIMIT}
 
 -- a line's number, and what is wrong there
 pub record Fault : Type 0 where
@@ -37,6 +38,7 @@ abbrev pub ◌>>=◌ : {A B : Type 0} → Reading A → (A → Reading B) → Re
 ◌>>=◌ {A} first next place out =
     (found : Result (A × Place) Fault) × (first place found × After next found out)
 
+-- the same, where what was read first says nothing more
 infixl 10 ◌>>◌
 abbrev pub ◌>>◌ : {A B : Type 0} → Reading A → Reading B → Reading B
 first >> next = first >>= λ _. next
@@ -52,20 +54,22 @@ NextLine rule number [] out = out ≡ Err (record { line = number; cause = Line 
 NextLine {A} rule number (text ∷ left) out =
     (says : Result A Cause) × (rule text says × (out ≡ in_line number left says))
 
+-- what the line at a place says by a rule
 abbrev pub line : {A : Type 0} → Rule A → Reading A
 line rule place out = NextLine rule place.number place.left out
-
--- no line is left
-abbrev pub no_more_from : ℕ → List (List ℕ) → Place → Result ((Unit {0}) × Place) Fault
-no_more_from number [] place = Ok (tt, place)
-no_more_from number (text ∷ left) place = Err (record { line = number; cause = Line })
-
-abbrev pub no_more : Reading (Unit {0})
-no_more place out = out ≡ no_more_from place.number place.left place
 
 -- a rule that is a function
 abbrev pub exactly : {A : Type 0} → (List ℕ → Result A Cause) → Rule A
 exactly rule text says = says ≡ rule text
+
+-- what a text says, where it is too long or is not
+abbrev pub SizedText : {A : Type 0} → (List ℕ → Result A Fault → Type 0) → Bool → List ℕ → Result A Fault → Type 0
+SizedText Says true text says = says ≡ Err (record { line = 0; cause = TooBig })
+SizedText Says false text says = Says text says
+
+-- what a text says by what its lines say; a text that is too long has that fault alone
+abbrev pub WholeText : {A : Type 0} → (List ℕ → Result A Fault → Type 0) → List ℕ → Result A Fault → Type 0
+WholeText Says text says = SizedText Says (nat_lt TEXT_LIMIT (length text)) text says
 
 -- what a function answers is so, unless memory ran out
 abbrev pub Told : {A : Type 0} → (Result A Fault → Type 0) → Result A TextFault → Type 0
@@ -78,6 +82,36 @@ abbrev pub ToldOfLine : {A : Type 0} → (Result A Cause → Type 0) → Result 
 ToldOfLine Says (Ok x) = Says (Ok x)
 ToldOfLine Says (Err (Wrong cause)) = Says (Err cause)
 ToldOfLine Says (Err NoMemory) = Unit {0}
+
+-- a reading where there is something to read, and else nothing
+abbrev pub perhaps : {A : Type 0} → Bool → Reading A → Reading (Option A)
+perhaps true reading = reading >>= λ x. said (Some x)
+perhaps false reading = said None
+
+-- what is said, with the place behind it
+abbrev pub before : {A : Type 0} → Place → Result A Fault → Result (A × Place) Fault
+before place (Ok x) = Ok (x, place)
+before place (Err fault) = Err fault
+
+-- what is said of a line, in a text
+abbrev pub at_line : {A : Type 0} → ℕ → Result A Cause → Result A Fault
+at_line number (Ok x) = Ok x
+at_line number (Err cause) = Err (record { line = number; cause = cause })
+
+-- a reading of no more lines, where the line before, of this number, says what is said
+abbrev pub of_line : {A : Type 0} → ℕ → (Result A Cause → Type 0) → Reading A
+of_line {A} number Says place out =
+    (says : Result A Cause) × (Says says × (out ≡ before place (at_line number says)))
+
+-- a fault is told, unless memory ran out
+abbrev pub FaultTold : Fault → TextFault → Type 0
+FaultTold fault (At line cause) = record { line = line; cause = cause } ≡ fault
+FaultTold fault Memory = Unit {0}
+
+-- a cause is told of one line, unless memory ran out
+abbrev pub CauseTold : Cause → LineFault → Type 0
+CauseTold cause (Wrong said) = said ≡ cause
+CauseTold cause NoMemory = Unit {0}
 
 -- what is wrong in a line, in a text
 abbrev pub fault_at : ℕ → LineFault → TextFault

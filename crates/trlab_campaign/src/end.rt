@@ -5,7 +5,7 @@
 pub enum End {
     /// The whole output was written.
     Done = 0,
-    /// The text was refused, and the line of its first fault was written.
+    /// The text has a fault, or its program is refused, and the line that says so was written.
     Refused = 1,
     /// Memory ran out.
     Memory = 3,

@@ -2,9 +2,10 @@
 
 ghost use Rattle.std.specs.Prelude.{◌≡◌};
 ghost use Rattle.trlab_campaign.specs.Reading.{fault_at};
-ghost use Rattle.trlab_campaign.specs.Output.{cause_number, code_fault_number, road_fault_number};
+ghost use Rattle.trlab_campaign.specs.Refusal.{cause_number, why_number, code_fault_number, road_fault_number};
 
 use thiserror::Error;
+use trlab_asm::Why;
 use trlab_code::CodeFault;
 use trlab_road::RoadFault;
 
@@ -20,18 +21,33 @@ pub enum Cause {
     /// The key is not 64 hexadecimal digits.
     #[error("not a key of 64 hexadecimal digits")]
     Key,
+    /// A change program on a road of one lane.
+    #[error("a change program needs two lanes")]
+    OneLane,
+    /// The step does not rise, or is not below the count of steps.
+    #[error("the step does not rise, or is not below the count of steps")]
+    Order,
+    /// More rules of later steps than a job may have.
+    #[error("too many rules of later steps")]
+    TooMany,
     /// The bytes of a program are not hexadecimal.
     #[error("not in hexadecimal digits")]
     Hex,
     /// The text is longer than a text may be.
     #[error("the text is too long")]
     TooBig,
+    /// The lines of a block are no program.
+    #[error("no program: {0}")]
+    Program(Why),
     /// The bytes spell no program of the kind that must stand here.
     #[error("no program: {0}")]
     Code(CodeFault),
     /// The lanes show no road.
     #[error("no road: {0}")]
     Road(RoadFault),
+    /// The verifier refuses a program of a standard rule.
+    #[error("a program of the standard rule is refused")]
+    StandardRefused,
     /// The verifier refuses the program, for this reason.
     #[error("the program is refused for reason {0}")]
     Verdict(u32),
@@ -46,12 +62,33 @@ impl Cause {
             Cause::Line => 1,
             Cause::Number => 2,
             Cause::Key => 3,
+            Cause::OneLane => 4,
+            Cause::Order => 5,
+            Cause::TooMany => 6,
             Cause::Hex => 8,
             Cause::TooBig => 9,
+            Cause::Program(why) => 10 + why_number(why),
             Cause::Code(fault) => 20 + code_fault_number(fault),
             Cause::Road(fault) => 30 + road_fault_number(fault),
+            Cause::StandardRefused => 40,
             Cause::Verdict(reason) => 40 + u64::from(reason),
         }
+    }
+}
+
+/// The number of a fault of a program's lines.
+fn why_number(why: Why) -> u64
+    ensures { result ≡ why_number why }
+{
+    match why {
+        Why::Word => 1,
+        Why::Operand => 2,
+        Why::Number => 3,
+        Why::LabelTwice => 4,
+        Why::NoLabel => 5,
+        Why::TooLong => 6,
+        Why::Empty => 7,
+        Why::Memory => 8,
     }
 }
 

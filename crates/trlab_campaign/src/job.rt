@@ -1,9 +1,11 @@
 //! Job texts.
 
-mod code;
 mod lane;
+mod later;
 mod line;
 mod reading;
+mod rule;
+mod rule_line;
 
 ghost use Rattle.std.specs.Prelude.{◌≤◌, IfOk, length};
 ghost use Rattle.std.specs.Result.{result_map_both};
@@ -43,15 +45,16 @@ fn read_lines(alloc: Global, text: &[u8]) -> Result<Job, TextFault>
     let ((), place) = reading::road(Place::start(text))?;
     let (key, place) = reading::key(place)?;
     let (limit, place) = reading::limit(place)?;
-    let (road, place) = reading::lanes(alloc, limit, place)?;
-    let (first, place) = reading::rule(alloc, place)?;
+    let (road, place) = lane::lanes(alloc, limit, place)?;
+    let count = road.lanes();
+    let (first, place) = rule::rule(alloc, count, place)?;
     let (steps, place) = reading::steps(place)?;
-    reading::no_more(place)?;
+    let (later, _) = later::later_rules(alloc, count, steps, place)?;
     Ok(Job {
         key: Key(key),
         road,
         first,
-        later: Vec::new(alloc),
+        later,
         steps,
     })
 }

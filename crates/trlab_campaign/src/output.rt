@@ -2,7 +2,8 @@
 
 ghost use Rattle.std.specs.Prelude.{◌≡◌, ◌++◌, IfOk, OnOk};
 ghost use Rattle.std.specs.String.{string_bytes};
-ghost use Rattle.trlab_campaign.specs.Output.{fault_line, step_text};
+ghost use Rattle.trlab_campaign.specs.Output.{step_text};
+ghost use Rattle.trlab_campaign.specs.Refusal.{fault_line};
 
 use crate::fault::Cause;
 use std::alloc::{AllocError, Global};

@@ -1,19 +1,19 @@
 //! Runs of job texts.
 
 mod pictures;
-mod refusal;
 
 ghost use Rattle.std.specs.Prelude.{◌≡◌, ◌+◌, ◌≤◌, ◌||◌, ◌↔◌, true, false, IfSome};
 ghost use Rattle.trlab_campaign.specs.Device.{ConsumesUpTo};
-ghost use Rattle.trlab_campaign.specs.Output.{EndsSo};
+ghost use Rattle.trlab_campaign.specs.Ending.{EndsSo};
+ghost use Rattle.trlab_campaign.specs.Output.{IsOutput};
 ghost use Rattle.trlab_campaign.specs.declared.end.End.TheVariants.{DeviceFault};
 
 use crate::device::{ReadFault, Sink, Source, read_text};
 use crate::end::End;
 use crate::fault::{Cause, TextFault};
 use crate::job::read_job;
+use crate::refusal::refuse;
 use crate::run::pictures::run_job;
-use crate::run::refusal::refuse;
 use crate::text::TEXT_LIMIT;
 use std::alloc::{AllocGlobal, Global};
 
@@ -23,7 +23,7 @@ pub const MOST_WORKERS: u32 = 16;
 /// Runs the job that a text states, or refuses the text.
 fn run_text<K: Sink>(alloc: Global, text: &[u8], writer: &mut K) -> End
     requires { K.failed writer.old ≡ false }
-    ensures answer { EndsSo result text.now (K.written writer.old) (K.written writer.new) }
+    ensures answer { EndsSo (IsOutput text.now) result (K.written writer.old) (K.written writer.new) }
     ensures device { (result ≡ DeviceFault) ↔ (K.failed writer.new ≡ true) }
 {
     match read_job(alloc, text) {
@@ -51,7 +51,7 @@ pub fn run_job_text<R: AllocGlobal, S: Source, K: Sink>(
     requires few_workers { workers ≤ MOST_WORKERS }
     // Where the reader tells its bytes, and the writer those that it has.
     ensures answer { IfSome (S.left reader.old)
-        (λ text. EndsSo result text (K.written writer.old) (K.written writer.new)) }
+        (λ text. EndsSo (IsOutput text) result (K.written writer.old) (K.written writer.new)) }
     ensures device { (result ≡ DeviceFault) ↔ ((S.failed reader.new || K.failed writer.new) ≡ true) }
     ensures read { ConsumesUpTo (TEXT_LIMIT + 1) (S.left reader.old) (S.left reader.new) }
 {

@@ -1,22 +1,20 @@
 //! Whole texts in, whole texts out.
 
+mod checks;
+mod guide;
+mod jobs;
+mod lanes;
+mod later;
+mod rules;
+
 ghost use Rattle.std.specs.Prelude.{◌≤◌};
 ghost use Rattle.trlab_campaign.specs.declared.run.TheConstants.{MOST_WORKERS};
 
-use crate::{Cause, End, TextFault, Watched, read_job, run_job_text};
-use std::alloc::{AllocError, AllocGlobal, Global};
-use std::io::{self, BufWriter};
-use trlab_code::CodeFault;
-use trlab_road::RoadFault;
+use crate::{End, Watched, run_job_text};
+use std::alloc::AllocGlobal;
 
 /// The key line of the zero key.
 const KEY: &str = "key 0000000000000000000000000000000000000000000000000000000000000000";
-
-/// The code line of the motion without chance: one faster, at most the limit and the gap.
-const CODE: &str =
-    "code 54524c42010008000200000000000000010100000100000006000001000000000201010000000000\
-0a00000100000000\
-02010200000000000a000001000000001400000000000000";
 
 /// What a text gives: how the run ends, and what is written.
 fn run(rt: &impl AllocGlobal, text: &str, workers: u32) -> (End, Vec<u8>)
@@ -27,148 +25,4 @@ fn run(rt: &impl AllocGlobal, text: &str, workers: u32) -> (End, Vec<u8>)
     let mut writer = Watched::new(Vec::new(rt.alloc()));
     let end = run_job_text(rt, &mut reader, &mut writer, workers);
     (end, writer.into_inner())
-}
-
-/// A job text of one lane and some steps, under the motion without chance.
-fn job_text(alloc: Global, limit: u32, lane: &str, steps: u32) -> Result<String, AllocError> {
-    format!(in alloc;
-        "road 1\n{KEY}\nlimit {limit}\nlane {lane}\nrule own\n{CODE}\nsteps {steps}\n"
-    )
-}
-
-#[test]
-fn runs_write_each_picture(rt: HostRuntime) -> Result<(), AllocError> {
-    let alloc = rt.alloc();
-    for (limit, lane, steps, wanted) in [
-        (
-            5,
-            "0.0.......",
-            4,
-            "step 0\n0.0.......\nstep 1\n.1.1......\nstep 2\n..1..2....\nstep 3\n....2...3.\nstep 4\n..4....3..\n",
-        ),
-        (5, "0", 3, "step 0\n0\nstep 1\n0\nstep 2\n0\nstep 3\n0\n"),
-        (9, "000", 1, "step 0\n000\nstep 1\n000\n"),
-        (
-            9,
-            "0..",
-            3,
-            "step 0\n0..\nstep 1\n.1.\nstep 2\n2..\nstep 3\n..2\n",
-        ),
-        (1, "...", 0, "step 0\n...\n"),
-    ] {
-        let text = job_text(alloc, limit, lane, steps)?;
-        for workers in [1, 2, 16] {
-            let (end, out) = run(&rt, text.as_str(), workers);
-            assert_eq!(rt; end, End::Done, "at {lane}");
-            assert!(rt; out.as_slice() == wanted.as_bytes(), "at {lane}");
-        }
-    }
-    Ok(())
-}
-
-#[test]
-fn refusals_tell_line_and_cause(rt: HostRuntime) -> Result<(), AllocError> {
-    let alloc = rt.alloc();
-    let go_too_far = "code 54524c420100020002000000000000001400000000000000";
-    for (text, wanted) in [
-        (format!(in alloc; "")?, "fault line 1 cause 1\n"),
-        (
-            format!(in alloc; "road 1\n{KEY}\nlimit 5\n")?,
-            "fault line 4 cause 1\n",
-        ),
-        (
-            format!(in alloc; "road 1\nkey 00\n")?,
-            "fault line 2 cause 3\n",
-        ),
-        (
-            format!(in alloc; "road 1\n{KEY}\nlimit 05\n")?,
-            "fault line 3 cause 2\n",
-        ),
-        (
-            format!(in alloc; "road 1\n{KEY}\nlimit 5\nlane 0.6.\n")?,
-            "fault line 4 cause 35\n",
-        ),
-        (
-            format!(in alloc; "road 1\n{KEY}\nlimit 5\nlane 0.\nrule own\ncode 0\n")?,
-            "fault line 6 cause 8\n",
-        ),
-        (
-            format!(in alloc; "road 1\n{KEY}\nlimit 5\nlane 0.\nrule own\ncode 00\n")?,
-            "fault line 6 cause 21\n",
-        ),
-        (
-            format!(in alloc; "road 1\n{KEY}\nlimit 5\nlane 0.\nrule own\n{go_too_far}\n")?,
-            "fault line 6 cause 50\n",
-        ),
-        (
-            format!(in alloc;
-                "road 1\n{KEY}\nlimit 5\nlane 0.\nrule own\n{CODE}\nsteps 1\nsteps 1"
-            )?,
-            "fault line 8 cause 1\n",
-        ),
-    ] {
-        let (end, out) = run(&rt, text.as_str(), 1);
-        assert_eq!(rt; end, End::Refused, "at {wanted}");
-        assert!(rt; out.as_slice() == wanted.as_bytes(), "at {wanted}");
-    }
-    Ok(())
-}
-
-#[test]
-fn jobs_are_what_texts_say(rt: HostRuntime) -> Result<(), AllocError> {
-    let alloc = rt.alloc();
-    let text = job_text(alloc, 5, "0.0.......", 4)?;
-    match read_job(alloc, text.as_bytes()) {
-        Ok(job) => {
-            assert_eq!(rt; job.steps, 4);
-            assert_eq!(rt; job.key.0, [0; 32]);
-            assert_eq!(rt; job.road.cars(), 2);
-            assert_eq!(rt; job.first.motion().budget(), 8);
-            assert!(rt; job.later.is_empty());
-        }
-        Err(fault) => assert!(rt; false, "{fault}"),
-    }
-    assert_eq!(rt;
-        read_job(alloc, b"road 2").err(),
-        Some(TextFault::At {
-            line: 1,
-            cause: Cause::Line
-        })
-    );
-    Ok(())
-}
-
-#[test]
-fn causes_have_numbers(rt: HostRuntime) {
-    for (cause, number) in [
-        (Cause::TooBig, 9),
-        (Cause::Code(CodeFault::Kind), 24),
-        (Cause::Road(RoadFault::Length), 32),
-        (Cause::Verdict(12), 52),
-    ] {
-        assert_eq!(rt; cause.number(), number);
-    }
-}
-
-#[test]
-fn the_last_call_hands_on_what_a_buffer_holds(rt: HostRuntime) -> io::Result<()> {
-    let alloc = rt.alloc();
-    let mut reader = Watched::new(b"road 2\n".as_slice());
-    let mut writer = Watched::new(BufWriter::new(alloc, Vec::new(alloc))?);
-    let end = run_job_text(&rt, &mut reader, &mut writer, 1);
-    assert_eq!(rt; end, End::Refused);
-    let buffer = writer.into_inner();
-    assert!(rt; buffer.get_ref().as_slice() == b"fault line 1 cause 1\n".as_slice());
-    Ok(())
-}
-
-#[test]
-fn a_full_writer_ends_the_run(rt: HostRuntime) -> Result<(), AllocError> {
-    let text = job_text(rt.alloc(), 5, "0.0.......", 4)?;
-    let mut room = [0u8; 20];
-    let mut reader = Watched::new(text.as_bytes());
-    let mut writer = Watched::new(room.as_mut_slice());
-    let end = run_job_text(&rt, &mut reader, &mut writer, 1);
-    assert_eq!(rt; end, End::DeviceFault);
-    Ok(())
 }

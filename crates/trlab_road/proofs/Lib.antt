@@ -1,3 +1,4 @@
+pub mod CellReads
 pub mod Ring
 pub mod StandingOrder
 pub mod MotionLaws
@@ -8,3 +9,7 @@ pub mod CrossingLaws
 pub mod PictureLaws
 pub mod RoadKeeps
 pub mod Numbers
+pub mod CrossingInOrder
+pub mod EvenLanes
+pub mod EvenRoads
+pub mod SameCells

@@ -15,7 +15,7 @@ allowed_fits road answers allowed = record {
   each_lane = λ l h. record {
     gaps = λ x number speed here.
         let k = allowed.within_gaps (rank road l x) (rank_below_cars road l x (number, speed) here) in
-        let e = in_order_at (λ m y. gap (lane_of road m) y) road l x number speed here in
+        let e = in_order_at (λ m y. gap (lane_of road m) y) 0 road l x number speed here in
         rw e at k;
   };
   limits = λ l x number speed here. allowed.within_limit (rank road l x) (rank_below_cars road l x (number, speed) here);
@@ -42,7 +42,7 @@ pub moves_in_order : (road new : Cells) (answers : List ℕ) → Moves (answer_a
     → (answer : ℕ → ℕ → ℕ) → answers ≡ in_order answer road → Moves answer road new
 moves_in_order road new answers m answer is =
     moves_by (answer_at road answers) answer road new
-    (λ l x number speed here. ap (λ (xs : List ℕ). get_or xs (rank road l x) 0) is ∙ in_order_at answer road l x number speed here) m
+    (λ l x number speed here. ap (λ (xs : List ℕ). get_or xs (rank road l x) 0) is ∙ in_order_at answer 0 road l x number speed here) m
 
 -- where the answers are allowed, the road after the motion is legal, and the motion was clean
 pub allowed_legal : (road new : Cells) (answers : List ℕ) → Legal road → Allowed road answers

@@ -27,7 +27,7 @@ pub full : (n : ℕ) → lane_cars (replicate n (Some (0, 0))) ≡ n
 full zero = refl
 full (suc n) = lane_cars-some (0, 0) (replicate n (Some (0, 0))) ∙ ap suc (full n)
 
-abbrev no_one : Car
+abbrev pub no_one : Car
 no_one = record { number = 0; lane = 0; place = 0; speed = 0 }
 
 -- how many cars stand before a car of a list of lanes
@@ -79,7 +79,7 @@ rank_of_kth road k h =
 
 module _ (road : Cells) (legal : Legal road) where
   -- the number of the k-th car
-  abbrev number_at : ℕ → ℕ
+  abbrev pub number_at : ℕ → ℕ
   number_at k = (get_or (standing road) k no_one).number
 
   -- two cars of one number are one
@@ -97,6 +97,16 @@ module _ (road : Cells) (legal : Legal road) where
 
   in_order : lane_cars (map car_cell (standing road)) ≡ cars road
   in_order = all_taken (standing road) ∙ length-standing_lanes 0 road.lanes
+
+  -- where each number is below n, there are n cars at most
+  pub no_more_cars : (n : ℕ) → ((k : ℕ) → k < cars road → number_at k < n) → cars road ≤ n
+  no_more_cars n low =
+      let most = fewer_cars (map car_cell (standing road)) (replicate n (Some (0, 0))) (λ x y. (x < cars road) × (number_at x ≡ y))
+      (λ x a h. let on = car_at x (inside (map car_cell (standing road)) x a h) in (number_at x, ((0, 0), get_or-replicate n (number_at x) (Some (0, 0)) None (low x on), (on, refl))))
+      (λ x z y h g. number_once x z h.0 g.0 (h.1 ∙ sym g.1)) in
+      let a = in_order in
+      let b = full n in
+      omega (arith, most, a, b)
 
   -- without number i, the numbers move together
   abbrev Squeezed : ℕ → ℕ → ℕ → Type 0

@@ -60,7 +60,7 @@ apart_ahead n x y p q order inside near far meet =
       | inr w ↦ let e = w.1 in let f = w.0 in omega arith
     ]
 
-none_is : (c : Cell) → is_none c ≡ true → c ≡ None
+pub none_is : (c : Cell) → is_none c ≡ true → c ≡ None
 none_is None h = refl
 none_is (Some car) h = absurd cc
 

@@ -1,16 +1,16 @@
 -- What a road keeps: its list of cars is the standing order.
-use Rattle.std.proofs.Common.{◌≡◌, ℕ, zero, suc, ◌∷◌, ◌++◌, take, ◌<◌, ◌≤◌, ◌+◌, Some, List, [], map, Vec, Global, length, get_or, refl, sym, ◌∙◌, ap, arith}
+use Rattle.std.proofs.Common.{◌≡◌, ℕ, zero, suc, ◌∷◌, ◌++◌, take, ◌<◌, ◌≤◌, ◌+◌, ◌*◌, ◌/◌, ◌%◌, Some, List, [], map, Vec, Global, length, get_or, refl, sym, ◌∙◌, ap, arith}
 use Rattle.std.specs.Prelude.{is_some, slice_get, sum_by}
-use Rattle.std.proofs.lemmas.List.{take_more}
+use Rattle.std.proofs.lemmas.List.{length-map, take_more}
 use Rattle.std.proofs.lemmas.List.Sums.{count_by-le-length, sum_by-cons, sum_by_push}
-use Rattle.std.proofs.lemmas.Option.{slice_get-get_or}
+use Rattle.std.proofs.lemmas.Nat.{div-mul-add, mod-mul-add}
+use Rattle.std.proofs.lemmas.Option.{slice_get-get_or, slice_get_within, get_or_from_slice_get, some_pair_parts}
 use Rattle.trlab_road.specs.declared.car.Car.{Car}
 use Rattle.trlab_road.specs.declared.bounds.TheConstants.{GREATEST_LENGTH, MOST_LANES}
 use Rattle.trlab_road.specs.Cells.{Cell, Lane, Cells, cell, lane_of, cars, lane_cars, lanes_of}
-use Rattle.trlab_road.specs.Gaps.{gap}
 use Rattle.trlab_road.specs.Legal.{Legal, Kept}
-use Rattle.trlab_road.specs.Motion.{gaps}
-use Rattle.trlab_road.specs.Standing.{standing}
+use Rattle.trlab_road.specs.Motion.{in_order}
+use Rattle.trlab_road.specs.Standing.{car_index, standing}
 use Rattle.trlab_road.proofs.MotionLaws.{on_lane}
 use Rattle.trlab_road.proofs.Ring.{inside}
 use Rattle.trlab_road.proofs.StandingOrder.{length-standing_lanes, standing_cell, get_or-map_in}
@@ -18,50 +18,73 @@ use Rattle.trlab_road.proofs.StandingOrder.{length-standing_lanes, standing_cell
 some_same : {a b : Car} → Some a ≡ Some b → a ≡ b
 some_same e = cc
 
-module _ (road : Cells) (order : List Car) (kept : Kept road order) where
+abbrev no_one : Car
+no_one = record { number = 0; lane = 0; place = 0; speed = 0 }
+
+car_path : {a b l m x y u v : ℕ} → a ≡ b → l ≡ m → x ≡ y → u ≡ v
+    → ◌≡◌ {A = Car} (record { number = a; lane = l; place = x; speed = u }) (record { number = b; lane = m; place = y; speed = v })
+car_path e f g h = cc
+
+module _ (road : Cells) (order : List ℕ) (kept : Kept road order) where
   pub length_order : length order ≡ cars road
-  length_order = ap length kept.ordered ∙ length-standing_lanes 0 road.lanes
+  length_order = ap length kept.ordered ∙ length-map (standing road) (car_index (length (lane_of road 0))) ∙ length-standing_lanes 0 road.lanes
 
-  pub kept_standing : (k : ℕ) (car : Car) → k < cars road → car ≡ get_or order k car
-      → slice_get (standing road) k ≡ Some car
-  kept_standing k car h is =
-      let within : k < length order = rw length_order h in
-      rw (← kept.ordered) (slice_get-get_or order k car within ∙ ap Some (sym is))
+  -- the index of the k-th car tells its lane and its place
+  module _ (k : ℕ) (low : k < cars road) (index n d : ℕ) (read : index ≡ get_or order k d) (size : n ≡ length (lane_of road 0)) where
+    abbrev kth : Car
+    kth = get_or (standing road) k no_one
 
-  pub kept_cell : (k : ℕ) (car : Car) → k < cars road → car ≡ get_or order k car
-      → cell road car.lane car.place ≡ Some (car.number, car.speed)
-  kept_cell k car h is =
-      let e : get_or (standing road) k car ≡ car = ap (λ xs. get_or xs k car) (sym kept.ordered) ∙ sym is in
-      rw e at (standing_cell road k car h)
+    cell_there : cell road kth.lane kth.place ≡ Some (kth.number, kth.speed)
+    cell_there = standing_cell road k no_one low
 
-  pub kept_lane : (k : ℕ) (car : Car) → k < cars road → car ≡ get_or order k car
-      → car.lane < length road.lanes
-  kept_lane k car h is = on_lane road car.lane car.place (car.number, car.speed) (kept_cell k car h is)
+    lane_there : kth.lane < length road.lanes
+    lane_there = on_lane road kth.lane kth.place (kth.number, kth.speed) cell_there
 
-  pub kept_place : (k : ℕ) (car : Car) → k < cars road → car ≡ get_or order k car
-      → car.place < length (lane_of road car.lane)
-  kept_place k car h is = inside (lane_of road car.lane) car.place (car.number, car.speed) (kept_cell k car h is)
+    place_there : kth.place < n
+    place_there =
+        let within = inside (lane_of road kth.lane) kth.place (kth.number, kth.speed) cell_there in
+        let same = kept.legal.equal_lanes kth.lane lane_there in
+        omega (arith, within, same, size)
 
-  pub kept_small : (k : ℕ) (car : Car) → k < cars road → car ≡ get_or order k car
-      → length (lane_of road car.lane) ≤ GREATEST_LENGTH
-  kept_small k car h is = rw (kept.legal.equal_lanes car.lane (kept_lane k car h is)) kept.legal.cells_high
+    index_there : index ≡ kth.lane * n + kth.place
+    index_there =
+        read ∙ ap (λ xs. get_or xs k d) kept.ordered
+        ∙ get_or-map_in (car_index (length (lane_of road 0))) (standing road) k no_one d (rw length-standing_lanes low)
+        ∙ ap (λ m. kth.lane * m + kth.place) (sym size)
 
-  pub kept_length : (k : ℕ) (car : Car) → k < cars road → car ≡ get_or order k car
-      → length (lane_of road car.lane) ≡ length (lane_of road 0)
-  kept_length k car h is = kept.legal.equal_lanes car.lane (kept_lane k car h is)
+    lane_told : index / n ≡ kth.lane
+    lane_told = ap (λ i. i / n) index_there ∙ div-mul-add kth.lane n kth.place place_there
 
-  -- the k-th car of the list is that of the standing order
-  pub kept_same : (k : ℕ) (car other : Car) → k < cars road → car ≡ get_or order k car
-      → slice_get (standing road) k ≡ Some other → car ≡ other
-  kept_same k car other h is there = some_same (sym (kept_standing k car h is) ∙ there)
+    place_told : index % n ≡ kth.place
+    place_told = ap (λ i. i % n) index_there ∙ mod-mul-add kth.lane n kth.place place_there
 
-  pub kept_gap : (k : ℕ) (car : Car) → k < cars road → car ≡ get_or order k car
-      → get_or (gaps road) k 0 ≡ gap (lane_of road car.lane) car.place
-  kept_gap k car h is =
-      let g : Car → ℕ = λ c. gap (lane_of road c.lane) c.place in
-      let e : get_or (standing road) k car ≡ car = ap (λ xs. get_or xs k car) (sym kept.ordered) ∙ sym is in
-      let size : k < length (standing road) = rw length-standing_lanes h in
-      get_or-map_in g (standing road) k car 0 size ∙ ap g e
+    pub kept_lane : index / n < length road.lanes
+    kept_lane = rw lane_told lane_there
+
+    -- a car stands there
+    pub kept_cell : cell road (index / n) (index % n) ≡ Some (kth.number, kth.speed)
+    kept_cell = rw (lane_told, place_told) cell_there
+
+    -- and it is the k-th car
+    pub kept_car : (number speed : ℕ) → cell road (index / n) (index % n) ≡ Some (number, speed)
+        → slice_get (standing road) k ≡ Some (record { number = number; lane = index / n; place = index % n; speed = speed })
+    kept_car number speed there =
+        let parts = some_pair_parts kth.number number kth.speed speed (sym kept_cell ∙ there) in
+        slice_get-get_or (standing road) k no_one (rw length-standing_lanes low)
+        ∙ ap Some (car_path parts.0 (sym lane_told) (sym place_told) parts.1)
+
+-- what a function gives for the k-th car stands at k
+pub in_order_kth : {X : Type 0} (f : ℕ → ℕ → X) (road : Cells) (k : ℕ) (car : Car) (e : X)
+    → slice_get (standing road) k ≡ Some car → get_or (in_order f road) k e ≡ f car.lane car.place
+in_order_kth {X = X} f road k car e there =
+    let g : Car → X = λ c. f c.lane c.place in
+    get_or-map_in g (standing road) k car e (slice_get_within (standing road) k car there)
+    ∙ ap g (get_or_from_slice_get (standing road) k car car there)
+
+-- the k-th car is one
+pub kth_same : (road : Cells) (k : ℕ) (car other : Car) → slice_get (standing road) k ≡ Some car
+    → slice_get (standing road) k ≡ Some other → car ≡ other
+kth_same road k car other here there = some_same (sym here ∙ there)
 
 -- the lane that an index of the lanes reads
 pub lane_read : (lanes : List (Vec Cell Global)) (l : ℕ) (lane : Vec Cell Global) → l < length lanes

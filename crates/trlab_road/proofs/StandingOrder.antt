@@ -187,15 +187,15 @@ pub rank_below_cars : (road : Cells) (l x : ℕ) (car : ℕ × ℕ) → cell roa
 rank_below_cars road l x car h = rank_in_road road.lanes l x car h
 
 -- what a function gives for the car of a cell stands at its rank
-pub in_order_at : (f : ℕ → ℕ → ℕ) (road : Cells) (l x number speed : ℕ)
-    → cell road l x ≡ Some (number, speed) → get_or (in_order f road) (rank road l x) 0 ≡ f l x
+pub in_order_at : {X : Type 0} (f : ℕ → ℕ → X) (e : X) (road : Cells) (l x number speed : ℕ)
+    → cell road l x ≡ Some (number, speed) → get_or (in_order f road) (rank road l x) e ≡ f l x
 unfolding car_of
-in_order_at f road l x number speed h =
+in_order_at {X = X} f e road l x number speed h =
     let d : Car = record { number = 0; lane = 0; place = 0; speed = 0 } in
     let r = rank_below_cars road l x (number, speed) h in
     let size : rank road l x < length (standing road) = rw length-standing_lanes r in
-    let g : Car → ℕ = λ car. f car.lane car.place in
-    get_or-map_in g (standing road) (rank road l x) d 0 size ∙ ap g (standing_rank road l x number speed d h)
+    let g : Car → X = λ car. f car.lane car.place in
+    get_or-map_in g (standing road) (rank road l x) d e size ∙ ap g (standing_rank road l x number speed d h)
 
 -- the rank of the k-th car is k
 pub rank_is : (l s : ℕ) (lane : Lane) (k : ℕ) (d : Car) → k < length (standing_from l s lane)

@@ -1,9 +1,12 @@
 -- The sideways phase of a step on two lanes (Rickert, Nagel, Schreckenberg and Latour 1996): all
 -- cars that cross do so at once. Answers are functions of a lane and a place: does the car cross?
-use Rattle.std.specs.Prelude.{◌≡◌, ℕ, ◌-◌, ◌<◌, Bool, true, cond, Some, None, length, map}
+use Rattle.std.specs.Prelude.{◌≡◌, ℕ, ◌+◌, ◌-◌, ◌<◌, Bool, true, false, cond, Some, None, List, length, map, slice_index_or, take}
 use Rattle.std.specs.List.{range_with_len}
 use Rattle.std.specs.Option.{option_or}
-use Rattle.trlab_road.specs.Cells.{Cell, Lane, Cells, at, cell, lane_of, cars}
+use Rattle.trlab_road.specs.Cells.{Cell, Lane, Cells, at, cell, lane_of, cars, lane_cars}
+use Rattle.trlab_road.specs.Gaps.{side}
+use Rattle.trlab_road.specs.Motion.{in_order}
+use Rattle.trlab_road.specs.Standing.{rank}
 
 -- the other of two lanes
 abbrev pub other_lane : ℕ → ℕ
@@ -61,3 +64,22 @@ pub record CleanCrossing (old new : Cells) : Type 0 where
       → cell old l x ≡ Some (number, speed) → Sidestep old new l x number speed
   pub none_made : (l x number speed : ℕ)
       → cell new l x ≡ Some (number, speed) → (m : ℕ) × (cell old m x ≡ Some (number, speed))
+
+-- in standing order: is the side cell of each car empty?
+abbrev pub sides : Cells → List Bool
+sides road = in_order (λ l x. side (lane_of road (other_lane l)) x) road
+
+-- does the car at a place of a lane cross, where the answers of the lane's cars stand from an index on?
+abbrev pub lane_crosses_at : Lane → List Bool → ℕ → ℕ → Bool
+lane_crosses_at lane answers from x = slice_index_or answers (from + lane_cars (take x lane)) false
+
+-- does the car at a lane and a place cross, where answers stand in standing order?
+abbrev pub crosses_at : Cells → List Bool → ℕ → ℕ → Bool
+crosses_at road answers l x = slice_index_or answers (rank road l x) false
+
+-- two lanes and one answer for each car, which crosses only where its side cell is empty
+pub record CrossAllowed (road : Cells) (answers : List Bool) : Type 0 where
+  pub two_lanes : length road.lanes ≡ 2
+  pub one_each : length answers ≡ cars road
+  pub side_empty : (k : ℕ) → k < cars road
+      → slice_index_or answers k false ≡ true → slice_index_or (sides road) k false ≡ true

@@ -1,4 +1,5 @@
--- Laws of pictures and of the two phases of a step, for every road and whichever code moves the cars
+-- Laws of pictures, of the two phases of a step and of evenly spread cars, for every road and
+-- whichever code moves the cars
 use Rattle.std.specs.Prelude.{◌≢◌, List, ◌≡◌, ℕ, ◌<◌, ◌↔◌, Bool}
 use Rattle.trlab_road.specs.declared.fault.RoadFault.{RoadFault}
 use Rattle.trlab_road.specs.declared.fault.RoadFault.TheVariants.{Memory}
@@ -6,6 +7,7 @@ use Rattle.trlab_road.specs.Cells.{Cells, SameAtCars, Stands, cars}
 use Rattle.trlab_road.specs.Legal.{Legal}
 use Rattle.trlab_road.specs.Pictures.{FirstFault, GoodPictures, Shows}
 use Rattle.trlab_road.specs.Crossing.{Crosses, CrossesFree, CleanCrossing, crossed}
+use Rattle.trlab_road.specs.Spreading.{CanSpread, Even, EvenFault}
 use Rattle.trlab_road.specs.Motion.{CleanMotion, Fits, Moves}
 
 -- pictures show one road only
@@ -83,3 +85,29 @@ CrossingIsClean = (crosses : ℕ → ℕ → Bool) (old new : Cells)
 abbrev pub CrossingKeepsLegal : Type 0
 CrossingKeepsLegal = (crosses : ℕ → ℕ → Bool) (old new : Cells)
     → Legal old → CrossesFree crosses old → Crosses crosses old new → Legal new
+
+-- evenly spread cars make one road only
+abbrev pub OneEvenRoad : Type 0
+OneEvenRoad = (lanes cells limit n : ℕ) (road other : Cells)
+    → Even lanes cells limit n road → Even lanes cells limit n other → road ≡ other
+
+-- where they fit, that road is legal
+abbrev pub EvenRoadIsLegal : Type 0
+EvenRoadIsLegal = (lanes cells limit n : ℕ) (road : Cells)
+    → CanSpread lanes cells limit n → Even lanes cells limit n road → Legal road
+
+-- and then it has just so many cars
+abbrev pub EvenRoadHasAllCars : Type 0
+EvenRoadHasAllCars = (lanes cells limit n : ℕ) (road : Cells)
+    → CanSpread lanes cells limit n → Even lanes cells limit n road → cars road ≡ n
+
+-- what a road is to be has one first fault, but that memory may run out
+abbrev pub OneEvenFault : Type 0
+OneEvenFault = (lanes cells limit n : ℕ) (fault other : RoadFault)
+    → EvenFault lanes cells limit n fault → EvenFault lanes cells limit n other
+    → fault ≢ Memory → other ≢ Memory → fault ≡ other
+
+-- what fits has no fault, but that memory may run out
+abbrev pub NoFaultInFitting : Type 0
+NoFaultInFitting = (lanes cells limit n : ℕ) (fault : RoadFault)
+    → CanSpread lanes cells limit n → EvenFault lanes cells limit n fault → fault ≡ Memory

@@ -1,8 +1,10 @@
 pub mod Cells
+pub mod Packing
 pub mod Gaps
 pub mod Standing
 pub mod Legal
 pub mod Pictures
-pub mod Crossing
 pub mod Motion
+pub mod Crossing
+pub mod Spreading
 pub mod Laws

@@ -65,7 +65,7 @@ pub record CleanMotion (old new : Cells) : Type 0 where
   pub each_lane : (l : ℕ) → l < length old.lanes → LaneClean (lane_of old l) (lane_of new l)
 
 -- what a function of lane and place gives for each car, in standing order
-abbrev pub in_order : (ℕ → ℕ → ℕ) → Cells → List ℕ
+abbrev pub in_order : {X : Type 0} → (ℕ → ℕ → X) → Cells → List X
 in_order f road = map (λ (car : Car). f car.lane car.place) (standing road)
 
 -- the gaps in standing order

@@ -1,5 +1,5 @@
-//! Laws of pictures and of the two phases of a step, for every road and whichever code moves the
-//! cars.
+//! Laws of pictures, of the two phases of a step and of evenly spread cars, for every road and
+//! whichever code moves the cars.
 //!
 //! Each law is the contract of a function with nothing to do.
 
@@ -8,6 +8,7 @@ ghost use Rattle.trlab_road.specs.Laws.{AllNumbersStand, MotionByCars, MotionIsC
 ghost use Rattle.trlab_road.specs.Laws.{MotionKeepsLegal, OneRoadAfterMotion, SomeRoadAfterMotion};
 ghost use Rattle.trlab_road.specs.Laws.{CrossingByCars, CrossingIsClean, CrossingKeepsLegal};
 ghost use Rattle.trlab_road.specs.Laws.{OneRoadAfterCrossing};
+ghost use Rattle.trlab_road.specs.Laws.{EvenRoadHasAllCars, EvenRoadIsLegal, NoFaultInFitting, OneEvenFault, OneEvenRoad};
 
 /// Pictures show one road, which is legal where they are good, and else have one first fault.
 pub fn pictures_show_one_road()
@@ -44,4 +45,14 @@ pub fn crossing_is_clean()
     ensures by_cars { CrossingByCars }
     ensures clean { CrossingIsClean }
     ensures legal { CrossingKeepsLegal }
+{}
+
+/// Evenly spread cars make one road. Where they fit, it is legal and has all of them; else there is
+/// one first fault.
+pub fn even_cars_make_one_road()
+    ensures one_road { OneEvenRoad }
+    ensures legal { EvenRoadIsLegal }
+    ensures all_cars { EvenRoadHasAllCars }
+    ensures one_fault { OneEvenFault }
+    ensures no_fault { NoFaultInFitting }
 {}

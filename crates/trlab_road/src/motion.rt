@@ -1,11 +1,11 @@
 //! The motion phase of one lane.
 
-ghost use Rattle.std.specs.Prelude.{◌+◌, ◌≤◌, length, IfOk};
-ghost use Rattle.trlab_road.specs.declared.bounds.TheConstants.{GREATEST_LENGTH};
-ghost use Rattle.trlab_road.specs.Cells.{lane_cars};
+ghost use Rattle.std.specs.Prelude.{◌≡◌, ◌+◌, ◌≤◌, ℕ, Some, length, IfOk};
+ghost use Rattle.trlab_road.specs.declared.bounds.TheConstants.{GREATEST_LENGTH, GREATEST_LIMIT};
+ghost use Rattle.trlab_road.specs.Cells.{at, lane_cars};
 ghost use Rattle.trlab_road.specs.Motion.{LaneFits, LaneMoves, lane_answer};
 
-use crate::lane::Cell;
+use crate::cell::Cell;
 use std::alloc::{AllocError, Global};
 
 /// A lane after its cars went ahead, where their speeds stand from an index on by rising place.
@@ -18,16 +18,18 @@ pub fn moved_lane(
     requires small { length lane.now ≤ GREATEST_LENGTH }
     requires one_each { from + lane_cars lane.now ≤ length speeds.now }
     requires within { LaneFits (lane_answer lane.now speeds.now from) lane.now }
+    requires slow { (x number speed : ℕ) → at lane.now x ≡ Some (number, speed)
+        → lane_answer lane.now speeds.now from x ≤ GREATEST_LIMIT }
     ensures { IfOk result (λ next.
         LaneMoves (lane_answer lane.now speeds.now from) lane.now next.items) }
 {
     let cells = lane.len();
-    let mut next = vec![in alloc; None; cells]?;
+    let mut next = vec![in alloc; Cell::empty(); cells]?;
     let mut k = from;
     for place in 0..cells {
-        if let Some((number, _)) = lane[place] {
+        if let Some((number, _)) = lane[place].get() {
             let speed = speeds[k];
-            next[(place + speed as usize) % cells] = Some((number, speed));
+            next[(place + speed as usize) % cells] = Cell::car(number, speed);
             k += 1;
         }
     }

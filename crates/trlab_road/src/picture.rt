@@ -6,7 +6,7 @@ ghost use Rattle.trlab_road.specs.Cells.{at};
 ghost use Rattle.trlab_road.specs.Pictures.{ShowsCell, ShowsSpeed, byte_speed, picture, speed_byte};
 
 use crate::bounds::GREATEST_LIMIT;
-use crate::lane::Cell;
+use crate::cell::Cell;
 use std::alloc::{AllocError, Global};
 
 /// The byte of an empty cell.
@@ -23,7 +23,8 @@ pub fn speed_byte(speed: u32) -> u8
 /// The speed that a digit shows.
 pub fn byte_speed(byte: u8) -> u32
     requires { ShowsSpeed GREATEST_LIMIT byte }
-    ensures { result ≡ byte_speed byte }
+    ensures value { result ≡ byte_speed byte }
+    ensures within { result ≤ GREATEST_LIMIT }
 {
     u32::from(byte - b'0')
 }
@@ -52,7 +53,7 @@ pub fn picture_of(alloc: Global, lane: &[Cell]) -> Result<Vec<u8>, AllocError>
 {
     let mut bytes = Vec::with_capacity(alloc, lane.len())?;
     for cell in lane {
-        bytes.push(match *cell {
+        bytes.push(match cell.get() {
             None => EMPTY,
             Some((_, speed)) => speed_byte(speed),
         })?;

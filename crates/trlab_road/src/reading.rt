@@ -6,8 +6,9 @@ ghost use Rattle.trlab_road.specs.Cells.{lanes_of};
 ghost use Rattle.trlab_road.specs.Pictures.{EqualLanes, FewLanes, FirstFault, GoodPictures, ShowsCell, drawn_lane, drawn_lanes, pictures_of};
 
 use crate::bounds::{GREATEST_LENGTH, GREATEST_LIMIT, MOST_LANES};
+use crate::cell::Cell;
 use crate::fault::RoadFault;
-use crate::lane::{Cell, count_cars};
+use crate::lane::count_cars;
 use crate::picture::{EMPTY, byte_speed, shows_cell, shows_speed};
 use std::alloc::{AllocError, Global};
 
@@ -82,9 +83,9 @@ pub fn draw_lane(alloc: Global, picture: &[u8], from: u32) -> Result<Vec<Cell>, 
     let mut number = from;
     for byte in picture {
         if *byte == EMPTY {
-            cells.push(None)?;
+            cells.push(Cell::empty())?;
         } else {
-            cells.push(Some((number, byte_speed(*byte))))?;
+            cells.push(Cell::car(number, byte_speed(*byte)))?;
             number += 1;
         }
     }

@@ -1,1 +1,5 @@
 pub mod Rules
+pub mod Published
+pub mod Standard
+pub mod Laws
+pub mod Given

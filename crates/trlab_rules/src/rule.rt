@@ -1,8 +1,9 @@
 //! What drives the cars of a road.
 
-ghost use Rattle.std.specs.Prelude.{◌≡◌, option_map};
+ghost use Rattle.std.specs.Prelude.{◌≡◌, ◌↔◌, IsTrue, IfOk, option_map};
 ghost use Rattle.trlab_rules.specs.Rules.{Programs};
 
+use std::alloc::{AllocError, Global};
 use std::marker::Model;
 use trlab_verify::{Change, Motion};
 
@@ -41,5 +42,29 @@ impl Rule {
         ensures { option_map (λ change. change.now) result ≡ self.now.change }
     {
         self.change.as_ref()
+    }
+
+    /// A copy of the rule.
+    pub fn copy(&self, alloc: Global) -> Result<Rule, AllocError>
+        ensures { IfOk result (λ copy. copy ≡ self.now) }
+    {
+        let motion = self.motion.copy(alloc)?;
+        let change = match &self.change {
+            Some(change) => Some(change.copy(alloc)?),
+            None => None,
+        };
+        Ok(Rule::new(motion, change))
+    }
+
+    /// Whether two rules are one: the same motion program, and the same change program or none.
+    pub fn equals(&self, other: &Rule) -> bool
+        ensures { IsTrue result ↔ (self.now ≡ other.now) }
+    {
+        self.motion.equals(&other.motion)
+            && match (&self.change, &other.change) {
+                (Some(change), Some(other)) => change.equals(other),
+                (None, None) => true,
+                (Some(_), None) | (None, Some(_)) => false,
+            }
     }
 }

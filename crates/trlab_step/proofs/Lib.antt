@@ -1,3 +1,4 @@
+pub mod AnswersExist
 pub mod NextLaws
 pub mod RunLaws
 pub mod Totals

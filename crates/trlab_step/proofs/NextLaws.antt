@@ -1,110 +1,118 @@
--- The next road of one lane: there is one, and one only.
-use Rattle.std.proofs.Common.{◌≡◌, ℕ, zero, suc, ◌<◌, ◌≤◌, ◌+◌, ◌-◌, Bool, true, false, cond, Option, Some, None, List, [], ◌∷◌, length, get_or, refl, sym, ◌∙◌, ap, subst, arith}
+-- The next road: there is one, and one only.
+use Rattle.std.proofs.Common.{◌≡◌, ℕ, suc, ◌<◌, ◌+◌, Bool, cond, Option, Some, None, List, [], ◌∷◌, length, get_or, refl, sym, ◌∙◌, ap, subst, arith}
 use Rattle.std.proofs.lemmas.List.Sums.{sum_by-cons}
-use Rattle.std.specs.Prelude.{count_by}
-use Rattle.trlab_words.proofs.RandomWords.{length-random_words}
+use Rattle.std.specs.Prelude.{count_by, IfSome, IsSome}
 use Rattle.trlab_code.specs.declared.kind.Kind.TheVariants.{Motion, Change}
-use Rattle.trlab_code.specs.Views.{IsView}
 use Rattle.trlab_verify.specs.Checked.{Checked, IsChecked}
 use Rattle.trlab_road.specs.declared.car.Car.{Car}
-use Rattle.trlab_road.specs.Cells.{Cell, Cells, cell, lane_of}
+use Rattle.trlab_road.specs.Cells.{Cells, cell}
+use Rattle.trlab_road.specs.Crossing.{CleanCrossing, crossed}
+use Rattle.trlab_road.specs.Crossing.Sidestep.{stayed}
 use Rattle.trlab_road.specs.Standing.{standing}
-use Rattle.trlab_road.specs.Gaps.{gap, greatest, is_clear, ahead}
 use Rattle.trlab_road.specs.Legal.{Legal}
-use Rattle.trlab_road.specs.Motion.{Fits}
-use Rattle.trlab_road.proofs.MotionLaws.{on_lane, moves_clean, moves_same_count, moved_legal, one_road_only}
+use Rattle.trlab_road.specs.Motion.{CleanMotion}
+use Rattle.trlab_road.proofs.MotionLaws.{moves_clean, moves_same_count, moved_legal, one_road_only}
 use Rattle.trlab_road.proofs.MotionExists.{road_moves_somewhere}
 use Rattle.trlab_road.proofs.MotionInOrder.{moves_by}
-use Rattle.trlab_road.proofs.CrossingLaws.{crosses_by, one_crossing_only}
+use Rattle.trlab_road.proofs.CrossingLaws.{crosses_by, crossed_crosses, crossing_clean, crossing_legal, crossing_same_count, one_crossing_only}
 use Rattle.trlab_road.proofs.StandingOrder.{standing_cell, length-standing_lanes}
-use Rattle.trlab_machine.specs.Choices.{crossing_answer}
-use Rattle.trlab_machine.proofs.Answers.{one_answer}
-use Rattle.trlab_machine.proofs.Speeds.{checked_motion_moves}
-use Rattle.trlab_rules.specs.Rules.{Programs}
 use Rattle.trlab_step.specs.declared.tally.StepTally.{StepTally}
-use Rattle.trlab_step.specs.Answers.{Dice, words_of, motion_seen, change_seen, AnswersSpeed, Speeds, Crossers}
-use Rattle.trlab_step.specs.Next.{total_speed, stopped_cars, crossing_cars, Sideways, Onward, IsNext}
-use Rattle.trlab_step.specs.Laws.{NextRoadExists, NextRoadIsOne}
-use Rattle.trlab_step.proofs.PartLaws.{one_answer_each}
+use Rattle.trlab_step.specs.Answers.{Dice, Speeds, Crossers}
+use Rattle.trlab_step.specs.Next.{total_speed, stopped_cars, crossing_cars, Sideways, Onward}
+use Rattle.trlab_step.specs.Laws.{LegalLike, NextRoadExists, NextRoadIsOne}
+use Rattle.trlab_step.proofs.AnswersExist.{speeds_exist, crossers_exist}
+use Rattle.trlab_step.proofs.PartLaws.{one_answer_each, one_choice_each}
 
-greatest_within : (test : ℕ → Bool) (n : ℕ) → greatest test n ≤ n
-greatest_within test zero = omega arith
-greatest_within test (suc n) = pick (test (suc n)) n (greatest test n) (greatest_within test n)
-  where
-    pick : (b : Bool) (n g : ℕ) → g ≤ n → cond b (suc n) g ≤ suc n
-    pick true n g h = omega arith
-    pick false n g h = omega arith
+-- a road is like itself, and like what a road like it is like
+pub like_itself : (road : Cells) → Legal road → LegalLike road road
+like_itself road legal = record { legal = legal; same_lanes = refl; same_limit = refl; same_count = refl }
 
--- what a car of a legal road sees is in range
-pub seen_is_view : (road : Cells) (l x car speed : ℕ) → Legal road → cell road l x ≡ Some (car, speed) → IsView (motion_seen road l x speed)
-seen_is_view road l x car speed legal here =
-    let size = legal.equal_lanes l (on_lane road l x (car, speed) here) in
-    let most = greatest_within (is_clear (lane_of road l) (ahead (length (lane_of road l)) x)) (length (lane_of road l) - 1) in
-    let high = legal.cells_high in
+pub like_next : (old middle new : Cells) → LegalLike old middle → LegalLike middle new → LegalLike old new
+like_next old middle new a b = record {
+  legal = b.legal;
+  same_lanes = b.same_lanes ∙ a.same_lanes;
+  same_limit = b.same_limit ∙ a.same_limit;
+  same_count = b.same_count ∙ a.same_count;
+}
+
+-- where no car crosses, the crossing is clean
+pub no_crossing_clean : (road : Cells) → CleanCrossing road road
+no_crossing_clean road = record { same_count = refl; none_lost = λ l x number speed here. stayed here; none_made = λ l x number speed here. (l, here) }
+
+-- the sideways phase leads to a road
+pub record SidewaysSomewhere (change : Option Checked) (dice : Dice) (road : Cells) : Type 0 where
+  pub middle : Cells
+  pub changes : ℕ
+  pub sideways : Sideways change dice road middle changes
+  pub clean : CleanCrossing road middle
+  pub like : LegalLike road middle
+
+pub sideways_somewhere : (change : Option Checked) (dice : Dice) (road : Cells) → IfSome change (λ c. IsChecked Change c) → (IsSome change → length road.lanes ≡ 2) → Legal road → SidewaysSomewhere change dice road
+sideways_somewhere None dice road checked two legal =
+    record { middle = road; changes = 0; sideways = (refl, refl); clean = no_crossing_clean road; like = like_itself road legal }
+sideways_somewhere (Some change) dice road checked two legal =
+    let answered = crossers_exist change dice road checked legal (two refl) in
+    let crosses = answered.0 in
+    let free = answered.2 in
+    let middle = crossed crosses road in
+    let phase = crossed_crosses crosses road in
     record {
-      speed = legal.within_limit l x car speed here;
-      some_limit = legal.limit_low;
-      limit = legal.limit_high;
-      gap = omega (arith, size, most, high);
-      sidegap = omega arith;
-      sideback = omega arith;
-      lane = omega arith;
+      middle = middle;
+      changes = crossing_cars crosses road;
+      sideways = (crosses, answered.1, phase, refl);
+      clean = crossing_clean crosses road middle legal phase free;
+      like = record {
+        legal = crossing_legal crosses road middle legal phase free;
+        same_lanes = phase.same_lanes;
+        same_limit = phase.same_limit;
+        same_count = crossing_same_count crosses road middle legal phase free;
+      };
     }
 
--- a speed that a motion program answers to what a cell holds, if that is a car
-record AnswersCell (motion : Checked) (dice : Dice) (road : Cells) (l x : ℕ) (c : Cell) (v : ℕ) : Type 0 where
-  answers : (car speed : ℕ) → c ≡ Some (car, speed) → AnswersSpeed motion dice road l x car speed v
-  within_gap : (car speed : ℕ) → c ≡ Some (car, speed) → v ≤ gap (lane_of road l) x
-  within_limit : (car speed : ℕ) → c ≡ Some (car, speed) → v ≤ road.limit
+-- the motion phase leads to a road
+pub record OnwardSomewhere (motion : Checked) (dice : Dice) (road : Cells) : Type 0 where
+  pub next : Cells
+  pub onward : Onward motion dice road next
+  pub clean : CleanMotion road next
+  pub like : LegalLike road next
 
-some_inside : {a b : ℕ × ℕ} → ◌≡◌ {A = Cell} (Some a) (Some b) → a ≡ b
-some_inside h = cc
+pub onward_somewhere : (motion : Checked) (dice : Dice) (road : Cells) → IsChecked Motion motion → Legal road → OnwardSomewhere motion dice road
+onward_somewhere motion dice road checked legal =
+    let answered = speeds_exist motion dice road checked legal in
+    let speeds = answered.0 in
+    let fits = answered.2 in
+    let moves = road_moves_somewhere speeds road fits in
+    record {
+      next = moves.0;
+      onward = (speeds, answered.1, moves.1);
+      clean = moves_clean speeds road moves.0 legal moves.1 fits;
+      like = record {
+        legal = moved_legal speeds road moves.0 legal moves.1 fits;
+        same_lanes = moves.1.same_lanes;
+        same_limit = moves.1.same_limit;
+        same_count = moves_same_count speeds road moves.0 legal moves.1 fits;
+      };
+    }
 
-answer_of : (motion : Checked) (dice : Dice) (road : Cells) → IsChecked Motion motion → Legal road → (l x : ℕ) (c : Cell) → cell road l x ≡ c → (v : ℕ) × AnswersCell motion dice road l x c v
-answer_of motion dice road checked legal l x None empty = (0, record { answers = λ car speed h. absurd cc; within_gap = λ car speed h. absurd cc; within_limit = λ car speed h. absurd cc })
-answer_of motion dice road checked legal l x (Some here) is =
-    let ends = checked_motion_moves motion (motion_seen road l x here.1) (words_of dice here.0) checked (seen_is_view road l x here.0 here.1 legal is) (length-random_words dice.key dice.road here.0 dice.step) in (
-      ends.speed,
-      record {
-        answers = λ car speed h. subst (λ (c : ℕ × ℕ). AnswersSpeed motion dice road l x c.0 c.1 ends.speed) (some_inside h) (ends.steps, ends.ends);
-        within_gap = λ car speed h. ends.allowed.gap;
-        within_limit = λ car speed h. ends.allowed.limit;
-      },
-    )
-
--- an accepted motion program answers a speed to each car of a legal road, within its gap and the limit
-pub speeds_exist : (motion : Checked) (dice : Dice) (road : Cells) → IsChecked Motion motion → Legal road → (speeds : ℕ → ℕ → ℕ) × Speeds motion dice road speeds × Fits speeds road
-speeds_exist motion dice road checked legal =
-    let answer = λ (l x : ℕ). answer_of motion dice road checked legal l x (cell road l x) refl in (
-      λ l x. (answer l x).0,
-      record { each = λ l x. (answer l x).1.answers },
-      record { each_lane = λ l h. record { gaps = λ x. (answer l x).1.within_gap }; limits = λ l x. (answer l x).1.within_limit },
-    )
-
--- the tally of a step in which no car crosses
-abbrev tally_of : Cells → StepTally
-tally_of next = record { distance = total_speed next; stopped = stopped_cars next; changes = 0 }
-
--- the road onward is the next road where no car crosses
-pub onward_is_next : (rule : Programs) (dice : Dice) (road next : Cells) → rule.change ≡ None → Onward rule.motion dice road next → IsNext rule dice road next (tally_of next)
-onward_is_next rule dice road next alone onward =
-    (road, record { sideways = rw alone (refl, refl); onward = onward; distance = refl; stopped = refl })
+-- what is counted on the way to a road
+abbrev tally_of : Cells → ℕ → StepTally
+tally_of next changes = record { distance = total_speed next; stopped = stopped_cars next; changes = changes }
 
 pub next_road_exists : NextRoadExists
 next_road_exists rule dice road is legal =
-    let answered = speeds_exist rule.motion dice road is.motion legal in
-    let fits = answered.2 in
-    let moves = road_moves_somewhere answered.0 road fits in (
-      moves.0,
-      tally_of moves.0,
-      onward_is_next rule dice road moves.0 is.no_change (answered.0, answered.1, moves.1),
-      moves_clean answered.0 road moves.0 legal moves.1 fits,
-      record {
-        legal = moved_legal answered.0 road moves.0 legal moves.1 fits;
-        same_lanes = moves.1.same_lanes;
-        same_limit = moves.1.same_limit;
-        same_count = moves_same_count answered.0 road moves.0 legal moves.1 fits;
-      },
+    let side = sideways_somewhere rule.change dice road is.change is.two_lanes legal in
+    let ahead = onward_somewhere rule.motion dice side.middle is.motion side.like.legal in (
+      ahead.next,
+      tally_of ahead.next side.changes,
+      (
+        side.middle,
+        record {
+          step = record { sideways = side.sideways; onward = ahead.onward; distance = refl; stopped = refl };
+          clean_sideways = side.clean;
+          clean_motion = ahead.clean;
+        },
+      ),
+      like_next road side.middle ahead.next side.like ahead.like,
     )
 
 -- a motion program answers one speed only to each car
@@ -118,20 +126,11 @@ onward_is_one : (motion : Checked) (dice : Dice) (road next other : Cells) → O
 onward_is_one motion dice road next other a b =
     one_road_only b.0 road next other (moves_by a.0 b.0 road next (speeds_agree motion dice road a.0 b.0 a.1 b.1) a.2) b.2
 
-one_side : (p q : Bool) → crossing_answer p ≡ crossing_answer q → p ≡ q
-one_side true true h = refl
-one_side true false h = absurd cc
-one_side false true h = absurd cc
-one_side false false h = refl
-
 -- a change program lets each car cross or stay, and not both
 crossers_agree : (change : Checked) (dice : Dice) (road : Cells) (crosses others : ℕ → ℕ → Bool) → Crossers change dice road crosses → Crossers change dice road others
     → (l x car speed : ℕ) → cell road l x ≡ Some (car, speed) → crosses l x ≡ others l x
 crossers_agree change dice road crosses others a b l x car speed here =
-    let first = a.each l x car speed here in
-    let second = b.each l x car speed here in
-    one_side (crosses l x) (others l x)
-    ((one_answer Change change.program.instrs (change_seen road l x speed) (words_of dice car) (crossing_answer (crosses l x)) (crossing_answer (others l x)) first.0 second.0 first.1 second.1).0)
+    one_choice_each change dice road l x car speed (crosses l x) (others l x) (a.each l x car speed here) (b.each l x car speed here)
 
 -- tests that agree at each car count as many cars
 count_same : (p q : Car → Bool) (xs : List Car) (d : Car) → ((k : ℕ) → k < length xs → p (get_or xs k d) ≡ q (get_or xs k d)) → count_by p xs ≡ count_by q xs

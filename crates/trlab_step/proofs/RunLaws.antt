@@ -1,14 +1,15 @@
--- Runs under a sheet of rules for one lane: each step has a road, and one only.
-use Rattle.std.proofs.Common.{◌≡◌, ℕ, zero, suc, Bool, true, false, Option, Some, None, [], ◌∷◌, refl, sym, ◌∙◌, ap, subst, inl, inr, ◌⊎◌, arith}
+-- Runs under a sheet of rules: each step has a road, and one only.
+use Rattle.std.proofs.Common.{◌≡◌, ℕ, zero, suc, Bool, true, false, Option, Some, None, [], ◌∷◌, refl, sym, ◌∙◌, ap, subst, inl, inr, ◌⊎◌, length, arith}
 use Rattle.std.proofs.lemmas.Bool.{leb-true, le-leb}
 use Rattle.std.specs.Prelude.{All, IsSome, nat_le, unwrap_or, if◌then◌else◌}
 use Rattle.trlab_road.specs.Cells.{Cells}
+use Rattle.trlab_road.specs.Legal.{Legal}
 use Rattle.trlab_rules.specs.Rules.{Programs}
 use Rattle.trlab_step.specs.declared.tally.StepTally.{StepTally}
 use Rattle.trlab_step.specs.Next.{IsNext}
-use Rattle.trlab_step.specs.Run.{Seed, Sheet, in_force, no_tally, tally_sum, dice_at, RoadAt, TallyAt}
-use Rattle.trlab_step.specs.Laws.{IsOneLaneRule, IsOneLaneSheet, LegalLike, RoadExists, RoadIsOne, RunGoesOn}
-use Rattle.trlab_step.proofs.NextLaws.{next_road_exists, next_road_is_one}
+use Rattle.trlab_step.specs.Run.{Seed, Sheet, in_force, no_tally, tally_sum, dice_at, ComesTo, RoadAt, TallyAt}
+use Rattle.trlab_step.specs.Laws.{IsRuleFor, IsSheetFor, LegalLike, RoadExists, RoadIsOne, RunGoesOn}
+use Rattle.trlab_step.proofs.NextLaws.{like_itself, like_next, next_road_exists, next_road_is_one}
 
 -- the rule in force is that of the first entry, or the one in force by the others
 of_entry : (b : Bool) (others : Option Programs) (first rule : Programs) → (if b then Some (unwrap_or others first) else None) ≡ Some rule → (first ≡ rule) ⊎ (others ≡ Some rule)
@@ -41,23 +42,20 @@ pub run_goes_on : RunGoesOn
 run_goes_on seed sheet step road next sum tally rule comes under is =
     (road, sum, rule, tally, comes, record { under = under; next = is; counted = refl })
 
-next_like : (old middle new : Cells) → LegalLike old middle → LegalLike middle new → LegalLike old new
-next_like old middle new a b = record {
-  legal = b.legal;
-  same_lanes = b.same_lanes ∙ a.same_lanes;
-  same_limit = b.same_limit ∙ a.same_limit;
-  same_count = b.same_count ∙ a.same_count;
-}
+-- a rule for the lanes of a road is one for those of a road like it
+rule_for_like : (old new : Cells) (rule : Programs) → LegalLike old new → IsRuleFor (length old.lanes) rule → IsRuleFor (length new.lanes) rule
+rule_for_like old new rule like is = subst (λ lanes. IsRuleFor lanes rule) (sym like.same_lanes) is
 
-pub road_exists : RoadExists
-road_exists seed sheet zero legal is = (seed.road, no_tally, (refl, refl), record { legal = legal; same_lanes = refl; same_limit = refl; same_count = refl })
-road_exists seed sheet (suc step) legal is =
-    let before = road_exists seed sheet step legal is in
+-- a run under a sheet for its lanes comes to a road at each step
+pub run_comes_to_road : RoadExists
+run_comes_to_road seed sheet zero legal is = (seed.road, no_tally, (refl, refl), like_itself seed.road legal)
+run_comes_to_road seed sheet (suc step) legal is =
+    let before = run_comes_to_road seed sheet step legal is in
     let rule = some_force sheet step is.from_start in
-    let lane = force_all IsOneLaneRule sheet step rule.0 is.rules rule.1 in
-    let next = next_road_exists rule.0 (dice_at seed step) before.0 lane before.3.legal in
+    let of_sheet = force_all (IsRuleFor (length seed.road.lanes)) sheet step rule.0 is.rules rule.1 in
+    let next = next_road_exists rule.0 (dice_at seed step) before.0 (rule_for_like seed.road before.0 rule.0 before.3 of_sheet) before.3.legal in
     let sum = if nat_le seed.warm step then tally_sum before.1 next.1 else before.1 in
-    (next.0, sum, run_goes_on seed sheet step before.0 next.0 before.1 next.1 rule.0 before.2 rule.1 next.2, next_like seed.road before.0 next.0 before.3 next.4)
+    (next.0, sum, run_goes_on seed sheet step before.0 next.0 before.1 next.1 rule.0 before.2 rule.1 (next.2.0, next.2.1.step), like_next seed.road before.0 next.0 before.3 next.3)
 
 one_rule : {a b : Programs} → Some a ≡ Some b → a ≡ b
 one_rule h = cc
@@ -80,15 +78,3 @@ road_at_is_one seed sheet step road other a b = (road_is_one seed sheet step roa
 -- a run has one sum of tallies only at each step
 pub tally_at_is_one : (seed : Seed) (sheet : Sheet) (step : ℕ) (sum count : StepTally) → TallyAt seed sheet step sum → TallyAt seed sheet step count → sum ≡ count
 tally_at_is_one seed sheet step sum count a b = (road_is_one seed sheet step a.0 b.0 sum count a.1 b.1).1
-
--- a sheet of one rule has it in force at each step
-pub one_rule_in_force : (rule : Programs) (step : ℕ) → in_force ((0, rule) ∷ []) step ≡ Some rule
-one_rule_in_force rule step = rw (le-leb 0 step (omega arith)) refl
-
-all_of_one : (rule : Programs) → IsOneLaneRule rule → All (λ (entry : ℕ × Programs). IsOneLaneRule entry.1) ((0, rule) ∷ [])
-all_of_one rule is zero d below = is
-all_of_one rule is (suc k) d below = absurd (omega arith)
-
--- a sheet of one rule for one lane is a sheet for one lane
-pub one_rule_sheet : (rule : Programs) → IsOneLaneRule rule → IsOneLaneSheet ((0, rule) ∷ [])
-one_rule_sheet rule is = record { from_start = refl; rules = all_of_one rule is }

@@ -1,37 +1,33 @@
--- The answers of all cars lead to the next road.
-use Rattle.std.proofs.Common.{◌≡◌, ℕ, false, Option, Some, None, List, refl, sym, ◌∙◌}
-use Rattle.std.specs.Prelude.{count_by, is_some, nat_eq, option_map, sum}
+-- The answers of all cars lead through the two phases of a step.
+use Rattle.std.proofs.Common.{◌≡◌, ℕ, Some, List, sym, ◌∙◌, arith}
+use Rattle.std.specs.Prelude.{Bool, count_by, nat_eq, sum}
 use Rattle.trlab_verify.specs.Checked.{Checked}
 use Rattle.trlab_road.specs.Cells.{Cells, cars}
+use Rattle.trlab_road.specs.Crossing.{Crosses, crosses_at}
 use Rattle.trlab_road.specs.Motion.{Moves, answer_at}
-use Rattle.trlab_rules.specs.Rules.{Programs}
-use Rattle.trlab_step.specs.declared.tally.StepTally.{StepTally}
-use Rattle.trlab_step.specs.Answers.{Dice, SpeedsPart, FitsPart}
-use Rattle.trlab_step.specs.Next.{Sideways, IsNext}
-use Rattle.trlab_step.proofs.Parts.{whole_allowed, whole_speeds}
-use Rattle.trlab_step.proofs.Totals.{total_speed-moved, stopped_cars-moved}
+use Rattle.trlab_step.specs.Answers.{Dice, SpeedsPart, FitsPart, CrossersPart}
+use Rattle.trlab_step.specs.Next.{total_speed, stopped_cars, Sideways, Onward}
+use Rattle.trlab_step.proofs.Parts.{whole_allowed, whole_speeds, whole_crossers}
+use Rattle.trlab_step.proofs.Totals.{total_speed-moved, stopped_cars-moved, crossing_cars-counted}
 
--- a rule that gives no change program has none
-pub no_change : {A : Type 0} (given : Option A) (f : A → Checked) (change : Option Checked) → is_some given ≡ false → option_map f given ≡ change → change ≡ None
-no_change None f change none is = sym is
-no_change (Some a) f change none is = absurd cc
+-- where all cars are asked on the road as it stands, and cross by their answers, the sideways phase is done
+pub crossed_sideways : (change : Checked) (dice : Dice) (road middle : Cells) (crosses : List Bool) (changes : ℕ) → CrossersPart change dice road 0 (cars road) crosses
+    → Crosses (crosses_at road crosses) road middle → changes ≡ count_by (λ c. c) crosses → Sideways (Some change) dice road middle changes
+crossed_sideways change dice road middle crosses changes part phase counted =
+    let size = part.one_each in
+    (crosses_at road crosses, whole_crossers change dice road crosses part, phase, counted ∙ sym (crossing_cars-counted road crosses (omega (arith, size))))
 
--- without a change program no car crosses
-no_sideways : (change : Option Checked) (dice : Dice) (road : Cells) (changes : ℕ) → change ≡ None → changes ≡ 0 → Sideways change dice road road changes
-no_sideways change dice road changes alone none = rw alone (refl, none)
+module _ (motion : Checked) (dice : Dice) (road next : Cells) (speeds : List ℕ) where
+  -- where all cars are asked on the road as it stands, and go ahead by their answers, the motion phase is done
+  pub moved_onward : SpeedsPart motion dice road 0 (cars road) speeds → Moves (answer_at road speeds) road next → Onward motion dice road next
+  moved_onward part moves = (answer_at road speeds, whole_speeds motion dice road speeds part, moves)
 
--- where all cars are asked on the road as it stands, and go ahead by their answers, the next road comes after
-pub stepped : (rule : Programs) (dice : Dice) (road next : Cells) (speeds : List ℕ) (tally : StepTally) → rule.change ≡ None
-    → SpeedsPart rule.motion dice road 0 (cars road) speeds → FitsPart road 0 speeds → Moves (answer_at road speeds) road next
-    → tally.distance ≡ sum speeds → tally.stopped ≡ count_by (λ speed. nat_eq speed 0) speeds → tally.changes ≡ 0
-    → IsNext rule dice road next tally
-stepped rule dice road next speeds tally alone part fits moves gone stood changes =
-    let allowed = whole_allowed rule.motion dice road speeds part fits in (
-      road,
-      record {
-        sideways = no_sideways rule.change dice road tally.changes alone changes;
-        onward = (answer_at road speeds, whole_speeds rule.motion dice road speeds part, moves);
-        distance = gone ∙ sym (total_speed-moved road next speeds allowed moves);
-        stopped = stood ∙ sym (stopped_cars-moved road next speeds allowed moves);
-      },
-    )
+  -- the sum of the answers is that of the new speeds
+  pub all_gone : (distance : ℕ) → SpeedsPart motion dice road 0 (cars road) speeds → FitsPart road 0 speeds → Moves (answer_at road speeds) road next
+      → distance ≡ sum speeds → distance ≡ total_speed next
+  all_gone distance part fits moves gone = gone ∙ sym (total_speed-moved road next speeds (whole_allowed motion dice road speeds part fits) moves)
+
+  -- the answers that are 0 are as many as the cars that stand
+  pub all_stood : (stopped : ℕ) → SpeedsPart motion dice road 0 (cars road) speeds → FitsPart road 0 speeds → Moves (answer_at road speeds) road next
+      → stopped ≡ count_by (λ speed. nat_eq speed 0) speeds → stopped ≡ stopped_cars next
+  all_stood stopped part fits moves stood = stood ∙ sym (stopped_cars-moved road next speeds (whole_allowed motion dice road speeds part fits) moves)

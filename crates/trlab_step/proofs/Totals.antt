@@ -1,18 +1,19 @@
--- Sums over the cars of a road: after the motion they are those of the answers.
-use Rattle.std.proofs.Common.{◌≡◌, ◌≢◌, ℕ, zero, suc, ◌+◌, ◌<◌, ◌≤◌, Some, None, List, [], ◌∷◌, length, get_or, set, map, refl, sym, ◌∙◌, ap, subst, arith, cond}
+-- Sums over the cars of a road: what is counted in a step is the sum over the answers.
+use Rattle.std.proofs.Common.{◌≡◌, ◌≢◌, ℕ, zero, suc, ◌+◌, ◌<◌, ◌≤◌, Bool, false, Some, None, List, [], ◌∷◌, length, get_or, set, map, refl, sym, ◌∙◌, ap, subst, arith, cond}
 use Rattle.std.specs.Prelude.{sum_by, sum, count_by, nat_eq}
 use Rattle.std.proofs.lemmas.List.{get_or-set_other, ext_get_or, length-map}
 use Rattle.std.proofs.lemmas.List.Sums.{sum_by-cons, sum_by-append}
 use Rattle.trlab_road.specs.declared.car.Car.{Car}
 use Rattle.trlab_road.specs.Cells.{Lane, Cells, at, cars}
 use Rattle.trlab_road.specs.Gaps.{ahead}
-use Rattle.trlab_road.specs.Motion.{LaneMoves, Moves, Allowed, answer_at, in_order}
-use Rattle.trlab_road.specs.Standing.{standing_from, standing_lanes, standing}
+use Rattle.trlab_road.specs.Motion.{LaneMoves, Moves, Allowed, answer_at}
+use Rattle.trlab_road.specs.Standing.{standing_from, standing_lanes, standing, rank}
+use Rattle.trlab_road.specs.Crossing.{crosses_at}
 use Rattle.trlab_road.proofs.Ring.{Apart, apart_within_gaps}
 use Rattle.trlab_road.proofs.MotionInOrder.{allowed_fits}
 use Rattle.trlab_road.proofs.Numbers.{rank_of_kth}
 use Rattle.trlab_road.proofs.StandingOrder.{get_or-map_in, length-standing_lanes}
-use Rattle.trlab_step.specs.Next.{total_speed, stopped_cars}
+use Rattle.trlab_step.specs.Next.{total_speed, stopped_cars, crossing_cars}
 
 -- the sum over the cars of a lane of what each weighs by its place, number and speed
 weight : (ℕ → ℕ × ℕ → ℕ) → Lane → ℕ
@@ -103,7 +104,7 @@ lanes_total g answer base (old ∷ olds) (new ∷ news) size moves far =
     let b = sum_by-append after (standing_from base 0 new) (standing_lanes (suc base) news) in
     omega (arith, lane, rest, a, b)
 
-sum_by-map : {X : Type 0} (g : ℕ → ℕ) (f : X → ℕ) (xs : List X) → sum_by g (map f xs) ≡ sum_by (λ x. g (f x)) xs
+sum_by-map : {X Y : Type 0} (g : Y → ℕ) (f : X → Y) (xs : List X) → sum_by g (map f xs) ≡ sum_by (λ x. g (f x)) xs
 sum_by-map g f [] = refl
 sum_by-map g f (x ∷ xs) =
     let a = sum_by-cons g (f x) (map f xs) in
@@ -115,15 +116,14 @@ no_one : Car
 no_one = record { number = 0; lane = 0; place = 0; speed = 0 }
 
 -- answers in standing order are those that each car has by its place
-pub speeds_in_order : (road : Cells) (speeds : List ℕ) → length speeds ≡ cars road → in_order (answer_at road speeds) road ≡ speeds
+answers_in_order : {X : Type 0} (none : X) (road : Cells) (answers : List X) → length answers ≡ cars road → map (λ (car : Car). get_or answers (rank road car.lane car.place) none) (standing road) ≡ answers
 unfolding no_one
-speeds_in_order road speeds size =
-    let answer : Car → ℕ = λ car. answer_at road speeds car.lane car.place in
+answers_in_order none road answers size =
+    let answer = λ (car : Car). get_or answers (rank road car.lane car.place) none in
     let count = length-standing_lanes 0 road.lanes in
-    ext_get_or 0 (map answer (standing road)) speeds (length-map (standing road) answer ∙ count ∙ sym size)
+    ext_get_or none (map answer (standing road)) answers (length-map (standing road) answer ∙ count ∙ sym size)
     (λ k h. let below : k < length (standing road) = rw length-map at h in
-    let car = get_or (standing road) k no_one in
-    get_or-map_in answer (standing road) k no_one 0 below ∙ ap (λ i. get_or speeds i 0) (rank_of_kth road k (omega (arith, below, count))))
+    get_or-map_in answer (standing road) k no_one none below ∙ ap (λ i. get_or answers i none) (rank_of_kth road k (omega (arith, below, count))))
 
 -- what the cars of a road weigh by their speeds after the motion is what the answers weigh
 moved_total : (g : ℕ → ℕ) (road next : Cells) (speeds : List ℕ) → Allowed road speeds → Moves (answer_at road speeds) road next → sum_by (λ (car : Car). g car.speed) (standing next) ≡ sum_by g speeds
@@ -134,7 +134,7 @@ moved_total g road next speeds allowed moves =
     let lanes = lanes_total g answer 0 road.lanes next.lanes moves.same_lanes
     (λ l h. subst (λ k. LaneMoves (answer k) (get_or road.lanes l []) (get_or next.lanes l [])) (zero_first l) (moves.each_lane l h))
     (λ l h. subst (λ k. Apart (answer k) (get_or road.lanes l [])) (zero_first l) (apart_within_gaps (answer l) (get_or road.lanes l []) (fits.each_lane l h))) in
-    sym lanes ∙ sym (sum_by-map g (λ (car : Car). answer car.lane car.place) (standing road)) ∙ ap (sum_by g) (speeds_in_order road speeds allowed.one_each)
+    sym lanes ∙ sym (sum_by-map g (λ (car : Car). answer car.lane car.place) (standing road)) ∙ ap (sum_by g) (answers_in_order 0 road speeds allowed.one_each)
 
 -- the sum of the answers is that of the speeds after the motion
 pub total_speed-moved : (road next : Cells) (speeds : List ℕ) → Allowed road speeds → Moves (answer_at road speeds) road next → total_speed next ≡ sum speeds
@@ -143,3 +143,9 @@ total_speed-moved road next speeds allowed moves = moved_total (λ s. s) road ne
 -- the answers that are 0 are as many as the cars that stand after the motion
 pub stopped_cars-moved : (road next : Cells) (speeds : List ℕ) → Allowed road speeds → Moves (answer_at road speeds) road next → stopped_cars next ≡ count_by (λ s. nat_eq s 0) speeds
 stopped_cars-moved road next speeds allowed moves = moved_total (λ s. cond (nat_eq s 0) 1 0) road next speeds allowed moves
+
+-- the cars that cross are as many as the answers that say so
+pub crossing_cars-counted : (road : Cells) (crosses : List Bool) → length crosses ≡ cars road → crossing_cars (crosses_at road crosses) road ≡ count_by (λ c. c) crosses
+crossing_cars-counted road crosses size =
+    let one : Bool → ℕ = λ c. cond c 1 0 in
+    sym (sum_by-map one (λ (car : Car). crosses_at road crosses car.lane car.place) (standing road)) ∙ ap (sum_by one) (answers_in_order false road crosses size)

@@ -1,5 +1,5 @@
 -- What the programs of cars answer on a road.
-use Rattle.std.specs.Prelude.{◌≡◌, ◌+◌, ◌<◌, ◌≤◌, ℕ, Bool, Some, List, length, slice_get, slice_index}
+use Rattle.std.specs.Prelude.{◌≡◌, ◌+◌, ◌<◌, ◌≤◌, ℕ, Bool, true, false, Some, List, length, slice_get, slice_index, slice_index_or}
 use Rattle.trlab_words.specs.Words.{random_words}
 use Rattle.trlab_code.specs.declared.kind.Kind.TheVariants.{Motion, Change}
 use Rattle.trlab_code.specs.declared.view.View.{View}
@@ -12,7 +12,7 @@ use Rattle.trlab_road.specs.Cells.{Cells, cell, lane_of}
 use Rattle.trlab_road.specs.Standing.{standing}
 use Rattle.trlab_road.specs.Motion.{gaps}
 use Rattle.trlab_road.specs.Gaps.{gap, side, sidegap, sideback}
-use Rattle.trlab_road.specs.Crossing.{other_lane}
+use Rattle.trlab_road.specs.Crossing.{other_lane, sides}
 
 -- the random numbers of a step: those of a key, a road's number and the number of the step
 pub record Dice : Type 0 where
@@ -72,3 +72,14 @@ pub record FitsPart (road : Cells) (from : ℕ) (speeds : List ℕ) : Type 0 whe
 pub record Crossers (change : Checked) (dice : Dice) (road : Cells) (crosses : ℕ → ℕ → Bool) : Type 0 where
   pub each : (l x car speed : ℕ)
       → cell road l x ≡ Some (car, speed) → AnswersCrossing change dice road l x car speed (crosses l x)
+
+-- a change program answers so whether the cars cross, from an index of the standing order up to another
+pub record CrossersPart (change : Checked) (dice : Dice) (road : Cells) (from to : ℕ) (crosses : List Bool) : Type 0 where
+  pub one_each : from + length crosses ≡ to
+  pub each : (k : ℕ) (car : Car) → k < length crosses → slice_get (standing road) (from + k) ≡ Some car
+      → AnswersCrossing change dice road car.lane car.place car.number car.speed (slice_index_or crosses k false)
+
+-- the cars from an index of the standing order on cross only where their side cells are empty
+pub record CrossesFreePart (road : Cells) (from : ℕ) (crosses : List Bool) : Type 0 where
+  pub side_empty : (k : ℕ) → k < length crosses → slice_index_or crosses k false ≡ true
+      → slice_index_or (sides road) (from + k) false ≡ true

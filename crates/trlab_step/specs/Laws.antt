@@ -1,25 +1,25 @@
--- Laws of answers, and of steps and runs on one lane, whichever code asks the cars and moves them.
-use Rattle.std.specs.Prelude.{◌≡◌, ◌≤◌, ◌++◌, ℕ, suc, Some, None, List, All, IsSome, length, nat_le, if◌then◌else◌}
-use Rattle.trlab_code.specs.declared.kind.Kind.TheVariants.{Motion}
+-- Laws of answers, steps and runs, whichever code asks the cars and moves them.
+use Rattle.std.specs.Prelude.{◌≡◌, ◌≤◌, ◌++◌, ℕ, suc, Bool, Some, List, All, IfSome, IsSome, length, nat_le, if◌then◌else◌}
+use Rattle.trlab_code.specs.declared.kind.Kind.TheVariants.{Motion, Change}
 use Rattle.trlab_verify.specs.Checked.{Checked, IsChecked}
 use Rattle.trlab_road.specs.Cells.{Cells, cars}
 use Rattle.trlab_road.specs.Legal.{Legal}
-use Rattle.trlab_road.specs.Motion.{CleanMotion}
 use Rattle.trlab_rules.specs.Rules.{Programs}
 use Rattle.trlab_step.specs.declared.tally.StepTally.{StepTally}
-use Rattle.trlab_step.specs.Answers.{Dice, SpeedsPart}
-use Rattle.trlab_step.specs.Next.{IsNext}
+use Rattle.trlab_step.specs.Answers.{Dice, SpeedsPart, CrossersPart}
+use Rattle.trlab_step.specs.Next.{IsNext, IsCleanNext}
 use Rattle.trlab_step.specs.Run.{Seed, Sheet, in_force, tally_sum, dice_at, ComesTo}
 
--- a rule for one lane: an accepted motion program, and no change program
-pub record IsOneLaneRule (rule : Programs) : Type 0 where
-  pub no_change : rule.change ≡ None
+-- a rule for roads of so many lanes: accepted programs; a change program wants two lanes
+pub record IsRuleFor (lanes : ℕ) (rule : Programs) : Type 0 where
   pub motion : IsChecked Motion rule.motion
+  pub change : IfSome rule.change (λ change. IsChecked Change change)
+  pub two_lanes : IsSome rule.change → lanes ≡ 2
 
--- a sheet for one lane: it begins at step 0, and each of its rules is one for one lane
-pub record IsOneLaneSheet (sheet : Sheet) : Type 0 where
+-- a sheet for roads of so many lanes: it begins at step 0, and each of its rules is one for them
+pub record IsSheetFor (lanes : ℕ) (sheet : Sheet) : Type 0 where
   pub from_start : IsSome (in_force sheet 0)
-  pub rules : All (λ (entry : ℕ × Programs). IsOneLaneRule entry.1) sheet
+  pub rules : All (λ (entry : ℕ × Programs). IsRuleFor lanes entry.1) sheet
 
 -- a legal road with as many lanes and cars as another, and its limit
 pub record LegalLike (old new : Cells) : Type 0 where
@@ -42,13 +42,26 @@ SpeedsJoin =
     → SpeedsPart motion dice road from middle first → SpeedsPart motion dice road middle to second
     → SpeedsPart motion dice road from to (first ++ second)
 
--- each legal road has a next road, which is legal;
+-- the cars of a part of the standing order have one list of answers whether they cross
+abbrev pub CrossersAreOne : Type 0
+CrossersAreOne =
+    (change : Checked) (dice : Dice) (road : Cells) (from to : ℕ) (crosses others : List Bool)
+    → to ≤ cars road → CrossersPart change dice road from to crosses
+    → CrossersPart change dice road from to others → crosses ≡ others
+
+-- who crosses in a part and then in the part behind it are those who cross in both
+abbrev pub CrossersJoin : Type 0
+CrossersJoin =
+    (change : Checked) (dice : Dice) (road : Cells) (from middle to : ℕ) (first second : List Bool)
+    → CrossersPart change dice road from middle first → CrossersPart change dice road middle to second
+    → CrossersPart change dice road from to (first ++ second)
+
+-- each legal road has a next road under a rule for its lanes, which is legal too;
 -- no car goes onto or through another on the way
 abbrev pub NextRoadExists : Type 0
 NextRoadExists =
-    (rule : Programs) (dice : Dice) (road : Cells) → IsOneLaneRule rule → Legal road
-    → (next : Cells) × (tally : StepTally) × IsNext rule dice road next tally
-    × CleanMotion road next × LegalLike road next
+    (rule : Programs) (dice : Dice) (road : Cells) → IsRuleFor (length road.lanes) rule → Legal road
+    → (next : Cells) × (tally : StepTally) × IsCleanNext rule dice road next tally × LegalLike road next
 
 -- a road has one next road only, and one tally
 abbrev pub NextRoadIsOne : Type 0
@@ -57,10 +70,10 @@ NextRoadIsOne =
     → IsNext rule dice road next tally → IsNext rule dice road other count
     → (next ≡ other) × (tally ≡ count)
 
--- a run has a road at each step, and a sum of tallies; the road is legal
+-- a run under a sheet for its lanes has a road at each step, and a sum of tallies; the road is legal
 abbrev pub RoadExists : Type 0
 RoadExists =
-    (seed : Seed) (sheet : Sheet) (step : ℕ) → Legal seed.road → IsOneLaneSheet sheet
+    (seed : Seed) (sheet : Sheet) (step : ℕ) → Legal seed.road → IsSheetFor (length seed.road.lanes) sheet
     → (road : Cells) × (sum : StepTally) × ComesTo seed sheet step road sum
     × LegalLike seed.road road
 

@@ -3,8 +3,8 @@ use Rattle.std.specs.Prelude.{◌≡◌, ℕ, Bool, Option, Some, None, sum_by, 
 use Rattle.trlab_road.specs.declared.car.Car.{Car}
 use Rattle.trlab_road.specs.Cells.{Cells}
 use Rattle.trlab_road.specs.Standing.{standing}
-use Rattle.trlab_road.specs.Crossing.{Crosses}
-use Rattle.trlab_road.specs.Motion.{Moves}
+use Rattle.trlab_road.specs.Crossing.{Crosses, CleanCrossing}
+use Rattle.trlab_road.specs.Motion.{Moves, CleanMotion}
 use Rattle.trlab_verify.specs.Checked.{Checked}
 use Rattle.trlab_rules.specs.Rules.{Programs}
 use Rattle.trlab_step.specs.declared.tally.StepTally.{StepTally}
@@ -46,3 +46,13 @@ pub record Step (rule : Programs) (dice : Dice) (road middle next : Cells) (tall
 -- the next road under a rule, and what is counted on the way
 abbrev pub IsNext : Programs → Dice → Cells → Cells → StepTally → Type 0
 IsNext rule dice road next tally = (middle : Cells) × Step rule dice road middle next tally
+
+-- a step whose two phases are clean: no car went onto or through another, none was lost or made
+pub record CleanStep (rule : Programs) (dice : Dice) (road middle next : Cells) (tally : StepTally) : Type 0 where
+  pub step : Step rule dice road middle next tally
+  pub clean_sideways : CleanCrossing road middle
+  pub clean_motion : CleanMotion middle next
+
+-- the next road under a rule, and what is counted on the way, both phases clean over one middle road
+abbrev pub IsCleanNext : Programs → Dice → Cells → Cells → StepTally → Type 0
+IsCleanNext rule dice road next tally = (middle : Cells) × CleanStep rule dice road middle next tally

@@ -74,7 +74,7 @@ fn answered_speed(
 }
 
 /// The random words of a car in a step under a key. Without a key none are made: each is 0.
-fn drawn_words(key: Option<Key>, number: u32, car: u32, step: u32) -> [u32; WORDS]
+pub fn drawn_words(key: Option<Key>, number: u32, car: u32, step: u32) -> [u32; WORDS]
     ensures { IfSome key (λ key. result ≡ random_words key.0 number car step) }
 {
     match key {

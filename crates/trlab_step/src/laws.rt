@@ -1,8 +1,9 @@
-//! Laws of answers, and of steps and runs on one lane, whichever code asks the cars and moves them.
+//! Laws of answers, steps and runs, whichever code asks the cars and moves them.
 //!
 //! Each law is the contract of a function with nothing to do.
 
-ghost use Rattle.trlab_step.specs.Laws.{NextRoadExists, NextRoadIsOne, RoadExists, RoadIsOne, RunGoesOn, SpeedsAreOne, SpeedsJoin};
+ghost use Rattle.trlab_step.specs.Laws.{CrossersAreOne, CrossersJoin, SpeedsAreOne, SpeedsJoin};
+ghost use Rattle.trlab_step.specs.Laws.{NextRoadExists, NextRoadIsOne, RoadExists, RoadIsOne, RunGoesOn};
 
 /// The cars of a part of the standing order have one list of speeds, and the lists of parts make up
 /// that of the whole: it is all one who asks the cars, and in which order.
@@ -11,8 +12,15 @@ pub fn parts_make_the_whole()
     ensures join { SpeedsJoin }
 {}
 
-/// Under a rule of an accepted motion program alone each legal road has a next road. It is legal,
-/// with as many lanes and cars and the same limit, and no car went onto or through another.
+/// The same of the answers whether the cars cross.
+pub fn choices_make_the_whole()
+    ensures one { CrossersAreOne }
+    ensures join { CrossersJoin }
+{}
+
+/// Under a rule of accepted programs each legal road has a next road; a change program wants two
+/// lanes. The next road is legal, with as many lanes and cars and the same limit, and in both phases
+/// no car went onto or through another.
 pub fn next_road_exists()
     ensures { NextRoadExists }
 {}
@@ -23,7 +31,7 @@ pub fn next_road_is_one()
 {}
 
 /// A run from a legal road, under a sheet of such rules that begins at step 0, comes to a legal
-/// road at each step.
+/// road at each step, with as many lanes and cars.
 pub fn road_exists()
     ensures { RoadExists }
 {}

@@ -2,6 +2,7 @@
 #![tactic(auto)]
 
 mod answers;
+mod choices;
 mod fault;
 pub mod laws;
 mod phases;
@@ -11,7 +12,8 @@ mod tally;
 mod tests;
 
 pub use answers::move_part;
+pub use choices::choose_part;
 pub use fault::StepFault;
-pub use phases::commit_motion;
+pub use phases::{commit_change, commit_motion};
 pub use step::step_road;
 pub use tally::StepTally;

@@ -1,11 +1,25 @@
 //! The phases of a step.
 
 ghost use Rattle.std.specs.Prelude.{IfOk};
+ghost use Rattle.trlab_road.specs.Crossing.{CleanCrossing, CrossAllowed, Crosses, crosses_at};
 ghost use Rattle.trlab_road.specs.Legal.{Legal};
 ghost use Rattle.trlab_road.specs.Motion.{Allowed, CleanMotion, Moves, answer_at};
 
 use std::alloc::{AllocError, Global};
 use trlab_road::Road;
+
+/// The road after all cars that cross did so at once; the answers stand in standing order, and a car
+/// crosses only where the cell beside it on the other lane is empty.
+///
+/// Nothing collides: each car stays, or goes to an empty cell, none is lost, and no two meet.
+pub fn commit_change(alloc: Global, road: &Road, crosses: &[bool]) -> Result<Road, AllocError>
+    requires { CrossAllowed road.now crosses.now }
+    ensures crosses { IfOk result (λ next. Crosses (crosses_at road.now crosses.now) road.now next) }
+    ensures clean { IfOk result (λ next. CleanCrossing road.now next) }
+    ensures legal { IfOk result (λ next. Legal next) }
+{
+    road.crossed(alloc, crosses)
+}
 
 /// The road after all cars went ahead at once, each by its new speed; the speeds stand in
 /// standing order, and each is at most its car's gap and the limit.

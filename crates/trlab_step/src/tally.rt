@@ -13,6 +13,13 @@ pub struct StepTally {
     pub changes: u64,
 }
 
+/// How many cars cross by their answers.
+pub fn count_crossing(crosses: &[bool]) -> u64
+    ensures { result ≡ count_by (λ crosses. crosses) crosses.now }
+{
+    crosses.iter().filter(|crosses| **crosses).count() as u64
+}
+
 /// The tally of the cars' new speeds, where no car crossed.
 pub fn tally_of(speeds: &[u32]) -> StepTally
     requires { length speeds.now < 2 ^ 32 }

@@ -1,12 +1,16 @@
 //! Steps of small roads, with values worked out by hand.
 
-use crate::{StepFault, StepTally, commit_motion, move_part, step_road};
-use std::alloc::Global;
-use trlab_code::{Code, Input, Instr, Kind, Register};
+ghost use Rattle.std.specs.Prelude.{◌≡◌, length};
+
+use crate::{
+    StepFault, StepTally, choose_part, commit_change, commit_motion, move_part, step_road,
+};
+use std::alloc::{AllocError, Global};
+use trlab_code::{CERTAIN, Code, Input, Instr, Kind, Register};
 use trlab_road::Road;
-use trlab_rules::Rule;
+use trlab_rules::{Rule, rickert};
 use trlab_verify::{Change, Motion, verify_change, verify_motion};
-use trlab_words::Key;
+use trlab_words::{Chance, Key};
 
 const ZERO_KEY: Key = Key([0; 32]);
 
@@ -45,41 +49,99 @@ fn staying(alloc: Global) -> Option<Change> {
     verify_change(alloc, Code::new(Kind::Change, instrs.ok()?)?).ok()
 }
 
+/// The rule of Rickert and others: no car brakes at random, and cars that may cross do so with a
+/// chance.
+fn crowded_rule(alloc: Global, chance: u32) -> Result<Rule, StepFault> {
+    let (Some(brake), Some(crossing)) = (Chance::new(0), Chance::new(chance)) else {
+        return Err(StepFault::Memory);
+    };
+    rickert(alloc, brake, crossing).map_err(|_| StepFault::Memory)
+}
+
+/// The rule of that motion, without a change program.
+fn straight_rule(alloc: Global) -> Result<Rule, StepFault> {
+    let motion = straight_motion(alloc).ok_or(StepFault::Memory)?;
+    Ok(Rule::new(motion, None))
+}
+
+/// A road of two lanes.
+fn lanes(alloc: Global, limit: u32, first: &[u8], second: &[u8]) -> Result<Road, StepFault> {
+    Road::parse(alloc, limit, &[first, second]).map_err(|_| StepFault::Memory)
+}
+
 /// A road of one lane with limit 5.
 fn lane(alloc: Global, picture: &[u8]) -> Result<Road, StepFault> {
     Road::parse(alloc, 5, &[picture]).map_err(|_| StepFault::Memory)
 }
 
+/// Whether a lane of a road has this picture.
+fn shows(alloc: Global, road: &Road, lane: u32, picture: &[u8]) -> Result<bool, AllocError> {
+    Ok(lane < road.lanes() && road.picture(alloc, lane)?.as_slice() == picture)
+}
+
+/// Whether the two lanes of a road have these pictures.
+fn shows_lanes(
+    alloc: Global,
+    road: &Road,
+    first: &[u8],
+    second: &[u8],
+) -> Result<bool, AllocError> {
+    Ok(road.lanes() == 2 && shows(alloc, road, 0, first)? && shows(alloc, road, 1, second)?)
+}
+
+/// Whether a road of one lane steps to this picture, with this tally.
+fn steps_to(
+    alloc: Global,
+    road: &Road,
+    rule: &Rule,
+    step: u32,
+    picture: &[u8],
+    wanted: StepTally,
+) -> Result<bool, StepFault> {
+    let (next, tally) = step_road(alloc, road, rule, &ZERO_KEY, 0, step)?;
+    Ok(next.lanes() == 1 && tally == wanted && shows(alloc, &next, 0, picture)?)
+}
+
+/// Whether a road of two lanes makes its first step to these pictures, with this tally.
+fn steps_to_lanes(
+    alloc: Global,
+    road: &Road,
+    rule: &Rule,
+    first: &[u8],
+    second: &[u8],
+    wanted: StepTally,
+) -> Result<bool, StepFault> {
+    let (next, tally) = step_road(alloc, road, rule, &ZERO_KEY, 0, 0)?;
+    Ok(tally == wanted && shows_lanes(alloc, &next, first, second)?)
+}
+
 #[test]
 fn steps_without_chance(rt: HostRuntime) -> Result<(), StepFault> {
     let alloc = rt.alloc();
-    let rule = Rule::new(straight_motion(alloc).ok_or(StepFault::Memory)?, None);
+    let rule = straight_rule(alloc)?;
     assert!(rt; rule.change().is_none());
     assert_eq!(rt; rule.motion().budget(), 8);
     let road = lane(alloc, b"0.0.......")?;
-    assert_eq!(rt; road.lanes(), 1);
+    let tally = StepTally {
+        distance: 2,
+        stopped: 0,
+        changes: 0,
+    };
+    assert!(rt; steps_to(alloc, &road, &rule, 0, b".1.1......", tally)?);
+    Ok(())
+}
 
-    let (next, tally) = step_road(alloc, &road, &rule, &ZERO_KEY, 0, 0)?;
-    assert!(rt; next.picture(alloc, 0)?.as_slice() == b".1.1......".as_slice());
-    assert!(rt;
-        tally
-            == StepTally {
-                distance: 2,
-                stopped: 0,
-                changes: 0
-            }
-    );
-
-    let (after, tally) = step_road(alloc, &next, &rule, &ZERO_KEY, 0, 1)?;
-    assert!(rt; after.picture(alloc, 0)?.as_slice() == b"..1..2....".as_slice());
-    assert!(rt;
-        tally
-            == StepTally {
-                distance: 3,
-                stopped: 0,
-                changes: 0
-            }
-    );
+#[test]
+fn steps_once_more(rt: HostRuntime) -> Result<(), StepFault> {
+    let alloc = rt.alloc();
+    let rule = straight_rule(alloc)?;
+    let road = lane(alloc, b".1.1......")?;
+    let tally = StepTally {
+        distance: 3,
+        stopped: 0,
+        changes: 0,
+    };
+    assert!(rt; steps_to(alloc, &road, &rule, 1, b"..1..2....", tally)?);
     Ok(())
 }
 
@@ -88,15 +150,15 @@ fn draws_the_words_of_the_car(rt: HostRuntime) -> Result<(), StepFault> {
     let alloc = rt.alloc();
     // The first word of the zero key is 2917185654, and half of it 1458592827.
     for (chance, picture, stopped) in [(1458592827, b"..2", 0), (1458592828, b"0..", 1)] {
-        let rule = Rule::new(
-            braking_motion(alloc, chance).ok_or(StepFault::Memory)?,
-            None,
-        );
+        let motion = braking_motion(alloc, chance).ok_or(StepFault::Memory)?;
+        let rule = Rule::new(motion, None);
         let road = lane(alloc, b"0..")?;
-        assert_eq!(rt; road.lanes(), 1);
-        let (next, tally) = step_road(alloc, &road, &rule, &ZERO_KEY, 0, 0)?;
-        assert!(rt; next.picture(alloc, 0)?.as_slice() == picture.as_slice());
-        assert_eq!(rt; tally.stopped, stopped);
+        let tally = StepTally {
+            distance: if stopped == 0 { 2 } else { 0 },
+            stopped,
+            changes: 0,
+        };
+        assert!(rt; steps_to(alloc, &road, &rule, 0, picture, tally)?);
     }
     Ok(())
 }
@@ -108,15 +170,21 @@ fn asks_cars_part_by_part(rt: HostRuntime) -> Result<(), StepFault> {
     let road = lane(alloc, b"....2...3.")?;
     assert_eq!(rt; road.cars(), 2);
     let first = move_part(alloc, &road, &motion, &ZERO_KEY, 0, 0, 0, 1)?;
-    let second = move_part(alloc, &road, &motion, &ZERO_KEY, 0, 0, 1, 2)?;
-    let both = move_part(alloc, &road, &motion, &ZERO_KEY, 0, 0, 0, 2)?;
     assert!(rt; first.as_slice() == [3].as_slice());
+    let second = move_part(alloc, &road, &motion, &ZERO_KEY, 0, 0, 1, 2)?;
     assert!(rt; second.as_slice() == [4].as_slice());
-    assert!(rt; both.as_slice() == [3, 4].as_slice());
+    Ok(())
+}
 
-    let next = commit_motion(alloc, &road, &both)?;
-    assert_eq!(rt; next.lanes(), 1);
-    assert!(rt; next.picture(alloc, 0)?.as_slice() == b"..4....3..".as_slice());
+#[test]
+fn moves_all_cars_at_once(rt: HostRuntime) -> Result<(), StepFault> {
+    let alloc = rt.alloc();
+    let motion = straight_motion(alloc).ok_or(StepFault::Memory)?;
+    let road = lane(alloc, b"....2...3.")?;
+    let speeds = move_part(alloc, &road, &motion, &ZERO_KEY, 0, 0, 0, road.cars())?;
+    assert!(rt; speeds.as_slice() == [3, 4].as_slice());
+    let next = commit_motion(alloc, &road, &speeds)?;
+    assert!(rt; shows(alloc, &next, 0, b"..4....3..")?);
     Ok(())
 }
 
@@ -125,16 +193,132 @@ fn refuses_a_change_program(rt: HostRuntime) -> Result<(), StepFault> {
     let alloc = rt.alloc();
     let motion = straight_motion(alloc).ok_or(StepFault::Memory)?;
     let change = staying(alloc).ok_or(StepFault::Memory)?;
+    let rule = Rule::new(motion, Some(change));
     let road = lane(alloc, b"0.0.......")?;
-    assert_eq!(rt; road.lanes(), 1);
-    let step = step_road(
+    let step = step_road(alloc, &road, &rule, &ZERO_KEY, 0, 0);
+    assert!(rt; step.err() == Some(StepFault::LanesMismatch));
+    Ok(())
+}
+
+/// The road after those cars crossed that a change program lets cross.
+fn after_crossing(alloc: Global, road: &Road, change: &Change) -> Result<Road, AllocError>
+    requires { length road.now.lanes ≡ 2 }
+{
+    let crosses = choose_part(alloc, road, change, &ZERO_KEY, 0, 0, 0, road.cars())?;
+    commit_change(alloc, road, &crosses)
+}
+
+#[test]
+fn asks_who_crosses(rt: HostRuntime) -> Result<(), StepFault> {
+    let alloc = rt.alloc();
+    let rule = crowded_rule(alloc, CERTAIN)?;
+    let Some(change) = rule.change() else {
+        panic!(rt; "no change program")
+    };
+    let road = lanes(alloc, 2, b"10..........", b"............")?;
+    assert_eq!(rt; road.lanes(), 2);
+    // The first car has the second right ahead; the second has all the lane.
+    let crosses = choose_part(alloc, &road, change, &ZERO_KEY, 0, 0, 0, road.cars())?;
+    assert!(rt; crosses.as_slice() == [true, false].as_slice());
+    Ok(())
+}
+
+#[test]
+fn crosses_where_there_is_more_room(rt: HostRuntime) -> Result<(), StepFault> {
+    let alloc = rt.alloc();
+    let rule = crowded_rule(alloc, CERTAIN)?;
+    let Some(change) = rule.change() else {
+        panic!(rt; "no change program")
+    };
+    let road = lanes(alloc, 2, b"10..........", b"............")?;
+    assert_eq!(rt; road.lanes(), 2);
+    let middle = after_crossing(alloc, &road, change)?;
+    assert!(rt; shows_lanes(alloc, &middle, b".0..........", b"1...........")?);
+    Ok(())
+}
+
+#[test]
+fn goes_on_after_the_crossing(rt: HostRuntime) -> Result<(), StepFault> {
+    let alloc = rt.alloc();
+    let rule = crowded_rule(alloc, CERTAIN)?;
+    let middle = lanes(alloc, 2, b".0..........", b"1...........")?;
+    let speeds = move_part(
         alloc,
-        &road,
-        &Rule::new(motion, Some(change)),
+        &middle,
+        rule.motion(),
         &ZERO_KEY,
         0,
         0,
-    );
+        0,
+        middle.cars(),
+    )?;
+    assert!(rt; speeds.as_slice() == [1, 2].as_slice());
+    let next = commit_motion(alloc, &middle, &speeds)?;
+    assert!(rt; shows_lanes(alloc, &next, b"..1.........", b"..2.........")?);
+    Ok(())
+}
+
+#[test]
+fn steps_on_two_lanes(rt: HostRuntime) -> Result<(), StepFault> {
+    let alloc = rt.alloc();
+    let rule = crowded_rule(alloc, CERTAIN)?;
+    let road = lanes(alloc, 2, b"10..........", b"............")?;
+    let tally = StepTally {
+        distance: 3,
+        stopped: 0,
+        changes: 1,
+    };
+    assert!(rt; steps_to_lanes(alloc, &road, &rule, b"..1.........", b"..2.........", tally)?);
+    Ok(())
+}
+
+#[test]
+fn stays_beside_taken_cells(rt: HostRuntime) -> Result<(), StepFault> {
+    let alloc = rt.alloc();
+    let rule = crowded_rule(alloc, CERTAIN)?;
+    let road = lanes(alloc, 1, b"00..", b"00..")?;
+    let tally = StepTally {
+        distance: 2,
+        stopped: 2,
+        changes: 0,
+    };
+    assert!(rt; steps_to_lanes(alloc, &road, &rule, b"0.1.", b"0.1.", tally)?);
+    Ok(())
+}
+
+#[test]
+fn stays_where_the_chance_does_not_happen(rt: HostRuntime) -> Result<(), StepFault> {
+    let alloc = rt.alloc();
+    let road = lanes(alloc, 2, b"10..........", b"............")?;
+    // The second word of the zero key is 2419978656, and half of it 1209989328.
+    for (chance, changes) in [(1209989328, 0), (1209989329, 1)] {
+        let rule = crowded_rule(alloc, chance)?;
+        let (_, tally) = step_road(alloc, &road, &rule, &ZERO_KEY, 0, 0)?;
+        assert_eq!(rt; tally.changes, changes);
+    }
+    Ok(())
+}
+
+#[test]
+fn refuses_the_crowded_rule_on_one_lane(rt: HostRuntime) -> Result<(), StepFault> {
+    let alloc = rt.alloc();
+    let rule = crowded_rule(alloc, CERTAIN)?;
+    let road = lane(alloc, b"10..........")?;
+    let step = step_road(alloc, &road, &rule, &ZERO_KEY, 0, 0);
     assert!(rt; step.err() == Some(StepFault::LanesMismatch));
+    Ok(())
+}
+
+#[test]
+fn goes_on_two_lanes_without_a_change_program(rt: HostRuntime) -> Result<(), StepFault> {
+    let alloc = rt.alloc();
+    let rule = straight_rule(alloc)?;
+    let road = lanes(alloc, 2, b"10..........", b"............")?;
+    let tally = StepTally {
+        distance: 1,
+        stopped: 1,
+        changes: 0,
+    };
+    assert!(rt; steps_to_lanes(alloc, &road, &rule, b"0.1.........", b"............", tally)?);
     Ok(())
 }

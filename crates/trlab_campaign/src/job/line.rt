@@ -1,7 +1,7 @@
 //! The lines of a job text, each by itself.
 
 ghost use Rattle.std.specs.Prelude.{◌≡◌};
-ghost use Rattle.trlab_campaign.specs.Job.{road_line, key_line, limit_line, steps_line, own_line};
+ghost use Rattle.trlab_campaign.specs.Job.{road_line, key_line, limit_line, steps_line};
 
 use crate::fault::Cause;
 use crate::text::{MOST_STEPS, number_behind, word_behind};
@@ -35,17 +35,6 @@ pub fn limit_line(line: &[u8]) -> Result<u32, Cause>
     ensures { result ≡ limit_line line.now }
 {
     number_behind(b"limit ", 1, GREATEST_LIMIT, line)
-}
-
-/// The line `rule own`.
-pub fn own_line(line: &[u8]) -> Result<(), Cause>
-    ensures { result ≡ own_line line.now }
-{
-    if line == b"rule own".as_slice() {
-        Ok(())
-    } else {
-        Err(Cause::Line)
-    }
 }
 
 /// The line `steps n`, how many steps are run.

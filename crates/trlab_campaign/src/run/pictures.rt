@@ -1,14 +1,16 @@
 //! The pictures of a run.
 
-ghost use Rattle.std.specs.Prelude.{◌≡◌, ◌↔◌, true, false, None, IfOk, OnOk, OnErr, IfErr, length};
+ghost use Rattle.std.specs.Prelude.{◌≡◌, ◌+◌, ◌≤◌, ◌↔◌, ℕ, ◌∷◌, true, false, IfOk, OnOk, OnErr, IfErr, length};
 ghost use Rattle.std.specs.Io.KnownBytes.{Appends};
 ghost use Rattle.trlab_step.specs.Answers.{dice_of};
+ghost use Rattle.trlab_step.specs.Laws.{IsRuleFor};
 ghost use Rattle.trlab_step.specs.Next.{IsNext};
+ghost use Rattle.trlab_step.specs.Run.{in_force};
 ghost use Rattle.trlab_step.specs.declared.tally.StepTally.{StepTally};
 ghost use Rattle.trlab_campaign.specs.Device.{AppendsFront};
 ghost use Rattle.trlab_campaign.specs.Ending.{JobEnds, WrotePictures, WroteSome};
 ghost use Rattle.trlab_campaign.specs.Output.{step_text};
-ghost use Rattle.trlab_campaign.specs.Plain.{IsPlain, said_by};
+ghost use Rattle.trlab_campaign.specs.Plain.{IsPlain, LaterRules, said_by};
 ghost use Rattle.trlab_campaign.specs.declared.end.End.TheVariants.{DeviceFault};
 ghost use Rattle.trlab_campaign.specs.declared.run.pictures.WriteFault.TheVariants.{Memory, Device};
 
@@ -70,7 +72,28 @@ fn write_step<K: Sink>(
     Ok(())
 }
 
-/// The road after a step, where no car can cross.
+/// The rule in force at a step, and the later rules behind it, where `rule` was in force before, and
+/// `later` holds no rule of an earlier step.
+#[tactic(auto, using(crate::proofs::Sheets::next_in_force, crate::proofs::Sheets::still_later, crate::proofs::Sheets::rest_later))]
+fn in_force<'a>(
+    rule: &'a Rule,
+    later: &'a [(u32, Rule)],
+    step: u32,
+) -> (&'a Rule, &'a [(u32, Rule)])
+    ensures same { (s : ℕ) → step ≤ s
+        → in_force ((0, result.0.now) ∷ result.1.now) s ≡ in_force ((0, rule.now) ∷ later.now) s }
+    ensures later { (lanes steps : ℕ) → LaterRules lanes steps step later.now
+        → LaterRules lanes steps (step + 1) result.1.now }
+    ensures suits { (lanes steps : ℕ) → LaterRules lanes steps step later.now
+        → IsRuleFor lanes rule.now → IsRuleFor lanes result.0.now }
+{
+    match later.split_first() {
+        Some(((from, next), rest)) if *from == step => (next, rest),
+        _ => (rule, later),
+    }
+}
+
+/// The road after a step under a rule for its lanes.
 fn next_road(
     alloc: Global,
     road: &Road,
@@ -78,8 +101,7 @@ fn next_road(
     key: &Key,
     step: u32,
 ) -> Result<Road, AllocError>
-    requires one_lane { length road.now.lanes ≡ 1 }
-    requires no_change { rule.now.change ≡ None }
+    requires { IsRuleFor (length road.now.lanes) rule.now }
     ensures { IfOk result (λ next. (tally : StepTally)
         × IsNext rule.now (dice_of key.now.0 0 step) road.now next tally) }
 {
@@ -105,13 +127,16 @@ fn write_pictures<K: Sink>(alloc: Global, job: Job, writer: &mut K) -> Result<()
         key,
         mut road,
         first,
+        later,
         steps,
-        ..
     } = job;
     let mut buffer = Vec::new(alloc);
+    let mut rule = &first;
+    let mut behind = later.as_slice();
     for step in 0..steps {
         write_step(alloc, &mut buffer, step, &road, writer)?;
-        road = next_road(alloc, &road, &first, &key, step)?;
+        (rule, behind) = in_force(rule, behind, step);
+        road = next_road(alloc, &road, rule, &key, step)?;
     }
     write_step(alloc, &mut buffer, steps, &road, writer)
 }

@@ -1,11 +1,15 @@
 //! Places between the lines of a text.
 
-ghost use Rattle.std.specs.Prelude.{◌≡◌, ◌==◌, ◌+◌, ◌<◌, ◌^◌, [], ◌∷◌, length, MatchOption, MatchResult, IsTrue, ◌↔◌};
-ghost use Rattle.std.specs.List.{position};
-ghost use Rattle.trlab_campaign.specs.Lines.{IsNextLine, Place as Lines, lines_of};
+ghost use Rattle.std.specs.Prelude.{◌≡◌, ◌+◌, ◌<◌, ◌^◌, [], ◌∷◌, None, length, MatchOption, MatchResult, IsTrue, ◌↔◌};
+ghost use Rattle.trlab_asm.specs.Lines.{lines_of};
+ghost use Rattle.trlab_campaign.specs.Lines.{IsNextLine, Place as Lines, start};
+ghost use Rattle.trlab_campaign.specs.Programs.{IsPart, part_of};
+ghost use Rattle.trlab_campaign.specs.Words.{next_word_is};
 
 use crate::fault::{Cause, TextFault};
+use crate::text::word::first_word;
 use std::marker::Model;
+use trlab_asm::next_line;
 
 /// A place between the lines of a text, with the number of the next line.
 #[derive(Drop)]
@@ -26,7 +30,7 @@ impl<'a> Place<'a> {
     /// The place before the first line.
     pub fn start(text: &'a [u8]) -> Place<'a>
         requires { length text.now < 2 ^ 31 }
-        ensures { result ≡ record { number = 1; left = lines_of text.now } }
+        ensures { result ≡ start text.now }
     {
         Place {
             left: text,
@@ -42,24 +46,29 @@ impl<'a> Place<'a> {
     }
 
     /// Is no line left?
-    #[tactic(auto, using(crate::proofs::Cuts::no_lines_in))]
     pub fn is_end(&self) -> bool
         ensures { IsTrue result ↔ (self.now.left ≡ []) }
     {
         self.left.is_empty()
     }
 
+    /// Whether a line is left whose first word is this one.
+    pub fn next_word_is(&self, word: &[u8]) -> bool
+        ensures { result ≡ next_word_is word.now self.now.left }
+    {
+        match next_line(self.left) {
+            Some((line, _)) => first_word(line) == word,
+            None => false,
+        }
+    }
+
     /// The next line, if there is one, and the place after it.
-    #[tactic(auto, using(crate::proofs::Cuts::no_lines_in))]
     pub fn next(self) -> Option<(&'a [u8], Place<'a>)>
         ensures { MatchOption result (self.entry.left ≡ [])
             (λ found. IsNextLine self.entry found.0.now found.1) }
     {
         let Place { left, number } = self;
-        if left.is_empty() {
-            return None;
-        }
-        let (line, rest) = cut_line(left);
+        let (line, rest) = next_line(left)?;
         Some((
             line,
             Place {
@@ -84,28 +93,32 @@ impl<'a> Place<'a> {
             }),
         }
     }
-}
-
-/// The first line of a text, and what stands behind its end.
-#[tactic(auto, using(crate::proofs::Cuts::cut_none, crate::proofs::Cuts::cut_some, crate::proofs::Cuts::cut_inside, crate::proofs::Cuts::no_lines))]
-fn cut_line(text: &[u8]) -> (&[u8], &[u8])
-    requires { 0 < length text.now }
-    ensures lines { lines_of text.now ≡ result.0.now ∷ lines_of result.1.now }
-    ensures less { length result.1.now < length text.now }
-{
-    match line_end(text) {
-        None => (text, &[]),
-        Some(end) => {
-            let (line, _) = text.split_at(end);
-            let (_, rest) = text.split_at(end + 1);
-            (line, rest)
+    /// The lines up to the line `end`, and the place behind it. Where no line is `end`, the text
+    /// has ended too early: the number is one past its last line.
+    pub fn part(self) -> Result<(&'a [u8], Place<'a>), TextFault>
+        ensures { MatchResult result
+            (λ found. IsPart self.entry (lines_of found.0.now) found.1)
+            (λ fault. (part_of self.entry.left ≡ None)
+            × (fault ≡ TextFault.At (self.entry.number + length self.entry.left) Cause.Line)) }
+    {
+        let Place { left: text, number } = self;
+        let mut left = text;
+        let mut lines = 0;
+        while let Some((line, rest)) = next_line(left) {
+            lines += 1;
+            if line == b"end".as_slice() {
+                let (part, _) = text.split_at(text.len() - left.len());
+                let after = Place {
+                    left: rest,
+                    number: number + lines,
+                };
+                return Ok((part, after));
+            }
+            left = rest;
         }
+        Err(TextFault::At {
+            line: number + lines,
+            cause: Cause::Line,
+        })
     }
-}
-
-/// The place of the first LF.
-fn line_end(text: &[u8]) -> Option<usize>
-    ensures { result ≡ position (λ byte. byte == 10) text.now }
-{
-    text.iter().position(|byte| *byte == b'\n')
 }

@@ -1,12 +1,15 @@
-use Rattle.std.proofs.Common.{length, sym, ◌∙◌, arith}
+use Rattle.std.proofs.Common.{◌<◌, length, ap, sym, ◌∙◌, arith}
+use Rattle.std.specs.Prelude.{is_some}
 use Rattle.trlab_road.specs.Gaps.{ahead}
+use Rattle.std.proofs.Math.Nat.{mod-lt}
+use Rattle.trlab_road.proofs.CellReads.{cell_read}
 use Rattle.trlab_road.proofs.Ring.{ends_before, goes_round}
 use Rattle.trlab_road.proofs.lane.gap_ahead.Goals as goal
 
-pub returns-then-is_some-clause-value : goal.returns-then-is_some-clause-value
-returns-then-is_some-clause-value c =
+pub returns-then-is_taken-clause-value : goal.returns-then-is_taken-clause-value
+returns-then-is_taken-clause-value c =
     let lane = c.args.lane.now in
-    sym (ends_before lane (ahead (length lane) c.args.place) c.loop-clear.clear (omega arith) c.loop-clear.invariant (sym c.is_some.ensures ∙ c.if-is_some.true))
+    sym (ends_before lane (ahead (length lane) c.args.place) c.loop-clear.clear (omega arith) c.loop-clear.invariant (ap is_some (sym (cell_read lane _ c.index-lane-next.result (mod-lt _ (let some : 0 < length lane = omega arith in some)) c.index-lane-next.is)) ∙ sym c.is_taken.ensures ∙ c.if-is_taken.true))
 
 pub returns-clause-value : goal.returns-clause-value
 returns-clause-value c =

@@ -1,5 +1,5 @@
-use Rattle.trlab_step.proofs.RunLaws.{road_exists}
+use Rattle.trlab_step.proofs.RunLaws.{run_comes_to_road}
 use Rattle.trlab_step.proofs.laws.road_exists.Goals as goal
 
 pub returns : goal.returns
-returns c = road_exists
+returns c = run_comes_to_road

@@ -3,13 +3,17 @@ use Rattle.std.proofs.lemmas.Grind.{common_steps}
 use Rattle.std.specs.Prelude.{Err}
 use Rattle.trlab_campaign.specs.Plain.{said_by}
 use Rattle.trlab_campaign.specs.declared.run.pictures.WriteFault.TheVariants.{Memory}
-use Rattle.trlab_campaign.proofs.Running.{begin, wrote, went_on, stop_within, stop_behind, last_whole, last_front}
+use Rattle.trlab_campaign.proofs.Running.{begin, begin_ruled, ruled_on, ruled_next, wrote, went_on, stop_within, stop_behind, suits_here, last_whole, last_front}
 use Rattle.trlab_campaign.proofs.run.pictures.write_pictures.Goals as goal
 
 pub loop-step-init : goal.loop-step-init
 loop-step-init g c =
     let all : c.args.job.steps - 0 ≡ c.args.job.steps = omega arith in
-    record { underway = rw all (begin (said_by c.args.job) _ c.requires.plain); works = c.requires.works }
+    record {
+      underway = rw all (begin (said_by c.args.job) _ c.requires.plain);
+      ruled = rw c.as_slice-behind.ensures.value (begin_ruled (said_by c.args.job) c.requires.plain);
+      works = c.requires.works;
+    }
 
 pub returns-in_err-write_step-clause-front : goal.returns-in_err-write_step-clause-front
 returns-in_err-write_step-clause-front g c =
@@ -22,13 +26,23 @@ returns-in_err-road-clause-front g c =
     let written = wrote (said_by c.args.job) c.loop-step.step (c.args.job.steps - c.loop-step.step) _ _ _ _ c.loop-step.invariant.underway c.in_ok-write_step.ensures.whole in
     rw fault (stop_behind (said_by c.args.job) c.loop-step.step _ _ _ _ written)
 
+pub next_road-requires : goal.next_road-requires
+next_road-requires g c =
+    let ruled = c.loop-step.invariant.ruled in
+    suits_here (said_by c.args.job) c.loop-step.step _ _ c.in_force.result.0.now _ _ c.loop-step.invariant.underway
+    (c.in_force.ensures.suits _ _ ruled.later ruled.suits)
+
 pub loop-step-preserved : goal.loop-step-preserved
 loop-step-preserved g c =
     let left : c.args.job.steps - c.loop-step.step ≡ c.args.job.steps - (c.loop-step.step + 1) + 1 = omega arith in
     let underway = rw left at c.loop-step.invariant.underway in
     let written = wrote (said_by c.args.job) c.loop-step.step (c.args.job.steps - (c.loop-step.step + 1) + 1) _ _ _ _ underway c.in_ok-write_step.ensures.whole in
+    let before = c.loop-step.invariant.ruled in
+    let ruled = ruled_on (said_by c.args.job) c.loop-step.step _ c.in_force.result.0.now _ c.in_force.result.1.now before c.in_force.ensures.same
+    (c.in_force.ensures.later _ _ before.later) (c.in_force.ensures.suits _ _ before.later before.suits) in
     record {
-      underway = went_on (said_by c.args.job) c.loop-step.step _ _ _ c.in_ok-road.ensures.0 _ _ written c.in_ok-road.ensures.1;
+      underway = went_on (said_by c.args.job) c.loop-step.step _ _ _ _ _ c.in_ok-road.ensures.0 _ _ written ruled c.in_ok-road.ensures.1;
+      ruled = ruled_next (said_by c.args.job) c.loop-step.step _ _ ruled;
       works = c.in_ok-write_step.ensures.works;
     }
 

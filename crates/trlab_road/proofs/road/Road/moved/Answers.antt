@@ -12,14 +12,6 @@ in_order-requires-clause-few c =
     let size = length-map c.in_ok-lanes.lanes.items (λ (v : Vec Cell Global). v.items) in
     rw c.deref.ensures.value (let few = legal.two_lanes in omega (arith, few, size))
 
-pub in_order-requires-clause-small : goal.in_order-requires-clause-small
-in_order-requires-clause-small c =
-    let allowed = rw (← c.self.view_is) at c.requires in
-    let m = rw (← c.self.view_is) at c.in_ok-lanes.ensures in
-    let legal = allowed_legal _ _ c.args.speeds.now c.self.invariant.legal allowed m in
-    let size = length-map c.in_ok-lanes.lanes.items (λ (v : Vec Cell Global). v.items) in
-    rw c.deref.ensures.value (λ i h. rw (legal.equal_lanes i (omega (arith, size))) legal.cells_high)
-
 pub invariant_of-result : goal.invariant_of-result
 invariant_of-result c =
     let allowed = rw (← c.self.view_is) at c.requires in

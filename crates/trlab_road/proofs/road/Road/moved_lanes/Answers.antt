@@ -36,6 +36,15 @@ moved_lane-requires-clause-within c =
     let on = on_road road _ _ _ _ c.self.view_is c.deref-lane-items.ensures.value c.loop-lane-test.true in
     rw (here, c.loop-lane.invariant.counted) ((allowed_fits road c.args.speeds.now c.requires).each_lane c.loop-lane.lane-index on)
 
+pub moved_lane-requires-clause-slow : goal.moved_lane-requires-clause-slow
+moved_lane-requires-clause-slow c =
+    let road = c.args.self.now in
+    let here = c.deref.ensures.value ∙ the_lane road _ _ _ _ _ c.self.view_is c.deref-lane-items.ensures.value c.loop-lane-test.true c.lane-item.is in
+    let legal : Legal road = subst Legal c.self.view_is c.self.invariant.legal in
+    let fits = allowed_fits road c.args.speeds.now c.requires in
+    let high = legal.limit_high in
+    rw (here, c.loop-lane.invariant.counted) (λ x number speed there. let low = fits.limits c.loop-lane.lane-index x number speed there in omega (arith, low, high))
+
 -- one more lane
 one_more : (road : Cells) (next : List (Vec Cell Global)) (answers : List ℕ) (i from : ℕ) (lane : Lane) (new : Vec Cell Global)
     → length next ≡ i

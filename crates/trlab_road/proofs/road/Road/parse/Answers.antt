@@ -16,11 +16,20 @@ shows limit ps lanes good is = subst (λ (xs : List Lane). Shows limit ps (recor
 legal : (limit : ℕ) (ps : List (List ℕ)) (lanes : List Lane) → GoodPictures limit ps → lanes ≡ drawn_lanes 0 ps → Legal (record { limit = limit; lanes = lanes })
 legal limit ps lanes good is = shown_legal limit ps _ good (shows limit ps lanes good is)
 
-pub in_order-requires-clause-small : goal.in_order-requires-clause-small
-in_order-requires-clause-small c =
+pub count_all-requires-clause-small : goal.count_all-requires-clause-small
+count_all-requires-clause-small c =
     let l = legal c.args.limit _ _ c.in_ok-check_pictures.ensures c.in_ok-lanes.ensures in
     let size = length-map c.in_ok-lanes.lanes.items (λ (v : Vec Cell Global). v.items) in
-    rw c.deref.ensures.value (λ i h. rw (l.equal_lanes i (omega (arith, size))) l.cells_high)
+    rw c.deref-2.ensures.value (λ i h. rw (l.equal_lanes i (omega (arith, size))) l.cells_high)
+
+pub in_order-requires-clause-equal : goal.in_order-requires-clause-equal
+in_order-requires-clause-equal c =
+    let l = legal c.args.limit _ _ c.in_ok-check_pictures.ensures c.in_ok-lanes.ensures in
+    let size = length-map c.in_ok-lanes.lanes.items (λ (v : Vec Cell Global). v.items) in
+    rw c.deref.ensures.value (λ i h. l.equal_lanes i (omega (arith, size)))
+
+pub in_order-requires-clause-small : goal.in_order-requires-clause-small
+in_order-requires-clause-small c = rw c.deref.ensures.value ((legal c.args.limit _ _ c.in_ok-check_pictures.ensures c.in_ok-lanes.ensures).cells_high)
 
 pub invariant_of-result : goal.invariant_of-result
 invariant_of-result c = record {

@@ -1,0 +1,231 @@
+//! Job texts in, pictures out.
+
+use crate::tests::{KEY, run};
+use crate::{Cause, End, TextFault, Watched, read_job, run_job_text};
+use std::alloc::{AllocError, Global};
+use std::io::{self, BufWriter};
+use trlab_asm::Why;
+use trlab_code::CodeFault;
+use trlab_road::RoadFault;
+
+/// The code line of the motion without chance: one faster, at most the limit and the gap.
+const CODE: &str =
+    "code 54524c42010008000200000000000000010100000100000006000001000000000201010000000000\
+0a00000100000000\
+02010200000000000a000001000000001400000000000000";
+
+/// The lines up to the rule's program.
+fn before_program(alloc: Global) -> Result<String, AllocError> {
+    format!(in alloc; "road 1\n{KEY}\nlimit 5\nlane 0.0.......\nrule own\n")
+}
+
+/// A job text of one lane and some steps, under the motion without chance.
+fn job_text(alloc: Global, limit: u32, lane: &str, steps: u32) -> Result<String, AllocError> {
+    format!(in alloc;
+        "road 1\n{KEY}\nlimit {limit}\nlane {lane}\nrule own\n{CODE}\nsteps {steps}\n"
+    )
+}
+
+#[test]
+fn runs_write_each_picture(rt: HostRuntime) -> Result<(), AllocError> {
+    let alloc = rt.alloc();
+    for (limit, lane, steps, wanted) in [
+        (
+            5,
+            "0.0.......",
+            4,
+            "step 0\n0.0.......\nstep 1\n.1.1......\nstep 2\n..1..2....\nstep 3\n....2...3.\nstep 4\n..4....3..\n",
+        ),
+        (5, "0", 3, "step 0\n0\nstep 1\n0\nstep 2\n0\nstep 3\n0\n"),
+        (9, "000", 1, "step 0\n000\nstep 1\n000\n"),
+        (
+            9,
+            "0..",
+            3,
+            "step 0\n0..\nstep 1\n.1.\nstep 2\n2..\nstep 3\n..2\n",
+        ),
+        (1, "...", 0, "step 0\n...\n"),
+    ] {
+        let text = job_text(alloc, limit, lane, steps)?;
+        for workers in [1, 2, 16] {
+            let (end, out) = run(&rt, text.as_str(), workers);
+            assert_eq!(rt; end, End::Done, "at {lane}");
+            assert!(rt; out.as_slice() == wanted.as_bytes(), "at {lane}");
+        }
+    }
+    Ok(())
+}
+
+#[test]
+fn refusals_tell_line_and_cause(rt: HostRuntime) -> Result<(), AllocError> {
+    let alloc = rt.alloc();
+    let go_too_far = "code 54524c420100020002000000000000001400000000000000";
+    for (text, wanted) in [
+        (format!(in alloc; "")?, "fault line 1 cause 1\n"),
+        (
+            format!(in alloc; "road 1\n{KEY}\nlimit 5\n")?,
+            "fault line 4 cause 1\n",
+        ),
+        (
+            format!(in alloc; "road 1\nkey 00\n")?,
+            "fault line 2 cause 3\n",
+        ),
+        (
+            format!(in alloc; "road 1\n{KEY}\nlimit 05\n")?,
+            "fault line 3 cause 2\n",
+        ),
+        (
+            format!(in alloc; "road 1\n{KEY}\nlimit 5\nlane 0.6.\n")?,
+            "fault line 4 cause 35\n",
+        ),
+        (
+            format!(in alloc; "road 1\n{KEY}\nlimit 5\nlane 0.\nrule own\ncode 0\n")?,
+            "fault line 6 cause 8\n",
+        ),
+        (
+            format!(in alloc; "road 1\n{KEY}\nlimit 5\nlane 0.\nrule own\ncode 00\n")?,
+            "fault line 6 cause 21\n",
+        ),
+        (
+            format!(in alloc; "road 1\n{KEY}\nlimit 5\nlane 0.\nrule own\n{go_too_far}\n")?,
+            "fault line 6 cause 50\n",
+        ),
+        (
+            format!(in alloc;
+                "road 1\n{KEY}\nlimit 5\nlane 0.\nrule own\n{CODE}\nsteps 1\nsteps 1"
+            )?,
+            "fault line 8 cause 1\n",
+        ),
+    ] {
+        let (end, out) = run(&rt, text.as_str(), 1);
+        assert_eq!(rt; end, End::Refused, "at {wanted}");
+        assert!(rt; out.as_slice() == wanted.as_bytes(), "at {wanted}");
+    }
+    Ok(())
+}
+
+#[test]
+fn a_program_may_stand_in_its_own_lines(rt: HostRuntime) -> Result<(), AllocError> {
+    let alloc = rt.alloc();
+    let program =
+        "motion\nget r0, speed ; as fast\nnum r1, 1\nadd r0, r0, r1\nget r2, gap\nmin r0, r0, r2\n\
+\tget r2, limit\nmin r0, r0, r2\ngo r0\nend\n";
+    let front = before_program(alloc)?;
+    let text = format!(in alloc; "{front}{program}steps 2")?;
+    let (end, out) = run(&rt, text.as_str(), 1);
+    assert_eq!(rt; end, End::Done);
+    let wanted = b"step 0\n0.0.......\nstep 1\n.1.1......\nstep 2\n..1..2....\n";
+    assert!(rt; out.as_slice() == wanted.as_slice());
+    Ok(())
+}
+
+#[test]
+fn faults_of_parts_have_lines_of_the_text(rt: HostRuntime) -> Result<(), AllocError> {
+    let alloc = rt.alloc();
+    for (part, wanted) in [
+        // The word `end` is missing: one past the last line, before all other faults.
+        ("motion\nget r0, speed\ngo r8\n", "fault line 9 cause 1\n"),
+        ("motion\nend ; here\nsteps 2\n", "fault line 9 cause 1\n"),
+        ("motion", "fault line 7 cause 1\n"),
+        ("motion\nend\nsteps 2\n", "fault line 6 cause 17\n"),
+        (
+            "motion\n\n; nothing\nend\nsteps 2\n",
+            "fault line 6 cause 17\n",
+        ),
+        (
+            "motion\nget r0, speed\n\ngo r8\nend\nsteps 2\n",
+            "fault line 9 cause 12\n",
+        ),
+        ("motion\njump on\ngo r0\nend\n", "fault line 7 cause 15\n"),
+        ("motion\n end\nend\nsteps 2\n", "fault line 7 cause 11\n"),
+        (
+            "motion\nget r0, speed\ngo r0\nend\nsteps 2\n",
+            "fault line 6 cause 50\n",
+        ),
+        ("motion\nstay\nend\nsteps 2\n", "fault line 6 cause 42\n"),
+        // Behind a whole part the lines are counted on.
+        (
+            "motion\nnum r0, 0\ngo r0\nend\nsteps\n",
+            "fault line 10 cause 1\n",
+        ),
+        ("motion\nnum r0, 0\ngo r0\nend", "fault line 10 cause 1\n"),
+        // The other kind does not stand here.
+        ("change\nstay\nend\nsteps 2\n", "fault line 6 cause 1\n"),
+        (
+            "code 54524c42010101001600000000000000\nsteps 2\n",
+            "fault line 6 cause 24\n",
+        ),
+    ] {
+        let front = before_program(alloc)?;
+        let text = format!(in alloc; "{front}{part}")?;
+        let (end, out) = run(&rt, text.as_str(), 1);
+        assert_eq!(rt; end, End::Refused, "at {part}");
+        assert!(rt; out.as_slice() == wanted.as_bytes(), "at {part}");
+    }
+    Ok(())
+}
+
+#[test]
+fn jobs_are_what_texts_say(rt: HostRuntime) -> Result<(), AllocError> {
+    let alloc = rt.alloc();
+    let text = job_text(alloc, 5, "0.0.......", 4)?;
+    match read_job(alloc, text.as_bytes()) {
+        Ok(job) => {
+            assert_eq!(rt; job.steps, 4);
+            assert_eq!(rt; job.key.0, [0; 32]);
+            assert_eq!(rt; job.road.cars(), 2);
+            assert_eq!(rt; job.first.motion().budget(), 8);
+            assert!(rt; job.later.is_empty());
+        }
+        Err(fault) => assert!(rt; false, "{fault}"),
+    }
+    assert_eq!(rt;
+        read_job(alloc, b"road 2").err(),
+        Some(TextFault::At {
+            line: 1,
+            cause: Cause::Line
+        })
+    );
+    Ok(())
+}
+
+#[test]
+fn causes_have_numbers(rt: HostRuntime) {
+    for (cause, number) in [
+        (Cause::OneLane, 4),
+        (Cause::Order, 5),
+        (Cause::TooMany, 6),
+        (Cause::TooBig, 9),
+        (Cause::Program(Why::Word), 11),
+        (Cause::Program(Why::Empty), 17),
+        (Cause::Code(CodeFault::Kind), 24),
+        (Cause::Road(RoadFault::Length), 32),
+        (Cause::StandardRefused, 40),
+        (Cause::Verdict(12), 52),
+    ] {
+        assert_eq!(rt; cause.number(), number);
+    }
+}
+
+#[test]
+fn the_last_call_hands_on_what_a_buffer_holds(rt: HostRuntime) -> io::Result<()> {
+    let alloc = rt.alloc();
+    let mut reader = Watched::new(b"road 2\n".as_slice());
+    let mut writer = Watched::new(BufWriter::new(alloc, Vec::new(alloc))?);
+    let end = run_job_text(&rt, &mut reader, &mut writer, 1);
+    assert_eq!(rt; end, End::Refused);
+    let buffer = writer.into_inner();
+    assert!(rt; buffer.get_ref().as_slice() == b"fault line 1 cause 1\n".as_slice());
+    Ok(())
+}
+
+#[test]
+fn a_full_writer_ends_the_run(rt: HostRuntime) -> Result<(), AllocError> {
+    let text = job_text(rt.alloc(), 5, "0.0.......", 4)?;
+    let mut room = [0u8; 20];
+    let mut reader = Watched::new(text.as_bytes());
+    let mut writer = Watched::new(room.as_mut_slice());
+    let end = run_job_text(&rt, &mut reader, &mut writer, 1);
+    assert_eq!(rt; end, End::DeviceFault);
+    Ok(())
+}

@@ -1,0 +1,3 @@
+mod CommandLine
+mod Matches
+mod Options

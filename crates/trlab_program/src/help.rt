@@ -1,0 +1,61 @@
+//! What the help of `trlab` says beside the usage.
+
+/// What `trlab` is for.
+pub const ABOUT: &str =
+    "Judges driver programs, and drives cars by them: cellular automaton road traffic";
+
+/// Below the commands: an example, the exit statuses, and where to read on.
+pub const AFTER: &str = "\
+Each command reads one text on standard input and writes to standard output.
+`trlab help check` and `trlab help run` say which.
+
+Example:
+  trlab run < examples/two_cars.job
+
+Exit statuses:
+  0  done
+  1  the text or the program is refused: standard output says where and why
+  2  the command line is refused
+  3  memory ran out
+  4  reading or writing failed
+
+docs/TEXTS.md says how texts are written and what the cause of a refusal means.";
+
+/// What `check` does.
+pub const CHECK_ABOUT: &str = "Says whether the verifier accepts a driver program";
+
+/// What `check` reads and writes.
+pub const CHECK_AFTER: &str = "\
+Standard input:
+  A line `motion` or `change`, the kind of the program, and then the program,
+  an instruction a line; or one line `code X`, X its bytes in hexadecimal.
+
+Standard output:
+  `accepted budget B`, B the most instructions that a call can take, and then
+  the program in its canonical form; `refused at PC reason R`, where the
+  verifier refuses it; or `fault line N cause K`, where the text has a fault.
+  docs/TEXTS.md explains the reasons and the causes.
+
+Example:
+  printf 'motion\\nget r0, speed\\nget r1, gap\\nmin r0, r0, r1\\ngo r0\\n' | trlab check";
+
+/// What `run` does.
+pub const RUN_ABOUT: &str = "Drives the cars of a job and shows the road at each step";
+
+/// What `run` reads and writes.
+pub const RUN_AFTER: &str = "\
+Standard input:
+  A job text: the road and its cars, the program that drives them, the key of
+  the random numbers and how many steps to go.
+
+Standard output:
+  For each step a line `step s` and the picture of each lane: `.` is an empty
+  cell, a digit a car and its speed. Or `fault line N cause K`, where the text
+  has a fault. docs/TEXTS.md explains job texts and the causes.
+
+Example:
+  trlab run < examples/two_cars.job";
+
+/// What the option of `run` is for.
+pub const WORKERS_HELP: &str =
+    "How many workers may share the work, 1 to 16; the output is the same";

@@ -1,0 +1,5 @@
+pub mod Rows
+pub mod NaschRuns
+pub mod VdrRuns
+pub mod RickertRuns
+pub mod GivenPrograms

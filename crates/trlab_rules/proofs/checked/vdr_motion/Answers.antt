@@ -1,0 +1,10 @@
+use Rattle.trlab_rules.specs.Published.{vdr_speed}
+use Rattle.trlab_rules.specs.Standard.{vdr_program}
+use Rattle.trlab_rules.proofs.VdrRuns.{vdr_moves}
+use Rattle.trlab_rules.proofs.GivenPrograms.{motion_given}
+use Rattle.trlab_rules.proofs.checked.vdr_motion.Goals as goal
+
+pub returns-clause-motion : goal.returns-clause-motion
+returns-clause-motion c =
+    motion_given c.checked_motion.result c.in_ok-vdr_instrs.field-0.items (vdr_program c.args.p c.args.p0).instrs c.in_ok-vdr_instrs.ensures.value (vdr_speed c.args.p c.args.p0) (vdr_moves c.args.p c.args.p0)
+    c.checked_motion.ensures.accepted

@@ -1,0 +1,17 @@
+-- Programs that answer what a rule says.
+use Rattle.std.specs.Prelude.{ℕ, Bool, List, if◌then◌else◌}
+use Rattle.trlab_code.specs.declared.kind.Kind.TheVariants.{Motion, Change}
+use Rattle.trlab_code.specs.declared.view.View.{View}
+use Rattle.trlab_code.specs.Program.{Program}
+use Rattle.trlab_code.specs.Views.{IsView}
+use Rattle.trlab_code.specs.Machine.{Goes, Crosses, Stays, EndsWith}
+
+-- a motion program answers the speed of a rule, whatever the car sees and whatever its words are
+abbrev pub MovesBy : (View → List ℕ → ℕ) → Program → Type 0
+MovesBy speed program = (view : View) (words : List ℕ) → IsView view
+    → (n : ℕ) × EndsWith Motion program.instrs view words (Goes (speed view words)) n
+
+-- a change program answers that the car crosses just where a rule says so, whatever the car sees and whatever its words are
+abbrev pub ChangesBy : (View → List ℕ → Bool) → Program → Type 0
+ChangesBy crosses program = (view : View) (words : List ℕ) → IsView view
+    → (n : ℕ) × EndsWith Change program.instrs view words (if crosses view words then Crosses else Stays) n

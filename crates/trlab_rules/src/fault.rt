@@ -1,0 +1,26 @@
+//! Why there is no standard rule.
+
+ghost use Rattle.std.specs.Prelude.{◌≡◌};
+ghost use Rattle.trlab_rules.specs.declared.fault.StandardFault.TheVariants.{Memory};
+
+use std::alloc::AllocError;
+use thiserror::Error;
+
+/// Why there is no standard rule.
+#[derive(Clone, Copy, Debug, PartialEq, Eq, Error)]
+pub enum StandardFault {
+    /// Memory ran out.
+    #[error("memory ran out")]
+    Memory,
+    /// The verifier refuses a program of the rule.
+    #[error("a program of the rule is refused")]
+    Refused,
+}
+
+impl From<AllocError> for StandardFault {
+    ghost from_gives = { λ _ fault. fault ≡ Memory };
+
+    fn from(_: AllocError) -> StandardFault {
+        StandardFault::Memory
+    }
+}

@@ -1,0 +1,26 @@
+//! Laws of the standard rules: what their programs answer is what was published.
+
+ghost use Rattle.std.specs.Prelude.{◌≡◌, ◌≤◌, ℕ};
+ghost use Rattle.trlab_rules.specs.Published.{calmed, wording_1992, nasch_speed, vdr_speed, rickert_crosses};
+ghost use Rattle.trlab_rules.specs.Standard.{nasch_program, vdr_program, rickert_program};
+ghost use Rattle.trlab_rules.specs.Laws.{MovesBy, ChangesBy};
+
+/// The motion program of 1992 answers the speed of Nagel and Schreckenberg.
+pub fn nasch_is_published()
+    ensures { (p : ℕ) → MovesBy (nasch_speed p) (nasch_program p) }
+{}
+
+/// The motion program of 1998 answers the speed of Barlovic, Santen, Schadschneider and Schreckenberg.
+pub fn vdr_is_published()
+    ensures { (p p0 : ℕ) → MovesBy (vdr_speed p p0) (vdr_program p p0) }
+{}
+
+/// The change program of 1996 answers who crosses as by Rickert, Nagel, Schreckenberg and Latour.
+pub fn rickert_is_published()
+    ensures { (c : ℕ) → ChangesBy (rickert_crosses c) (rickert_program c) }
+{}
+
+/// The wording of 1992 gives the least of one more than the speed, the limit and the gap.
+pub fn wording_is_calmed()
+    ensures { (speed limit gap : ℕ) → speed ≤ limit → wording_1992 speed limit gap ≡ calmed speed limit gap }
+{}
