@@ -1,6 +1,11 @@
-pub mod Stores
 pub mod Steps
 pub mod Underway
+pub mod Tells
+pub mod OnWay
+pub mod Ahead
+pub mod Cars
+pub mod Sweeps
+pub mod Stores
 pub mod Answers
 pub mod Ends
 pub mod Speeds

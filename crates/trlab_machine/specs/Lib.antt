@@ -1,3 +1,4 @@
-pub mod Kept
+pub mod Plain
 pub mod Moves
 pub mod Choices
+pub mod Blocks

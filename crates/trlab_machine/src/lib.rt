@@ -2,13 +2,25 @@
 #![tactic(auto)]
 
 mod action;
+mod block;
 mod change;
+mod changes;
+mod columns;
 pub mod laws;
+mod made;
 mod motion;
-mod places;
+mod motions;
+mod registers;
+mod role;
 mod run;
 #[cfg(test)]
 mod tests;
+mod views;
+mod waiting;
 
 pub use change::{Chosen, run_change};
+pub use changes::run_changes;
+pub use columns::{Column, Flags, LANES};
 pub use motion::{Moved, run_motion};
+pub use motions::run_motions;
+pub use views::Views;

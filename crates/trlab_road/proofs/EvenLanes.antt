@@ -8,7 +8,7 @@ use Rattle.trlab_road.specs.Cells.{Lane, at}
 use Rattle.trlab_road.specs.Spreading.{flat_cell, even_lane, even_place, LaneEven}
 
 -- a car further on stands on a later cell
-flat_rises : (lanes cells n i j : ℕ) → n ≤ lanes * cells → 0 < n → i < j
+pub flat_rises : (lanes cells n i j : ℕ) → n ≤ lanes * cells → 0 < n → i < j
     → flat_cell lanes cells n i < flat_cell lanes cells n j
 flat_rises lanes cells n i j room some before =
     let c = lanes * cells in

@@ -1,4 +1,3 @@
-pub mod CellReads
 pub mod Ring
 pub mod StandingOrder
 pub mod MotionLaws
@@ -7,9 +6,19 @@ pub mod MotionExists
 pub mod MotionInOrder
 pub mod CrossingLaws
 pub mod PictureLaws
-pub mod RoadKeeps
+pub mod RoadCars
 pub mod Numbers
 pub mod CrossingInOrder
 pub mod EvenLanes
 pub mod EvenRoads
-pub mod SameCells
+pub mod Lists
+pub mod ListPush
+pub mod ListGaps
+pub mod ListMotion
+pub mod ListCrossing
+pub mod ListRoads
+pub mod ListSides
+pub mod ListPictures
+pub mod ListDrawing
+pub mod ListEven
+pub mod SameLists

@@ -1,6 +1,5 @@
 -- Roads as contracts see them: a speed limit and lanes of cells on a ring.
-use Rattle.std.specs.Prelude.{◌≡◌, ℕ, is_some, Option, Some, None, List, [], slice_index_or, count_by, sum_by, map, Vec}
-use Rattle.std.specs.Global.{Global}
+use Rattle.std.specs.Prelude.{◌≡◌, ℕ, is_some, Option, Some, None, List, [], slice_index_or, count_by, sum_by}
 
 -- a cell is empty, or holds a car: its number and its speed
 abbrev pub Cell : Type 0
@@ -44,7 +43,3 @@ Stands road number =
 abbrev pub SameAtCars : {X : Type 0} → (ℕ → ℕ → X) → (ℕ → ℕ → X) → Cells → Type 0
 SameAtCars answer other road =
     (l x number speed : ℕ) → cell road l x ≡ Some (number, speed) → answer l x ≡ other l x
-
--- the lanes that vectors of cells are
-abbrev pub lanes_of : List (Vec Cell Global) → List Lane
-lanes_of lanes = map (λ (v : Vec Cell Global). v.items) lanes

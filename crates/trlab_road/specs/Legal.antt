@@ -1,8 +1,7 @@
 -- Roads that rules can run on.
-use Rattle.std.specs.Prelude.{◌≡◌, ℕ, ◌<◌, ◌≤◌, Some, List, length, map}
+use Rattle.std.specs.Prelude.{◌≡◌, ℕ, ◌<◌, ◌≤◌, Some, length}
 use Rattle.trlab_road.specs.declared.bounds.TheConstants.{GREATEST_LIMIT, GREATEST_LENGTH, MOST_LANES}
 use Rattle.trlab_road.specs.Cells.{Cells, cell, lane_of, cars}
-use Rattle.trlab_road.specs.Standing.{car_index, standing}
 
 -- a legal road: bounds on lanes, length and limit, no speed above the limit, and each car,
 -- numbered below the count of cars, in one cell only
@@ -21,8 +20,3 @@ pub record Legal (road : Cells) : Type 0 where
       → cell road l x ≡ Some (number, speed) → number < cars road
   pub once : (l x m y number u v : ℕ)
       → cell road l x ≡ Some (number, u) → cell road m y ≡ Some (number, v) → (l ≡ m) × (x ≡ y)
-
--- what a `Road` keeps: its cells are legal, and its list has the indices of its cars in standing order
-pub record Kept (road : Cells) (order : List ℕ) : Type 0 where
-  pub legal : Legal road
-  pub ordered : order ≡ map (car_index (length (lane_of road 0))) (standing road)

@@ -1,5 +1,4 @@
 pub mod Cells
-pub mod Packing
 pub mod Gaps
 pub mod Standing
 pub mod Legal
@@ -8,3 +7,4 @@ pub mod Motion
 pub mod Crossing
 pub mod Spreading
 pub mod Laws
+pub mod Lists

@@ -1,5 +1,5 @@
 -- The standing order of the cars of a road: lane by lane, place rising.
-use Rattle.std.specs.Prelude.{ℕ, suc, ◌+◌, ◌*◌, Some, None, List, [], ◌∷◌, ◌++◌, sum_by, take}
+use Rattle.std.specs.Prelude.{ℕ, suc, ◌+◌, Some, None, List, [], ◌∷◌, ◌++◌, sum_by, take}
 use Rattle.trlab_road.specs.declared.car.Car.{Car}
 use Rattle.trlab_road.specs.Cells.{Lane, Cells, lane_of, lane_cars}
 
@@ -18,10 +18,6 @@ standing_lanes l (lane ∷ lanes) = standing_from l 0 lane ++ standing_lanes (su
 -- the cars of a road in standing order
 abbrev pub standing : Cells → List Car
 standing road = standing_lanes 0 road.lanes
-
--- the index of the cell of a car, where lanes of so many cells lie end to end
-abbrev pub car_index : ℕ → Car → ℕ
-car_index cells car = car.lane * cells + car.place
 
 -- how many cars stand before a place, in standing order
 abbrev pub rank : Cells → ℕ → ℕ → ℕ

@@ -1,24 +1,20 @@
-//! The sideways phase of two lanes.
+//! The sideways phase: the cars of two lanes that cross do so at once, by a merge of their lists.
 
-ghost use Rattle.std.specs.Prelude.{◌≡◌, ◌+◌, ◌≤◌, length, IfOk, slice_index_or, false};
-ghost use Rattle.trlab_road.specs.Cells.{lane_cars};
-ghost use Rattle.trlab_road.specs.Crossing.{LaneCrosses, crossing, lane_crosses_at};
+ghost use Rattle.std.specs.Prelude.{◌≡◌, ◌+◌, ◌<◌, ◌≤◌, ℕ, length, sum_by, IfOk, slice_index_or, false, Option};
+ghost use Rattle.trlab_road.specs.declared.bounds.TheConstants.{GREATEST_LENGTH};
+ghost use Rattle.trlab_road.specs.Cells.{Cells, lane_cars};
+ghost use Rattle.trlab_road.specs.Crossing.{Crosses, LaneCrosses, crosses_at, crossing, lane_crosses_at};
+ghost use Rattle.trlab_road.specs.Lists.{Rises, Rising, Sorted, Sought, StandsAt, cell_at, cell_of_car, cells_of, lanes_from, place_of};
 
-use crate::cell::Cell;
+use crate::lane_car::LaneCar;
+use crate::lanes::list_of;
 use std::alloc::{AllocError, Global};
 
-/// A cell after the sideways phase: its own car if that stays, else the car beside it if that
-/// crosses.
-fn crossed_cell(own_crosses: bool, beside_crosses: bool, own: Cell, beside: Cell) -> Cell
-    ensures { result ≡ crossing own_crosses beside_crosses own beside }
-{
-    if own.is_taken() && !own_crosses {
-        own
-    } else if beside_crosses {
-        beside
-    } else {
-        Cell::empty()
-    }
+/// A lane before its cars cross: its list, and the index from which the answers of its cars stand.
+#[derive(Clone, Copy)]
+struct AnsweredLane<'a> {
+    cars: &'a [LaneCar],
+    from: usize,
 }
 
 /// The answer at an index, or no where there is none.
@@ -28,39 +24,128 @@ fn answer_or_no(crosses: &[bool], k: usize) -> bool
     k < crosses.len() && crosses[k]
 }
 
-/// A lane after the sideways phase, beside another lane of its length. The answers of its own cars
-/// stand from one index on, those of the cars beside from another.
-pub fn crossed_lane(
-    alloc: Global,
-    own: &[Cell],
-    own_from: usize,
-    beside: &[Cell],
-    beside_from: usize,
-    crosses: &[bool],
-) -> Result<Vec<Cell>, AllocError>
-    requires equal { length beside.now ≡ length own.now }
-    requires own_each { own_from + lane_cars own.now ≤ length crosses.now }
-    requires beside_each { beside_from + lane_cars beside.now ≤ length crosses.now }
-    ensures { IfOk result (λ next. LaneCrosses
-        (lane_crosses_at own.now crosses.now own_from)
-        (lane_crosses_at beside.now crosses.now beside_from)
-        own.now beside.now next.items) }
+/// The place of the k-th car, or the end of the lane.
+fn next_place(cars: &[LaneCar], k: usize, cells: u32) -> u32
+    ensures here { k < length cars.now → result ≡ place_of cars.now k }
+    ensures past { length cars.now ≤ k → result ≡ cells }
 {
-    let mut next = Vec::with_capacity(alloc, own.len())?;
-    let mut k = own_from;
-    let mut j = beside_from;
-    for place in 0..own.len() {
-        let own_cell = own[place];
-        let side_cell = beside[place];
-        let own_crosses = answer_or_no(crosses, k);
-        let beside_crosses = answer_or_no(crosses, j);
-        next.push(crossed_cell(own_crosses, beside_crosses, own_cell, side_cell))?;
-        if own_cell.is_taken() {
-            k += 1;
+    if k < cars.len() { cars[k].place } else { cells }
+}
+
+/// The car at a place, where the k-th is the first from there on.
+fn car_at(cars: &[LaneCar], k: usize, place: u32) -> Option<LaneCar>
+    requires sorted { Rising cars.now }
+    requires sought { Sought cars.now place k }
+    ensures cell { cell_of_car result ≡ cell_at cars.now place }
+    ensures there { StandsAt place result }
+{
+    if k < cars.len() && cars[k].place == place {
+        Some(cars[k])
+    } else {
+        None
+    }
+}
+
+/// The index of the first car past a place, where the k-th is the first from there on.
+fn passed(cars: &[LaneCar], k: usize, place: u32) -> usize
+    requires sorted { Rising cars.now }
+    requires sought { Sought cars.now place k }
+    ensures { Sought cars.now (place + 1) result }
+{
+    if k < cars.len() && cars[k].place == place {
+        k + 1
+    } else {
+        k
+    }
+}
+
+/// The car of a cell after the sideways phase.
+fn crossed_car(
+    own_crosses: bool,
+    beside_crosses: bool,
+    own: Option<LaneCar>,
+    beside: Option<LaneCar>,
+) -> Option<LaneCar>
+    ensures cell { cell_of_car result
+        ≡ crossing own_crosses beside_crosses (cell_of_car own) (cell_of_car beside) }
+    ensures there { (x : ℕ) → StandsAt x own → StandsAt x beside → StandsAt x result }
+{
+    if own.is_some() && !own_crosses {
+        own
+    } else if beside_crosses {
+        beside
+    } else {
+        None
+    }
+}
+
+/// The cars of a lane after the sideways phase, beside another lane of its length.
+fn crossed_lane(
+    alloc: Global,
+    cells: u32,
+    own: AnsweredLane,
+    beside: AnsweredLane,
+    crosses: &[bool],
+) -> Result<Vec<LaneCar>, AllocError>
+    requires small { cells ≤ GREATEST_LENGTH }
+    requires own_sorted { Rises 0 cells own.cars.now }
+    requires beside_sorted { Rises 0 cells beside.cars.now }
+    requires own_each { own.from + length own.cars.now ≤ length crosses.now }
+    requires beside_each { beside.from + length beside.cars.now ≤ length crosses.now }
+    ensures rises { IfOk result (λ next. Rises 0 cells next.items) }
+    ensures crosses { IfOk result (λ next.
+        let old = cells_of cells own.entry.cars.now in
+        let other = cells_of cells beside.entry.cars.now in
+        LaneCrosses
+        (lane_crosses_at old crosses.now own.entry.from)
+        (lane_crosses_at other crosses.now beside.entry.from)
+        old other (cells_of cells next.items)) }
+{
+    let mut next = Vec::with_capacity(alloc, own.cars.len())?;
+    let mut i = 0;
+    let mut j = 0;
+    let mut place = next_place(own.cars, i, cells).min(next_place(beside.cars, j, cells));
+    while place < cells {
+        let own_crosses = answer_or_no(crosses, own.from + i);
+        let beside_crosses = answer_or_no(crosses, beside.from + j);
+        let own_car = car_at(own.cars, i, place);
+        let side_car = car_at(beside.cars, j, place);
+        if let Some(car) = crossed_car(own_crosses, beside_crosses, own_car, side_car) {
+            next.push(car)?;
         }
-        if side_cell.is_taken() {
-            j += 1;
-        }
+        i = passed(own.cars, i, place);
+        j = passed(beside.cars, j, place);
+        place = next_place(own.cars, i, cells).min(next_place(beside.cars, j, cells));
     }
     Ok(next)
+}
+
+/// The two lanes after all cars that cross did so at once.
+pub fn crossed_lanes(
+    alloc: Global,
+    lanes: &[Vec<LaneCar>],
+    cells: u32,
+    crosses: &[bool],
+) -> Result<Vec<Vec<LaneCar>>, AllocError>
+    requires two { length lanes.now ≡ 2 }
+    requires small { cells ≤ GREATEST_LENGTH }
+    requires sorted { Sorted cells lanes.now }
+    requires one_each { sum_by lane_cars (lanes_from cells lanes.now) ≤ length crosses.now }
+    ensures sorted { IfOk result (λ next. Sorted cells next.items) }
+    ensures crosses { IfOk result (λ next. (limit : ℕ)
+        → let old : Cells = record { limit = limit; lanes = lanes_from cells lanes.now } in
+        Crosses (crosses_at old crosses.now) old
+        (record { limit = limit; lanes = lanes_from cells next.items })) }
+{
+    let first = AnsweredLane {
+        cars: list_of(lanes, 0),
+        from: 0,
+    };
+    let second = AnsweredLane {
+        cars: list_of(lanes, 1),
+        from: first.cars.len(),
+    };
+    let new_first = crossed_lane(alloc, cells, first, second, crosses)?;
+    let new_second = crossed_lane(alloc, cells, second, first, crosses)?;
+    Ok(vec![in alloc; new_first, new_second]?)
 }

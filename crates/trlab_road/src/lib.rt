@@ -1,23 +1,26 @@
-//! Roads of cells on a ring: gaps, the two phases of a step, pictures, evenly spread cars.
+//! Roads of cells on a ring, kept as lists of cars: gaps, the two phases of a step, pictures,
+//! evenly spread cars.
 #![tactic(auto)]
 
 pub mod bounds;
 mod car;
-mod cell;
 mod crossing;
 mod fault;
-mod lane;
+mod gap;
+mod lane_car;
+mod lanes;
 pub mod laws;
 mod motion;
 mod picture;
 mod reading;
 mod road;
+mod side;
 mod spreading;
-mod standing;
 
 pub use car::Car;
 pub use fault::RoadFault;
 pub use road::Road;
+pub use side::Beside;
 
 #[cfg(test)]
 mod tests;

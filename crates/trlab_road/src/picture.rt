@@ -1,12 +1,12 @@
 //! Cells and speeds as bytes of pictures.
 
-ghost use Rattle.std.specs.Prelude.{◌≡◌, ◌≤◌, ◌↔◌, ℕ, Some, IfOk, IsTrue};
+ghost use Rattle.std.specs.Prelude.{◌≡◌, ◌<◌, ◌≤◌, ◌↔◌, ℕ, IfOk, IsTrue, length, slice_index_or};
 ghost use Rattle.trlab_road.specs.declared.bounds.TheConstants.{GREATEST_LIMIT};
-ghost use Rattle.trlab_road.specs.Cells.{at};
+ghost use Rattle.trlab_road.specs.Lists.{Rises, cells_of, no_car};
 ghost use Rattle.trlab_road.specs.Pictures.{ShowsCell, ShowsSpeed, byte_speed, picture, speed_byte};
 
 use crate::bounds::GREATEST_LIMIT;
-use crate::cell::Cell;
+use crate::lane_car::LaneCar;
 use std::alloc::{AllocError, Global};
 
 /// The byte of an empty cell.
@@ -46,17 +46,16 @@ pub fn shows_cell(limit: u32, byte: u8) -> bool
 }
 
 /// The picture of a lane: a point for an empty cell, the digit of the speed for a car.
-pub fn picture_of(alloc: Global, lane: &[Cell]) -> Result<Vec<u8>, AllocError>
-    requires { (x number speed : ℕ)
-        → at lane.now x ≡ Some (number, speed) → speed ≤ GREATEST_LIMIT }
-    ensures { IfOk result (λ bytes. bytes.items ≡ picture lane.now) }
+pub fn picture_of(alloc: Global, cars: &[LaneCar], cells: u32) -> Result<Vec<u8>, AllocError>
+    requires sorted { Rises 0 cells cars.now }
+    requires slow { (k : ℕ) → k < length cars.now
+        → (slice_index_or cars.now k no_car).speed ≤ GREATEST_LIMIT }
+    ensures { IfOk result (λ bytes. bytes.items ≡ picture (cells_of cells cars.now)) }
 {
-    let mut bytes = Vec::with_capacity(alloc, lane.len())?;
-    for cell in lane {
-        bytes.push(match cell.get() {
-            None => EMPTY,
-            Some((_, speed)) => speed_byte(speed),
-        })?;
+    let mut bytes = vec![in alloc; EMPTY; cells as usize]?;
+    for k in 0..cars.len() {
+        let car = cars[k];
+        bytes[car.place as usize] = speed_byte(car.speed);
     }
     Ok(bytes)
 }

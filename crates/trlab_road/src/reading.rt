@@ -2,13 +2,12 @@
 
 ghost use Rattle.std.specs.Prelude.{◌≡◌, ◌*◌, ◌<◌, ◌≤◌, ◌↔◌, ℕ, length, IfOk, MatchResult, IsTrue, slice_index, EachIndex};
 ghost use Rattle.trlab_road.specs.declared.bounds.TheConstants.{GREATEST_LIMIT, GREATEST_LENGTH, MOST_LANES};
-ghost use Rattle.trlab_road.specs.Cells.{lanes_of};
-ghost use Rattle.trlab_road.specs.Pictures.{EqualLanes, FewLanes, FirstFault, GoodPictures, ShowsCell, drawn_lane, drawn_lanes, pictures_of};
+ghost use Rattle.trlab_road.specs.Lists.{Rises, Sorted, cells_of, lanes_from};
+ghost use Rattle.trlab_road.specs.Pictures.{EqualLanes, FewLanes, FirstFault, GoodPictures, ShowsCell, drawn_lane, drawn_lanes, picture_at, pictures_of};
 
 use crate::bounds::{GREATEST_LENGTH, GREATEST_LIMIT, MOST_LANES};
-use crate::cell::Cell;
 use crate::fault::RoadFault;
-use crate::lane::count_cars;
+use crate::lane_car::LaneCar;
 use crate::picture::{EMPTY, byte_speed, shows_cell, shows_speed};
 use std::alloc::{AllocError, Global};
 
@@ -71,39 +70,49 @@ pub fn check_pictures(limit: u32, pictures: &[&[u8]]) -> Result<(), RoadFault>
     Ok(())
 }
 
-/// The lane that a picture draws, its cars numbered from a number on.
-pub fn draw_lane(alloc: Global, picture: &[u8], from: u32) -> Result<Vec<Cell>, AllocError>
+/// The cars of the lane that a picture draws, numbered from a number on.
+pub fn draw_lane(alloc: Global, picture: &[u8], from: u32) -> Result<Vec<LaneCar>, AllocError>
     requires shown { EachIndex picture.now (λ x.
         ShowsCell GREATEST_LIMIT (slice_index picture.now x)) }
     requires small { length picture.now ≤ GREATEST_LENGTH }
     requires few { from ≤ MOST_LANES * GREATEST_LENGTH }
-    ensures { IfOk result (λ cells. cells.items ≡ drawn_lane from picture.now) }
+    ensures rises { IfOk result (λ cars. Rises 0 (length picture.now) cars.items) }
+    ensures drawn { IfOk result (λ cars.
+        cells_of (length picture.now) cars.items ≡ drawn_lane from picture.now) }
 {
-    let mut cells = Vec::with_capacity(alloc, picture.len())?;
+    let mut cars = Vec::new(alloc);
     let mut number = from;
-    for byte in picture {
-        if *byte == EMPTY {
-            cells.push(Cell::empty())?;
-        } else {
-            cells.push(Cell::car(number, byte_speed(*byte)))?;
+    for (place, byte) in picture.iter().enumerate() {
+        if *byte != EMPTY {
+            cars.push(LaneCar {
+                number,
+                place: place as u32,
+                speed: byte_speed(*byte),
+            })?;
             number += 1;
         }
     }
-    Ok(cells)
+    Ok(cars)
 }
 
-/// The lanes that pictures draw, their cars numbered in standing order.
-pub fn draw_lanes(alloc: Global, pictures: &[&[u8]]) -> Result<Vec<Vec<Cell>>, AllocError>
-    requires { GoodPictures GREATEST_LIMIT (pictures_of pictures.now) }
-    ensures { IfOk result (λ lanes.
-        lanes_of lanes.items ≡ drawn_lanes 0 (pictures_of pictures.now)) }
+/// The lanes that pictures of so many cells draw, their cars numbered in standing order.
+pub fn draw_lanes(
+    alloc: Global,
+    pictures: &[&[u8]],
+    cells: usize,
+) -> Result<Vec<Vec<LaneCar>>, AllocError>
+    requires good { GoodPictures GREATEST_LIMIT (pictures_of pictures.now) }
+    requires first { cells ≡ length (picture_at (pictures_of pictures.now) 0) }
+    ensures sorted { IfOk result (λ lanes. Sorted cells lanes.items) }
+    ensures drawn { IfOk result (λ lanes.
+        lanes_from cells lanes.items ≡ drawn_lanes 0 (pictures_of pictures.now)) }
 {
     let mut lanes = Vec::with_capacity(alloc, pictures.len())?;
     let mut number = 0;
     for picture in pictures {
-        let cells = draw_lane(alloc, picture, number)?;
-        number += count_cars(&cells) as u32;
-        lanes.push(cells)?;
+        let cars = draw_lane(alloc, picture, number)?;
+        number += cars.len() as u32;
+        lanes.push(cars)?;
     }
     Ok(lanes)
 }

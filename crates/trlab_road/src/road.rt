@@ -1,9 +1,9 @@
-//! A road, kept as the cells of each lane beside the indices of its cars in standing order.
+//! A road, kept as the list of the cars of each lane by rising place.
 
 ghost use Rattle.std.specs.Prelude.{◌≡◌, ◌<◌, ◌≤◌, ◌↔◌, ℕ, Bool, length, slice_get, Some, slice_index, slice_index_or, false, IfOk, IsTrue, MatchResult};
 ghost use Rattle.trlab_road.specs.declared.bounds.TheConstants.{GREATEST_LENGTH};
 ghost use Rattle.trlab_road.specs.declared.car.Car.{Car};
-ghost use Rattle.trlab_road.specs.Cells.{Cells, cars, cell, lane_of, lanes_of};
+ghost use Rattle.trlab_road.specs.Cells.{Cells, cars, cell, lane_of};
 ghost use Rattle.trlab_road.specs.Gaps.{gap, side, sideback, sidegap};
 ghost use Rattle.trlab_road.specs.Standing.{standing};
 ghost use Rattle.trlab_road.specs.Legal.{Legal};
@@ -13,15 +13,16 @@ ghost use Rattle.trlab_road.specs.Spreading.{CanSpread, Even, EvenFault};
 ghost use Rattle.trlab_road.specs.Motion.{Allowed, CleanMotion, Moves, answer_at, gaps, in_order};
 
 use crate::car::Car;
-use crate::cell::Cell;
-use crate::crossing::crossed_lane;
+use crate::crossing::crossed_lanes;
 use crate::fault::RoadFault;
-use crate::lane::{copy_lanes, count_all, count_cars, gap_ahead, gap_behind, same_lanes};
-use crate::motion::moved_lane;
+use crate::gap::gap_ahead;
+use crate::lane_car::LaneCar;
+use crate::lanes::{car_of, copy_lanes, count_cars, find, list_of, same_lanes};
+use crate::motion::moved_lanes;
 use crate::picture::picture_of;
 use crate::reading::{check_pictures, draw_lanes};
+use crate::side::{Beside, look_beside};
 use crate::spreading::{check_even, even_lanes};
-use crate::standing;
 use std::alloc::{AllocError, Global};
 use std::marker::Model;
 
@@ -32,21 +33,22 @@ use std::marker::Model;
 #[derive(Drop)]
 pub struct Road {
     limit: u32,
-    lanes: Vec<Vec<Cell>>,
-    /// The indices of the cars in standing order, where the lanes lie end to end.
-    order: Vec<u32>,
+    /// How many cells each lane has.
+    cells: u32,
+    /// The cars of each lane by rising place.
+    lanes: Vec<Vec<LaneCar>>,
 }
 
 impl Model for Road {
-    ghost use Rattle.trlab_road.specs.Cells.{Cells, lanes_of};
-    ghost use Rattle.trlab_road.specs.Legal.{Kept};
+    ghost use Rattle.trlab_road.specs.Cells.{Cells};
+    ghost use Rattle.trlab_road.specs.Lists.{Kept, lanes_from};
 
     ghost Value = { Cells };
 
-    ghost view = { λ r. record { limit = r.limit; lanes = lanes_of r.lanes.items } };
+    ghost view = { λ r. record { limit = r.limit; lanes = lanes_from r.cells r.lanes.items } };
 
-    ghost invariant = { λ r.
-        Kept (record { limit = r.limit; lanes = lanes_of r.lanes.items }) r.order.items };
+    ghost invariant = { λ r. Kept r.cells r.lanes.items
+        (record { limit = r.limit; lanes = lanes_from r.cells r.lanes.items }) };
 }
 
 impl Road {
@@ -67,12 +69,12 @@ impl Road {
             → MatchResult result (λ next. next ≡ road) (λ fault. fault ≡ RoadFault.Memory) }
     {
         check_pictures(limit, lanes)?;
-        let lanes = draw_lanes(alloc, lanes)?;
-        let order = standing::in_order(alloc, &lanes, count_all(&lanes))?;
+        let cells = lanes[0].len();
+        let lanes = draw_lanes(alloc, lanes, cells)?;
         Ok(Road {
             limit,
+            cells: cells as u32,
             lanes,
-            order,
         })
     }
 
@@ -98,13 +100,11 @@ impl Road {
         ensures legal { IfOk result (λ road. Legal road) }
     {
         check_even(lanes, cells, limit, count)?;
-        let count = count as usize;
-        let lanes = even_lanes(alloc, lanes as usize, cells as usize, count)?;
-        let order = standing::in_order(alloc, &lanes, count)?;
+        let lanes = even_lanes(alloc, lanes as usize, cells as usize, count as usize)?;
         Ok(Road {
             limit,
+            cells,
             lanes,
-            order,
         })
     }
 
@@ -113,11 +113,10 @@ impl Road {
         ensures { IfOk result (λ road. road ≡ self.now) }
     {
         let lanes = copy_lanes(alloc, &self.lanes)?;
-        let order = Vec::from_slice(alloc, &self.order)?;
         Ok(Road {
             limit: self.limit,
+            cells: self.cells,
             lanes,
-            order,
         })
     }
 
@@ -125,10 +124,9 @@ impl Road {
     pub fn equals(&self, other: &Road) -> bool
         ensures { IsTrue result ↔ (self.now ≡ other.now) }
     {
-        if self.limit != other.limit {
-            return false;
-        }
-        same_lanes(&self.lanes, &other.lanes)
+        self.limit == other.limit
+            && self.cells == other.cells
+            && same_lanes(&self.lanes, &other.lanes)
     }
 
     /// How many lanes.
@@ -144,7 +142,7 @@ impl Road {
         ensures value { result ≡ length (lane_of self.now 0) }
         ensures legal { Legal self.now }
     {
-        self.lanes[0].len() as u32
+        self.cells
     }
 
     /// The speed limit, in cells a step.
@@ -160,7 +158,7 @@ impl Road {
         ensures value { result ≡ cars self.now }
         ensures legal { Legal self.now }
     {
-        self.order.len() as u32
+        count_cars(&self.lanes)
     }
 
     /// The k-th car in standing order, counted from 0.
@@ -171,19 +169,8 @@ impl Road {
         ensures lane { result.lane < length self.now.lanes }
         ensures place { result.place < length (lane_of self.now 0) }
     {
-        let cells = self.length();
-        let index = self.order[k as usize];
-        let lane = index / cells;
-        let place = index % cells;
-        match self.cells(lane)[place as usize].get() {
-            Some((number, speed)) => Car {
-                number,
-                lane,
-                place,
-                speed,
-            },
-            None => unreachable!(),
-        }
+        let (lane, index) = find(&self.lanes, k);
+        car_of(&self.lanes, lane, index)
     }
 
     /// The gap of the k-th car in standing order: how many cells ahead of it are empty.
@@ -196,8 +183,34 @@ impl Road {
             → result ≡ gap (lane_of self.now car.lane) car.place }
         ensures below { result < length (lane_of self.now 0) }
     {
-        let car = self.standing(k);
-        gap_ahead(self.cells(car.lane), car.place as usize) as u32
+        let (lane, index) = find(&self.lanes, k);
+        let cars = list_of(&self.lanes, lane);
+        let place = cars[index].place as usize;
+        gap_ahead(cars, self.cells as usize, place, index + 1) as u32
+    }
+
+    /// What stands beside the k-th car in standing order, on the other lane: whether the side cell is
+    /// empty, and the gaps ahead and behind from there, as `side`, `sidegap` and `sideback` tell.
+    ///
+    /// Asked car by car along a lane, with the `next` of the answer before as `near`, it goes on from
+    /// there; with any other `near`, as 0, it searches by halves.
+    pub fn beside(&self, k: u32, near: usize) -> Beside
+        requires below { k < cars self.now }
+        requires two { length self.now.lanes ≡ 2 }
+        ensures value { result.is_empty ≡ slice_index_or (sides self.now) k false }
+        ensures empty { (car : Car) → slice_get (standing self.now) k ≡ Some car
+            → result.is_empty ≡ side (lane_of self.now (other_lane car.lane)) car.place }
+        ensures ahead { (car : Car) → slice_get (standing self.now) k ≡ Some car
+            → result.ahead ≡ sidegap (lane_of self.now (other_lane car.lane)) car.place }
+        ensures behind { (car : Car) → slice_get (standing self.now) k ≡ Some car
+            → result.behind ≡ sideback (lane_of self.now (other_lane car.lane)) car.place }
+        ensures ahead_below { result.ahead < length (lane_of self.now 0) }
+        ensures behind_below { result.behind < length (lane_of self.now 0) }
+    {
+        let (lane, index) = find(&self.lanes, k);
+        let place = list_of(&self.lanes, lane)[index].place;
+        let other = list_of(&self.lanes, 1 - lane);
+        look_beside(other, self.cells as usize, place, near)
     }
 
     /// Is the side cell of the k-th car in standing order, the cell beside it on the other lane,
@@ -209,8 +222,7 @@ impl Road {
         ensures of_car { (car : Car) → slice_get (standing self.now) k ≡ Some car
             → result ≡ side (lane_of self.now (other_lane car.lane)) car.place }
     {
-        let car = self.standing(k);
-        self.cells(1 - car.lane)[car.place as usize].is_empty()
+        self.beside(k, 0).is_empty
     }
 
     /// The gap ahead on the other lane, from beside the k-th car in standing order: 0 where the
@@ -224,13 +236,7 @@ impl Road {
             → result ≡ sidegap (lane_of self.now (other_lane car.lane)) car.place }
         ensures below { result < length (lane_of self.now 0) }
     {
-        let car = self.standing(k);
-        let other = self.cells(1 - car.lane);
-        let place = car.place as usize;
-        if other[place].is_taken() {
-            return 0;
-        }
-        gap_ahead(other, place) as u32
+        self.beside(k, 0).ahead
     }
 
     /// The gap behind on the other lane, from beside the k-th car in standing order: 0 where the
@@ -244,23 +250,7 @@ impl Road {
             → result ≡ sideback (lane_of self.now (other_lane car.lane)) car.place }
         ensures below { result < length (lane_of self.now 0) }
     {
-        let car = self.standing(k);
-        let beside = self.cells(1 - car.lane);
-        let place = car.place as usize;
-        if beside[place].is_taken() {
-            return 0;
-        }
-        gap_behind(beside, place) as u32
-    }
-
-    /// The cells of a lane.
-    fn cells(&self, lane: u32) -> &[Cell]
-        requires { lane < length self.now.lanes }
-        ensures lane { result.now ≡ lane_of self.now lane }
-        ensures small { length result.now ≤ GREATEST_LENGTH }
-        ensures equal { length result.now ≡ length (lane_of self.now 0) }
-    {
-        &self.lanes[lane as usize]
+        self.beside(k, 0).behind
     }
 
     /// The picture of a lane: one byte a cell, a point or the digit of the car's speed.
@@ -268,7 +258,7 @@ impl Road {
         requires { lane < length self.now.lanes }
         ensures { IfOk result (λ bytes. bytes.items ≡ picture (lane_of self.now lane)) }
     {
-        picture_of(alloc, &self.lanes[lane as usize])
+        picture_of(alloc, list_of(&self.lanes, lane), self.cells)
     }
 
     /// The road after all cars went ahead at once, each by its speed of the list, which stands in
@@ -281,13 +271,11 @@ impl Road {
         ensures clean { IfOk result (λ next. CleanMotion self.now next) }
         ensures legal { IfOk result (λ next. Legal next) }
     {
-        let limit = self.limit;
-        let lanes = self.moved_lanes(alloc, speeds)?;
-        let order = standing::in_order(alloc, &lanes, speeds.len())?;
+        let lanes = moved_lanes(alloc, &self.lanes, self.cells, speeds)?;
         Ok(Road {
-            limit,
+            limit: self.limit,
+            cells: self.cells,
             lanes,
-            order,
         })
     }
 
@@ -302,42 +290,11 @@ impl Road {
         ensures clean { IfOk result (λ next. CleanCrossing self.now next) }
         ensures legal { IfOk result (λ next. Legal next) }
     {
-        let limit = self.limit;
-        let lanes = self.crossed_lanes(alloc, crosses)?;
-        let order = standing::in_order(alloc, &lanes, crosses.len())?;
+        let lanes = crossed_lanes(alloc, &self.lanes, self.cells, crosses)?;
         Ok(Road {
-            limit,
+            limit: self.limit,
+            cells: self.cells,
             lanes,
-            order,
         })
-    }
-
-    /// The two lanes after all cars that cross did so at once.
-    fn crossed_lanes(&self, alloc: Global, crosses: &[bool]) -> Result<Vec<Vec<Cell>>, AllocError>
-        requires { CrossAllowed self.now crosses.now }
-        ensures { IfOk result (λ next. Crosses (crosses_at self.now crosses.now) self.now
-            (record { limit = self.now.limit; lanes = lanes_of next.items })) }
-    {
-        let first = self.cells(0);
-        let second = self.cells(1);
-        let count = count_cars(first);
-        let new_first = crossed_lane(alloc, first, 0, second, count, crosses)?;
-        let new_second = crossed_lane(alloc, second, count, first, 0, crosses)?;
-        Ok(vec![in alloc; new_first, new_second]?)
-    }
-
-    /// The lanes after all cars went ahead at once.
-    fn moved_lanes(&self, alloc: Global, speeds: &[u32]) -> Result<Vec<Vec<Cell>>, AllocError>
-        requires { Allowed self.now speeds.now }
-        ensures { IfOk result (λ next. Moves (answer_at self.now speeds.now) self.now
-            (record { limit = self.now.limit; lanes = lanes_of next.items })) }
-    {
-        let mut next = Vec::with_capacity(alloc, self.lanes.len())?;
-        let mut from = 0;
-        for lane in &self.lanes {
-            next.push(moved_lane(alloc, lane, speeds, from)?)?;
-            from += count_cars(lane);
-        }
-        Ok(next)
     }
 }

@@ -1,19 +1,6 @@
 //! Roads by their pictures, with values worked out by hand.
 
-use crate::cell::Cell;
 use crate::{Car, Road, RoadFault};
-use std::mem::size_of;
-
-#[test]
-fn packs_a_cell_into_four_bytes(rt: HostRuntime) {
-    assert_eq!(rt; size_of::<Cell>(), 4);
-    assert_eq!(rt; Cell::empty().get(), None);
-    assert_eq!(rt; Cell::car(0, 0).get(), Some((0, 0)));
-    assert_eq!(rt; Cell::car(199_999, 9).get(), Some((199_999, 9)));
-    assert!(rt; Cell::car(0, 0) != Cell::empty());
-    assert!(rt; Cell::car(1, 2) != Cell::car(1, 3));
-    assert!(rt; Cell::car(33_554_431, 63) == Cell::car(33_554_431, 63));
-}
 
 #[test]
 fn reads_and_draws_two_lanes(rt: HostRuntime) -> Result<(), RoadFault> {
@@ -143,11 +130,6 @@ fn spreads_cars_evenly(rt: HostRuntime) -> Result<(), RoadFault> {
     assert!(rt; road.picture(alloc, 1)?.as_slice() == b"00.".as_slice());
     assert_eq!(rt; road.limit(), 1);
     assert_eq!(rt; road.standing(1).number, 3);
-    let long = Road::even(alloc, 2, 100_000, 9, 2_000)?;
-    assert_eq!(rt; long.cars(), 2_000);
-    assert_eq!(rt; long.standing(1).number, 1);
-    assert_eq!(rt; long.standing(1).lane, 0);
-    assert_eq!(rt; long.standing(1).place, 50);
     let empty = Road::even(alloc, 1, 2, 9, 0)?;
     assert!(rt; empty.picture(alloc, 0)?.as_slice() == b"..".as_slice());
     assert!(rt; Road::even(alloc, 3, 0, 0, 1).err() == Some(RoadFault::Lanes));
@@ -155,6 +137,47 @@ fn spreads_cars_evenly(rt: HostRuntime) -> Result<(), RoadFault> {
     assert!(rt; Road::even(alloc, 2, 100_001, 0, 1).err() == Some(RoadFault::Length));
     assert!(rt; Road::even(alloc, 1, 4, 10, 5).err() == Some(RoadFault::Limit));
     assert!(rt; Road::even(alloc, 1, 4, 9, 5).err() == Some(RoadFault::TooManyCars));
+    Ok(())
+}
+
+#[test]
+fn spreads_few_cars_over_one_lane_of_two(rt: HostRuntime) -> Result<(), RoadFault> {
+    let road = Road::even(rt.alloc(), 2, 100_000, 9, 2_000)?;
+    assert_eq!(rt; road.cars(), 2_000);
+    for i in 0..2_000 {
+        let expected = Car {
+            number: i,
+            lane: 0,
+            place: 50 * i,
+            speed: 0,
+        };
+        assert!(rt; road.standing(i) == expected);
+    }
+    Ok(())
+}
+
+#[test]
+fn keeps_the_order_of_a_heap_beside_an_empty_lane(rt: HostRuntime) -> Result<(), RoadFault> {
+    let road = Road::parse(rt.alloc(), 2, &[b".....0000", b"........."])?;
+    assert_eq!(rt; road.cars(), 4);
+    assert_eq!(rt; road.lanes(), 2);
+    assert_eq!(rt; road.limit(), 2);
+    assert_eq!(rt; road.gap(0), 0);
+    assert_eq!(rt; road.gap(1), 0);
+    assert_eq!(rt; road.gap(2), 0);
+    assert_eq!(rt; road.gap(3), 5);
+    let moved = road.moved(rt.alloc(), &[0, 0, 0, 2])?;
+    assert!(rt; moved.picture(rt.alloc(), 0)?.as_slice() == b".2...000.".as_slice());
+    assert_eq!(rt; moved.cars(), 4);
+    assert_eq!(rt; moved.standing(0).number, 3);
+    assert!(rt; road.side(1));
+    assert!(rt; road.side(3));
+    let crossed = road.crossed(rt.alloc(), &[false, true, false, true])?;
+    assert!(rt; crossed.picture(rt.alloc(), 0)?.as_slice() == b".....0.0.".as_slice());
+    assert!(rt; crossed.picture(rt.alloc(), 1)?.as_slice() == b"......0.0".as_slice());
+    assert_eq!(rt; crossed.cars(), 4);
+    assert_eq!(rt; crossed.standing(1).number, 2);
+    assert_eq!(rt; crossed.standing(3).number, 3);
     Ok(())
 }
 

@@ -5,4 +5,4 @@ pub mod Totals
 pub mod Parts
 pub mod Stepped
 pub mod PartLaws
-pub mod Drawn
+pub mod AskedCars

@@ -1,20 +1,18 @@
 //! What the motion program answers to the cars of a road.
 
-ghost use Rattle.std.specs.Prelude.{◌≡◌, ◌≤◌, ◌<◌, ℕ, List, IfOk, IfSome, IsSome, Some, slice_get, slice_index};
-ghost use Rattle.trlab_words.specs.Words.{random_words};
-ghost use Rattle.trlab_code.specs.Program.{Draws};
-ghost use Rattle.trlab_road.specs.declared.car.Car.{Car};
+ghost use Rattle.std.specs.Prelude.{◌≡◌, ◌+◌, ◌-◌, ◌<◌, ◌≤◌, ℕ, IfOk, slice_index};
 ghost use Rattle.trlab_road.specs.Cells.{cars};
-ghost use Rattle.trlab_road.specs.Standing.{standing};
-ghost use Rattle.trlab_road.specs.Motion.{gaps};
-ghost use Rattle.trlab_step.specs.Answers.{AnswersSpeed, dice_of, FitsPart, SpeedsPart};
+ghost use Rattle.trlab_step.specs.Answers.{dice_of, FitsPart, SpeedsPart};
+ghost use Rattle.trlab_step.specs.Asked.{AllNeeded, GoesBy};
 
+use crate::asked::{Asked, BLOCK};
+use crate::draws::Draws;
 use std::alloc::{AllocError, Global};
-use trlab_code::{MotionView, WORDS};
-use trlab_machine::run_motion;
+use trlab_code::Kind;
+use trlab_machine::{Column, LANES, run_motions};
 use trlab_road::Road;
 use trlab_verify::Motion;
-use trlab_words::{Key, words};
+use trlab_words::Key;
 
 /// The speeds that a motion program answers in a step to the cars of a road, in standing order
 /// from one index up to another, which is not included.
@@ -37,48 +35,33 @@ pub fn move_part(
         (λ speeds. SpeedsPart motion.now (dice_of key.now.0 number step) road.now from to speeds.items) }
     ensures fits { IfOk result (λ speeds. FitsPart road.now from speeds.items) }
 {
-    // A program that draws on no words needs no key.
-    let key = motion.code().draws().then_some(*key);
+    let mut draws = Draws::new(motion.code().instrs(), key, number, step);
     let mut speeds = Vec::with_capacity(alloc, (to - from) as usize)?;
-    for k in from..to {
-        speeds.push(answered_speed(road, motion, key, number, step, k))?;
+    for block in 0..(to - from) / BLOCK + 1 {
+        let begin = from + BLOCK * block;
+        let end = begin + BLOCK.min(to - begin);
+        let answers = block_speeds(road, motion, &mut draws, begin, end);
+        for k in begin..end {
+            speeds.push(answers[(k - begin) as usize])?;
+        }
     }
     Ok(speeds)
 }
 
-/// The speed that a motion program answers in a step to the k-th car in standing order.
-///
-/// Where the program draws on no words the key may be missing, and the answer is that of any key.
-fn answered_speed(
-    road: &Road,
-    motion: &Motion,
-    key: Option<Key>,
-    number: u32,
-    step: u32,
-    k: u32,
-) -> u32
-    requires standing { k < cars road.now }
-    requires key { Draws motion.now.program.instrs → IsSome key }
-    ensures answer { (bytes : List ℕ) (car : Car) → IfSome key (λ key. key.0 ≡ bytes)
-        → slice_get (standing road.now) k ≡ Some car
-        → AnswersSpeed motion.now (dice_of bytes number step) road.now
-        car.lane car.place car.number car.speed result }
-    ensures within_gap { result ≤ slice_index (gaps road.now) k }
-    ensures within_limit { result ≤ road.now.limit }
+/// The speeds of a block of cars, from an index of the standing order up to another.
+fn block_speeds(road: &Road, motion: &Motion, draws: &mut Draws, from: u32, to: u32) -> Column
+    requires rising { from ≤ to }
+    requires few { to ≤ from + LANES }
+    requires within { to ≤ cars road.now }
+    requires needed { AllNeeded motion.now.program.instrs draws.old.needed }
+    ensures speeds { (j : ℕ) → j < to - from → GoesBy motion.now
+        (dice_of draws.old.key draws.old.road draws.old.step) road.now (from + j) (slice_index result j) }
+    ensures key { draws.new.key ≡ draws.old.key }
+    ensures road { draws.new.road ≡ draws.old.road }
+    ensures step { draws.new.step ≡ draws.old.step }
+    ensures needed { draws.new.needed ≡ draws.old.needed }
 {
-    let car = road.standing(k);
-    match MotionView::new(car.speed, road.limit(), road.gap(k)) {
-        Some(view) => run_motion(motion, view, &drawn_words(key, number, car.number, step)).speed,
-        None => unreachable!(),
-    }
-}
-
-/// The random words of a car in a step under a key. Without a key none are made: each is 0.
-pub fn drawn_words(key: Option<Key>, number: u32, car: u32, step: u32) -> [u32; WORDS]
-    ensures { IfSome key (λ key. result ≡ random_words key.0 number car step) }
-{
-    match key {
-        Some(key) => words(&key, number, car, step),
-        None => [0; WORDS],
-    }
+    let asked = Asked::new(Kind::Motion, road, from, to);
+    draws.draw(&asked.numbers, asked.views.cars);
+    run_motions(motion, &asked.views, draws.words())
 }

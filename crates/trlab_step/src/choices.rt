@@ -1,17 +1,15 @@
 //! What the change program answers to the cars of a road.
 
-ghost use Rattle.std.specs.Prelude.{◌≡◌, ◌≤◌, ◌<◌, ℕ, true, false, List, IfOk, IfSome, IsSome, Some, length, slice_get, slice_index_or};
-ghost use Rattle.trlab_code.specs.Program.{Draws};
-ghost use Rattle.trlab_road.specs.declared.car.Car.{Car};
+ghost use Rattle.std.specs.Prelude.{◌≡◌, ◌+◌, ◌-◌, ◌<◌, ◌≤◌, ℕ, false, IfOk, length, slice_index_or};
 ghost use Rattle.trlab_road.specs.Cells.{cars};
-ghost use Rattle.trlab_road.specs.Crossing.{sides};
-ghost use Rattle.trlab_road.specs.Standing.{standing};
-ghost use Rattle.trlab_step.specs.Answers.{AnswersCrossing, CrossesFreePart, CrossersPart, dice_of};
+ghost use Rattle.trlab_step.specs.Answers.{CrossesFreePart, CrossersPart, dice_of};
+ghost use Rattle.trlab_step.specs.Asked.{AllNeeded, CrossesBy};
 
-use crate::answers::drawn_words;
+use crate::asked::{Asked, BLOCK};
+use crate::draws::Draws;
 use std::alloc::{AllocError, Global};
-use trlab_code::ChangeView;
-use trlab_machine::run_change;
+use trlab_code::Kind;
+use trlab_machine::{Flags, LANES, run_changes};
 use trlab_road::Road;
 use trlab_verify::Change;
 use trlab_words::Key;
@@ -38,46 +36,35 @@ pub fn choose_part(
         CrossersPart change.now (dice_of key.now.0 number step) road.now from to crosses.items) }
     ensures free { IfOk result (λ crosses. CrossesFreePart road.now from crosses.items) }
 {
-    // A program that draws on no words needs no key.
-    let key = change.code().draws().then_some(*key);
+    let mut draws = Draws::new(change.code().instrs(), key, number, step);
     let mut crosses = Vec::with_capacity(alloc, (to - from) as usize)?;
-    for k in from..to {
-        crosses.push(answered_crossing(road, change, key, number, step, k))?;
+    for block in 0..(to - from) / BLOCK + 1 {
+        let begin = from + BLOCK * block;
+        let end = begin + BLOCK.min(to - begin);
+        let answers = block_crosses(road, change, &mut draws, begin, end);
+        for k in begin..end {
+            crosses.push(answers[(k - begin) as usize])?;
+        }
     }
     Ok(crosses)
 }
 
-/// Whether the k-th car in standing order crosses in a step, as a change program answers it.
-///
-/// Where the program draws on no words the key may be missing, and the answer is that of any key.
-fn answered_crossing(
-    road: &Road,
-    change: &Change,
-    key: Option<Key>,
-    number: u32,
-    step: u32,
-    k: u32,
-) -> bool
-    requires standing { k < cars road.now }
+/// Whether the cars of a block cross, from an index of the standing order up to another.
+fn block_crosses(road: &Road, change: &Change, draws: &mut Draws, from: u32, to: u32) -> Flags
+    requires rising { from ≤ to }
+    requires few { to ≤ from + LANES }
+    requires within { to ≤ cars road.now }
     requires two_lanes { length road.now.lanes ≡ 2 }
-    requires key { Draws change.now.program.instrs → IsSome key }
-    ensures answer { (bytes : List ℕ) (car : Car) → IfSome key (λ key. key.0 ≡ bytes)
-        → slice_get (standing road.now) k ≡ Some car
-        → AnswersCrossing change.now (dice_of bytes number step) road.now
-        car.lane car.place car.number car.speed result }
-    ensures side_empty { result ≡ true → slice_index_or (sides road.now) k false ≡ true }
+    requires needed { AllNeeded change.now.program.instrs draws.old.needed }
+    ensures crosses { (j : ℕ) → j < to - from → CrossesBy change.now
+        (dice_of draws.old.key draws.old.road draws.old.step) road.now (from + j)
+        (slice_index_or result j false) }
+    ensures key { draws.new.key ≡ draws.old.key }
+    ensures road { draws.new.road ≡ draws.old.road }
+    ensures step { draws.new.step ≡ draws.old.step }
+    ensures needed { draws.new.needed ≡ draws.old.needed }
 {
-    let car = road.standing(k);
-    match ChangeView::new(
-        car.speed,
-        road.limit(),
-        road.gap(k),
-        road.side(k),
-        road.sidegap(k),
-        road.sideback(k),
-        car.lane,
-    ) {
-        Some(view) => run_change(change, view, &drawn_words(key, number, car.number, step)).cross,
-        None => unreachable!(),
-    }
+    let asked = Asked::new(Kind::Change, road, from, to);
+    draws.draw(&asked.numbers, asked.views.cars);
+    run_changes(change, &asked.views, draws.words())
 }

@@ -2,7 +2,9 @@
 #![tactic(auto)]
 
 mod answers;
+mod asked;
 mod choices;
+mod draws;
 mod fault;
 pub mod laws;
 mod phases;

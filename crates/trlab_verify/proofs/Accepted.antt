@@ -10,10 +10,12 @@ use Rattle.trlab_code.specs.declared.instruction.Instr.TheVariants.{Go, Cross, S
 use Rattle.trlab_code.specs.Program.{Program, IsProgram}
 use Rattle.trlab_code.specs.Flow.{target, falls, is_end}
 use Rattle.trlab_verify.specs.Checked.{IsChecked}
-use Rattle.trlab_verify.specs.Longest.{Way, IsLongest, IsForward, on_target}
-use Rattle.trlab_verify.specs.Notes.{Note, note_at}
-use Rattle.trlab_verify.specs.Verdict.{may_stand, fault_of, fault_at, IsAccepted}
-use Rattle.trlab_verify.proofs.Steps.{IsClear, clear, not_false}
+use Rattle.trlab_verify.specs.Longest.{Way, IsLongest, IsForward}
+use Rattle.trlab_notes.specs.Reasons.{on_target, may_stand}
+use Rattle.trlab_notes.specs.Notes.{Note}
+use Rattle.trlab_verify.specs.Arrivals.{note_at}
+use Rattle.trlab_verify.specs.Verdict.{fault_of, fault_at, IsAccepted}
+use Rattle.trlab_notes.proofs.Steps.{IsClear, clear, not_false}
 use Rattle.trlab_verify.proofs.Runs.{sound}
 use Rattle.trlab_verify.proofs.Ways.{either_of, both_of}
 
@@ -23,7 +25,7 @@ no_fault : (kind own : Kind) (len pc : ℕ) (note : Option Note) (i : Instr) →
 no_fault kind own len pc None i h = absurd (cc h)
 no_fault kind own len pc (Some m) i h = (m, clear kind own len pc m i h)
 
-all_clear : (kind : Kind) (program : Program) → IsAccepted kind program → (pc : ℕ) (i : Instr) →
+pub all_clear : (kind : Kind) (program : Program) → IsAccepted kind program → (pc : ℕ) (i : Instr) →
     slice_get program.instrs pc ≡ Some i → (m : Note) × IsClear kind program.kind (length program.instrs) pc m i
 unfolding fault_at
 all_clear kind program accepted pc i e =
@@ -55,17 +57,7 @@ kind_is kind program n accepted w =
     let (m, c) = all_clear kind program accepted q i e in
     end_kind kind program.kind i end (not_false _ c.allowed)
 
--- an accepted program with its longest way is a checked program
-pub checked : (kind : Kind) (program : Program) (budget : ℕ) → IsProgram program → IsAccepted kind program →
-    IsLongest program.instrs 0 budget → IsChecked kind (record { program = program; budget = budget })
-checked kind program budget is accepted longest = record {
-  program = is;
-  kind_is = kind_is kind program budget accepted longest.way;
-  safe = sound kind program budget accepted longest;
-  longest = longest;
-}
-
-target_ahead : (t : Option ℕ) (len pc q : ℕ) → on_target (λ t. nat_le t pc) t ≡ false →
+pub target_ahead : (t : Option ℕ) (len pc q : ℕ) → on_target (λ t. nat_le t pc) t ≡ false →
     on_target (λ t. nat_le len t) t ≡ false → on_target (nat_eq q) t ≡ true → (pc < q) × (q < len)
 target_ahead None len pc q forward within e = absurd (cc e)
 target_ahead (Some t) len pc q forward within e =
@@ -74,7 +66,7 @@ target_ahead (Some t) len pc q forward within e =
     let below : t < len = leb-false len t within in
     (omega arith, omega arith)
 
-next_ahead : (b : Bool) (len pc q : ℕ) → (b && nat_le len (suc pc)) ≡ false → b ≡ true → nat_eq q (suc pc) ≡ true →
+pub next_ahead : (b : Bool) (len pc q : ℕ) → (b && nat_le len (suc pc)) ≡ false → b ≡ true → nat_eq q (suc pc) ≡ true →
     (pc < q) × (q < len)
 next_ahead false len pc q h b e = absurd (cc b)
 next_ahead true len pc q h b e =
@@ -90,3 +82,14 @@ forward kind program accepted pc q (i, e, h) =
       | inl next ↦ let f = both_of (falls i) (nat_eq q (suc pc)) next in next_ahead (falls i) (length program.instrs) pc q c.follows f.0 f.1
       | inr jumps ↦ target_ahead (target i) (length program.instrs) pc q c.forward c.within jumps
     ]
+
+-- an accepted program with its longest way is a checked program
+pub checked : (kind : Kind) (program : Program) (budget : ℕ) → IsProgram program → IsAccepted kind program →
+    IsLongest program.instrs 0 budget → IsChecked kind (record { program = program; budget = budget })
+checked kind program budget is accepted longest = record {
+  program = is;
+  kind_is = kind_is kind program budget accepted longest.way;
+  forward = forward kind program accepted;
+  safe = sound kind program budget accepted longest;
+  longest = longest;
+}

@@ -1,8 +1,13 @@
-pub mod Fits
-pub mod Steps
 pub mod Runs
-pub mod Tables
 pub mod Verdicts
 pub mod Ways
 pub mod Accepted
 pub mod Equals
+pub mod Checking
+pub mod Best
+pub mod VerdictChecks
+pub mod HandedIn
+pub mod Bounded
+pub mod Inputs
+pub mod Other
+pub mod Refusals

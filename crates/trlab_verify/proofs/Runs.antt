@@ -8,18 +8,20 @@ use Rattle.trlab_code.specs.declared.instruction.Instr.{Instr}
 use Rattle.trlab_code.specs.declared.instruction.Instr.TheVariants.{Jump, Go, Cross, Stay}
 use Rattle.trlab_code.specs.declared.view.View.{View}
 use Rattle.trlab_code.specs.declared.view.TheConstants.{GREATEST_LIMIT, GREATEST_GAP}
-use Rattle.trlab_verify.specs.declared.note.Said.{Said}
-use Rattle.trlab_verify.specs.declared.note.Said.TheVariants.{Between}
+use Rattle.trlab_notes.specs.declared.note.Said.{Said}
+use Rattle.trlab_notes.specs.declared.note.Said.TheVariants.{Between}
 use Rattle.trlab_code.specs.declared.instruction.TheConstants.{PLACES}
 use Rattle.trlab_code.specs.Program.{Program}
 use Rattle.trlab_code.specs.Views.{IsView}
 use Rattle.trlab_code.specs.Machine.{Value, Number, update, Effect, Writes, Falls, Jumps, Ends, Sticks, effect, allows, start, start_values, value_or_unset, Answer, At, moved, fetched, step, EndsFrom, IsSafe}
 use Rattle.trlab_code.specs.Flow.{target, falls}
-use Rattle.trlab_verify.specs.Longest.{on_target, Follows, Way, IsLongest}
-use Rattle.trlab_verify.specs.Notes.{Note, entry, ranges, fall, jump, joined, with_edge, with_edges, if_here, fall_to, jump_to, is_target, arrived, note_at, said_or_nothing}
-use Rattle.trlab_verify.specs.Verdict.{tests, first_true, fault_of, fault_at, IsAccepted}
-use Rattle.trlab_verify.proofs.Fits.{Fits, FitsSaid, Ahead, joined_left, joined_right, fits_from, ahead_cond}
-use Rattle.trlab_verify.proofs.Steps.{Leads, IsClear, clear, leads, not_false, kind_allows}
+use Rattle.trlab_notes.specs.Reasons.{on_target, tests, first_true}
+use Rattle.trlab_verify.specs.Longest.{Follows, Way, IsLongest}
+use Rattle.trlab_notes.specs.Notes.{Note, entry, ranges, fall, jump, joined, said_or_nothing}
+use Rattle.trlab_verify.specs.Arrivals.{with_edge, with_edges, if_here, fall_to, jump_to, is_target, arrived, note_at}
+use Rattle.trlab_verify.specs.Verdict.{fault_of, fault_at, IsAccepted}
+use Rattle.trlab_notes.proofs.Fits.{Fits, FitsSaid, Ahead, joined_left, joined_right, fits_from, ahead_cond}
+use Rattle.trlab_notes.proofs.Steps.{Leads, IsClear, clear, leads, not_false, kind_allows}
 
 -- some note has come in that the values fit
 abbrev pub Covers : Bool → (ℕ → Value) → Option Note → Type 0
@@ -34,7 +36,7 @@ covers_old side s (Some m) (Some n) h = (joined m n, refl, joined_left side m n 
     some_is a b e = cc e
 
 covers_new : (side : Bool) (s : ℕ → Value) (old : Option Note) (n : Note) → Fits side n s → Covers side s (with_edge old (Some n))
-covers_new side s None n h = (n, refl, h)
+covers_new side s None n h = (joined n n, refl, joined_right side n n s h)
 covers_new side s (Some m) n h = (joined m n, refl, joined_right side m n s h)
 
 covers_edges : (side : Bool) (s : ℕ → Value) (pc : ℕ) (note : Option Note) (i : Option Instr) (q : ℕ) (old : Option Note) →
@@ -69,7 +71,7 @@ module _ (kind : Kind) (code : List Instr) where
       let here : if_here (is_target (target i) t) (Some (jump m i)) ≡ Some (jump m i) = rw (et, eq-eqb t t refl) refl in
       later side s t (suc pc) t lt (rw (em, ei) (rw here (covers_new side s (with_edge (arrived kind code pc t) (fall_to pc m i t)) (jump m i) fits)))
 
-falls_where : (m : Note) (i : Instr) (next : Note) → fall m i ≡ Some next → falls i ≡ true
+pub falls_where : (m : Note) (i : Instr) (next : Note) → fall m i ≡ Some next → falls i ≡ true
 falls_where m (Jump t) next e = absurd (cc e)
 falls_where m (Go a) next e = absurd (cc e)
 falls_where m Cross next e = absurd (cc e)
@@ -82,7 +84,7 @@ unfolding update
 sees_after kind view s d v lt sees x ge =
     let e : nat_eq x d ≡ false = grind (arith, lt, ge) in rw e (sees x ge)
 
-fetch : (code : List Instr) (pc : ℕ) → pc < length code → (i : Instr) × (slice_get code pc ≡ Some i)
+pub fetch : (code : List Instr) (pc : ℕ) → pc < length code → (i : Instr) × (slice_get code pc ≡ Some i)
 fetch [] pc h = absurd (omega arith)
 fetch (i ∷ code) zero h = (i, refl)
 fetch (i ∷ code) (suc pc) h = fetch code pc (omega arith)

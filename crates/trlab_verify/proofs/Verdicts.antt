@@ -1,15 +1,18 @@
 -- What one turn of the verdict shows.
-use Rattle.std.proofs.Common.{◌≡◌, ℕ, suc, ◌<◌, refl, sym, ap, subst, List, length, Bool, true, false, Option, Some, None, nat_eq, cond, get_or, ◌∙◌, get_or-set_other, get_or-set_same}
+use Rattle.std.proofs.Common.{◌≡◌, ℕ, suc, ◌<◌, ◌≤◌, refl, sym, ap, subst, arith, nat_le, List, length, Bool, true, false, Option, Some, None, nat_eq, cond, get_or, ◌∙◌, get_or-set_other, get_or-set_same}
 use Rattle.std.specs.Prelude.{slice_get, slice_set}
 use mathlib.Core.Path.{fun_ext}
-use Rattle.std.proofs.lemmas.Bool.{eqb-true, eqb-false}
+use Rattle.std.proofs.lemmas.Bool.{eqb-true, eqb-false, leb-false}
+use Rattle.trlab_code.specs.Flow.{target}
+use Rattle.trlab_notes.specs.Reasons.{on_target, tests, first_true}
 use Rattle.trlab_code.specs.declared.kind.Kind.{Kind}
 use Rattle.trlab_code.specs.declared.instruction.Instr.{Instr}
-use Rattle.trlab_verify.specs.declared.note.Noted.{Noted}
+use Rattle.trlab_notes.specs.declared.note.Noted.{Noted}
 use Rattle.trlab_code.specs.Machine.{update}
-use Rattle.trlab_verify.specs.Notes.{Note, arrived, note_at, with_edge, with_edges, joined, if_here}
-use Rattle.trlab_verify.specs.Noted.{note_of, notes_of, maybe_note}
-use Rattle.trlab_verify.specs.Verdict.{tests, first_true, fault_of, fault_at}
+use Rattle.trlab_notes.specs.Notes.{Note, joined}
+use Rattle.trlab_verify.specs.Arrivals.{arrived, note_at, with_edge, with_edges, if_here, is_target}
+use Rattle.trlab_notes.specs.Noted.{note_of, notes_of, maybe_note}
+use Rattle.trlab_verify.specs.Verdict.{fault_of, fault_at}
 
 pub set_is : (table : List (Option Noted)) (q : ℕ) (o : Option Noted) → q < length table →
     notes_of (slice_set table q o) ≡ update (notes_of table) q (maybe_note o)
@@ -45,9 +48,9 @@ one_more kind code pc q m i old em ei eo =
     let h2 = subst (λ z. with_edges pc (Some m) z q (arrived kind code pc q) ≡ arrived kind code (suc pc) q) ei h1 in
     subst (λ z. with_edges pc (Some m) (Some i) q z ≡ arrived kind code (suc pc) q) (sym eo) h2
 
-pub joins_none : (table : List (Option Noted)) (q : ℕ) (n : Noted) (new : Option Noted) → get_or table q None ≡ None →
-    new ≡ Some n → maybe_note new ≡ with_edge (notes_of table q) (Some (note_of n))
-joins_none table q n new e f = subst (λ z. maybe_note new ≡ with_edge (maybe_note z) (Some (note_of n))) (sym e) (ap maybe_note f)
+pub joins_none : (table : List (Option Noted)) (q : ℕ) (n j : Noted) (new : Option Noted) → get_or table q None ≡ None →
+    new ≡ Some j → note_of j ≡ joined (note_of n) (note_of n) → maybe_note new ≡ with_edge (notes_of table q) (Some (note_of n))
+joins_none table q n j new e f g = subst (λ z. maybe_note new ≡ with_edge (maybe_note z) (Some (note_of n))) (sym e) (ap maybe_note f ∙ ap Some g)
 
 pub joins_some : (table : List (Option Noted)) (q : ℕ) (old n j : Noted) (new : Option Noted) →
     get_or table q None ≡ Some old → new ≡ Some j → note_of j ≡ joined (note_of old) (note_of n) →
@@ -67,3 +70,17 @@ edge_comes f g p q n edge e h = ap (λ z. z q) e ∙ (subst (λ z. cond (nat_eq 
     at : (b : Bool) → nat_eq q p ≡ b → cond b (with_edge (f p) (Some n)) (f q) ≡ with_edge (f q) (if_here b (Some n))
     at true w = let k : q ≡ p = eqb-true q p w in ap (λ z. with_edge (f z) (Some n)) (sym k)
     at false w = refl
+
+-- an instruction that does not jump back sends nothing back
+pub none_back : (pc q : ℕ) (m : Note) (i : Instr) (old : Option Note) → q ≤ pc → on_target (λ t. nat_le t pc) (target i) ≡ false →
+    with_edges pc (Some m) (Some i) q old ≡ old
+none_back pc q m i old le f = rw (next (nat_eq q (suc pc)) refl, aimed (target i) f (is_target (target i) q) refl) refl
+  where
+    next : (b : Bool) → nat_eq q (suc pc) ≡ b → nat_eq q (suc pc) ≡ false
+    next true e = let same : q ≡ suc pc = eqb-true q (suc pc) e in absurd (omega arith)
+    next false e = e
+
+    aimed : (t : Option ℕ) → on_target (λ t. nat_le t pc) t ≡ false → (b : Bool) → is_target t q ≡ b → is_target t q ≡ false
+    aimed (Some t) f true e = let same : q ≡ t = eqb-true q t e in let above : pc < t = leb-false t pc f in absurd (omega arith)
+    aimed None f true e = absurd (cc e)
+    aimed t f false e = e

@@ -1,6 +1,7 @@
 pub mod Longest
 pub mod Checked
-pub mod Notes
+pub mod Arrivals
 pub mod Verdict
-pub mod Noted
 pub mod Faults
+pub mod Tables
+pub mod Handed

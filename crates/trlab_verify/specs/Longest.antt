@@ -2,15 +2,13 @@
 use Rattle.std.specs.Prelude.{◌≡◌, ℕ, zero, suc, ◌<◌, ◌≤◌, ◌&&◌, ◌||◌, List, length, Bool, false, IsTrue, Option, Some, None, nat_eq, slice_get}
 use Rattle.trlab_code.specs.declared.instruction.Instr.{Instr}
 use Rattle.trlab_code.specs.Flow.{target, falls, is_end}
-
--- whether a jump's target passes a test
-abbrev pub on_target : (ℕ → Bool) → Option ℕ → Bool
-on_target test None = false
-on_target test (Some t) = test t
+use Rattle.trlab_notes.specs.Reasons.{on_target}
 
 -- the instruction at q may come after the one at pc: as the next, or as a jump's target
 abbrev pub Follows : List Instr → ℕ → ℕ → Type 0
-Follows code pc q = (i : Instr) × (slice_get code pc ≡ Some i) × (IsTrue ((falls i && nat_eq q (suc pc)) || on_target (nat_eq q) (target i)))
+Follows code pc q =
+    (i : Instr) × (slice_get code pc ≡ Some i)
+    × IsTrue ((falls i && nat_eq q (suc pc)) || on_target (nat_eq q) (target i))
 
 -- a way of n instructions from pc to an end, the end counted
 abbrev pub Way : List Instr → ℕ → ℕ → Type 0

@@ -1,23 +1,56 @@
-//! What is proved of all programs.
+//! Laws of verdicts: what is proved of all programs.
+//!
+//! Each law is the contract of a function with nothing to do.
 
-ghost use Rattle.std.specs.Prelude.{◌≡◌, ℕ};
+ghost use Rattle.std.specs.Prelude.{◌≡◌, ◌≢◌, ℕ, ◌<◌, ◌≤◌, List, length};
+ghost use Rattle.trlab_code.specs.declared.instruction.TheConstants.{PLACES};
+ghost use Rattle.trlab_code.specs.declared.kind.Kind.{Kind};
 ghost use Rattle.trlab_code.specs.Machine.{IsSafe};
 ghost use Rattle.trlab_code.specs.Program.{Program};
-ghost use Rattle.trlab_code.specs.declared.kind.Kind.{Kind as AKind};
+ghost use Rattle.trlab_notes.specs.Notes.{Note, known};
 ghost use Rattle.trlab_verify.specs.Longest.{IsLongest};
+ghost use Rattle.trlab_verify.specs.Tables.{AtLeast, Checks, IsJudgedBy, SomeTableChecks, note_in};
 ghost use Rattle.trlab_verify.specs.Verdict.{IsAccepted, IsRefused};
 
 /// Each program that is accepted as one of a kind is safe within its longest way.
 pub fn accepted_is_safe()
-    ensures { (kind : AKind) (program : Program) (budget : ℕ) →
+    ensures { (kind : Kind) (program : Program) (budget : ℕ) →
         IsAccepted kind program → IsLongest program.instrs 0 budget → IsSafe kind program.instrs budget }
 {}
 
 /// A program that is accepted is not refused, and a refused one has one first instruction and one reason.
 pub fn verdict_is_one()
-    ensures accepted { (kind : AKind) (program : Program) (at reason : ℕ) →
+    ensures accepted { (kind : Kind) (program : Program) (at reason : ℕ) →
         IsAccepted kind program → ¬ (IsRefused kind program at reason) }
-    ensures refused { (kind : AKind) (program : Program) (at reason other_at other_reason : ℕ) →
+    ensures refused { (kind : Kind) (program : Program) (at reason other_at other_reason : ℕ) →
         IsRefused kind program at reason → IsRefused kind program other_at other_reason →
         (at ≡ other_at) × (reason ≡ other_reason) }
+{}
+
+/// Where some table of notes checks, the program is accepted, and the verdict's notes are at least as
+/// strong at each instruction. The verdict's notes of an accepted program are such a table: so it is
+/// the best one, and a program is accepted exactly where some table checks.
+pub fn notes_are_best()
+    ensures accepted { (kind : Kind) (program : Program) (table : List Note) →
+        Checks kind program table → IsAccepted kind program }
+    ensures best { (kind : Kind) (program : Program) (table : List Note) (pc : ℕ) →
+        Checks kind program table → pc < length program.instrs → AtLeast kind program pc (note_in table pc) }
+    ensures checks { (kind : Kind) (program : Program) → IsAccepted kind program →
+        (table : List Note) × IsJudgedBy kind program table × Checks kind program table }
+{}
+
+/// A program is refused as one of a kind only where no table of notes checks for that kind. Nor does
+/// one then check for the program's own kind, unless an instruction is of the wrong kind (reason 2).
+pub fn refused_without_notes()
+    ensures called { (kind : Kind) (program : Program) (at reason : ℕ) →
+        IsRefused kind program at reason → ¬ (SomeTableChecks kind program) }
+    ensures own { (kind : Kind) (program : Program) (at reason : ℕ) →
+        IsRefused kind program at reason → reason ≢ 2 → ¬ (SomeTableChecks program.kind program) }
+{}
+
+/// In a table that checks no two places have a level above 2.
+pub fn levels_are_at_most_two()
+    ensures { (kind : Kind) (program : Program) (table : List Note) (pc x y : ℕ) →
+        Checks kind program table → pc < length program.instrs → x < PLACES → y < PLACES →
+        known (note_in table pc) x y ≤ 2 }
 {}

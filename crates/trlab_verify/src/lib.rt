@@ -1,18 +1,14 @@
 //! The verifier of driver programs: what it accepts ends untrapped within its budget.
 #![tactic(auto)]
 
+mod arrivals;
 mod budget;
 mod change;
 mod copies;
-mod edges;
 mod fault;
-mod join;
-mod laws;
-mod learn;
+pub mod laws;
 mod motion;
-mod note;
-mod reasons;
-mod result;
+mod table;
 #[cfg(test)]
 mod tests;
 mod verdict;
@@ -20,6 +16,6 @@ mod verify;
 
 pub use change::Change;
 pub use fault::VerifyFault;
-pub use laws::{accepted_is_safe, verdict_is_one};
 pub use motion::Motion;
+pub use table::{Mark, Note, NotesFault, check_notes, notes};
 pub use verify::{verify_change, verify_motion};

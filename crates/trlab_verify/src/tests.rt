@@ -3,7 +3,9 @@
 mod changes;
 mod kept;
 mod motions;
+mod notes;
 mod standard;
+mod tables;
 
 use crate::{VerifyFault, verify_change, verify_motion};
 use std::alloc::Global;

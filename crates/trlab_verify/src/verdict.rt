@@ -1,16 +1,15 @@
 //! The verdict on a program: which instruction is refused first, and why.
 
-ghost use Rattle.std.specs.Prelude.{◌≡◌, ℕ, ◌<◌, ◌≤◌, length, All, IfOk, MatchOption};
+ghost use Rattle.std.specs.Prelude.{◌≡◌, ℕ, ◌<◌, ◌≤◌, length, All, IfOk, MatchOption, None};
 ghost use Rattle.trlab_code.specs.Program.{Program, InRange};
-ghost use Rattle.trlab_verify.specs.Notes.{arrived};
-ghost use Rattle.trlab_verify.specs.Noted.{notes_of};
+ghost use Rattle.trlab_verify.specs.Arrivals.{arrived, note_at};
+ghost use Rattle.trlab_notes.specs.Noted.{notes_of};
 ghost use Rattle.trlab_verify.specs.Verdict.{IsAccepted, IsRefused};
 
-use crate::edges::pass_on;
-use crate::note::Noted;
-use crate::reasons::reason_against;
+use crate::arrivals::pass_on;
 use std::alloc::{AllocError, Global};
 use trlab_code::{Code, Instr, Kind, MOST_INSTRUCTIONS};
+use trlab_notes::{Noted, reason_against};
 
 /// The first instruction that is refused, and the least reason there.
 #[derive(Clone, Copy, Debug, PartialEq, Eq)]
@@ -20,14 +19,20 @@ pub struct Refusal {
 }
 
 /// Judges each instruction in turn, with the notes that have come to it.
-fn judge(kind: Kind, own: Kind, instrs: &[Instr], notes: &mut [Option<Noted>]) -> Option<Refusal>
+pub fn judge(
+    kind: Kind,
+    own: Kind,
+    instrs: &[Instr],
+    notes: &mut [Option<Noted>],
+) -> Option<Refusal>
     requires few { length instrs.now ≤ MOST_INSTRUCTIONS }
     requires in_range { All InRange instrs.now }
     requires one_each { length notes.old ≡ length instrs.now }
     requires begins { (q : ℕ) → q < length instrs.now →
         notes_of notes.old q ≡ arrived kind instrs.now 0 q }
-    ensures { let program : Program = record { kind = own; instrs = instrs.now } in
+    ensures judged { let program : Program = record { kind = own; instrs = instrs.now } in
         MatchOption result (IsAccepted kind program) (λ no. IsRefused kind program no.at no.reason) }
+    ensures kept { result ≡ None → (q : ℕ) → q < length instrs.now → notes_of notes.new q ≡ note_at kind instrs.now q }
 {
     for pc in 0..instrs.len() {
         let instr = instrs[pc];

@@ -3,7 +3,8 @@
 ghost use Rattle.std.specs.Prelude.{◌≡◌, MatchResult, IfOk, IfErr};
 ghost use Rattle.trlab_code.specs.declared.kind.Kind.TheVariants.{Motion as OfMotion, Change as OfChange};
 ghost use Rattle.trlab_verify.specs.Checked.{IsChecked};
-ghost use Rattle.trlab_verify.specs.Faults.{Tells};
+ghost use Rattle.trlab_verify.specs.Faults.{NoTableChecks, Tells};
+ghost use Rattle.trlab_verify.specs.Tables.{SomeTableChecks};
 ghost use Rattle.trlab_verify.specs.Verdict.{IsAccepted};
 
 use crate::budget::longest_way;
@@ -19,6 +20,8 @@ fn budget_of(alloc: Global, kind: Kind, code: &Code) -> Result<u32, VerifyFault>
     ensures accepted { IfOk result (λ budget. IsAccepted kind code.now) }
     ensures checked { IfOk result (λ budget. IsChecked kind (record { program = code.now; budget = budget })) }
     ensures refused { IfErr result (λ fault. Tells kind code.now fault) }
+    ensures some_table { IfOk result (λ budget. SomeTableChecks kind code.now) }
+    ensures no_table { IfErr result (λ fault. NoTableChecks kind code.now fault) }
 {
     match verdict(alloc, kind, code) {
         Ok(None) => Ok(longest_way(code.instrs())),
@@ -28,10 +31,14 @@ fn budget_of(alloc: Global, kind: Kind, code: &Code) -> Result<u32, VerifyFault>
 }
 
 /// The code as a checked motion program, or the same code and why it is refused.
+///
+/// It is accepted exactly where some table of notes checks: what is refused is beyond notes of this kind.
 pub fn verify_motion(alloc: Global, code: Code) -> Result<Motion, (Code, VerifyFault)>
     ensures accepted { IfOk result (λ motion. (motion.program ≡ code) × IsAccepted OfMotion code) }
     ensures same { IfErr result (λ refused. refused.0 ≡ code) }
     ensures refused { IfErr result (λ refused. Tells OfMotion code refused.1) }
+    ensures some_table { IfOk result (λ motion. SomeTableChecks OfMotion code) }
+    ensures no_table { IfErr result (λ refused. NoTableChecks OfMotion code refused.1) }
 {
     match budget_of(alloc, Kind::Motion, &code) {
         Ok(budget) => Ok(Motion::new(code, budget)),
@@ -40,10 +47,14 @@ pub fn verify_motion(alloc: Global, code: Code) -> Result<Motion, (Code, VerifyF
 }
 
 /// The code as a checked change program, or the same code and why it is refused.
+///
+/// It is accepted exactly where some table of notes checks: what is refused is beyond notes of this kind.
 pub fn verify_change(alloc: Global, code: Code) -> Result<Change, (Code, VerifyFault)>
     ensures accepted { IfOk result (λ change. (change.program ≡ code) × IsAccepted OfChange code) }
     ensures same { IfErr result (λ refused. refused.0 ≡ code) }
     ensures refused { IfErr result (λ refused. Tells OfChange code refused.1) }
+    ensures some_table { IfOk result (λ change. SomeTableChecks OfChange code) }
+    ensures no_table { IfErr result (λ refused. NoTableChecks OfChange code refused.1) }
 {
     match budget_of(alloc, Kind::Change, &code) {
         Ok(budget) => Ok(Change::new(code, budget)),

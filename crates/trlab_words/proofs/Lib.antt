@@ -1,1 +1,3 @@
 pub mod RandomWords
+pub mod LaneLemmas
+pub mod KeyBytes

@@ -1,8 +1,11 @@
 //! The random words of a car in a step, and chances on them.
 #![tactic(auto)]
 
+mod block;
 mod chance;
 mod key;
+mod key_words;
 
 pub use chance::{CERTAIN, Chance, happens};
 pub use key::{Key, words};
+pub use key_words::{KeyWords, word_of_cars};

@@ -1,6 +1,10 @@
-use Rattle.trlab_machine.specs.Kept.{store_of}
-use Rattle.trlab_machine.proofs.Underway.{Underway}
+use Rattle.std.proofs.Common.{◌≡◌, ◌-◌, length}
+use Rattle.trlab_machine.specs.Plain.{in_register}
+use Rattle.trlab_machine.proofs.OnWay.{OnWay}
 use Rattle.trlab_machine.proofs.run.run.Given as goal
 
-abbrev pub invariant-loop-steps : goal.invariant-loop-steps
-invariant-loop-steps l = Underway l.fn.kind l.instrs l.view l.words l.budget l.pc (store_of l.places) l.steps
+abbrev pub invariant-run : goal.invariant-run
+invariant-run l = record { eight : length l.registers ≡ 8; car : OnWay l.fn.kind l.instrs l.view l.words l.fn.budget l.pc (in_register l.registers) l.steps }
+
+abbrev pub decreases-run : goal.decreases-run
+decreases-run l = l.fn.budget - l.steps

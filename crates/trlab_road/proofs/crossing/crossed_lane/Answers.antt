@@ -1,42 +1,69 @@
-use Rattle.std.proofs.Common.{◌≡◌, ◌+◌, ◌<◌, ℕ, None, length, ◌++◌, ◌∷◌, [], sym, ◌∙◌, ap, arith, below_more}
-use Rattle.std.specs.Prelude.{is_some}
-use Rattle.std.proofs.lemmas.List.{get_or_append_left, get_or_push, length_push}
-use Rattle.std.proofs.lemmas.List.Sums.{count_by_more_yes, count_by_more_no}
-use Rattle.trlab_road.specs.Cells.{Cell, Lane, at}
+use Rattle.std.proofs.Common.{◌≡◌, ◌+◌, ◌<◌, ◌∙◌, Bool, arith}
 use Rattle.trlab_road.specs.Crossing.{crossing, lane_crosses_at}
-use Rattle.trlab_road.proofs.CellReads.{cell_read}
+use Rattle.trlab_road.specs.Cells.{Cell}
+use Rattle.trlab_road.specs.Lists.{cells_of, cell_at}
+use Rattle.trlab_road.proofs.ListCrossing.{Merged, merged_none, merged_next, next_inside, merged_skip, merged_push, merged_all, crosses_here}
 use Rattle.trlab_road.proofs.crossing.crossed_lane.Goals as goal
-use Rattle.trlab_road.proofs.crossing.crossed_lane.Goals.{then-is_taken, else-is_taken, then-is_taken-2, else-is_taken-2}
+use Rattle.trlab_road.proofs.crossing.crossed_lane.Goals.{in-Some+in_ok-push, in_default}
 
--- one more cell
-cells_more : (next : Lane) (v : Cell) (i : ℕ) (f : ℕ → Cell) → length next ≡ i → v ≡ f i → ((x : ℕ) → x < i → at next x ≡ f x) → (x : ℕ) → x < i + 1 → at (next ++ v ∷ []) x ≡ f x
-cells_more next v i f size is before =
-    below_more _ _
-    (λ x h. get_or_append_left next (v ∷ []) None x (omega arith) ∙ before x h)
-    (get_or_push next v None i size ∙ is)
+pub car_at-own_car-requires-clause-sorted : goal.car_at-own_car-requires-clause-sorted
+car_at-own_car-requires-clause-sorted c = (c.args.cells, c.requires.own_sorted)
+
+pub car_at-side_car-requires-clause-sorted : goal.car_at-side_car-requires-clause-sorted
+car_at-side_car-requires-clause-sorted c = (c.args.cells, c.requires.beside_sorted)
+
+pub passed-i-requires-clause-sorted : goal.passed-i-requires-clause-sorted
+passed-i-requires-clause-sorted c = (c.args.cells, c.requires.own_sorted)
+
+pub passed-j-requires-clause-sorted : goal.passed-j-requires-clause-sorted
+passed-j-requires-clause-sorted c = (c.args.cells, c.requires.beside_sorted)
+
+pub loop-place-init : goal.loop-place-init
+loop-place-init c =
+    let n = c.args.cells in
+    let own = c.args.own.cars.now in
+    let beside = c.args.beside.cars.now in
+    let oc = lane_crosses_at (cells_of n own) c.args.crosses.now c.args.own.from in
+    let bc = lane_crosses_at (cells_of n beside) c.args.crosses.now c.args.beside.from in
+    let none = merged_none n own beside oc bc c.requires.own_sorted c.requires.beside_sorted in
+    record {
+      inside = next_inside n own 0 0 _ _ _ c.requires.own_sorted none.own_at (omega arith) c.next_place.ensures.here c.next_place.ensures.past c.min-place.ensures;
+      merged = rw c.in_ok-next.ensures.items (merged_next n own beside oc bc c.requires.own_sorted c.requires.beside_sorted _ 0 0 0 _ _ _ none (omega arith)
+          c.next_place.ensures.here c.next_place.ensures.past c.next_place-2.ensures.here c.next_place-2.ensures.past c.min-place.ensures);
+    }
+
+-- the car of the cell is the one that the sideways phase puts there
+at_cell : (a b oc bc : Bool) (own side : Cell) (here there : Cell) (result : Cell) → result ≡ crossing a b here there → a ≡ oc → b ≡ bc → here ≡ own → there ≡ side → result ≡ crossing oc bc own side
+at_cell a b oc bc own side here there result is e f g h = cc
 
 pub loop-place-preserved : goal.loop-place-preserved
 loop-place-preserved c =
-    let own = c.args.own.now in
-    let beside = c.args.beside.now in
-    let place = c.loop-place.place in
-    let crosses = c.args.crosses.now in
-    let inv = c.loop-place.invariant in
-    let in_own = c.loop-place-test.true in
-    let in_beside : place < length beside = omega (arith, c.requires.equal) in
-    let own_cell = cell_read own place c.index-own-place.result in_own c.index-own-place.is in
-    let side_cell = cell_read beside place c.index-beside-place.result in_beside c.index-beside-place.is in
-    let f : ℕ → Cell = λ x. crossing (lane_crosses_at own crosses c.args.own_from x) (lane_crosses_at beside crosses c.args.beside_from x) (at own x) (at beside x) in
+    let n = c.args.cells in
+    let own = c.args.own.cars.now in
+    let beside = c.args.beside.cars.now in
+    let x = c.loop-place.place in
+    let oc = lane_crosses_at (cells_of n own) c.args.crosses.now c.args.own.from in
+    let bc = lane_crosses_at (cells_of n beside) c.args.crosses.now c.args.beside.from in
+    let m = c.loop-place.invariant.merged in
+    let inside : x < n = c.loop-place-test.true in
+    let a = crosses_here n own c.args.crosses.now c.args.own.from x c.loop-place.i c.requires.own_sorted m.own_at (omega arith) in
+    let b = crosses_here n beside c.args.crosses.now c.args.beside.from x c.loop-place.j c.requires.beside_sorted m.beside_at (omega arith) in
+    let cell = at_cell _ _ (oc x) (bc x) (cell_at own x) (cell_at beside x) _ _ _ c.crossed_car.ensures.cell
+    (c.answer_or_no-own_crosses.ensures ∙ a) (c.answer_or_no-beside_crosses.ensures ∙ b) c.car_at-own_car.ensures.cell c.car_at-side_car.ensures.cell in
+    let there = c.crossed_car.ensures.there x c.car_at-own_car.ensures.there c.car_at-side_car.ensures.there in
+    let step : Merged n own beside oc bc c.match-crossed_car.next.items c.passed-i.result c.passed-j.result (x + 1) =
+    elim c.match-crossed_car.branch [
+      | in-Some+in_ok-push w ↦ rw (w.next-is, w.in_ok-push.ensures.items)
+          (merged_push n own beside oc bc c.requires.own_sorted c.requires.beside_sorted c.loop-place.next.items c.loop-place.i c.loop-place.j x m _ _ _ c.passed-i.ensures c.passed-j.ensures inside
+          (rw w.in-Some.is at there) (rw w.in-Some.is at cell))
+      | in_default w ↦ rw w.next-is
+          (merged_skip n own beside oc bc c.requires.own_sorted c.requires.beside_sorted c.loop-place.next.items c.loop-place.i c.loop-place.j x m _ _ c.passed-i.ensures c.passed-j.ensures (rw w.in_default.is at cell))
+    ] in
     record {
-      own_passed = elim c.if-is_taken.branch [
-        | then-is_taken w ↦ let one = count_by_more_yes is_some own place None in_own (ap is_some (sym own_cell) ∙ sym c.is_taken.ensures ∙ w.if-is_taken.true) in let k = w.k-is in omega (arith, one, k)
-        | else-is_taken w ↦ let one = count_by_more_no is_some own place None in_own (ap is_some (sym own_cell) ∙ sym c.is_taken.ensures ∙ w.if-is_taken.false) in let k = w.k-is in omega (arith, one, k)
-      ];
-      beside_passed = elim c.if-is_taken-2.branch [
-        | then-is_taken-2 w ↦ let one = count_by_more_yes is_some beside place None in_beside (ap is_some (sym side_cell) ∙ sym c.is_taken-in-loop-place.ensures ∙ w.if-is_taken-2.true) in let k = w.j-is in omega (arith, one, k)
-        | else-is_taken-2 w ↦ let one = count_by_more_no is_some beside place None in_beside (ap is_some (sym side_cell) ∙ sym c.is_taken-in-loop-place.ensures ∙ w.if-is_taken-2.false) in let k = w.j-is in omega (arith, one, k)
-      ];
-      size = rw c.in_ok-push.ensures.items (length_push _ _ ∙ ap (λ k. k + 1) inv.size);
-      cells = rw c.in_ok-push.ensures.items (cells_more c.loop-place.next.items c.crossed_cell.result place f inv.size
-          (let a = c.answer_or_no-own_crosses.ensures in let b = c.answer_or_no-beside_crosses.ensures in let d = c.crossed_cell.ensures in let p = inv.own_passed in let q = inv.beside_passed in cc) inv.cells);
+      inside = next_inside n own c.passed-i.result (x + 1) _ _ _ c.requires.own_sorted step.own_at (omega arith) c.next_place-in-loop-place.ensures.here c.next_place-in-loop-place.ensures.past c.min-place-in-loop-place.ensures;
+      merged = merged_next n own beside oc bc c.requires.own_sorted c.requires.beside_sorted _ c.passed-i.result c.passed-j.result (x + 1) _ _ _ step (omega arith)
+          c.next_place-in-loop-place.ensures.here c.next_place-in-loop-place.ensures.past c.next_place-in-loop-place-2.ensures.here c.next_place-in-loop-place-2.ensures.past c.min-place-in-loop-place.ensures;
     }
+
+pub returns-clause-crosses : goal.returns-clause-crosses
+returns-clause-crosses c = merged_all _ _ _ _ _ _ _ _ _ c.loop-place.invariant.merged (let h = c.loop-place-test.false in omega arith)

@@ -1,13 +1,15 @@
-use Rattle.std.proofs.Common.{◌≡◌, ◌+◌, ◌<◌, ℕ, take, length}
-use Rattle.trlab_road.specs.Cells.{at, lane_cars}
-use Rattle.trlab_road.specs.Crossing.{crossing, lane_crosses_at}
+use Rattle.std.proofs.Common.{◌≤◌, ◌-◌}
+use Rattle.trlab_road.specs.Crossing.{lane_crosses_at}
+use Rattle.trlab_road.specs.Lists.{cells_of}
+use Rattle.trlab_road.proofs.ListCrossing.{Merged}
 use Rattle.trlab_road.proofs.crossing.crossed_lane.Given as goal
 
--- the cells so far, and the cars that were passed
+-- the cells before the place are done
 abbrev pub invariant-loop-place : goal.invariant-loop-place
 invariant-loop-place l = record {
-  own_passed : l.k ≡ l.own_from + lane_cars (take l.place l.own);
-  beside_passed : l.j ≡ l.beside_from + lane_cars (take l.place l.beside);
-  size : length l.next.items ≡ l.place;
-  cells : (x : ℕ) → x < l.place → at l.next.items x ≡ crossing (lane_crosses_at l.own l.crosses l.own_from x) (lane_crosses_at l.beside l.crosses l.beside_from x) (at l.own x) (at l.beside x);
+  inside : l.place ≤ l.cells;
+  merged : Merged l.cells l.own.cars.now l.beside.cars.now (lane_crosses_at (cells_of l.cells l.own.cars.now) l.crosses l.own.from) (lane_crosses_at (cells_of l.cells l.beside.cars.now) l.crosses l.beside.from) l.next.items l.i l.j l.place;
 }
+
+abbrev pub decreases-loop-place : goal.decreases-loop-place
+decreases-loop-place l = l.cells - l.place

@@ -1,12 +1,8 @@
-use Rattle.std.proofs.Common.{◌≡◌, ◌+◌, take}
-use Rattle.trlab_road.specs.Cells.{lane_cars}
+use Rattle.trlab_road.specs.Lists.{cells_of}
 use Rattle.trlab_road.specs.Motion.{lane_answer}
-use Rattle.trlab_road.proofs.MotionByCar.{MovedBelow}
+use Rattle.trlab_road.proofs.ListMotion.{Led}
 use Rattle.trlab_road.proofs.motion.moved_lane.Given as goal
 
--- k cars were passed, and they have moved
-abbrev pub invariant-loop-place : goal.invariant-loop-place
-invariant-loop-place l = record {
-  counted : l.k ≡ l.from + lane_cars (take l.place l.lane);
-  moved : MovedBelow (lane_answer l.lane l.speeds l.from) l.lane l.next.items l.place;
-}
+-- the car that passes the end, and then the first cars, went ahead
+abbrev pub invariant-loop-k : goal.invariant-loop-k
+invariant-loop-k l = Led l.cells (lane_answer (cells_of l.cells l.cars) l.speeds l.from) l.cars l.next.items l.straight l.k

@@ -1,9 +1,13 @@
-use Rattle.std.proofs.Common.{◌≡◌, ◌+◌, ◌<◌, ◌≤◌, ◌∙◌, ℕ, List, [], ◌∷◌, ◌++◌, map, Vec, Global, length, drop, refl, sym, ap, arith, append_assoc, drop-cons, add-one}
-use Rattle.std.proofs.lemmas.List.{length-map, map-append}
+use Rattle.std.proofs.Common.{◌≡◌, ◌+◌, ◌<◌, ◌≤◌, ◌∙◌, ℕ, List, [], ◌∷◌, ◌++◌, map, Vec, Global, length, drop, sym, refl, ap, subst, arith, append_assoc, drop-cons, add-one}
+use Rattle.std.proofs.lemmas.List.{length-map, length_push, map-append}
 use Rattle.trlab_road.specs.declared.bounds.TheConstants.{GREATEST_LENGTH}
-use Rattle.trlab_road.specs.Cells.{Cell, Lane, lane_cars, lanes_of}
+use Rattle.trlab_road.specs.declared.lane_car.LaneCar.{LaneCar}
+use Rattle.trlab_road.specs.Cells.{Lane, lane_cars}
+use Rattle.trlab_road.specs.Lists.{Rises, cells_of, lanes_from}
 use Rattle.trlab_road.specs.Pictures.{ShowsCell, picture_at, byte_at, drawn_lane, drawn_lanes}
 use Rattle.trlab_road.proofs.PictureLaws.{picture_read, drawn_few}
+use Rattle.trlab_road.proofs.Lists.{cars_of_list}
+use Rattle.trlab_road.proofs.ListRoads.{one_more}
 use Rattle.trlab_road.proofs.reading.draw_lanes.Goals as goal
 
 pub draw_lane-requires-clause-shown : goal.draw_lane-requires-clause-shown
@@ -13,80 +17,107 @@ draw_lane-requires-clause-shown c =
     let size = length-map c.args.pictures.now (λ s. s.now) in
     let on : i < length ps = rw size c.loop-picture-test.true in
     let read = picture_read c.args.pictures.now i in
-    let all : (x : ℕ) → x < length (picture_at ps i) → ShowsCell 9 (byte_at ps i x) = λ x h. c.requires.cells i x on h in
+    let all : (x : ℕ) → x < length (picture_at ps i) → ShowsCell 9 (byte_at ps i x) = λ x h. c.requires.good.cells i x on h in
     rw read at all
 
 pub draw_lane-requires-clause-small : goal.draw_lane-requires-clause-small
 draw_lane-requires-clause-small c =
     let i = c.loop-picture.picture-index in
     let size = length-map c.args.pictures.now (λ s. s.now) in
-    let same = c.requires.equal.equal_lanes i (rw size c.loop-picture-test.true) in
+    let same = c.requires.good.equal.equal_lanes i (rw size c.loop-picture-test.true) in
     let read = ap length (picture_read c.args.pictures.now i) in
-    let high = c.requires.equal.cells_high in
+    let high = c.requires.good.equal.cells_high in
     omega (arith, same, read, high)
 
--- a lane that was drawn has few cars
-few_cars : (k n : ℕ) (now items : Lane) (bytes : List ℕ) → k ≡ lane_cars now → now ≡ items
-    → items ≡ drawn_lane n bytes → length bytes ≤ GREATEST_LENGTH → k ≤ GREATEST_LENGTH
-few_cars k n now items bytes counted is drawn small =
-    let a = drawn_few n bytes in
-    let b = ap lane_cars (is ∙ drawn) in
-    omega arith
+-- a lane that was drawn: its list is sorted, and it has few cars
+record LaneDrawn (n number : ℕ) (bytes : List ℕ) (cars : List LaneCar) : Type 0 where
+  pub rises : Rises 0 n cars
+  pub is : cells_of n cars ≡ drawn_lane number bytes
+  pub few : length cars ≤ GREATEST_LENGTH
+  pub counted : length cars ≡ lane_cars (drawn_lane number bytes)
+
+one_drawn : (n number : ℕ) (bytes now : List ℕ) (cars : List LaneCar) → bytes ≡ now → length bytes ≡ n → n ≤ GREATEST_LENGTH
+    → Rises 0 (length now) cars → cells_of (length now) cars ≡ drawn_lane number now → LaneDrawn n number bytes cars
+one_drawn n number bytes now cars read size small rises is =
+    let e : length now ≡ n = sym (ap length read) ∙ size in
+    let r : Rises 0 n cars = subst (λ k. Rises 0 k cars) e rises in
+    let d : cells_of n cars ≡ drawn_lane number bytes = subst (λ k. cells_of k cars ≡ drawn_lane number bytes) e (is ∙ ap (drawn_lane number) (sym read)) in
+    let counted = sym (cars_of_list n cars r) ∙ ap lane_cars d in
+    let few = drawn_few number bytes in
+    record { rises = r; is = d; few = omega (arith, few, counted, size, small); counted = counted }
 
 cons_path : {X : Type 0} {a b : X} {xs ys : List X} → a ≡ b → xs ≡ ys → a ∷ xs ≡ b ∷ ys
 cons_path e f = cc
 
 -- one more lane
-one_more : (lanes : List (Vec Cell Global)) (v : Vec Cell Global) (ps : List (List ℕ)) (i n k : ℕ) (whole : List Lane)
-    → i < length ps → v.items ≡ drawn_lane n (picture_at ps i) → k ≡ lane_cars v.items
-    → lanes_of lanes ++ drawn_lanes n (drop i ps) ≡ whole → lanes_of (lanes ++ v ∷ []) ++ drawn_lanes (n + k) (drop (i + 1) ps) ≡ whole
-one_more lanes v ps i n k whole on drawn counted before =
+more_drawn : (cells : ℕ) (lanes : List (Vec LaneCar Global)) (v : Vec LaneCar Global) (ps : List (List ℕ)) (i n k : ℕ) (whole : List Lane)
+    → i < length ps → cells_of cells v.items ≡ drawn_lane n (picture_at ps i) → k ≡ lane_cars (drawn_lane n (picture_at ps i))
+    → lanes_from cells lanes ++ drawn_lanes n (drop i ps) ≡ whole → lanes_from cells (lanes ++ v ∷ []) ++ drawn_lanes (n + k) (drop (i + 1) ps) ≡ whole
+more_drawn cells lanes v ps i n k whole on drawn counted before =
     let rest = drop (i + 1) ps in
     let bytes = picture_at ps i in
     let parts : drop i ps ≡ bytes ∷ rest = rw (add-one, drop-cons ps i []) refl in
-    let e : v.items ∷ drawn_lanes (n + k) rest ≡ drawn_lanes n (drop i ps) =
-    cons_path drawn (ap (λ q. drawn_lanes (n + q) rest) (counted ∙ ap lane_cars drawn)) ∙ sym (ap (drawn_lanes n) parts) in
-    ap (λ xs. xs ++ drawn_lanes (n + k) rest) (map-append (λ (w : Vec Cell Global). w.items) lanes (v ∷ []))
-    ∙ append_assoc (lanes_of lanes) (v.items ∷ []) (drawn_lanes (n + k) rest) ∙ ap (λ r. lanes_of lanes ++ r) e ∙ before
+    let e : cells_of cells v.items ∷ drawn_lanes (n + k) rest ≡ drawn_lanes n (drop i ps) =
+    cons_path drawn (ap (λ q. drawn_lanes (n + q) rest) counted) ∙ sym (ap (drawn_lanes n) parts) in
+    ap (λ xs. xs ++ drawn_lanes (n + k) rest) (map-append (λ (w : Vec LaneCar Global). cells_of cells w.items) lanes (v ∷ []))
+    ∙ append_assoc (lanes_from cells lanes) (cells_of cells v.items ∷ []) (drawn_lanes (n + k) rest) ∙ ap (λ r. lanes_from cells lanes ++ r) e ∙ before
 
 pub overflow_cast-number : goal.overflow_cast-number
 overflow_cast-number c =
     let i = c.loop-picture.picture-index in
     let ps = map (λ s. s.now) c.args.pictures.now in
-    let size = length-map c.args.pictures.now (λ s. s.now) in
-    let same = c.requires.equal.equal_lanes i (rw size c.loop-picture-test.true) in
-    let read = picture_read c.args.pictures.now i in
-    let high = c.requires.equal.cells_high in
-    let small : length (picture_at ps i) ≤ GREATEST_LENGTH = omega (arith, same, high) in
-    let few = few_cars _ c.loop-picture.number _ _ (picture_at ps i) c.count_cars.ensures c.deref.ensures.value (c.in_ok-cells.ensures ∙ ap (drawn_lane c.loop-picture.number) (sym read)) small in
-    omega (arith, few)
+    let count = length-map c.args.pictures.now (λ s. s.now) in
+    let on : i < length ps = rw count c.loop-picture-test.true in
+    let same = c.requires.good.equal.equal_lanes i on in
+    let first = c.requires.first in
+    let high = c.requires.good.equal.cells_high in
+    let lane = one_drawn c.args.cells c.loop-picture.number (picture_at ps i) _ c.in_ok-cars.cars.items (picture_read c.args.pictures.now i)
+    (omega (arith, same, first)) (omega (arith, high, first)) c.in_ok-cars.ensures.rises c.in_ok-cars.ensures.drawn in
+    let whole = c.in_ok-cars.cars.ok.0 in
+    let size = c.len.ensures in
+    let few = lane.few in
+    omega (arith, few, size, whole)
 
 pub overflow_add-number : goal.overflow_add-number
 overflow_add-number c =
     let i = c.loop-picture.picture-index in
     let ps = map (λ s. s.now) c.args.pictures.now in
-    let size = length-map c.args.pictures.now (λ s. s.now) in
-    let same = c.requires.equal.equal_lanes i (rw size c.loop-picture-test.true) in
-    let read = picture_read c.args.pictures.now i in
-    let high = c.requires.equal.cells_high in
-    let small : length (picture_at ps i) ≤ GREATEST_LENGTH = omega (arith, same, high) in
-    let few = few_cars _ c.loop-picture.number _ _ (picture_at ps i) c.count_cars.ensures c.deref.ensures.value (c.in_ok-cells.ensures ∙ ap (drawn_lane c.loop-picture.number) (sym read)) small in
-    let two = c.requires.few.two_lanes in
-    let on = c.loop-picture-test.true in
-    omega (arith, few, two, on, size)
+    let count = length-map c.args.pictures.now (λ s. s.now) in
+    let on : i < length ps = rw count c.loop-picture-test.true in
+    let same = c.requires.good.equal.equal_lanes i on in
+    let first = c.requires.first in
+    let high = c.requires.good.equal.cells_high in
+    let lane = one_drawn c.args.cells c.loop-picture.number (picture_at ps i) _ c.in_ok-cars.cars.items (picture_read c.args.pictures.now i)
+    (omega (arith, same, first)) (omega (arith, high, first)) c.in_ok-cars.ensures.rises c.in_ok-cars.ensures.drawn in
+    let whole = c.in_ok-cars.cars.ok.0 in
+    let size = c.len.ensures in
+    let few = lane.few in
+    let before = c.loop-picture.invariant.few in
+    let two = c.requires.good.few.two_lanes in
+    let test = c.loop-picture-test.true in
+    omega (arith, few, size, whole, before, two, test, count)
 
 pub loop-picture-preserved : goal.loop-picture-preserved
 loop-picture-preserved c =
     let i = c.loop-picture.picture-index in
     let ps = map (λ s. s.now) c.args.pictures.now in
-    let size = length-map c.args.pictures.now (λ s. s.now) in
-    let same = c.requires.equal.equal_lanes i (rw size c.loop-picture-test.true) in
-    let read = picture_read c.args.pictures.now i in
-    let high = c.requires.equal.cells_high in
-    let small : length (picture_at ps i) ≤ GREATEST_LENGTH = omega (arith, same, high) in
-    let few = few_cars _ c.loop-picture.number _ _ (picture_at ps i) c.count_cars.ensures c.deref.ensures.value (c.in_ok-cells.ensures ∙ ap (drawn_lane c.loop-picture.number) (sym read)) small in
+    let count = length-map c.args.pictures.now (λ s. s.now) in
+    let on : i < length ps = rw count c.loop-picture-test.true in
+    let same = c.requires.good.equal.equal_lanes i on in
+    let first = c.requires.first in
+    let high = c.requires.good.equal.cells_high in
+    let lane = one_drawn c.args.cells c.loop-picture.number (picture_at ps i) _ c.in_ok-cars.cars.items (picture_read c.args.pictures.now i)
+    (omega (arith, same, first)) (omega (arith, high, first)) c.in_ok-cars.ensures.rises c.in_ok-cars.ensures.drawn in
+    let whole = c.in_ok-cars.cars.ok.0 in
+    let size = c.len.ensures in
+    let few = lane.few in
+    let counted = lane.counted in
+    let inv = c.loop-picture.invariant in
+    let before = inv.few in
+    let items = c.in_ok-push.ensures.items in
     record {
-      whole = rw c.in_ok-push.ensures.items (one_more c.loop-picture.lanes.items c.in_ok-cells.cells ps i c.loop-picture.number c.count_cars.result _
-          (rw size c.loop-picture-test.true) (c.in_ok-cells.ensures ∙ ap (drawn_lane c.loop-picture.number) (sym read)) (c.count_cars.ensures ∙ ap lane_cars c.deref.ensures.value) c.loop-picture.invariant.whole);
-      few = omega (arith, few);
+      whole = rw items (more_drawn c.args.cells c.loop-picture.lanes.items c.in_ok-cars.cars ps i c.loop-picture.number c.len.result _ on lane.is (omega (arith, size, whole, counted)) inv.whole);
+      size = rw items (length_push _ _ ∙ ap (λ k. k + 1) inv.size);
+      rises = rw items (one_more (λ j xs. Rises 0 c.args.cells xs) c.loop-picture.lanes.items c.in_ok-cars.cars i inv.size inv.rises lane.rises);
+      few = omega (arith, few, before, size, whole);
     }

@@ -1,22 +1,57 @@
-use Rattle.std.proofs.Common.{◌≡◌, ◌<◌, ◌+◌, ◌∙◌, ℕ, [], ◌∷◌, ◌++◌, List, Vec, Global, get_or, length, ap, arith, below_more}
-use Rattle.std.proofs.lemmas.List.{length_push}
-use Rattle.trlab_road.specs.Cells.{Cell, lanes_of}
-use Rattle.trlab_road.specs.Spreading.{LaneEven}
-use Rattle.trlab_road.proofs.RoadKeeps.{pushed_same, pushed_last}
+use Rattle.std.proofs.Common.{◌≡◌, ◌≢◌, ◌*◌, ◌/◌, ◌<◌, ◌≤◌, mod-lt, ℕ, zero, suc, [], ◌∷◌, Vec, Global, refl, arith}
+use Rattle.trlab_road.specs.declared.lane_car.LaneCar.{LaneCar}
+use Rattle.trlab_road.specs.Spreading.{LaneEven, even_lane}
+use Rattle.trlab_road.specs.Lists.{cells_of, list_at}
+use Rattle.trlab_road.proofs.EvenLanes.{even_all}
+use Rattle.trlab_road.proofs.ListEven.{EvenList, list_none, list_skip, list_more}
 use Rattle.trlab_road.proofs.spreading.even_lanes.Goals as goal
+use Rattle.trlab_road.proofs.spreading.even_lanes.Goals.{then-flat-lanes-eq0+in_ok-push, else-flat-lanes-eq0+in_ok-push-2}
 
--- one more lane
-one_more : (lanes cells n i : ℕ) (rows : List (Vec Cell Global)) (v : Vec Cell Global) → length rows ≡ i
-    → LaneEven lanes cells n i v.items
-    → ((m : ℕ) → m < i → LaneEven lanes cells n m (get_or (lanes_of rows) m []))
-    → (m : ℕ) → m < i + 1 → LaneEven lanes cells n m (get_or (lanes_of (rows ++ v ∷ [])) m [])
-one_more lanes cells n i rows v counted here before =
-    below_more _ _
-    (λ m h. rw (pushed_same rows v m (omega arith)) (before m h))
-    (rw (pushed_last rows v i counted) here)
-
-pub loop-lane-preserved : goal.loop-lane-preserved
-loop-lane-preserved c = record {
-  size = rw c.in_ok-push.ensures.items (length_push _ _ ∙ ap (λ k. k + 1) c.loop-lane.invariant.size);
-  each = rw c.in_ok-push.ensures.items (one_more c.args.lanes c.args.cells c.args.count c.loop-lane.lane c.loop-lane.next.items c.in_ok-even_lane.field-0 c.loop-lane.invariant.size c.in_ok-even_lane.ensures c.loop-lane.invariant.each);
+pub loop-number-init : goal.loop-number-init
+loop-number-init c = record {
+  first = rw c.new-first.ensures.items (list_none c.args.lanes c.args.cells c.args.count 0);
+  second = rw c.new-second.ensures.items (list_none c.args.lanes c.args.cells c.args.count 1);
 }
+
+-- of two lanes a car stands on the second where it does not stand on the first
+on_second : (lanes cells n i : ℕ) → 1 ≤ lanes → lanes ≤ 2 → even_lane lanes cells n i ≢ 0 → even_lane lanes cells n i ≡ 1
+on_second lanes cells n i some few other = let a = mod-lt (i * (lanes * cells) / n) (let k : 0 < lanes = omega arith in k) in omega (arith, a, other, few)
+
+not_second : (k : ℕ) → k ≡ 0 → k ≢ 1
+not_second k e = λ f. omega (arith, e, f)
+
+pub loop-number-preserved : goal.loop-number-preserved
+loop-number-preserved c =
+    let lanes = c.args.lanes in
+    let cells = c.args.cells in
+    let n = c.args.count in
+    let i = c.loop-number.number in
+    let inv = c.loop-number.invariant in
+    let some = c.requires.some in
+    elim c.if-flat-lanes-eq0.branch [
+      | then-flat-lanes-eq0+in_ok-push w ↦
+          let on = w.if-flat-lanes-eq0.true in
+          record {
+            first = rw (w.first-is, w.in_ok-push.ensures.items) (list_more lanes cells n 0 i c.loop-number.first.items _ some c.requires.room c.loop-number-test.true inv.first on refl);
+            second = rw w.second-is (list_skip lanes cells n 1 i c.loop-number.second.items inv.second (not_second _ on));
+          }
+      | else-flat-lanes-eq0+in_ok-push-2 w ↦
+          let other = w.if-flat-lanes-eq0.false in
+          record {
+            first = rw w.first-is (list_skip lanes cells n 0 i c.loop-number.first.items inv.first other);
+            second = rw (w.second-is, w.in_ok-push-2.ensures.items)
+                (list_more lanes cells n 1 i c.loop-number.second.items _ some c.requires.room c.loop-number-test.true inv.second (on_second lanes cells n i some c.requires.few other) refl);
+          }
+    ]
+
+-- where all cars stand, the lanes are even
+two_even : (lanes cells n i : ℕ) (a b : Vec LaneCar Global) → n ≤ i → i ≤ n → lanes ≤ 2 → EvenList lanes cells n 0 i a.items → EvenList lanes cells n 1 i b.items
+    → (l : ℕ) → l < lanes → LaneEven lanes cells n l (cells_of cells (list_at (a ∷ b ∷ []) l))
+two_even lanes cells n i a b whole within few first second zero h = even_all lanes cells n 0 i _ whole within first.even
+two_even lanes cells n i a b whole within few first second (suc zero) h = even_all lanes cells n 1 i _ whole within second.even
+two_even lanes cells n i a b whole within few first second (suc (suc l)) h = absurd (omega (arith, few, h))
+
+pub returns-clause-each_lane : goal.returns-clause-each_lane
+returns-clause-each_lane c = rw c.in_ok-vec-2.ensures.items
+    (two_even c.args.lanes c.args.cells c.args.count c.loop-number.number c.loop-number.first c.loop-number.second
+    c.loop-number-test.false c.loop-number.auto.number-end c.requires.few c.loop-number.invariant.first c.loop-number.invariant.second)

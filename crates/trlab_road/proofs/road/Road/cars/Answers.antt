@@ -1,13 +1,12 @@
-use Rattle.std.proofs.Common.{◌∙◌, arith}
-use Rattle.trlab_road.proofs.RoadKeeps.{length_order, cars_few}
+use Rattle.std.proofs.Common.{◌∙◌, sym}
+use Rattle.trlab_road.proofs.ListRoads.{counted, few_cars, few_lists}
 use Rattle.trlab_road.proofs.road.Road.cars.Goals as goal
 
-pub overflow_cast-result : goal.overflow_cast-result
-overflow_cast-result c =
-    let size = length_order _ _ c.self.invariant in
-    let few = cars_few _ c.self.invariant.legal in
-    let whole = c.self.inside.order.ok.0 in
-    omega (arith, size, few, whole)
+pub count_cars-requires-clause-few : goal.count_cars-requires-clause-few
+count_cars-requires-clause-few c = rw c.deref.ensures.value (few_lists c.self.inside.cells c.self.inside.lanes.items c.self.inside.limit c.self.invariant)
+
+pub count_cars-requires-clause-small : goal.count_cars-requires-clause-small
+count_cars-requires-clause-small c = rw c.deref.ensures.value (few_cars c.self.inside.cells c.self.inside.lanes.items c.self.inside.limit c.self.invariant)
 
 pub returns-clause-value : goal.returns-clause-value
-returns-clause-value c = rw (← c.self.view_is) (c.len.ensures ∙ c.self.inside.order.ok.0 ∙ length_order _ _ c.self.invariant)
+returns-clause-value c = rw (← c.self.view_is) ((rw c.deref.ensures.value at c.count_cars.ensures) ∙ sym (counted c.self.inside.cells c.self.inside.lanes.items c.self.invariant.sorted))

@@ -1,7 +1,6 @@
-use Rattle.std.proofs.Common.{◌≡◌, ℕ, List, Vec, Global, sym, subst, arith}
+use Rattle.std.proofs.Common.{◌≡◌, ℕ, List, sym, subst}
 use Rattle.std.proofs.lemmas.Result.{err_from_is_err_and}
-use Rattle.std.proofs.lemmas.List.{length-map}
-use Rattle.trlab_road.specs.Cells.{Cell, Lane, Cells}
+use Rattle.trlab_road.specs.Cells.{Lane, Cells}
 use Rattle.trlab_road.specs.Legal.{Legal}
 use Rattle.trlab_road.specs.Pictures.{GoodPictures, FirstFault, Shows, drawn_lanes}
 use Rattle.trlab_road.proofs.PictureLaws.{draws, shown_legal, one_shown, no_fault, pictures_good}
@@ -16,39 +15,24 @@ shows limit ps lanes good is = subst (λ (xs : List Lane). Shows limit ps (recor
 legal : (limit : ℕ) (ps : List (List ℕ)) (lanes : List Lane) → GoodPictures limit ps → lanes ≡ drawn_lanes 0 ps → Legal (record { limit = limit; lanes = lanes })
 legal limit ps lanes good is = shown_legal limit ps _ good (shows limit ps lanes good is)
 
-pub count_all-requires-clause-small : goal.count_all-requires-clause-small
-count_all-requires-clause-small c =
-    let l = legal c.args.limit _ _ c.in_ok-check_pictures.ensures c.in_ok-lanes.ensures in
-    let size = length-map c.in_ok-lanes.lanes.items (λ (v : Vec Cell Global). v.items) in
-    rw c.deref-2.ensures.value (λ i h. rw (l.equal_lanes i (omega (arith, size))) l.cells_high)
-
-pub in_order-requires-clause-equal : goal.in_order-requires-clause-equal
-in_order-requires-clause-equal c =
-    let l = legal c.args.limit _ _ c.in_ok-check_pictures.ensures c.in_ok-lanes.ensures in
-    let size = length-map c.in_ok-lanes.lanes.items (λ (v : Vec Cell Global). v.items) in
-    rw c.deref.ensures.value (λ i h. l.equal_lanes i (omega (arith, size)))
-
-pub in_order-requires-clause-small : goal.in_order-requires-clause-small
-in_order-requires-clause-small c = rw c.deref.ensures.value ((legal c.args.limit _ _ c.in_ok-check_pictures.ensures c.in_ok-lanes.ensures).cells_high)
-
 pub invariant_of-result : goal.invariant_of-result
 invariant_of-result c = record {
-  legal = legal c.args.limit _ _ c.in_ok-check_pictures.ensures c.in_ok-lanes.ensures;
-  ordered = rw c.deref.ensures.value at c.in_ok-order.ensures;
+  legal = legal c.args.limit _ _ c.in_ok-check_pictures.ensures c.in_ok-lanes.ensures.drawn;
+  sorted = c.in_ok-lanes.ensures.sorted;
 }
 
 pub returns-clause-shown : goal.returns-clause-shown
-returns-clause-shown c = shows c.args.limit _ _ c.in_ok-check_pictures.ensures c.in_ok-lanes.ensures
+returns-clause-shown c = shows c.args.limit _ _ c.in_ok-check_pictures.ensures c.in_ok-lanes.ensures.drawn
 
 pub returns-clause-legal : goal.returns-clause-legal
-returns-clause-legal c = legal c.args.limit _ _ c.in_ok-check_pictures.ensures c.in_ok-lanes.ensures
+returns-clause-legal c = legal c.args.limit _ _ c.in_ok-check_pictures.ensures c.in_ok-lanes.ensures.drawn
 
 same_road : (limit : ℕ) (ps : List (List ℕ)) (next : Cells) → Shows limit ps next → (road : Cells)
     → Legal road → Shows limit ps road → next ≡ road
 same_road limit ps next s road legal other = one_shown limit ps next road s other
 
 pub returns-clause-back : goal.returns-clause-back
-returns-clause-back c = same_road c.args.limit _ _ (shows c.args.limit _ _ c.in_ok-check_pictures.ensures c.in_ok-lanes.ensures)
+returns-clause-back c = same_road c.args.limit _ _ (shows c.args.limit _ _ c.in_ok-check_pictures.ensures c.in_ok-lanes.ensures.drawn)
 
 no_other_fault : (limit : ℕ) (ps : List (List ℕ)) (fault : RoadFault) → FirstFault limit ps fault
     → (road : Cells) → Legal road → Shows limit ps road → fault ≡ Memory

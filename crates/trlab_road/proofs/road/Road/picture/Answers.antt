@@ -1,12 +1,17 @@
-use Rattle.std.proofs.Common.{◌<◌, ◌∙◌, length, arith}
-use Rattle.std.proofs.lemmas.List.{length-map}
-use Rattle.trlab_road.proofs.RoadKeeps.{lane_read}
+use Rattle.std.proofs.Common.{arith}
+use Rattle.trlab_road.proofs.ListRoads.{lane_from, slow_list, lanes_count}
 use Rattle.trlab_road.proofs.road.Road.picture.Goals as goal
 
-pub picture_of-requires : goal.picture_of-requires
-picture_of-requires c =
+pub picture_of-requires-clause-slow : goal.picture_of-requires-clause-slow
+picture_of-requires-clause-slow c =
     let within = rw (← c.self.view_is) at c.requires in
-    let inside : c.args.lane < length c.self.inside.lanes.items = rw length-map at within in
-    let lane = c.deref.ensures.value ∙ lane_read c.self.inside.lanes.items c.args.lane c.index.result.now inside c.index.ensures in
-    let high = c.self.invariant.legal.limit_high in
-    λ x number speed h. let low = c.self.invariant.legal.within_limit c.args.lane x number speed (rw lane at h) in omega (arith, low, high)
+    let count = lanes_count c.self.inside.cells c.self.inside.lanes.items c.self.inside.limit c.self.invariant in
+    rw (c.list_of.ensures, c.deref.ensures.value) (slow_list c.self.inside.cells c.self.inside.lanes.items c.self.inside.limit c.self.invariant c.args.lane (omega (arith, within, count)))
+
+pub returns : goal.returns
+returns c =
+    let within = rw (← c.self.view_is) at c.requires in
+    let count = lanes_count c.self.inside.cells c.self.inside.lanes.items c.self.inside.limit c.self.invariant in
+    let n = c.self.inside.cells in
+    let lane = lane_from n c.self.inside.lanes.items c.args.lane (omega (arith, within, count)) in
+    rw (← c.self.view_is, lane) (rw (c.list_of.ensures, c.deref.ensures.value) at c.picture_of.ensures)

@@ -1,0 +1,88 @@
+//! Job texts of a standard rule.
+
+use crate::road::{Car, Road};
+
+/// A standard rule, its chances in parts of 2^31.
+#[derive(Clone, Copy, Debug, PartialEq, Eq)]
+pub enum Rule {
+    Nasch { brake: u32 },
+    Vdr { brake: u32, start: u32 },
+    Rickert { brake: u32, change: u32 },
+}
+
+/// What a job text says.
+pub struct Job {
+    /// The words of the key, which is 32 bytes.
+    pub key: [u32; 8],
+    pub road: Road,
+    pub rule: Rule,
+    pub steps: u32,
+}
+
+/// Reads a job text of one standard rule and no later rules; nothing where it is none.
+pub fn read_job(text: &str) -> Option<Job> {
+    let (mut key, mut limit, mut length, mut steps, mut rule) = ([0; 8], 0, 0, 0, None);
+    let mut lanes: Vec<Vec<Car>> = Vec::new();
+    for line in text.lines() {
+        let words: Vec<&str> = line.split(' ').collect();
+        let number = |k: usize| words.get(k)?.parse::<u32>().ok();
+        match words[0] {
+            "road" => {}
+            "key" => key = read_key(words.get(1)?)?,
+            "limit" => limit = number(1)?,
+            "lane" => {
+                let first = lanes.iter().map(Vec::len).sum::<usize>() as u32;
+                lanes.push(read_lane(words.get(1)?, first));
+                length = words[1].len() as u32;
+            }
+            "rule" => {
+                rule = Some(match *words.get(1)? {
+                    "nasch" => Rule::Nasch { brake: number(2)? },
+                    "vdr" => Rule::Vdr {
+                        brake: number(2)?,
+                        start: number(3)?,
+                    },
+                    "rickert" => Rule::Rickert {
+                        brake: number(2)?,
+                        change: number(3)?,
+                    },
+                    _ => return None,
+                });
+            }
+            "steps" => steps = number(1)?,
+            _ => return None,
+        }
+    }
+    let road = Road::new(length, limit, lanes);
+    Some(Job {
+        key,
+        road,
+        rule: rule?,
+        steps,
+    })
+}
+
+fn read_key(hex: &str) -> Option<[u32; 8]> {
+    let mut key = [0; 8];
+    for (k, word) in key.iter_mut().enumerate() {
+        let digits = hex.get(8 * k..8 * k + 8)?;
+        *word = u32::from_str_radix(digits, 16).ok()?.swap_bytes();
+    }
+    Some(key)
+}
+
+/// The cars of a picture, which are numbered from `first` on.
+fn read_lane(picture: &str, first: u32) -> Vec<Car> {
+    let cells = picture
+        .bytes()
+        .enumerate()
+        .filter(|(_, cell)| *cell != b'.');
+    cells
+        .zip(first..)
+        .map(|((place, cell), number)| Car {
+            number,
+            place: place as u32,
+            speed: u32::from(cell - b'0'),
+        })
+        .collect()
+}

@@ -1,0 +1,238 @@
+//! Roads: the cars of each lane as a list by rising place, and the two phases of a step.
+
+use std::mem::swap;
+
+use crate::chacha::Words;
+
+#[derive(Clone, Copy, Debug, PartialEq, Eq)]
+pub struct Car {
+    pub number: u32,
+    pub place: u32,
+    pub speed: u32,
+}
+
+/// What a car sees. In the motion phase it sees nothing of another lane.
+#[derive(Clone, Copy, Default)]
+pub struct View {
+    pub speed: u32,
+    pub limit: u32,
+    pub gap: u32,
+    /// Whether the cell beside the car is empty.
+    pub side: bool,
+    pub sidegap: u32,
+    pub sideback: u32,
+    pub lane: u32,
+}
+
+/// How cars are driven. A car is told as its place in a group of four, whose words are at hand.
+pub trait Driver {
+    /// Whether there is a lane change before the motion.
+    fn changes_lanes(&self) -> bool;
+
+    /// The new speed of a car.
+    fn speed(&self, view: &View, words: &mut Words, car: usize) -> u32;
+
+    /// Whether a car goes to the other lane.
+    fn crosses(&self, view: &View, words: &mut Words, car: usize) -> bool;
+}
+
+pub struct Road {
+    length: u32,
+    limit: u32,
+    lanes: Vec<Vec<Car>>,
+    /// Room for a lane in the making, and for the cars that leave each lane.
+    made: Vec<Car>,
+    leaving: [Vec<Car>; 2],
+}
+
+impl Road {
+    pub fn new(length: u32, limit: u32, lanes: Vec<Vec<Car>>) -> Self {
+        Road {
+            length,
+            limit,
+            lanes,
+            made: Vec::new(),
+            leaving: [Vec::new(), Vec::new()],
+        }
+    }
+
+    pub fn lanes(&self) -> &[Vec<Car>] {
+        &self.lanes
+    }
+
+    /// The road one step on.
+    pub fn step(&mut self, driver: &impl Driver, key: &[u32; 8], step: u32) {
+        if driver.changes_lanes() {
+            self.exchange(driver, key, step);
+        }
+        self.drive(driver, key, step);
+    }
+
+    /// The motion of all cars at once.
+    fn drive(&mut self, driver: &impl Driver, key: &[u32; 8], step: u32) {
+        let (length, limit) = (self.length, self.limit);
+        for lane in &mut self.lanes {
+            let Some(first) = lane.first().map(|car| car.place) else {
+                continue;
+            };
+            let (cars, mut wrapped) = (lane.len(), 0);
+            for start in (0..cars).step_by(4) {
+                let mut words = Words::new(key, step, numbers(&lane[start..]));
+                for k in start..cars.min(start + 4) {
+                    let next = lane.get(k + 1).map_or(first, |car| car.place);
+                    let car = &mut lane[k];
+                    let view = View {
+                        speed: car.speed,
+                        limit,
+                        gap: between(length, car.place, next),
+                        ..View::default()
+                    };
+                    car.speed = driver.speed(&view, &mut words, k - start);
+                    car.place += car.speed;
+                    if car.place >= length {
+                        car.place -= length;
+                        wrapped += 1;
+                    }
+                }
+            }
+            // Those that went round the ring's end were the last, and are the first now.
+            lane.rotate_right(wrapped);
+        }
+    }
+
+    /// The lane change of all cars at once.
+    fn exchange(&mut self, driver: &impl Driver, key: &[u32; 8], step: u32) {
+        for own in 0..2 {
+            let mut leaving = std::mem::take(&mut self.leaving[own]);
+            leaving.clear();
+            self.cars_that_leave(own, driver, key, step, &mut leaving);
+            self.leaving[own] = leaving;
+        }
+        if self.leaving.iter().any(|cars| !cars.is_empty()) {
+            for own in 0..2 {
+                exchanged(
+                    &self.lanes[own],
+                    &self.leaving[own],
+                    &self.leaving[1 - own],
+                    &mut self.made,
+                );
+                swap(&mut self.lanes[own], &mut self.made);
+            }
+        }
+    }
+
+    /// Finds the cars of a lane that go to the other one. A cursor walks along the other lane.
+    fn cars_that_leave(
+        &self,
+        own: usize,
+        driver: &impl Driver,
+        key: &[u32; 8],
+        step: u32,
+        leaving: &mut Vec<Car>,
+    ) {
+        let (lane, other) = (&self.lanes[own], &self.lanes[1 - own]);
+        let mut at = 0;
+        for (start, group) in (0..).step_by(4).zip(lane.chunks(4)) {
+            let mut words = Words::new(key, step, numbers(group));
+            for (k, car) in group.iter().enumerate() {
+                while other.get(at).is_some_and(|ahead| ahead.place < car.place) {
+                    at += 1;
+                }
+                let next = lane.get(start + k + 1).unwrap_or(&lane[0]);
+                let view = View {
+                    speed: car.speed,
+                    limit: self.limit,
+                    gap: between(self.length, car.place, next.place),
+                    lane: own as u32,
+                    ..self.beside(car.place, other, at)
+                };
+                if driver.crosses(&view, &mut words, k) {
+                    leaving.push(*car);
+                }
+            }
+        }
+    }
+
+    /// What a car sees of the other lane, whose first car that is not behind it stands at `at`.
+    #[inline(always)]
+    fn beside(&self, place: u32, other: &[Car], at: usize) -> View {
+        let (Some(first), Some(last)) = (other.first(), other.last()) else {
+            let free = self.length - 1;
+            return View {
+                side: true,
+                sidegap: free,
+                sideback: free,
+                ..View::default()
+            };
+        };
+        let ahead = other.get(at).unwrap_or(first);
+        if ahead.place == place {
+            let next = other.get(at + 1).unwrap_or(first);
+            let behind = if at == 0 { last } else { &other[at - 1] };
+            return View {
+                side: false,
+                sidegap: between(self.length, place, next.place),
+                sideback: between(self.length, behind.place, place),
+                ..View::default()
+            };
+        }
+        let behind = if at == 0 { last } else { &other[at - 1] };
+        View {
+            side: true,
+            sidegap: between(self.length, place, ahead.place),
+            sideback: between(self.length, behind.place, place),
+            ..View::default()
+        }
+    }
+
+    /// Adds the pictures of the lanes, a line each.
+    pub fn draw(&self, out: &mut Vec<u8>) {
+        for lane in &self.lanes {
+            let begin = out.len();
+            out.resize(begin + self.length as usize, b'.');
+            let cells = &mut out[begin..];
+            for car in lane {
+                cells[car.place as usize] = b'0' + car.speed as u8;
+            }
+            out.push(b'\n');
+        }
+    }
+}
+
+/// The empty cells between one place and the next car's, on a ring.
+#[inline(always)]
+fn between(length: u32, from: u32, to: u32) -> u32 {
+    if to > from {
+        to - from - 1
+    } else {
+        to + length - from - 1
+    }
+}
+
+/// The numbers of the first four cars; a car that is not there is told as 0.
+#[inline(always)]
+fn numbers(cars: &[Car]) -> [u32; 4] {
+    match cars {
+        [a, b, c, d, ..] => [a.number, b.number, c.number, d.number],
+        _ => std::array::from_fn(|k| cars.get(k).map_or(0, |car| car.number)),
+    }
+}
+
+/// Makes a lane of its cars but those that leave it, and of those that come.
+fn exchanged(lane: &[Car], mut leaving: &[Car], mut coming: &[Car], made: &mut Vec<Car>) {
+    made.clear();
+    for car in lane {
+        while let [next, rest @ ..] = coming {
+            if next.place > car.place {
+                break;
+            }
+            made.push(*next);
+            coming = rest;
+        }
+        match leaving {
+            [gone, rest @ ..] if gone.number == car.number => leaving = rest,
+            _ => made.push(*car),
+        }
+    }
+    made.extend_from_slice(coming);
+}

@@ -1,0 +1,72 @@
+"""What the benchmarks share: the programs that are measured, job texts, and timed runs.
+
+Build the proved program first by a run of ./trlab at the top; or name another one in TRLAB."""
+import os
+import random
+import subprocess
+import sys
+import time
+
+TOP = os.path.dirname(os.path.dirname(os.path.abspath(__file__)))
+BENCH = os.path.join(TOP, "bench")
+BUILT = os.path.join(TOP, "crates", "trlab_program", "out", "trlab_program")
+
+
+def trlab():
+    """The path of the proved program."""
+    path = os.environ.get("TRLAB", BUILT)
+    if not os.access(path, os.X_OK):
+        sys.exit(f"{path} is not there; build it first: ./trlab run < examples/two_cars.job")
+    return path
+
+
+def machine():
+    """One line on the machine."""
+    return f"{os.cpu_count()} cores, load {os.getloadavg()[0]:.1f} at the start"
+
+
+def spread(length, cars, seed=1):
+    """A lane of so many standing cars at random places."""
+    cells = ["."] * length
+    for place in random.Random(seed).sample(range(length), cars):
+        cells[place] = "0"
+    return "".join(cells)
+
+
+def job(lanes, rule, steps):
+    """A job text; the rule is all its lines."""
+    lines = ["road 1", "key " + 64 * "0", "limit 5"] + ["lane " + lane for lane in lanes]
+    return ("\n".join(lines + [rule, f"steps {steps}"]) + "\n").encode()
+
+
+def seconds(command, path):
+    """The seconds of a run on the text in a file, with its output to a sink that costs nothing."""
+    with open(path, "rb") as text:
+        began = time.perf_counter()
+        ran = subprocess.run(command, stdin=text, stdout=subprocess.DEVNULL)
+        took = time.perf_counter() - began
+    if ran.returncode != 0:
+        sys.exit(f"{' '.join(command)} ended with {ran.returncode}")
+    return took
+
+
+def memory(command, path, output=os.devnull):
+    """The peak memory in bytes of a run on the text in a file."""
+    peak = 0
+    with open(path, "rb") as text, open(output, "wb") as out:
+        program = subprocess.Popen(command, stdin=text, stdout=out)
+        while program.poll() is None:
+            peak = max(peak, peak_of(program.pid))
+            time.sleep(0.001)
+    if program.returncode != 0:
+        sys.exit(f"{' '.join(command)} ended with {program.returncode}")
+    return peak
+
+
+def peak_of(pid):
+    """The peak memory of a process so far, in bytes."""
+    try:
+        with open(f"/proc/{pid}/status") as status:
+            return next((int(line.split()[1]) * 1024 for line in status if line.startswith("VmHWM")), 0)
+    except OSError:
+        return 0

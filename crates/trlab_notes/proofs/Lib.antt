@@ -1,0 +1,5 @@
+pub mod Tables
+pub mod Fits
+pub mod Steps
+pub mod Order
+pub mod Monotone

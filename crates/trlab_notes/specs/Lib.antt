@@ -1,0 +1,4 @@
+pub mod Notes
+pub mod Reasons
+pub mod Noted
+pub mod Order

@@ -1,0 +1,266 @@
+-- The motion of a sorted list of cars.
+use Rattle.std.proofs.Common.{◌≡◌, ℕ, zero, suc, ◌+◌, ◌-◌, ◌%◌, ◌<◌, ◌≤◌, Some, List, [], ◌∷◌, ◌++◌, length, get_or, take, refl, sym, ◌∙◌, ap, subst, inl, inr, arith, below_more, append_assoc}
+use Rattle.std.proofs.Math.Nat.{mod-eq_of_lt, mod-eq-sub-mod}
+use Rattle.std.proofs.lemmas.Bool.{cases_eq}
+use Rattle.std.proofs.lemmas.List.{length-map, get_or-map, get_or_append_left, get_or_push, length_push}
+use Rattle.trlab_road.specs.declared.car.Car.{Car}
+use Rattle.trlab_road.specs.declared.lane_car.LaneCar.{LaneCar}
+use Rattle.trlab_road.specs.Cells.{at, lane_cars}
+use Rattle.trlab_road.specs.Gaps.{ahead}
+use Rattle.trlab_road.specs.Standing.{standing_from}
+use Rattle.trlab_road.specs.Motion.{LaneFits, LaneMoves, lane_answer}
+use Rattle.trlab_road.specs.Lists.{cells_of, Rises, no_car, place_of, Parted, on}
+use Rattle.trlab_road.proofs.Ring.{inside}
+use Rattle.trlab_road.proofs.StandingOrder.{rank_is}
+use Rattle.trlab_road.proofs.Lists.{length_cells, cells_at, at_kth, list_car, kth_of_cell, standing_list, rises_high, rises_order, rises_weakly}
+use Rattle.trlab_road.proofs.ListPush.{rises_push, rises_above}
+use Rattle.trlab_road.proofs.ListGaps.{gap_next, gap_round}
+
+-- as many cars as its index stand before the k-th car
+pub rank_kth : (n : ℕ) (cars : List LaneCar) (k : ℕ) → Rises 0 n cars → k < length cars → lane_cars (take (place_of cars k) (cells_of n cars)) ≡ k
+rank_kth n cars k r h =
+    let cells = cells_of n cars in
+    let s = standing_list 0 n cars r in
+    let d : Car = on 0 no_car in
+    let within : k < length (standing_from 0 0 cells) = rw (s, length-map) h in
+    let e : (get_or (standing_from 0 0 cells) k d).place - 0 ≡ place_of cars k =
+    ap (λ (cs : List Car). (get_or cs k d).place - 0) s ∙ ap (λ (c : Car). c.place - 0) (get_or-map (on 0) cars k no_car d h) ∙ (let z : place_of cars k - 0 ≡ place_of cars k = omega arith in z) in
+    subst (λ p. lane_cars (take p cells) ≡ k) e (rank_is 0 0 cells k d within)
+
+pub answer_kth : (n : ℕ) (cars : List LaneCar) (answers : List ℕ) (from k : ℕ) → Rises 0 n cars → k < length cars → get_or answers (from + k) 0 ≡ lane_answer (cells_of n cars) answers from (place_of cars k)
+answer_kth n cars answers from k r h = ap (λ i. get_or answers (from + i) 0) (sym (rank_kth n cars k r h))
+
+-- the cars up to the k-th stand no further than it
+pub parted_kth : (n : ℕ) (cars : List LaneCar) (k : ℕ) → Rises 0 n cars → k < length cars → Parted cars (place_of cars k) (k + 1)
+parted_kth n cars k r h = record {
+  before = λ j low within. rises_weakly n cars j k r (omega arith) h;
+  after = λ j low within. rises_order 0 n cars k j r (omega arith) within;
+}
+
+-- an answer within the gap leads before the next car, and of the last car before the first one
+module _ (n : ℕ) (cars : List LaneCar) (answer : ℕ → ℕ) (r : Rises 0 n cars) (fits : LaneFits answer (cells_of n cars)) where
+  pub before_next : (k : ℕ) → k + 1 < length cars → place_of cars k + answer (place_of cars k) < place_of cars (k + 1)
+  before_next k h =
+      let low : k < length cars = omega arith in
+      let v = fits.gaps (place_of cars k) _ _ (at_kth n cars k r low) in
+      let e = gap_next n cars r (place_of cars k) (rises_high 0 n cars k r low) (k + 1) (parted_kth n cars k r low) h in
+      let o = rises_order 0 n cars k (k + 1) r (omega arith) h in
+      omega (arith, v, e, o)
+
+  pub before_first : (k : ℕ) → k + 1 ≡ length cars → place_of cars k + answer (place_of cars k) < n + place_of cars 0
+  before_first k h =
+      let low : k < length cars = omega arith in
+      let v = fits.gaps (place_of cars k) _ _ (at_kth n cars k r low) in
+      let e = gap_round n cars r (place_of cars k) (rises_high 0 n cars k r low) (k + 1) (parted_kth n cars k r low) (omega arith) (omega arith) in
+      let o = rises_high 0 n cars k r low in
+      omega (arith, v, e, o)
+
+  -- a car that passes the end is the last
+  pub only_last : (k : ℕ) → k < length cars → n ≤ place_of cars k + answer (place_of cars k) → k + 1 ≡ length cars
+  only_last k low past =
+      elim (cases_eq (k + 1) (length cars)) [
+        | inl e ↦ e
+        | inr other ↦
+            let more : k + 1 < length cars = omega arith in
+            let a = before_next k more in
+            let b = rises_high 0 n cars (k + 1) r more in
+            absurd (omega (arith, a, b, past))
+      ]
+
+-- a car after it went ahead
+abbrev pub gone : ℕ → (ℕ → ℕ) → LaneCar → LaneCar
+gone n answer car = list_car car.number (ahead n car.place (answer car.place)) (answer car.place)
+
+pub gone_straight : (n : ℕ) (answer : ℕ → ℕ) (car : LaneCar) (v : ℕ) → v ≡ answer car.place → car.place + v < n → ◌≡◌ {A = LaneCar} (record { number = car.number; place = car.place + v; speed = v }) (gone n answer car)
+unfolding list_car
+gone_straight n answer car v is within =
+    ap (λ k. record { number = car.number; place = k; speed = v }) (sym (mod-eq_of_lt within)) ∙ ap (λ k. record { number = car.number; place = (car.place + k) % n; speed = k }) is
+
+pub gone_round : (n : ℕ) (answer : ℕ → ℕ) (car : LaneCar) (v : ℕ) → v ≡ answer car.place → n ≤ car.place + v → car.place + v - n < n → ◌≡◌ {A = LaneCar} (record { number = car.number; place = car.place + v - n; speed = v }) (gone n answer car)
+unfolding list_car
+gone_round n answer car v is past low =
+    ap (λ k. record { number = car.number; place = k; speed = v }) (sym (mod-eq-sub-mod past ∙ mod-eq_of_lt low)) ∙ ap (λ k. record { number = car.number; place = (car.place + k) % n; speed = k }) is
+
+-- the k-th of the new cars came from one of the first m old cars
+pub record From (n : ℕ) (answer : ℕ → ℕ) (cars next : List LaneCar) (m i j : ℕ) : Type 0 where
+  pub index : i < m
+  pub old : j < m
+  pub is : get_or next i no_car ≡ gone n answer (get_or cars j no_car)
+
+-- the first m cars went ahead
+pub record Moved (n : ℕ) (answer : ℕ → ℕ) (cars next : List LaneCar) (m : ℕ) : Type 0 where
+  pub size : length next ≡ m
+  pub rises : Rises 0 n next
+  pub each : (j : ℕ) → j < m → (i : ℕ) × From n answer cars next m i j
+  pub back : (i : ℕ) → i < m → (j : ℕ) × From n answer cars next m i j
+  pub first : m < length cars → (k : ℕ) → k < m → place_of cars 0 ≤ place_of next k
+  pub last : m < length cars → (k : ℕ) → k < m → place_of next k < place_of cars m
+
+pub moved_none : (n : ℕ) (answer : ℕ → ℕ) (cars : List LaneCar) → Moved n answer cars [] 0
+moved_none n answer cars = record {
+  size = refl;
+  rises = tt;
+  each = λ j h. absurd (omega arith);
+  back = λ j h. absurd (omega arith);
+  first = λ some j h. absurd (omega arith);
+  last = λ some j h. absurd (omega arith);
+}
+
+module _ (n : ℕ) (answer : ℕ → ℕ) (cars next : List LaneCar) (m : ℕ) (r : Rises 0 n cars) (fits : LaneFits answer (cells_of n cars)) (moved : Moved n answer cars next m) (low : m < length cars)
+    (car : LaneCar) (v : ℕ) (same : v ≡ answer (place_of cars m)) where
+  -- one more car went straight ahead
+  pub moved_straight : place_of cars m + v < n → car ≡ record { number = (get_or cars m no_car).number; place = place_of cars m + v; speed = v } → Moved n answer cars (next ++ car ∷ []) (m + 1)
+  moved_straight within is =
+      let place : car.place ≡ place_of cars m + v = ap (λ (c : LaneCar). c.place) is in
+      let new : get_or (next ++ car ∷ []) m no_car ≡ gone n answer (get_or cars m no_car) = get_or_push next car no_car m moved.size ∙ is ∙ gone_straight n answer (get_or cars m no_car) v same within in
+      let there : place_of (next ++ car ∷ []) m ≡ car.place = ap (λ (c : LaneCar). c.place) (get_or_push next car no_car m moved.size) in
+      let kept : (i : ℕ) → i < m → get_or (next ++ car ∷ []) i no_car ≡ get_or next i no_car = λ i h. get_or_append_left next (car ∷ []) no_car i (rw moved.size h) in
+      let higher : (k : ℕ) → k < m → place_of next k < car.place = λ k h. let a = moved.last low k h in omega (arith, a, place) in
+      record {
+        size = length_push next car ∙ ap (λ k. k + 1) moved.size;
+        rises = rises_push 0 n next car moved.rises (λ k h. higher k (rw moved.size at h)) (omega arith) (omega (arith, place, within));
+        each = below_more _ _
+            (λ j h. let a = moved.each j h in (a.0, record { index = (let k = a.1.index in omega arith); old = (let k = a.1.old in omega arith); is = kept a.0 a.1.index ∙ a.1.is }))
+            (m, record { index = omega arith; old = omega arith; is = new });
+        back = below_more _ _
+            (λ j h. let a = moved.back j h in (a.0, record { index = (let k = a.1.index in omega arith); old = (let k = a.1.old in omega arith); is = kept j h ∙ a.1.is }))
+            (m, record { index = omega arith; old = omega arith; is = new });
+        first = λ more. below_more _ _
+            (λ k h. let a = moved.first low k h in let b = ap (λ (c : LaneCar). c.place) (kept k h) in omega (arith, a, b))
+            (let a = rises_weakly n cars 0 m r (omega arith) low in omega (arith, a, place, there));
+        last = λ more.
+            let ahead_of = before_next n cars answer r fits m more in
+            below_more _ _
+            (λ k h. let a = higher k h in let b = ap (λ (c : LaneCar). c.place) (kept k h) in omega (arith, a, b, place, ahead_of, same))
+            (omega (arith, place, ahead_of, same, there));
+      }
+
+  back_turn : (front : LaneCar) → front ≡ gone n answer (get_or cars m no_car) → (i : ℕ) → i < m + 1 → (j : ℕ) × From n answer cars (front ∷ next) (m + 1) i j
+  back_turn front new zero h = (m, record { index = h; old = omega arith; is = new })
+  back_turn front new (suc i) h = let a = moved.back i (omega arith) in (a.0, record { index = h; old = (let k = a.1.old in omega arith); is = a.1.is })
+
+  -- the last car passed the end, and is the first now
+  pub moved_round : n ≤ place_of cars m + v → car ≡ record { number = (get_or cars m no_car).number; place = place_of cars m + v - n; speed = v } → Moved n answer cars (car ∷ next) (m + 1)
+  moved_round past is =
+      let place : car.place ≡ place_of cars m + v - n = ap (λ (c : LaneCar). c.place) is in
+      let whole = only_last n cars answer r fits m low (omega (arith, past, same)) in
+      let short = before_first n cars answer r fits m whole in
+      let high = rises_high 0 n cars 0 r (omega arith) in
+      let new : car ≡ gone n answer (get_or cars m no_car) = is ∙ gone_round n answer (get_or cars m no_car) v same past (omega (arith, short, high, same)) in
+      record {
+        size = (let a = moved.size in omega arith);
+        rises = (omega arith, omega (arith, place, short, high, same), rises_above 0 (suc car.place) n next moved.rises (λ k h. let a = moved.first low k (rw moved.size at h) in omega (arith, a, place, short, same)));
+        each = below_more _ _
+            (λ j h. let a = moved.each j h in (suc a.0, record { index = (let k = a.1.index in omega arith); old = (let k = a.1.old in omega arith); is = a.1.is }))
+            (0, record { index = omega arith; old = omega arith; is = new });
+        back = back_turn car new;
+        first = λ more. absurd (omega (arith, more, whole));
+        last = λ more. absurd (omega (arith, more, whole));
+      }
+
+-- a car of a list stands where it says
+stands : (n : ℕ) (cars : List LaneCar) (k number x speed : ℕ) → Rises 0 n cars → k < length cars → get_or cars k no_car ≡ list_car number x speed → at (cells_of n cars) x ≡ Some (number, speed)
+unfolding list_car
+stands n cars k number x speed r low is = subst (λ (car : LaneCar). at (cells_of n cars) car.place ≡ Some (car.number, car.speed)) is (at_kth n cars k r low)
+
+-- where all went ahead, the lane that the new list makes is that of the old one after the motion
+pub moved_all : (n : ℕ) (answer : ℕ → ℕ) (cars next : List LaneCar) → Rises 0 n cars → Moved n answer cars next (length cars) → LaneMoves answer (cells_of n cars) (cells_of n next)
+unfolding list_car
+moved_all n answer cars next r moved =
+    let size = length_cells n cars in
+    record {
+      same_length = length_cells n next ∙ sym size;
+      arrives = λ x number speed h.
+          let low = rw size at (inside (cells_of n cars) x (number, speed) h) in
+          let k = kth_of_cell cars number x speed (sym (cells_at n cars x low) ∙ h) in
+          let i = moved.each k.0 k.1.low in
+          rw size (stands n next i.0 number (ahead n x (answer x)) (answer x) moved.rises (rw moved.size i.1.index) (i.1.is ∙ ap (gone n answer) k.1.is));
+      nothing_else = λ y number speed h.
+          let low = rw length_cells at (inside (cells_of n next) y (number, speed) h) in
+          let i = kth_of_cell next number y speed (sym (cells_at n next y low) ∙ h) in
+          let j = moved.back i.0 (rw moved.size at i.1.low) in
+          let car = get_or cars j.0 no_car in
+          let same : list_car number y speed ≡ gone n answer car = sym i.1.is ∙ j.1.is in (
+            car.place,
+            (
+              car.speed,
+              record {
+                was = subst (λ (m : ℕ). at (cells_of n cars) car.place ≡ Some (m, car.speed)) (sym (ap (λ (c : LaneCar). c.number) same)) (at_kth n cars j.0 r j.1.old);
+                reaches = rw size (ap (λ (c : LaneCar). c.place) same);
+                at_speed = ap (λ (c : LaneCar). c.speed) same;
+              },
+            ),
+          );
+    }
+
+-- the car that passes the end, if any, stands first
+pub data Front (n : ℕ) (answer : ℕ → ℕ) (cars : List LaneCar) : ℕ → List LaneCar → Type 0 where
+  all_straight : (straight : ℕ) → straight ≡ length cars
+      → ((k : ℕ) → k + 1 ≡ length cars → place_of cars k + answer (place_of cars k) < n) → Front n answer cars straight []
+  one_turned : (straight : ℕ) (car : LaneCar) (v : ℕ) → straight + 1 ≡ length cars → v ≡ answer (place_of cars straight) → n ≤ place_of cars straight + v
+      → car ≡ record { number = (get_or cars straight no_car).number; place = place_of cars straight + v - n; speed = v } → Front n answer cars straight (car ∷ [])
+
+-- after that car stand the first k cars, which went straight ahead
+pub record Led (n : ℕ) (answer : ℕ → ℕ) (cars next : List LaneCar) (straight k : ℕ) : Type 0 where
+  pub front : List LaneCar
+  pub rest : List LaneCar
+  pub led : Front n answer cars straight front
+  pub parts : next ≡ front ++ rest
+  pub moved : Moved n answer cars rest k
+
+module _ (n : ℕ) (answer : ℕ → ℕ) (cars : List LaneCar) (r : Rises 0 n cars) (fits : LaneFits answer (cells_of n cars)) where
+  -- a car that goes straight ahead does not pass the end
+  front_few : (straight : ℕ) (front : List LaneCar) → Front n answer cars straight front → straight ≤ length cars
+  front_few straight front (all_straight s e last) = omega (arith, e)
+  front_few straight front (one_turned s car v e same past is) = omega (arith, e)
+
+  short_of_end : (straight k : ℕ) (front : List LaneCar) → Front n answer cars straight front → k < straight → place_of cars k + answer (place_of cars k) < n
+  short_of_end straight k front (all_straight s e last) low =
+      elim (cases_eq (k + 1) (length cars)) [
+        | inl whole ↦ last k whole
+        | inr other ↦
+            let more : k + 1 < length cars = omega (arith, e, low, other) in
+            let a = before_next n cars answer r fits k more in
+            let b = rises_high 0 n cars (k + 1) r more in
+            omega (arith, a, b)
+      ]
+  short_of_end straight k front (one_turned s car v e same past is) low =
+      let more : k + 1 < length cars = omega (arith, e, low) in
+      let a = before_next n cars answer r fits k more in
+      let b = rises_high 0 n cars (k + 1) r more in
+      omega (arith, a, b)
+
+  module _ (next : List LaneCar) (straight k : ℕ) (l : Led n answer cars next straight k) where
+    pub led_few : straight ≤ length cars
+    led_few = front_few straight l.front l.led
+
+    pub led_short : k < straight → place_of cars k + answer (place_of cars k) < n
+    led_short low = short_of_end straight k l.front l.led low
+
+    pub led_more : (car : LaneCar) (v : ℕ) → k < straight → v ≡ answer (place_of cars k) → car ≡ record { number = (get_or cars k no_car).number; place = place_of cars k + v; speed = v } → Led n answer cars (next ++ car ∷ []) straight (k + 1)
+    led_more car v low same is =
+        let few = led_few in
+        let short = led_short low in
+        record {
+          front = l.front;
+          rest = l.rest ++ car ∷ [];
+          led = l.led;
+          parts = ap (λ (cs : List LaneCar). cs ++ car ∷ []) l.parts ∙ append_assoc l.front l.rest (car ∷ []);
+          moved = moved_straight n answer cars l.rest k r fits l.moved (omega (arith, few, low)) car v same (omega (arith, short, same)) is;
+        }
+
+  led_whole : (next : List LaneCar) (straight k : ℕ) (front rest : List LaneCar) → Front n answer cars straight front → next ≡ front ++ rest → Moved n answer cars rest k → k ≡ straight → Moved n answer cars next (length cars)
+  led_whole next straight k front rest (all_straight s e last) parts moved whole = rw parts (subst (Moved n answer cars rest) (whole ∙ e) moved)
+  led_whole next straight k front rest (one_turned s car v e same past is) parts moved whole =
+      let m = subst (Moved n answer cars rest) whole moved in
+      rw parts (subst (Moved n answer cars (car ∷ rest)) e (moved_round n answer cars rest straight r fits m (omega (arith, e)) car v same past is))
+
+  pub led_all : (next : List LaneCar) (straight k : ℕ) → Led n answer cars next straight k → k ≡ straight → Moved n answer cars next (length cars)
+  led_all next straight k l whole = led_whole next straight k l.front l.rest l.led l.parts l.moved whole
+
+-- a car's answer leads at most round the ring
+pub reach_fits : (n : ℕ) (cars : List LaneCar) (answer : ℕ → ℕ) (k : ℕ) → Rises 0 n cars → LaneFits answer (cells_of n cars) → k + 1 ≡ length cars → place_of cars k + answer (place_of cars k) < n + n
+reach_fits n cars answer k r fits whole =
+    let a = before_first n cars answer r fits k whole in
+    let b = rises_high 0 n cars 0 r (omega (arith, whole)) in
+    omega (arith, a, b)

@@ -1,0 +1,75 @@
+use Rattle.std.proofs.Common.{◌≡◌, ◌<◌, ◌-◌, ◌∙◌, ℕ, Bool, false, List, [], Vec, Global, length, get_or, sym, ap, subst, arith}
+use Rattle.trlab_road.specs.declared.lane_car.LaneCar.{LaneCar}
+use Rattle.trlab_road.specs.Cells.{Lane}
+use Rattle.trlab_road.specs.Gaps.{side, sideback, sidegap}
+use Rattle.trlab_road.specs.Lists.{FoundAt, cells_of, lanes_from, list_at, place_of}
+use Rattle.trlab_road.proofs.ListRoads.{below_counted, few_cells, found_by, found_in_order, found_inside, lane_from, lanes_count, length_first}
+use Rattle.trlab_road.proofs.road.Road.beside.Goals as goal
+
+pub find-lane-requires-clause-below : goal.find-lane-requires-clause-below
+find-lane-requires-clause-below c =
+    let low = rw (← c.self.view_is) at c.requires.below in
+    rw c.deref.ensures.value (below_counted c.self.inside.cells c.self.inside.lanes.items c.self.inside.limit c.self.invariant c.args.k low)
+
+pub look_beside-requires-clause-small : goal.look_beside-requires-clause-small
+look_beside-requires-clause-small c = few_cells c.self.inside.cells c.self.inside.lanes.items c.self.inside.limit c.self.invariant
+
+pub look_beside-requires-clause-inside : goal.look_beside-requires-clause-inside
+look_beside-requires-clause-inside c =
+    let n = c.self.inside.cells in
+    let f = subst (λ (ls : List (Vec LaneCar Global)). FoundAt ls c.args.k c.find-lane.result.0 c.find-lane.result.1) c.deref.ensures.value c.find-lane.ensures in
+    rw (c.list_of.ensures, c.deref-2.ensures.value) (found_inside n c.self.inside.lanes.items c.self.inside.limit _ _ _ c.self.invariant.sorted f)
+
+-- what was told of the lane that was looked at is told of the lane beside
+here : {X : Type 0} (told : Lane → ℕ → X) (n l i m : ℕ) (g : X) (lists first second : List (Vec LaneCar Global)) (cars beside : List LaneCar) → m < length lists → first ≡ lists → cars ≡ list_at first l
+    → second ≡ lists → beside ≡ list_at second m → g ≡ told (cells_of n beside) (place_of cars i) → g ≡ told (get_or (lanes_from n lists) m []) (place_of (list_at lists l) i)
+here told n l i m g lists first second cars beside low e is f at value =
+    value ∙ ap (λ (cs : List LaneCar). told (cells_of n beside) (place_of cs i)) (is ∙ ap (λ (ls : List (Vec LaneCar Global)). list_at ls l) e)
+    ∙ ap (λ (cs : List LaneCar). told (cells_of n cs) (place_of (list_at lists l) i)) (at ∙ ap (λ (ls : List (Vec LaneCar Global)). list_at ls m) f)
+    ∙ ap (λ (lane : Lane). told lane (place_of (list_at lists l) i)) (sym (lane_from n lists m low))
+
+pub returns-clause-value : goal.returns-clause-value
+returns-clause-value c =
+    let n = c.self.inside.cells in
+    let lists = c.self.inside.lanes.items in
+    let f = subst (λ (ls : List (Vec LaneCar Global)). FoundAt ls c.args.k c.find-lane.result.0 c.find-lane.result.1) c.deref.ensures.value c.find-lane.ensures in
+    let two = rw (← c.self.view_is) at c.requires.two in
+    let count = lanes_count n lists c.self.inside.limit c.self.invariant in
+    rw (← c.self.view_is) (found_in_order (λ l x. side (get_or (lanes_from n lists) (1 - l) []) x) n lists c.self.inside.limit _ _ _ c.self.invariant.sorted f c.look_beside.result.is_empty
+    (here side n _ _ _ c.look_beside.result.is_empty lists _ _ _ _ (omega (arith, two, count)) c.deref-2.ensures.value c.list_of.ensures c.deref-3.ensures.value c.list_of-other.ensures c.look_beside.ensures.empty) false)
+
+pub returns-clause-empty : goal.returns-clause-empty
+returns-clause-empty c =
+    let n = c.self.inside.cells in
+    let lists = c.self.inside.lanes.items in
+    let f = subst (λ (ls : List (Vec LaneCar Global)). FoundAt ls c.args.k c.find-lane.result.0 c.find-lane.result.1) c.deref.ensures.value c.find-lane.ensures in
+    let two = rw (← c.self.view_is) at c.requires.two in
+    let count = lanes_count n lists c.self.inside.limit c.self.invariant in
+    rw (← c.self.view_is) (found_by (λ l x. side (get_or (lanes_from n lists) (1 - l) []) x) n lists c.self.inside.limit _ _ _ c.self.invariant.sorted f c.look_beside.result.is_empty
+    (here side n _ _ _ c.look_beside.result.is_empty lists _ _ _ _ (omega (arith, two, count)) c.deref-2.ensures.value c.list_of.ensures c.deref-3.ensures.value c.list_of-other.ensures c.look_beside.ensures.empty))
+
+pub returns-clause-ahead : goal.returns-clause-ahead
+returns-clause-ahead c =
+    let n = c.self.inside.cells in
+    let lists = c.self.inside.lanes.items in
+    let f = subst (λ (ls : List (Vec LaneCar Global)). FoundAt ls c.args.k c.find-lane.result.0 c.find-lane.result.1) c.deref.ensures.value c.find-lane.ensures in
+    let two = rw (← c.self.view_is) at c.requires.two in
+    let count = lanes_count n lists c.self.inside.limit c.self.invariant in
+    rw (← c.self.view_is) (found_by (λ l x. sidegap (get_or (lanes_from n lists) (1 - l) []) x) n lists c.self.inside.limit _ _ _ c.self.invariant.sorted f c.look_beside.result.ahead
+    (here sidegap n _ _ _ c.look_beside.result.ahead lists _ _ _ _ (omega (arith, two, count)) c.deref-2.ensures.value c.list_of.ensures c.deref-3.ensures.value c.list_of-other.ensures c.look_beside.ensures.ahead))
+
+pub returns-clause-behind : goal.returns-clause-behind
+returns-clause-behind c =
+    let n = c.self.inside.cells in
+    let lists = c.self.inside.lanes.items in
+    let f = subst (λ (ls : List (Vec LaneCar Global)). FoundAt ls c.args.k c.find-lane.result.0 c.find-lane.result.1) c.deref.ensures.value c.find-lane.ensures in
+    let two = rw (← c.self.view_is) at c.requires.two in
+    let count = lanes_count n lists c.self.inside.limit c.self.invariant in
+    rw (← c.self.view_is) (found_by (λ l x. sideback (get_or (lanes_from n lists) (1 - l) []) x) n lists c.self.inside.limit _ _ _ c.self.invariant.sorted f c.look_beside.result.behind
+    (here sideback n _ _ _ c.look_beside.result.behind lists _ _ _ _ (omega (arith, two, count)) c.deref-2.ensures.value c.list_of.ensures c.deref-3.ensures.value c.list_of-other.ensures c.look_beside.ensures.behind))
+
+pub returns-clause-ahead_below : goal.returns-clause-ahead_below
+returns-clause-ahead_below c = rw (← c.self.view_is, length_first c.self.inside.cells c.self.inside.lanes.items c.self.inside.limit c.self.invariant) c.look_beside.ensures.ahead_within
+
+pub returns-clause-behind_below : goal.returns-clause-behind_below
+returns-clause-behind_below c = rw (← c.self.view_is, length_first c.self.inside.cells c.self.inside.lanes.items c.self.inside.limit c.self.invariant) c.look_beside.ensures.behind_within

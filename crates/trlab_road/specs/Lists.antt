@@ -1,0 +1,105 @@
+-- Lanes as lists of their cars by rising place.
+use Rattle.std.specs.Prelude.{◌≡◌, ℕ, suc, ◌+◌, ◌<◌, ◌≤◌, cond, sum_by, take, Option, Some, None, List, [], ◌∷◌, length, map, nat_eq, slice_index_or, Vec}
+use Rattle.std.specs.Global.{Global}
+use Rattle.std.specs.List.{range_with_len}
+use Rattle.trlab_road.specs.declared.car.Car.{Car}
+use Rattle.trlab_road.specs.declared.lane_car.LaneCar.{LaneCar}
+use Rattle.trlab_road.specs.Cells.{Cell, Lane, Cells, lane_cars}
+use Rattle.trlab_road.specs.Legal.{Legal}
+use Rattle.trlab_road.specs.Motion.{LaneFits, LaneMoves, lane_answer}
+
+-- what a list of cars has at a place
+abbrev pub cell_at : List LaneCar → ℕ → Cell
+cell_at [] x = None
+cell_at (car ∷ cars) x = cond (nat_eq car.place x) (Some (car.number, car.speed)) (cell_at cars x)
+
+-- the lane of so many cells on which these cars stand
+abbrev pub cells_of : ℕ → List LaneCar → Lane
+cells_of n cars = map (cell_at cars) (range_with_len 0 n)
+
+-- the places of the cars rise, from a place on and below the end
+abbrev pub Rises : ℕ → ℕ → List LaneCar → Type 0
+Rises x n [] = Unit {0}
+Rises x n (car ∷ cars) = (x ≤ car.place) × (car.place < n) × Rises (suc car.place) n cars
+
+-- the places of the cars rise, below some end
+abbrev pub Rising : List LaneCar → Type 0
+Rising cars = (n : ℕ) × Rises 0 n cars
+
+-- what stands for a car past the end of a list
+abbrev pub no_car : LaneCar
+no_car = record { number = 0; place = 0; speed = 0 }
+
+-- the place of the k-th car
+abbrev pub place_of : List LaneCar → ℕ → ℕ
+place_of cars k = (slice_index_or cars k no_car).place
+
+-- the cars before an index stand at most at a place, those from the index on stand past it
+pub record Parted (cars : List LaneCar) (x next : ℕ) : Type 0 where
+  pub before : (k : ℕ) → k < next → k < length cars → place_of cars k ≤ x
+  pub after : (k : ℕ) → next ≤ k → k < length cars → x < place_of cars k
+
+-- a car of a list as it stands on a lane of the road
+abbrev pub on : ℕ → LaneCar → Car
+on l car = record { number = car.number; lane = l; place = car.place; speed = car.speed }
+
+-- the lists that vectors of cars are
+abbrev pub lists_of : List (Vec LaneCar Global) → List (List LaneCar)
+lists_of lists = map (λ (v : Vec LaneCar Global). v.items) lists
+
+-- the lanes of so many cells on which the cars of these lists stand
+abbrev pub lanes_from : ℕ → List (Vec LaneCar Global) → List Lane
+lanes_from n lists = map (λ (v : Vec LaneCar Global). cells_of n v.items) lists
+
+-- the list of lane l
+abbrev pub list_at : List (Vec LaneCar Global) → ℕ → List LaneCar
+list_at lists l = slice_index_or (lists_of lists) l []
+
+-- each list is sorted
+pub record Sorted (n : ℕ) (lists : List (Vec LaneCar Global)) : Type 0 where
+  pub rises : (l : ℕ) → l < length lists → Rises 0 n (list_at lists l)
+
+-- what a `Road` keeps: its cells are legal, and the lists of its lanes are sorted
+pub record Kept (n : ℕ) (lists : List (Vec LaneCar Global)) (road : Cells) : Type 0 where
+  pub legal : Legal road
+  pub sorted : Sorted n lists
+
+-- the k-th car in standing order is one of lane l, at an index of its list
+pub record FoundAt (lists : List (Vec LaneCar Global)) (k l i : ℕ) : Type 0 where
+  pub on_lane : l < length lists
+  pub low : i < length (list_at lists l)
+  pub order : k ≡ sum_by length (take l (lists_of lists)) + i
+
+-- the first car from a place on stands at an index
+pub record Sought (cars : List LaneCar) (x index : ℕ) : Type 0 where
+  pub within : index ≤ length cars
+  pub before : (k : ℕ) → k < index → k < length cars → place_of cars k < x
+  pub from : (k : ℕ) → index ≤ k → k < length cars → x ≤ place_of cars k
+
+-- the cell that a car, or none, makes
+abbrev pub cell_of_car : Option LaneCar → Cell
+cell_of_car None = None
+cell_of_car (Some car) = Some (car.number, car.speed)
+
+-- a car, if there is one, stands at a place
+abbrev pub StandsAt : ℕ → Option LaneCar → Type 0
+StandsAt x None = Unit {0}
+StandsAt x (Some car) = car.place ≡ x
+
+-- the answers of the cars of lane l, where answers stand in standing order
+abbrev pub list_answer : ℕ → List (Vec LaneCar Global) → List ℕ → ℕ → ℕ → ℕ
+list_answer n lists answers l =
+    let before = sum_by lane_cars (take l (lanes_from n lists)) in
+    lane_answer (cells_of n (list_at lists l)) answers before
+
+-- each car's answer is at most the gap ahead of it, on each lane
+pub record ListsFit (n : ℕ) (lists : List (Vec LaneCar Global)) (answers : List ℕ) : Type 0 where
+  pub each_lane : (l : ℕ) → l < length lists
+      → LaneFits (list_answer n lists answers l) (cells_of n (list_at lists l))
+
+-- the next lists make the lanes after the motion of each lane
+pub record ListsMove (n : ℕ) (lists next : List (Vec LaneCar Global)) (answers : List ℕ) : Type 0 where
+  pub same_lanes : length next ≡ length lists
+  pub each_lane : (l : ℕ) → l < length lists
+      → LaneMoves (list_answer n lists answers l)
+      (cells_of n (list_at lists l)) (cells_of n (list_at next l))

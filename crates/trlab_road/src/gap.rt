@@ -1,0 +1,47 @@
+//! Gaps along a lane, from its list of cars by rising place.
+
+ghost use Rattle.std.specs.Prelude.{◌≡◌, ◌<◌, ◌≤◌, ℕ, length};
+ghost use Rattle.trlab_road.specs.declared.bounds.TheConstants.{GREATEST_LENGTH};
+ghost use Rattle.trlab_road.specs.Gaps.{behind, clear_cells, gap};
+ghost use Rattle.trlab_road.specs.Lists.{Parted, Rises, cells_of, place_of};
+
+use crate::lane_car::LaneCar;
+
+/// How many cells ahead of a place are empty, where the cars from an index on are those past it.
+pub fn gap_ahead(cars: &[LaneCar], cells: usize, place: usize, next: usize) -> usize
+    requires small { cells ≤ GREATEST_LENGTH }
+    requires inside { place < cells }
+    requires sorted { Rises 0 cells cars.now }
+    requires parted { Parted cars.now place next }
+    ensures value { result ≡ gap (cells_of cells cars.now) place }
+    ensures within { result < cells }
+{
+    if next < cars.len() {
+        cars[next].place as usize - place - 1
+    } else if cars.is_empty() {
+        cells - 1
+    } else {
+        cells - 1 - place + cars[0].place as usize
+    }
+}
+
+/// How many cells behind a place where no car stands are empty, where the cars from an index on
+/// are those past it.
+pub fn gap_behind(cars: &[LaneCar], cells: usize, place: usize, next: usize) -> usize
+    requires small { cells ≤ GREATEST_LENGTH }
+    requires inside { place < cells }
+    requires sorted { Rises 0 cells cars.now }
+    requires within { next ≤ length cars.now }
+    requires before { (k : ℕ) → k < next → k < length cars.now → place_of cars.now k < place }
+    requires after { (k : ℕ) → next ≤ k → k < length cars.now → place < place_of cars.now k }
+    ensures value { result ≡ clear_cells (cells_of cells cars.now) (behind cells place) }
+    ensures within { result < cells }
+{
+    if next > 0 {
+        place - cars[next - 1].place as usize - 1
+    } else if cars.is_empty() {
+        cells - 1
+    } else {
+        cells - 1 - cars[cars.len() - 1].place as usize + place
+    }
+}

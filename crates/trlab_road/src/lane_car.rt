@@ -1,0 +1,9 @@
+//! A car as the list of its lane has it.
+
+/// A car of a lane: its number, its place and its speed.
+#[derive(Clone, Copy, Debug, PartialEq, Eq)]
+pub struct LaneCar {
+    pub number: u32,
+    pub place: u32,
+    pub speed: u32,
+}

@@ -1,0 +1,79 @@
+//! The lanes of a road, each the list of its cars by rising place.
+
+ghost use Rattle.std.specs.Prelude.{ℕ, ◌≡◌, ◌<◌, ◌≤◌, ◌↔◌, IsTrue, IfOk, length, slice_index_or, sum_by};
+ghost use Rattle.trlab_road.specs.declared.bounds.TheConstants.{GREATEST_LENGTH, MOST_LANES};
+ghost use Rattle.trlab_road.specs.Lists.{FoundAt, list_at, lists_of, no_car, on};
+
+use crate::car::Car;
+use crate::lane_car::LaneCar;
+use std::alloc::{AllocError, Global};
+
+/// The lane of the k-th car in standing order, and its index in the list of the lane.
+pub fn find(lanes: &[Vec<LaneCar>], k: u32) -> (u32, usize)
+    requires few { length lanes.now ≤ MOST_LANES }
+    requires below { k < sum_by length (lists_of lanes.now) }
+    ensures { FoundAt lanes.now k result.0 result.1 }
+{
+    let index = k as usize;
+    let first = lanes[0].len();
+    if index < first {
+        (0, index)
+    } else {
+        (1, index - first)
+    }
+}
+
+/// The car at an index of the list of a lane.
+pub fn car_of(lanes: &[Vec<LaneCar>], lane: u32, index: usize) -> Car
+    requires on_lane { lane < length lanes.now }
+    requires low { index < length (list_at lanes.now lane) }
+    ensures { result ≡ on lane (slice_index_or (list_at lanes.now lane) index no_car) }
+{
+    let car = lanes[lane as usize][index];
+    Car {
+        number: car.number,
+        lane,
+        place: car.place,
+        speed: car.speed,
+    }
+}
+
+/// The list of a lane.
+pub fn list_of(lanes: &[Vec<LaneCar>], lane: u32) -> &[LaneCar]
+    requires { lane < length lanes.now }
+    ensures { result.now ≡ list_at lanes.now lane }
+{
+    &lanes[lane as usize]
+}
+
+/// How many cars lanes have.
+pub fn count_cars(lanes: &[Vec<LaneCar>]) -> u32
+    requires few { length lanes.now ≤ MOST_LANES }
+    requires small { (l : ℕ) → l < length lanes.now
+        → length (list_at lanes.now l) ≤ GREATEST_LENGTH }
+    ensures { result ≡ sum_by length (lists_of lanes.now) }
+{
+    let mut count = 0;
+    for lane in lanes {
+        count += lane.len() as u32;
+    }
+    count
+}
+
+/// The same lanes once more.
+pub fn copy_lanes(alloc: Global, lanes: &[Vec<LaneCar>]) -> Result<Vec<Vec<LaneCar>>, AllocError>
+    ensures { IfOk result (λ copies. lists_of copies.items ≡ lists_of lanes.now) }
+{
+    let mut copies = Vec::with_capacity(alloc, lanes.len())?;
+    for lane in lanes {
+        copies.push(Vec::from_slice(alloc, lane)?)?;
+    }
+    Ok(copies)
+}
+
+/// Have two lists of lanes the same cars?
+pub fn same_lanes(lanes: &[Vec<LaneCar>], others: &[Vec<LaneCar>]) -> bool
+    ensures { IsTrue result ↔ (lists_of lanes.now ≡ lists_of others.now) }
+{
+    lanes == others
+}

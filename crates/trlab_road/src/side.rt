@@ -1,0 +1,79 @@
+//! The side cell of a car and the gaps beside it, by a search of the other lane's list.
+
+ghost use Rattle.std.specs.Prelude.{◌≡◌, ◌<◌, ◌≤◌, nat_lt};
+ghost use Rattle.trlab_road.specs.declared.bounds.TheConstants.{GREATEST_LENGTH};
+ghost use Rattle.trlab_road.specs.Gaps.{side, sideback, sidegap};
+ghost use Rattle.trlab_road.specs.Lists.{Rises, Rising, Sought, cells_of};
+
+use crate::gap::{gap_ahead, gap_behind};
+use crate::lane_car::LaneCar;
+
+/// The index of the first car from a place on.
+fn first_from(cars: &[LaneCar], place: u32) -> usize
+    requires sorted { Rising cars.now }
+    ensures { Sought cars.now place result }
+{
+    cars.partition_point(
+        |car: &LaneCar| -> bool
+            ensures { result ≡ nat_lt car.now.place place }
+        { car.place < place },
+    )
+}
+
+/// What stands beside a car on the other lane.
+#[derive(Clone, Copy, Debug, PartialEq, Eq)]
+pub struct Beside {
+    /// Is the side cell empty?
+    pub is_empty: bool,
+    /// How many cells ahead of it are empty, 0 where it is taken.
+    pub ahead: u32,
+    /// How many cells behind it are empty, 0 where it is taken.
+    pub behind: u32,
+    /// How many cars of the other lane stand before the side cell.
+    pub next: usize,
+}
+
+/// The index of the first car from a place on, looked for from an index near it: from car to car
+/// where no earlier car is in question, else by halves.
+fn first_near(cars: &[LaneCar], place: u32, near: usize) -> usize
+    requires sorted { Rising cars.now }
+    ensures { Sought cars.now place result }
+{
+    if near == 0 || near > cars.len() || cars[near - 1].place >= place {
+        return first_from(cars, place);
+    }
+    for next in near..cars.len() {
+        if cars[next].place >= place {
+            return next;
+        }
+    }
+    cars.len()
+}
+
+/// What stands beside a place, which is looked for from an index near it.
+pub fn look_beside(cars: &[LaneCar], cells: usize, place: u32, near: usize) -> Beside
+    requires small { cells ≤ GREATEST_LENGTH }
+    requires inside { place < cells }
+    requires sorted { Rises 0 cells cars.now }
+    ensures empty { result.is_empty ≡ side (cells_of cells cars.now) place }
+    ensures ahead { result.ahead ≡ sidegap (cells_of cells cars.now) place }
+    ensures behind { result.behind ≡ sideback (cells_of cells cars.now) place }
+    ensures ahead_within { result.ahead < cells }
+    ensures behind_within { result.behind < cells }
+{
+    let next = first_near(cars, place, near);
+    if next < cars.len() && cars[next].place == place {
+        return Beside {
+            is_empty: false,
+            ahead: 0,
+            behind: 0,
+            next,
+        };
+    }
+    Beside {
+        is_empty: true,
+        ahead: gap_ahead(cars, cells, place as usize, next) as u32,
+        behind: gap_behind(cars, cells, place as usize, next) as u32,
+        next,
+    }
+}

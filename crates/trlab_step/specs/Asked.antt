@@ -1,0 +1,55 @@
+-- Cars of a road that are asked together.
+use Rattle.std.specs.Prelude.{◌≡◌, ◌<◌, ◌≤◌, ℕ, Bool, true, false, List, [], Some, slice_get, slice_index, slice_index_or}
+use Rattle.trlab_words.specs.Words.{random_word}
+use Rattle.trlab_code.specs.declared.kind.Kind.{Kind}
+use Rattle.trlab_code.specs.declared.kind.Kind.TheVariants.{Motion, Change}
+use Rattle.trlab_code.specs.declared.instruction.Register.{Register}
+use Rattle.trlab_code.specs.declared.instruction.Instr.{Instr}
+use Rattle.trlab_code.specs.declared.instruction.Instr.TheVariants.{Draw}
+use Rattle.trlab_code.specs.declared.program.TheConstants.{CERTAIN}
+use Rattle.trlab_code.specs.declared.view.View.{View}
+use Rattle.trlab_code.specs.Views.{IsView}
+use Rattle.trlab_road.specs.declared.car.Car.{Car}
+use Rattle.trlab_road.specs.Cells.{Cells}
+use Rattle.trlab_road.specs.Crossing.{sides}
+use Rattle.trlab_road.specs.Motion.{gaps}
+use Rattle.trlab_road.specs.Standing.{standing}
+use Rattle.trlab_verify.specs.Checked.{Checked}
+use Rattle.trlab_step.specs.Answers.{AnswersCrossing, AnswersSpeed, Dice, change_seen, motion_seen}
+
+-- what a program of a kind sees of a car
+abbrev pub seen_by : Kind → Cells → Car → View
+seen_by Motion road car = motion_seen road car.lane car.place car.speed
+seen_by Change road car = change_seen road car.lane car.place car.speed
+
+-- what is seen of the k-th car in standing order, and its number
+pub record IsAsked (kind : Kind) (road : Cells) (k : ℕ) (view : View) (number : ℕ) : Type 0 where
+  pub is_view : IsView view
+  pub seen : (car : Car) → slice_get (standing road) k ≡ Some car → view ≡ seen_by kind road car
+  pub number_of : (car : Car) → slice_get (standing road) k ≡ Some car → number ≡ car.number
+  pub limit : view.limit ≡ road.limit
+  pub gap : view.gap ≡ slice_index (gaps road) k
+  pub side : kind ≡ Change → view.side ≡ slice_index_or (sides road) k false
+
+-- each word that a program draws on with a chance that is neither 0 nor certain is among those that are needed
+abbrev pub AllNeeded : List Instr → List Bool → Type 0
+AllNeeded code needed = (pc : ℕ) (d : Register) (w t : ℕ) →
+    slice_get code pc ≡ Some (Draw d w t) → 0 < t → t < CERTAIN → slice_index_or needed w false ≡ true
+
+-- the needed words of some cars, given by their numbers, stand in columns
+abbrev pub HasWords : Dice → List Bool → List ℕ → ℕ → List (List ℕ) → Type 0
+HasWords dice needed numbers cars words = (w j : ℕ) → slice_index_or needed w false ≡ true → j < cars →
+    slice_index (slice_index_or words w []) j ≡ random_word dice.key dice.road (slice_index numbers j) dice.step w
+
+-- a motion program answers this speed to the k-th car in standing order, within its gap and the limit
+pub record GoesBy (motion : Checked) (dice : Dice) (road : Cells) (k speed : ℕ) : Type 0 where
+  pub answer : (car : Car) → slice_get (standing road) k ≡ Some car
+      → AnswersSpeed motion dice road car.lane car.place car.number car.speed speed
+  pub gap : speed ≤ slice_index (gaps road) k
+  pub limit : speed ≤ road.limit
+
+-- a change program answers so whether the k-th car in standing order crosses; it crosses only to an empty cell
+pub record CrossesBy (change : Checked) (dice : Dice) (road : Cells) (k : ℕ) (crosses : Bool) : Type 0 where
+  pub answer : (car : Car) → slice_get (standing road) k ≡ Some car
+      → AnswersCrossing change dice road car.lane car.place car.number car.speed crosses
+  pub side : crosses ≡ true → slice_index_or (sides road) k false ≡ true

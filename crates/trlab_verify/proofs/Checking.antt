@@ -1,0 +1,44 @@
+-- Tables that check, told by the note at each pc.
+use Rattle.std.proofs.Common.{◌≡◌, ◌∙◌, ℕ, suc, ◌<◌, ◌≤◌, sym, subst, arith, inl, inr, List, [], length, Option, Some, None, get_or, map, Bool, false}
+use Rattle.std.specs.Prelude.{slice_get, IfSome}
+use Rattle.std.specs.List.{range_with_len}
+use Rattle.std.proofs.lemmas.Bool.{cases_lt}
+use Rattle.std.proofs.lemmas.List.{get_or-map}
+use Rattle.std.proofs.lemmas.List.FromFn.{get_or-map-range_with_len}
+use Rattle.std.proofs.lemmas.Option.{slice_get_within}
+use Rattle.trlab_code.specs.declared.kind.Kind.{Kind}
+use Rattle.trlab_code.specs.declared.instruction.Instr.{Instr}
+use Rattle.trlab_code.specs.Program.{Program}
+use Rattle.trlab_code.specs.Flow.{target}
+use Rattle.trlab_notes.specs.Notes.{Note, entry, fall, jump}
+use Rattle.trlab_notes.specs.Order.{NoStronger}
+use Rattle.trlab_notes.specs.Reasons.{tests, first_true}
+use Rattle.trlab_notes.proofs.Order.{blank_least}
+use Rattle.trlab_verify.specs.Arrivals.{note_at}
+use Rattle.trlab_verify.specs.Tables.{Checks, ChecksAt, IsJudgedBy, blank, note_in}
+
+-- a table that checks, as a function from pcs
+pub record ChecksBy (kind : Kind) (program : Program) (note : ℕ → Note) : Type 0 where
+  pub first : NoStronger (note 0) (entry kind)
+  pub each : (pc : ℕ) (i : Instr) → slice_get program.instrs pc ≡ Some i → ChecksAt kind program note pc i
+
+pub by_notes : (kind : Kind) (program : Program) (table : List Note) → Checks kind program table → ChecksBy kind program (note_in table)
+by_notes kind program table h = record { first = h.first; each = h.each }
+
+-- two functions that agree on the program's instructions check alike
+module _ (kind : Kind) (program : Program) (note other : ℕ → Note) (same : (pc : ℕ) → pc < length program.instrs → note pc ≡ other pc) where
+  pub at_same : (pc : ℕ) (i : Instr) → slice_get program.instrs pc ≡ Some i → ChecksAt kind program note pc i → ChecksAt kind program other pc i
+  at_same pc i e h =
+      let here : note pc ≡ other pc = same pc (slice_get_within program.instrs pc i e) in
+      record {
+        reached = h.reached;
+        clear = subst (λ z. first_true 2 (tests kind program.kind (length program.instrs) pc z i) ≡ None) here h.clear;
+        falls = λ lt. subst (λ z. IfSome (fall z i) (NoStronger (other (suc pc)))) here (subst (λ z. IfSome (fall (note pc) i) (NoStronger z)) (same (suc pc) lt) (h.falls lt));
+        jumps = λ t et lt. subst (λ z. NoStronger (other t) (jump z i)) here (subst (λ z. NoStronger z (jump (note pc) i)) (same t lt) (h.jumps t et lt));
+      }
+
+-- a table whose notes are those of a function that checks
+pub as_table : (kind : Kind) (program : Program) (table : List Note) (note : ℕ → Note) → ((pc : ℕ) → pc < length program.instrs → note pc ≡ note_in table pc) →
+    length table ≡ length program.instrs → NoStronger (note_in table 0) (entry kind) → ChecksBy kind program note → Checks kind program table
+as_table kind program table note same len first h =
+    record { one_each = len; first = first; each = λ pc i e. at_same kind program note (note_in table) same pc i e (h.each pc i e) }

@@ -1,0 +1,18 @@
+use Rattle.std.proofs.Common.{◌≡◌, ℕ, ◌<◌, ◌+◌, ◌*◌, get_or, length, []}
+use Rattle.trlab_code.specs.declared.instruction.TheConstants.{PLACES}
+use Rattle.trlab_notes.specs.declared.note.Said.TheVariants.{Nothing}
+use Rattle.trlab_verify.specs.declared.table.note.Mark.TheVariants.{Unset}
+use Rattle.trlab_verify.specs.Handed.{said_of}
+use Rattle.trlab_verify.proofs.table.note.write.Given as goal
+
+abbrev pub invariant-loop-x : goal.invariant-loop-x
+invariant-loop-x l = record {
+  all : length l.regs ≡ 8;
+  so_far : (k : ℕ) → k < l.x → said_of (get_or l.regs k Unset) ≡ get_or l.noted.said k Nothing;
+}
+
+abbrev pub invariant-loop-x-2 : goal.invariant-loop-x-2
+invariant-loop-x-2 l = record {
+  all : length l.levels ≡ PLACES;
+  so_far : (k : ℕ) → k < l.x → (y : ℕ) → y < PLACES → get_or (get_or l.levels k []) y 0 ≡ get_or l.noted.levels (PLACES * k + y) 0;
+}

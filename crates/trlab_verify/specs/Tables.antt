@@ -1,0 +1,49 @@
+-- Tables of notes, one note for each instruction of a program, and which of them check.
+use Rattle.std.specs.Prelude.{◌≡◌, ℕ, suc, ◌<◌, List, length, slice_get, slice_index_or, Option, Some, None, IfSome, false}
+use Rattle.trlab_code.specs.declared.kind.Kind.{Kind}
+use Rattle.trlab_code.specs.declared.instruction.Instr.{Instr}
+use Rattle.trlab_code.specs.Program.{Program}
+use Rattle.trlab_code.specs.Flow.{target}
+use Rattle.trlab_notes.specs.declared.note.Said.TheVariants.{Nothing}
+use Rattle.trlab_notes.specs.Notes.{Note, entry, fall, jump}
+use Rattle.trlab_notes.specs.Order.{NoStronger}
+use Rattle.trlab_notes.specs.Reasons.{tests, first_true}
+use Rattle.trlab_verify.specs.Longest.{Follows}
+use Rattle.trlab_verify.specs.Arrivals.{note_at}
+
+-- a note that says nothing
+abbrev pub blank : Note
+blank = record { said = λ x. Nothing; level = λ x y. 0; side = false }
+
+-- the note of a table for the instruction at pc
+abbrev pub note_in : List Note → ℕ → Note
+note_in table pc = slice_index_or table pc blank
+
+-- All is well with the notes at the instruction i, which stands at pc: another leads to it, unless it is the
+-- first; there is no reason to refuse it; no note that it leads to is stronger than what comes there from it.
+pub record ChecksAt (kind : Kind) (program : Program) (note : ℕ → Note) (pc : ℕ) (i : Instr) : Type 0 where
+  pub reached : 0 < pc → (p : ℕ) × Follows program.instrs p pc
+  pub clear : first_true 2 (tests kind program.kind (length program.instrs) pc (note pc) i) ≡ None
+  pub falls : suc pc < length program.instrs → IfSome (fall (note pc) i) (NoStronger (note (suc pc)))
+  pub jumps : (t : ℕ) → target i ≡ Some t → t < length program.instrs → NoStronger (note t) (jump (note pc) i)
+
+-- a table checks: the first note is no stronger than that of the entry, and all is well at each instruction
+pub record Checks (kind : Kind) (program : Program) (table : List Note) : Type 0 where
+  pub one_each : length table ≡ length program.instrs
+  pub first : NoStronger (note_in table 0) (entry kind)
+  pub each : (pc : ℕ) (i : Instr) → slice_get program.instrs pc ≡ Some i
+      → ChecksAt kind program (note_in table) pc i
+
+-- some table of notes checks
+abbrev pub SomeTableChecks : Kind → Program → Type 0
+SomeTableChecks kind program = (table : List Note) × Checks kind program table
+
+-- the notes with which the verdict judges a program, as a table
+pub record IsJudgedBy (kind : Kind) (program : Program) (table : List Note) : Type 0 where
+  pub one_each : length table ≡ length program.instrs
+  pub each : (pc : ℕ) → pc < length program.instrs → note_at kind program.instrs pc ≡ Some (note_in table pc)
+
+-- the note with which the verdict judges the instruction at pc is at least as strong as this one
+abbrev pub AtLeast : Kind → Program → ℕ → Note → Type 0
+AtLeast kind program pc note =
+    (best : Note) × (note_at kind program.instrs pc ≡ Some best) × NoStronger note best

@@ -1,0 +1,119 @@
+//! Whether a table of notes that is handed in checks.
+
+ghost use Rattle.std.specs.Prelude.{◌≡◌, ◌↔◌, ℕ, suc, ◌<◌, ◌≤◌, ◌||◌, ◌&&◌, All, IfSome, IsTrue, Some, false, length, nat_eq, slice_get};
+ghost use Rattle.trlab_code.specs.declared.instruction.Instr.{Instr as AnInstr};
+ghost use Rattle.trlab_code.specs.Flow.{falls, target};
+ghost use Rattle.trlab_code.specs.Machine.{IsSafe};
+ghost use Rattle.trlab_code.specs.Program.{InRange};
+ghost use Rattle.trlab_notes.specs.Noted.{note_of};
+ghost use Rattle.trlab_notes.specs.Notes.{fall, jump};
+ghost use Rattle.trlab_notes.specs.Order.{NoStronger};
+ghost use Rattle.trlab_notes.specs.Reasons.{on_target, too_large};
+ghost use Rattle.trlab_verify.specs.Handed.{written_at, written_table};
+ghost use Rattle.trlab_verify.specs.Longest.{Follows, IsLongest};
+ghost use Rattle.trlab_verify.specs.Tables.{Checks, ChecksAt};
+
+use super::note::{Note, read};
+use trlab_code::{Code, Instr, Kind, MOST_INSTRUCTIONS};
+use trlab_notes::{Noted, fall_note, is_no_stronger, jump_note, reason_against};
+
+/// Whether the instruction at q may come after the one at pc.
+fn follows(instr: Instr, pc: usize, q: usize) -> bool
+    requires { pc < MOST_INSTRUCTIONS }
+    ensures { result ≡ ((falls instr && nat_eq q (suc pc)) || on_target (nat_eq q) (target instr)) }
+{
+    (instr.falls() && q == pc + 1) || instr.target().is_some_and(|target| q == target as usize)
+}
+
+/// Whether some instruction leads to the one at q.
+fn is_reached(instrs: &[Instr], q: usize) -> bool
+    requires { length instrs.now ≤ MOST_INSTRUCTIONS }
+    ensures { IsTrue result ↔ ((pc : ℕ) × Follows instrs.now pc q) }
+{
+    for pc in 0..instrs.len() {
+        if follows(instrs[pc], pc, q) {
+            return true;
+        }
+    }
+    false
+}
+
+/// Whether the note at the next instruction is no stronger than what comes to it from the one at `pc`.
+fn fall_checks(kind: Kind, table: &[Note], pc: usize, note: &Noted, instr: Instr) -> bool
+    requires inside { pc < length table.now }
+    requires in_range { InRange instr }
+    requires fits { too_large (note_of note.now) instr ≡ false }
+    ensures { IsTrue result ↔ (suc pc < length table.now →
+        IfSome (fall (note_of note.now) instr) (NoStronger (written_at kind table.now (suc pc)))) }
+{
+    let next = pc + 1;
+    if next >= table.len() {
+        return true;
+    }
+    match fall_note(note, instr) {
+        Some(falling) => is_no_stronger(&read(kind, &table[next]), &falling),
+        None => true,
+    }
+}
+
+/// Whether the note at a jump's target is no stronger than what comes to it.
+fn jump_checks(kind: Kind, table: &[Note], note: &Noted, instr: Instr) -> bool
+    ensures { IsTrue result ↔ ((t : ℕ) → target instr ≡ Some t → t < length table.now →
+        NoStronger (written_at kind table.now t) (jump (note_of note.now) instr)) }
+{
+    let Some(target) = instr.target() else {
+        return true;
+    };
+    let to = target as usize;
+    to >= table.len() || is_no_stronger(&read(kind, &table[to]), &jump_note(note, instr))
+}
+
+/// Whether a table checks at `pc`.
+fn checks_at(kind: Kind, instrs: &[Instr], table: &[Note], pc: usize) -> bool
+    requires inside { pc < length instrs.now }
+    requires few { length instrs.now ≤ MOST_INSTRUCTIONS }
+    requires in_range { All InRange instrs.now }
+    requires one_each { length table.now ≡ length instrs.now }
+    ensures { IsTrue result ↔ ((i : AnInstr) → slice_get instrs.now pc ≡ Some i →
+        ChecksAt kind (record { kind = kind; instrs = instrs.now }) (written_at kind table.now) pc i) }
+{
+    let instr = instrs[pc];
+    let note = read(kind, &table[pc]);
+    if pc > 0 && !is_reached(instrs, pc) {
+        return false;
+    }
+    if reason_against(kind, kind, instrs.len(), pc, &note, instr).is_some() {
+        return false;
+    }
+    fall_checks(kind, table, pc, &note, instr) && jump_checks(kind, table, &note, instr)
+}
+
+/// Whether a table of notes checks for a program of its own kind: the first note says no more than
+/// what holds at the start, each instruction is reached and has no reason to be refused, and what
+/// comes from it on each way says at least what the note there says.
+///
+/// Where it checks, the program ends untrapped within its longest way on each view and all random
+/// words, whoever made the table. This takes no memory, and judges a table that was handed in from
+/// anywhere: a table with more or fewer notes than the program has instructions does not check, and
+/// none does in which a level above 2 is looked at.
+pub fn check_notes(code: &Code, table: &[Note]) -> bool
+    ensures exact { IsTrue result ↔
+        Checks code.now.kind code.now (written_table code.now.kind table.now) }
+    ensures safe { IsTrue result → (budget : ℕ) →
+        IsLongest code.now.instrs 0 budget → IsSafe code.now.kind code.now.instrs budget }
+{
+    let kind = code.kind();
+    let instrs = code.instrs();
+    if table.len() != instrs.len() {
+        return false;
+    }
+    if !is_no_stronger(&read(kind, &table[0]), &Noted::entry(kind)) {
+        return false;
+    }
+    for pc in 0..instrs.len() {
+        if !checks_at(kind, instrs, table, pc) {
+            return false;
+        }
+    }
+    true
+}

@@ -1,0 +1,86 @@
+//! A key as the words that its blocks begin with, and the random words of four cars at once.
+
+ghost use Rattle.std.specs.Prelude.{◌≡◌, ℕ, ◌<◌, ◌^◌, List, All, length, slice_index};
+ghost use Rattle.rand_chacha.specs.ChaCha.{seed_of};
+ghost use Rattle.trlab_words.specs.Words.{random_word};
+
+use crate::Key;
+use crate::block::block_word_of_cars;
+use rand_core::utils::read_u32;
+use std::marker::Model;
+
+/// A key as eight words of 32 bits, read once for many calls.
+#[derive(Drop)]
+pub struct KeyWords {
+    words: [u32; 8],
+}
+
+impl Model for KeyWords {
+    ghost Value = { List ℕ };
+
+    ghost view = { λ key. seed_of key.words };
+
+    ghost invariant = { λ key. All (λ word. word < 2 ^ 32) key.words };
+}
+
+impl Key {
+    /// The key's eight words.
+    pub fn words(&self) -> KeyWords
+        ensures { result ≡ self.now.0 }
+    {
+        read_words(&self.0)
+    }
+}
+
+// The words of a key's bytes: each of four bytes, the low byte first.
+fn read_words(bytes: &[u8]) -> KeyWords
+    requires { length bytes.now ≡ 32 }
+    ensures { result ≡ bytes.now }
+{
+    KeyWords {
+        words: [
+            read_u32(bytes, 0),
+            read_u32(bytes, 1),
+            read_u32(bytes, 2),
+            read_u32(bytes, 3),
+            read_u32(bytes, 4),
+            read_u32(bytes, 5),
+            read_u32(bytes, 6),
+            read_u32(bytes, 7),
+        ],
+    }
+}
+
+/// Word k, below 16, of each of four cars in a step of a road: what `words` has at k for that car.
+pub fn word_of_cars(key: &KeyWords, road: u32, cars: [u32; 4], step: u32, k: usize) -> [u32; 4]
+    requires { k < 16 }
+    ensures { (j : ℕ) → j < 4 → slice_index result j ≡ random_word key.now road (slice_index cars j) step k }
+{
+    block_word_of_cars(&key.words, road, cars, step, k)
+}
+
+#[cfg(test)]
+mod tests {
+    use super::word_of_cars;
+    use crate::{Key, words};
+
+    #[test]
+    fn the_zero_key_begins_as_published(rt: HostRuntime) {
+        let key = Key([0; 32]).words();
+        let [first, ..] = word_of_cars(&key, 0, [0, 1, 2, 3], 0, 0);
+        let [second, ..] = word_of_cars(&key, 0, [0, 1, 2, 3], 0, 1);
+        assert_eq!(rt; first, 2917185654);
+        assert_eq!(rt; second, 2419978656);
+    }
+
+    #[test]
+    fn each_car_has_its_own_words(rt: HostRuntime) {
+        let key = Key(*b"0123456789abcdefghijklmnopqrstuv");
+        let cars = [3, 0, 4294967295, 70000];
+        for k in 0..16 {
+            let drawn = word_of_cars(&key.words(), 5, cars, 4000000000, k);
+            let wanted = cars.map(|car| words(&key, 5, car, 4000000000)[k]);
+            assert_eq!(rt; drawn, wanted);
+        }
+    }
+}
