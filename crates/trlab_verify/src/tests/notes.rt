@@ -1,5 +1,5 @@
-//! The notes of programs. Those that are wanted come from another program, written from the rules of
-//! the verifier alone; its random programs join, forget and learn in as many ways as were found.
+//! The notes of fifteen programs. Those that are wanted were written by another program, which was
+//! made from the rules of the verifier alone.
 
 use crate::{Mark, Note, check_notes, notes};
 use std::alloc::{AllocError, Global};
