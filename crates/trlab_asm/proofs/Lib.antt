@@ -7,3 +7,5 @@ pub mod Printed
 pub mod PrintedInstrs
 pub mod PrintedLines
 pub mod Reread
+pub mod Said
+pub mod Named

@@ -10,7 +10,7 @@ use Rattle.trlab_asm.specs.Names.{register_text, input_text, mnemonic_text}
 use Rattle.trlab_asm.specs.Operands.{Target}
 use Rattle.trlab_asm.specs.Reading.{Draft, drafted, body}
 use Rattle.trlab_asm.specs.Canonical.{target_text, ◌comma◌, named, instr_text}
-use Rattle.trlab_asm.specs.Laws.{HasWord}
+use Rattle.trlab_code.specs.Laws.{HasWord}
 use Rattle.trlab_asm.specs.declared.names.Mnemonic.{Mnemonic}
 use Rattle.trlab_asm.specs.declared.names.Mnemonic.TheVariants as name
 use Rattle.trlab_asm.proofs.Plain.{word_and_more}

@@ -17,7 +17,8 @@ use Rattle.trlab_asm.specs.Operands.{Target}
 use Rattle.trlab_asm.specs.Reading.{Labels, line_says}
 use Rattle.trlab_asm.specs.Assembly.{Read, with_label, first_pass, aimed, placed, finished, second_pass, code_of}
 use Rattle.trlab_asm.specs.Canonical.{label_text, line_text, is_pc, is_target, text_from, text_of}
-use Rattle.trlab_asm.specs.Laws.{HasWord, CanonicalTextSaysTheProgram, OneProgramOfAText}
+use Rattle.trlab_code.specs.Laws.{HasWord}
+use Rattle.trlab_asm.specs.Laws.{CanonicalTextSaysTheProgram, OneProgramOfAText}
 use Rattle.trlab_asm.proofs.Cuts.{line_and_rest}
 use Rattle.trlab_asm.proofs.Passes.{first_next}
 use Rattle.trlab_asm.proofs.Printed.{goal_of}

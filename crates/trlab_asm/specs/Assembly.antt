@@ -1,4 +1,5 @@
--- What program the lines of a text say. The first pass reads them in order, the second gives jumps the pcs of their labels.
+-- What program the lines of a text say. The first pass reads them in order, the second gives jumps the pcs of
+-- their labels.
 use Rattle.std.specs.Prelude.{◌≡◌, ℕ, ◌+◌, ◌==◌, List, [], ◌∷◌, ◌++◌, length, bytes_eq, Option, None, Some, Result, Ok, Err, if◌then◌else◌}
 use Rattle.std.specs.Map.{update}
 use Rattle.trlab_code.specs.Program.{Program}
@@ -42,12 +43,17 @@ with_read reads number (Some draft) = reads ++ (record { line = number; draft = 
 
 -- what was read so far, and what one line more says: its label names the next instruction
 abbrev pub with_line : Parts → ℕ → Line → Parts
-with_line parts number line = record { labels = with_label parts.labels (length parts.reads) line.label; reads = with_read parts.reads number line.draft }
+with_line parts number line = record {
+  labels = with_label parts.labels (length parts.reads) line.label;
+  reads = with_read parts.reads number line.draft;
+}
 
 -- the first pass: what the lines from a number on say behind what was read so far, or the first fault
 unfoldable pub first_pass : Parts → ℕ → List (List ℕ) → Result Parts AsmFault
 first_pass parts number [] = Ok parts
-first_pass parts number (line ∷ left) = in_line number (line_says parts.labels (length parts.reads) line) >>= λ said. first_pass (with_line parts number said) (number + 1) left
+first_pass parts number (line ∷ left) =
+    in_line number (line_says parts.labels (length parts.reads) line)
+    >>= λ said. first_pass (with_line parts number said) (number + 1) left
 
 -- a jump with another target; other instructions have none
 abbrev pub aimed : ℕ → Instr → Instr
@@ -91,11 +97,13 @@ finished labels read = placed labels read.line read.draft.instr read.draft.label
 -- the second pass: the instructions with their targets, or the first fault
 unfoldable pub second_pass : Labels → List Read → Result (List Instr) AsmFault
 second_pass labels [] = Ok []
-second_pass labels (read ∷ reads) = finished labels read >>= λ instr. second_pass labels reads >>= λ instrs. Ok (instr ∷ instrs)
+second_pass labels (read ∷ reads) =
+    finished labels read >>= λ instr. second_pass labels reads >>= λ instrs. Ok (instr ∷ instrs)
 
 -- the instructions of what was read; none is a fault of no line
 abbrev pub instrs_of : Parts → Result (List Instr) AsmFault
-instrs_of parts = if length parts.reads == 0 then Err (record { line = 0; why = Empty }) else second_pass parts.labels parts.reads
+instrs_of parts =
+    if length parts.reads == 0 then Err (record { line = 0; why = Empty }) else second_pass parts.labels parts.reads
 
 -- the program of this kind that the lines of a text say, numbered from 1, or their first fault
 abbrev pub code_of : Kind → List (List ℕ) → Result Program AsmFault

@@ -42,8 +42,10 @@ instr_text count (Not d a) = named name.Not (register_text d comma register_text
 instr_text count (And d a b) = named name.And (register_text d comma register_text a comma register_text b)
 instr_text count (Or d a b) = named name.Or (register_text d comma register_text a comma register_text b)
 instr_text count (Jump t) = named name.Jump (target_text count t)
-instr_text count (JumpLess a b t) = named name.JumpLess (register_text a comma register_text b comma target_text count t)
-instr_text count (JumpAtMost a b t) = named name.JumpAtMost (register_text a comma register_text b comma target_text count t)
+instr_text count (JumpLess a b t) =
+    named name.JumpLess (register_text a comma register_text b comma target_text count t)
+instr_text count (JumpAtMost a b t) =
+    named name.JumpAtMost (register_text a comma register_text b comma target_text count t)
 instr_text count (JumpTrue a t) = named name.JumpTrue (register_text a comma target_text count t)
 instr_text count (JumpFalse a t) = named name.JumpFalse (register_text a comma target_text count t)
 instr_text count (Go a) = named name.Go (register_text a)
@@ -61,12 +63,14 @@ is_target instrs pc = list_any (λ instr. is_pc pc (target instr)) instrs
 
 -- an instruction's line, behind its label if it is marked
 abbrev pub line_text : ℕ → Bool → ℕ → Instr → List ℕ
-line_text count marked pc instr = if marked then label_text pc ++ (58 ∷ 32 ∷ instr_text count instr) else instr_text count instr
+line_text count marked pc instr =
+    if marked then label_text pc ++ (58 ∷ 32 ∷ instr_text count instr) else instr_text count instr
 
 -- the lines of the instructions from a pc on; those that a jump goes to are marked
 unfoldable pub text_from : List Instr → ℕ → List Instr → List ℕ
 text_from instrs pc [] = []
-text_from instrs pc (instr ∷ left) = line_text (length instrs) (is_target instrs pc) pc instr ++ (10 ∷ text_from instrs (pc + 1) left)
+text_from instrs pc (instr ∷ left) =
+    line_text (length instrs) (is_target instrs pc) pc instr ++ (10 ∷ text_from instrs (pc + 1) left)
 
 -- the canonical text of a program's instructions
 abbrev pub text_of : List Instr → List ℕ

@@ -1,20 +1,21 @@
 -- Laws of program texts.
-use Rattle.std.specs.Prelude.{◌≡◌, ◌<◌, ◌^◌, All, Ok}
+use Rattle.std.specs.Prelude.{◌≡◌, ◌≢◌, ◌↔◌, ℕ, List, Some, Ok, MatchResult}
+use Rattle.trlab_code.specs.declared.kind.Kind.{Kind}
+use Rattle.trlab_code.specs.declared.instruction.Register.{Register}
+use Rattle.trlab_code.specs.declared.instruction.Input.{Input}
 use Rattle.trlab_code.specs.Program.{Program, IsProgram}
-use Rattle.trlab_code.specs.Spelling.{row_of}
-use Rattle.trlab_code.specs.declared.instruction.Instr.{Instr}
+use Rattle.trlab_code.specs.Laws.{IsStored}
 use Rattle.trlab_asm.specs.Lines.{lines_of}
+use Rattle.trlab_asm.specs.Names.{register_text, input_text, mnemonic_text, register_named, input_named, mnemonic_named}
 use Rattle.trlab_asm.specs.Assembly.{code_of}
 use Rattle.trlab_asm.specs.Canonical.{text_of}
+use Rattle.trlab_asm.specs.declared.names.Mnemonic.{Mnemonic}
+use Rattle.trlab_asm.specs.declared.fault.Why.TheVariants.{Memory}
 
--- the number of an instruction, or its target, is one of 32 bits
-abbrev pub HasWord : Instr → Type 0
-HasWord instr = (row_of instr).number < 2 ^ 32
-
--- a program that a machine can hold
-pub record IsStored (program : Program) : Type 0 where
-  pub is_program : IsProgram program
-  pub has_words : All HasWord program.instrs
+-- any text says a program, or has a first fault that is not want of memory
+abbrev pub TextsSaySomething : Type 0
+TextsSaySomething = (kind : Kind) (text : List ℕ)
+    → MatchResult (code_of kind (lines_of text)) IsProgram (λ fault. fault.why ≢ Memory)
 
 -- the canonical text of a program says the program
 abbrev pub CanonicalTextSaysTheProgram : Type 0
@@ -25,3 +26,18 @@ CanonicalTextSaysTheProgram = (program : Program) → IsStored program
 abbrev pub OneProgramOfAText : Type 0
 OneProgramOfAText = (first second : Program) → IsStored first → IsStored second
     → first.kind ≡ second.kind → text_of first.instrs ≡ text_of second.instrs → first ≡ second
+
+-- a word names a register just where it is its text
+abbrev pub RegistersAreNamed : Type 0
+RegistersAreNamed = (word : List ℕ) (register : Register)
+    → register_named word ≡ Some register ↔ (word ≡ register_text register)
+
+-- a word names an input just where it is its text
+abbrev pub InputsAreNamed : Type 0
+InputsAreNamed = (word : List ℕ) (input : Input)
+    → input_named word ≡ Some input ↔ (word ≡ input_text input)
+
+-- a word names an instruction just where it is its text
+abbrev pub InstructionsAreNamed : Type 0
+InstructionsAreNamed = (word : List ℕ) (name : Mnemonic)
+    → mnemonic_named word ≡ Some name ↔ (word ≡ mnemonic_text name)

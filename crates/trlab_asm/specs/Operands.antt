@@ -55,7 +55,9 @@ numeral text = word text >>= digits_of
 -- the number that ten digits or fewer stand for, where it is from low to high
 abbrev pub ranged : ℕ → ℕ → List ℕ → Result ℕ Why
 ranged low high digits =
-    if nat_le (length digits) MOST_DIGITS && (nat_le low (digits_value 10 digits) && nat_le (digits_value 10 digits) high) then Ok (digits_value 10 digits) else Err Number
+    if nat_le (length digits) MOST_DIGITS
+    && (nat_le low (digits_value 10 digits) && nat_le (digits_value 10 digits) high)
+    then Ok (digits_value 10 digits) else Err Number
 
 -- a number from low to high
 abbrev pub number : ℕ → ℕ → List ℕ → Result ℕ Why
@@ -72,7 +74,9 @@ all_label_bytes text = list_all (λ c. is_ascii_alphanumeric c || c == 95) text
 
 -- 1 to 32 letters, digits or `_`, and no digit first
 abbrev pub is_label : List ℕ → Bool
-is_label text = (nat_lt 0 (length text) && nat_le (length text) LONGEST_LABEL) && (not (is_ascii_digit (slice_index text 0)) && all_label_bytes text)
+is_label text =
+    (nat_lt 0 (length text) && nat_le (length text) LONGEST_LABEL)
+    && (not (is_ascii_digit (slice_index text 0)) && all_label_bytes text)
 
 -- a target that is a pc
 abbrev pub at_pc : ℕ → Result Target Why
@@ -80,7 +84,8 @@ at_pc pc = Ok (record { pc = pc; label = None })
 
 -- what follows a front of a text
 abbrev pub behind : List ℕ → List ℕ → Option (List ℕ)
-behind front text = if bytes_eq (take (length front) text) front then Some (drop (length front) text) else None
+behind front text =
+    if bytes_eq (take (length front) text) front then Some (drop (length front) text) else None
 
 -- the pc of `@` and digits
 abbrev pub pc_named : List ℕ → Result Target Why
@@ -100,7 +105,8 @@ target text = word text >>= target_named
 
 infixr 15 ◌then◌
 -- what stands before the first comma, and then what stands behind it
-abbrev pub ◌then◌ : {A B : Type 0} → (List ℕ → Result A Why) → (List ℕ → Result B Why) → List ℕ → Result (A × B) Why
+abbrev pub ◌then◌ : {A B : Type 0} → (List ℕ → Result A Why) → (List ℕ → Result B Why)
+    → List ℕ → Result (A × B) Why
 (first then rest) text = do
   parts ← wanted (cut 44 text)
   x ← first parts.0

@@ -54,7 +54,8 @@ abbrev pub known : {A : Type 0} → Option A → Result A Why
 known None = Err Word
 known (Some x) = Ok x
 
--- the instruction at pc, from its name and what follows: first the name is judged, then whether a program has room for it, then its operands
+-- the instruction at pc, from its name and what follows: first the name is judged, then whether a program has
+-- room for it, then its operands
 abbrev pub instruction : ℕ → List ℕ × List ℕ → Result (Option Draft) Why
 instruction pc parts = do
   name ← known (mnemonic_named parts.0)

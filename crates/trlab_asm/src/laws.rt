@@ -2,7 +2,32 @@
 //!
 //! Each law is the contract of a function with nothing to do.
 
-ghost use Rattle.trlab_asm.specs.Laws.{CanonicalTextSaysTheProgram, OneProgramOfAText};
+ghost use Rattle.std.specs.Prelude.{◌≡◌, ◌+◌, ◌^◌};
+ghost use Rattle.trlab_asm.specs.Laws.{CanonicalTextSaysTheProgram, OneProgramOfAText, TextsSaySomething};
+ghost use Rattle.trlab_asm.specs.Laws.{InputsAreNamed, InstructionsAreNamed, RegistersAreNamed};
+
+use crate::numbers::{GREATEST_NUMBER, MOST_DIGITS};
+use crate::target::LONGEST_LABEL;
+
+/// The numbers of program texts.
+pub fn numbers()
+    ensures greatest { GREATEST_NUMBER + 1 ≡ 2 ^ 32 }
+    ensures digits { MOST_DIGITS ≡ 10 }
+    ensures label { LONGEST_LABEL ≡ 32 }
+{}
+
+/// Registers, inputs and instructions are named by their texts, and by no other words.
+pub fn names()
+    ensures registers { RegistersAreNamed }
+    ensures inputs { InputsAreNamed }
+    ensures instructions { InstructionsAreNamed }
+{}
+
+/// Any text says a program, or has a first fault; want of memory is the fault of none.
+#[tactic(auto, using(crate::proofs::Said::something))]
+pub fn texts_say_something()
+    ensures { TextsSaySomething }
+{}
 
 /// The canonical text of a program says the program.
 #[tactic(auto, using(crate::proofs::Reread::again))]

@@ -3,7 +3,7 @@
 ghost use Rattle.std.specs.Prelude.{◌≡◌, ◌++◌, decimal, OnOk};
 ghost use Rattle.trlab_code.specs.declared.instruction.Instr.TheVariants.{Get, Draw, Jump};
 ghost use Rattle.trlab_asm.specs.Names.{register_text};
-ghost use Rattle.trlab_asm.specs.Laws.{HasWord};
+ghost use Rattle.trlab_code.specs.Laws.{HasWord};
 ghost use Rattle.trlab_asm.specs.Canonical.{target_text, ◌comma◌, named, instr_text, line_text};
 
 use crate::names::{Mnemonic, input_text, mnemonic_text, register_text};

@@ -5,14 +5,15 @@ use Rattle.std.specs.Prelude.{Option, None, Some, IfSome, Ok, Err}
 use Rattle.std.specs.Io.KnownBytes.{Keeps}
 use Rattle.trlab_campaign.specs.declared.end.End.{End}
 use Rattle.trlab_campaign.specs.declared.end.End.TheVariants.{Done, Refused, Memory, DeviceFault}
-use Rattle.trlab_campaign.specs.declared.fault.Cause.TheVariants.{TooBig}
-use Rattle.trlab_campaign.specs.declared.text.TheConstants.{TEXT_LIMIT}
-use Rattle.trlab_campaign.specs.Reading.{Fault}
-use Rattle.trlab_campaign.specs.Job.{Job, JobText}
+use Rattle.trlab_texts.specs.declared.fault.Cause.TheVariants.{TooBig}
+use Rattle.trlab_texts.specs.declared.limits.TheConstants.{TEXT_LIMIT}
+use Rattle.trlab_texts.specs.Reading.{Fault}
+use Rattle.trlab_jobs.specs.Job.{Job, JobText}
 use Rattle.trlab_code.specs.Program.{Program}
 use Rattle.trlab_campaign.specs.Refusal.{fault_line}
 use Rattle.trlab_campaign.specs.Output.{IsOutput}
-use Rattle.trlab_campaign.specs.Check.{CheckText, VerdictOutput, IsCheckOutput}
+use Rattle.trlab_jobs.specs.Check.{CheckText}
+use Rattle.trlab_campaign.specs.CheckOutput.{VerdictOutput, IsCheckOutput}
 use Rattle.trlab_campaign.specs.Ending.{Outputs, EndsSo, OutputEnds, WrotePictures, WroteSome, JobEnds}
 use Rattle.trlab_campaign.proofs.KnownBytes.{front_kept}
 

@@ -1,43 +1,17 @@
--- The rule in force, as the steps of a run go by.
-use Rattle.std.proofs.Common.{◌≡◌, ◌≢◌, ℕ, zero, suc, ◌+◌, ◌<◌, ◌≤◌, [], ◌∷◌, refl, arith}
-use Rattle.std.proofs.lemmas.Bool.{le-leb, lt-leb}
-use Rattle.std.specs.Prelude.{All, Some, None, length}
+-- The sheet of a job.
+use Rattle.std.proofs.Common.{ℕ, zero, suc, ◌+◌, ◌∷◌, [], refl, arith}
+use Rattle.std.specs.Prelude.{All, length}
 use Rattle.trlab_rules.specs.Rules.{Programs}
 use Rattle.trlab_step.specs.Laws.{IsRuleFor, IsSheetFor}
-use Rattle.trlab_step.specs.Run.{Sheet, in_force}
-use Rattle.trlab_campaign.specs.Job.{Job, sheet_of}
-use Rattle.trlab_campaign.specs.Plain.{LaterRules, IsPlain}
+use Rattle.trlab_step.specs.Run.{Sheet}
+use Rattle.trlab_run.specs.Sheets.{Rises}
+use Rattle.trlab_jobs.specs.Job.{Job, sheet_of}
+use Rattle.trlab_jobs.specs.Plain.{LaterRules, IsPlain}
 
--- a later rule whose step has come takes the place of the rule before it
-pub next_in_force : (rule : Programs) (later : Sheet) (entry : ℕ × Programs) (step : ℕ) → entry.0 ≤ step
-    → in_force ((0, rule) ∷ entry ∷ later) step ≡ in_force ((0, entry.1) ∷ later) step
-next_in_force rule later entry step come = rw (le-leb 0 step (omega arith), le-leb entry.0 step come) refl
-
--- before its step no later rule is in force
-none_yet : (lanes steps least step : ℕ) (later : Sheet) → LaterRules lanes steps least later → step < least → in_force later step ≡ None
-none_yet lanes steps least step [] kept before = refl
-none_yet lanes steps least step (entry ∷ later) kept before =
-    let low = kept.0 in
-    rw (lt-leb entry.0 step (omega arith)) refl
-
--- so the rule before the later ones is
-pub is_in_force : (lanes steps least step : ℕ) (rule : Programs) (later : Sheet) → LaterRules lanes steps least later → step < least
-    → in_force ((0, rule) ∷ later) step ≡ Some rule
-is_in_force lanes steps least step rule later kept before = rw (le-leb 0 step (omega arith), none_yet lanes steps least step later kept before) refl
-
--- later rules whose first is not of this step are later than it
-pub still_later : (lanes steps step : ℕ) (later : Sheet) → ((entry : ℕ × Programs) (rest : Sheet) → later ≡ entry ∷ rest → entry.0 ≢ step)
-    → LaterRules lanes steps step later → LaterRules lanes steps (step + 1) later
-still_later lanes steps step [] other kept = tt
-still_later lanes steps step (entry ∷ later) other kept =
-    let not : entry.0 ≢ step = other entry later refl in
-    let low = kept.0 in
-    (omega arith, kept.1)
-
--- those behind the rule of a step are later than it
-pub rest_later : (lanes steps step : ℕ) (entry : ℕ × Programs) (later : Sheet) → entry.0 ≡ step
-    → LaterRules lanes steps step (entry ∷ later) → LaterRules lanes steps (step + 1) later
-rest_later lanes steps step entry later here kept = rw (← here) kept.1.1.1
+-- the steps of later rules rise
+pub later_rise : (lanes steps least : ℕ) (later : Sheet) → LaterRules lanes steps least later → Rises least later
+later_rise lanes steps least [] kept = tt
+later_rise lanes steps least (entry ∷ later) kept = (kept.0, later_rise lanes steps (entry.0 + 1) later kept.1.1.1)
 
 -- each later rule is one for the lanes
 all_suit : (lanes steps least : ℕ) (later : Sheet) → LaterRules lanes steps least later → All (λ (entry : ℕ × Programs). IsRuleFor lanes entry.1) later

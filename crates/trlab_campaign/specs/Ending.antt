@@ -1,11 +1,11 @@
 -- How an engine ends, by what it has written.
-use Rattle.std.specs.Prelude.{◌≡◌, ℕ, ◌⊎◌, Bool, true, false, List, Option}
+use Rattle.std.specs.Prelude.{◌≡◌, ℕ, ◌⊎◌, ⊤, Bool, true, false, List, Option}
 use Rattle.std.specs.Io.KnownBytes.{Appends, Keeps}
 use Rattle.trlab_road.specs.Cells.{Cells}
 use Rattle.trlab_campaign.specs.declared.end.End.{End}
 use Rattle.trlab_campaign.specs.declared.end.End.TheVariants.{Done, Refused, Memory, DeviceFault}
 use Rattle.trlab_campaign.specs.Device.{AppendsFront}
-use Rattle.trlab_campaign.specs.Job.{Job}
+use Rattle.trlab_jobs.specs.Job.{Job}
 use Rattle.trlab_campaign.specs.Output.{IsRunText}
 
 -- the whole outputs that there may be, each with whether it is a refusal
@@ -28,6 +28,12 @@ EndsSo IsWhole Done old new = WroteAll IsWhole false old new
 EndsSo IsWhole Refused old new = WroteAll IsWhole true old new
 EndsSo IsWhole Memory old new = WroteFront IsWhole old new
 EndsSo IsWhole DeviceFault old new = WroteFront IsWhole old new
+
+-- what holds of an engine that has written a whole output
+abbrev pub OnWhole : End → Type 0 → Type 0
+OnWhole Done holds = holds
+OnWhole Refused holds = holds
+OnWhole _ holds = ⊤
 
 -- the writing of one whole output ended so
 abbrev pub OutputEnds : Bool → List ℕ → End → Option (List ℕ) → Option (List ℕ) → Type 0

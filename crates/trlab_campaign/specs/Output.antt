@@ -4,9 +4,9 @@ use Rattle.std.specs.List.{range_with_len}
 use Rattle.trlab_road.specs.Cells.{Cells}
 use Rattle.trlab_road.specs.Pictures.{picture}
 use Rattle.trlab_step.specs.Run.{RoadAt}
-use Rattle.trlab_campaign.specs.Reading.{Fault}
+use Rattle.trlab_texts.specs.Reading.{Fault}
 use Rattle.trlab_campaign.specs.Refusal.{fault_line}
-use Rattle.trlab_campaign.specs.Job.{Job, JobText, seed_of, sheet_of}
+use Rattle.trlab_jobs.specs.Job.{Job, JobText, seed_of, sheet_of}
 
 -- a picture, and the LF that ends its line
 abbrev pub picture_line : List ℕ → List ℕ

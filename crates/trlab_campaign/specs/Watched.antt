@@ -1,4 +1,4 @@
--- Readers and writers of std that remember a failure.
+-- Readers and writers of std that remember what has come of their calls.
 use Rattle.std.specs.Prelude.{Bool}
 use Rattle.trlab_campaign.specs.declared.device.watched.Watched.{Watched}
 
@@ -9,3 +9,7 @@ inner_of watched = watched.inner
 -- whether a call of it has failed
 abbrev pub has_failed : {X : Type 0} → Watched X → Bool
 has_failed watched = watched.failed
+
+-- whether all that was written has been handed on
+abbrev pub has_handed_on : {X : Type 0} → Watched X → Bool
+has_handed_on watched = watched.handed_on

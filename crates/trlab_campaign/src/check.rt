@@ -1,27 +1,27 @@
 //! Checks of programs: what the verifier says of the one program of a text.
 
-mod text;
-mod verdict;
-
 ghost use Rattle.std.specs.Prelude.{◌≡◌, ◌+◌, ◌||◌, ◌↔◌, true, false, IfSome};
-ghost use Rattle.trlab_campaign.specs.Check.{IsCheckOutput};
+ghost use Rattle.std.specs.Io.KnownBytes.{Keeps};
+ghost use Rattle.trlab_campaign.specs.CheckOutput.{IsCheckOutput};
 ghost use Rattle.trlab_campaign.specs.Device.{ConsumesUpTo};
-ghost use Rattle.trlab_campaign.specs.Ending.{EndsSo};
+ghost use Rattle.trlab_campaign.specs.Ending.{EndsSo, OnWhole};
 ghost use Rattle.trlab_campaign.specs.declared.end.End.TheVariants.{DeviceFault};
-ghost use Rattle.trlab_campaign.specs.declared.text.TheConstants.{TEXT_LIMIT};
+ghost use Rattle.trlab_texts.specs.declared.limits.TheConstants.{TEXT_LIMIT};
 
-use crate::check::text::read_program;
-use crate::check::verdict::verdict;
 use crate::device::{ReadFault, Sink, Source, read_text};
 use crate::end::End;
-use crate::fault::{Cause, TextFault};
 use crate::refusal::{refuse, write_output};
+use crate::verdict::verdict;
 use std::alloc::{AllocGlobal, Global};
+use trlab_jobs::read_program;
+use trlab_texts::limits::TEXT_LIMIT;
+use trlab_texts::{Cause, TextFault};
 
 /// Writes what the verifier says of the program of a text, or refuses the text.
 fn check_whole<K: Sink>(alloc: Global, text: &[u8], writer: &mut K) -> End
     requires { K.failed writer.old ≡ false }
     ensures answer { EndsSo (IsCheckOutput text.now) result (K.written writer.old) (K.written writer.new) }
+    ensures handed { OnWhole result (K.handed_on writer.new ≡ true) }
     ensures device { (result ≡ DeviceFault) ↔ (K.failed writer.new ≡ true) }
 {
     let code = match read_program(alloc, text) {
@@ -47,6 +47,9 @@ pub fn check_text<R: AllocGlobal, S: Source, K: Sink>(rt: &R, reader: &mut S, wr
     // Where the reader tells its bytes, and the writer those that it has.
     ensures answer { IfSome (S.left reader.old)
         (λ text. EndsSo (IsCheckOutput text) result (K.written writer.old) (K.written writer.new)) }
+    // Nothing was written where the text was not read, also by a reader that does not tell its bytes.
+    ensures silent { S.failed reader.new ≡ true → Keeps (K.written writer.old) (K.written writer.new) }
+    ensures handed { OnWhole result (K.handed_on writer.new ≡ true) }
     ensures device { (result ≡ DeviceFault) ↔ ((S.failed reader.new || K.failed writer.new) ≡ true) }
     ensures read { ConsumesUpTo (TEXT_LIMIT + 1) (S.left reader.old) (S.left reader.new) }
 {

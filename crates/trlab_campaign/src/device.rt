@@ -3,7 +3,7 @@
 mod watched;
 mod whole;
 
-ghost use Rattle.std.specs.Prelude.{◌≡◌, ℕ, ◌≤◌, ◌<◌, ◌||◌, List, length, Option, Bool, IfOk, is_err};
+ghost use Rattle.std.specs.Prelude.{◌≡◌, ℕ, ◌≤◌, ◌<◌, ◌||◌, List, length, Option, Bool, true, false, IfOk, OnOk, is_err};
 ghost use Rattle.std.specs.Io.KnownBytes.{ReadConsumes, WriteAppends, Keeps};
 
 use thiserror::Error;
@@ -33,6 +33,8 @@ pub trait Source {
 pub trait Sink {
     // The bytes that were written, where they are told.
     ghost written: { Self → Option (List ℕ) };
+    // Whether all that was written has been handed on.
+    ghost handed_on: { Self → Bool };
     // Whether a call has failed.
     ghost failed: { Self → Bool };
 
@@ -41,10 +43,12 @@ pub trait Sink {
         ensures count { IfOk result (λ n. n ≤ length bytes.now) }
         ensures some { IfOk result (λ n. 0 < length bytes.now → 0 < n) }
         ensures bytes { WriteAppends (written self.old) (written self.new) result bytes.now }
+        ensures held { handed_on self.new ≡ false }
         ensures fails { failed self.new ≡ (failed self.old || is_err result) };
 
     /// Hands on what was written.
     fn flush(&mut self) -> Result<(), DeviceError>
         ensures bytes { Keeps (written self.old) (written self.new) }
+        ensures handed { OnOk result (handed_on self.new ≡ true) }
         ensures fails { failed self.new ≡ (failed self.old || is_err result) };
 }

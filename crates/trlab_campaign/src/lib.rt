@@ -4,22 +4,20 @@
 mod check;
 mod device;
 mod end;
-mod fault;
-mod job;
 pub mod laws;
 mod output;
-mod program;
 mod refusal;
 mod run;
-mod text;
+mod verdict;
 
 pub use check::check_text;
 pub use device::{DeviceError, Sink, Source, Watched};
 pub use end::End;
-pub use fault::{Cause, TextFault};
-pub use job::{Job, read_job};
 pub use run::{MOST_WORKERS, run_job_text};
-pub use text::{MOST_LATER, MOST_STEPS, TEXT_LIMIT};
+pub use trlab_jobs::limits::{MOST_LATER, MOST_STEPS};
+pub use trlab_jobs::{Job, read_job};
+pub use trlab_texts::limits::TEXT_LIMIT;
+pub use trlab_texts::{Cause, TextFault};
 
 #[cfg(test)]
 mod tests;

@@ -5,9 +5,9 @@ ghost use Rattle.std.specs.String.{string_bytes};
 ghost use Rattle.trlab_campaign.specs.Output.{step_text};
 ghost use Rattle.trlab_campaign.specs.Refusal.{fault_line};
 
-use crate::fault::Cause;
 use std::alloc::{AllocError, Global};
 use trlab_road::Road;
+use trlab_texts::Cause;
 
 /// Adds the text of a step: its line, and the picture of each lane.
 pub fn push_step(alloc: Global, out: &mut Vec<u8>, step: u32, road: &Road) -> Result<(), AllocError>

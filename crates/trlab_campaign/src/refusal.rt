@@ -1,20 +1,21 @@
 //! Whole outputs, and those of refused texts.
 
 ghost use Rattle.std.specs.Prelude.{◌≡◌, ◌↔◌, true, false};
-ghost use Rattle.trlab_campaign.specs.Ending.{OutputEnds};
+ghost use Rattle.trlab_campaign.specs.Ending.{OnWhole, OutputEnds};
 ghost use Rattle.trlab_campaign.specs.Refusal.{fault_line};
 ghost use Rattle.trlab_campaign.specs.declared.end.End.TheVariants.{DeviceFault};
 
 use crate::device::{Sink, write_last};
 use crate::end::End;
-use crate::fault::Cause;
 use crate::output::fault_line;
 use std::alloc::Global;
+use trlab_texts::Cause;
 
 /// Writes a whole output, which is a refusal or is none, and hands it on.
 pub fn write_output<K: Sink>(refused: bool, text: &[u8], writer: &mut K) -> End
     requires { K.failed writer.old ≡ false }
     ensures answer { OutputEnds refused text.now result (K.written writer.old) (K.written writer.new) }
+    ensures handed { OnWhole result (K.handed_on writer.new ≡ true) }
     ensures device { (result ≡ DeviceFault) ↔ (K.failed writer.new ≡ true) }
 {
     match write_last(writer, text) {
@@ -28,6 +29,7 @@ pub fn refuse<K: Sink>(alloc: Global, line: u32, cause: Cause, writer: &mut K) -
     requires { K.failed writer.old ≡ false }
     ensures answer { OutputEnds true (fault_line (record { line = line; cause = cause }))
         result (K.written writer.old) (K.written writer.new) }
+    ensures handed { OnWhole result (K.handed_on writer.new ≡ true) }
     ensures device { (result ≡ DeviceFault) ↔ (K.failed writer.new ≡ true) }
 {
     match fault_line(alloc, line, cause) {

@@ -3,19 +3,20 @@
 mod pictures;
 
 ghost use Rattle.std.specs.Prelude.{◌≡◌, ◌+◌, ◌≤◌, ◌||◌, ◌↔◌, true, false, IfSome};
+ghost use Rattle.std.specs.Io.KnownBytes.{Keeps};
 ghost use Rattle.trlab_campaign.specs.Device.{ConsumesUpTo};
-ghost use Rattle.trlab_campaign.specs.Ending.{EndsSo};
+ghost use Rattle.trlab_campaign.specs.Ending.{EndsSo, OnWhole};
 ghost use Rattle.trlab_campaign.specs.Output.{IsOutput};
 ghost use Rattle.trlab_campaign.specs.declared.end.End.TheVariants.{DeviceFault};
 
 use crate::device::{ReadFault, Sink, Source, read_text};
 use crate::end::End;
-use crate::fault::{Cause, TextFault};
-use crate::job::read_job;
 use crate::refusal::refuse;
 use crate::run::pictures::run_job;
-use crate::text::TEXT_LIMIT;
 use std::alloc::{AllocGlobal, Global};
+use trlab_jobs::read_job;
+use trlab_texts::limits::TEXT_LIMIT;
+use trlab_texts::{Cause, TextFault};
 
 /// The most workers of a run.
 pub const MOST_WORKERS: u32 = 16;
@@ -24,6 +25,7 @@ pub const MOST_WORKERS: u32 = 16;
 fn run_text<K: Sink>(alloc: Global, text: &[u8], writer: &mut K) -> End
     requires { K.failed writer.old ≡ false }
     ensures answer { EndsSo (IsOutput text.now) result (K.written writer.old) (K.written writer.new) }
+    ensures handed { OnWhole result (K.handed_on writer.new ≡ true) }
     ensures device { (result ≡ DeviceFault) ↔ (K.failed writer.new ≡ true) }
 {
     match read_job(alloc, text) {
@@ -52,6 +54,9 @@ pub fn run_job_text<R: AllocGlobal, S: Source, K: Sink>(
     // Where the reader tells its bytes, and the writer those that it has.
     ensures answer { IfSome (S.left reader.old)
         (λ text. EndsSo (IsOutput text) result (K.written writer.old) (K.written writer.new)) }
+    // Nothing was written where the text was not read, also by a reader that does not tell its bytes.
+    ensures silent { S.failed reader.new ≡ true → Keeps (K.written writer.old) (K.written writer.new) }
+    ensures handed { OnWhole result (K.handed_on writer.new ≡ true) }
     ensures device { (result ≡ DeviceFault) ↔ ((S.failed reader.new || K.failed writer.new) ≡ true) }
     ensures read { ConsumesUpTo (TEXT_LIMIT + 1) (S.left reader.old) (S.left reader.new) }
 {

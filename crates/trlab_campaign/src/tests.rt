@@ -1,6 +1,7 @@
 //! Whole texts in, whole texts out.
 
 mod checks;
+mod devices;
 mod guide;
 mod jobs;
 mod lanes;

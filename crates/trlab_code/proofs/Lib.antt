@@ -3,3 +3,7 @@ pub mod Injective
 pub mod Spelt
 pub mod Apart
 pub mod Whole
+pub mod Opcodes
+pub mod Readable
+pub mod Said
+pub mod Bytes

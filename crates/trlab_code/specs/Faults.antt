@@ -69,8 +69,13 @@ FirstFault bytes fault.Short = (¬ (HasHeader bytes)) ⊎ (GoodHeader bytes × �
 FirstFault bytes fault.Magic = HasHeader bytes × ¬ (HasMagic bytes)
 FirstFault bytes fault.Version = HasHeader bytes × HasMagic bytes × ¬ (HasVersion bytes)
 FirstFault bytes fault.Kind = HasHeader bytes × HasMagic bytes × HasVersion bytes × ¬ (HasKind bytes)
-FirstFault bytes fault.Count = HasHeader bytes × HasMagic bytes × HasVersion bytes × HasKind bytes × ¬ (HasCount bytes)
-FirstFault bytes (fault.Opcode pc) = (pc < stated_count bytes) × GoodBefore bytes pc × ¬ (HasOpcode (bytes_at bytes pc))
-FirstFault bytes (fault.Field pc) = (pc < stated_count bytes) × GoodBefore bytes pc × HasOpcode (bytes_at bytes pc) × ¬ (SpellsInstr (bytes_at bytes pc))
-FirstFault bytes fault.Trailing = GoodBefore bytes (stated_count bytes) × (HEADER_BYTES + INSTR_BYTES * stated_count bytes < length bytes)
+FirstFault bytes fault.Count =
+    HasHeader bytes × HasMagic bytes × HasVersion bytes × HasKind bytes × ¬ (HasCount bytes)
+FirstFault bytes (fault.Opcode pc) =
+    (pc < stated_count bytes) × GoodBefore bytes pc × ¬ (HasOpcode (bytes_at bytes pc))
+FirstFault bytes (fault.Field pc) =
+    (pc < stated_count bytes) × GoodBefore bytes pc × HasOpcode (bytes_at bytes pc)
+    × ¬ (SpellsInstr (bytes_at bytes pc))
+FirstFault bytes fault.Trailing =
+    GoodBefore bytes (stated_count bytes) × (HEADER_BYTES + INSTR_BYTES * stated_count bytes < length bytes)
 FirstFault bytes fault.Memory = Unit {0}

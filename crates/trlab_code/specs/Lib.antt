@@ -4,3 +4,4 @@ pub mod Flow
 pub mod Machine
 pub mod Spelling
 pub mod Faults
+pub mod Laws

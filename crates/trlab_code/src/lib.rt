@@ -7,7 +7,7 @@ mod fault;
 mod header;
 mod instruction;
 mod kind;
-mod laws;
+pub mod laws;
 mod program;
 mod row;
 #[cfg(test)]
@@ -20,7 +20,6 @@ pub use fault::CodeFault;
 pub use header::{HEADER_BYTES, MAGIC, VERSION};
 pub use instruction::{Input, Instr, PLACES, Register};
 pub use kind::Kind;
-pub use laws::{no_fault, one_fault, one_spelling};
 pub use program::{CERTAIN, Code, MOST_INSTRUCTIONS, WORDS};
 pub use row::INSTR_BYTES;
 pub use view::{ChangeView, GREATEST_GAP, GREATEST_LIMIT, MotionView, View};

@@ -1,6 +1,6 @@
 //! Programs whose fields are in range.
 
-ghost use Rattle.std.specs.Prelude.{◌≡◌, ◌↔◌, ◌≤◌, IsTrue, MatchOption};
+ghost use Rattle.std.specs.Prelude.{◌≡◌, ◌↔◌, ◌≤◌, IsTrue, MatchOption, IfSome};
 ghost use Rattle.trlab_code.specs.Program.{Program, InRange, IsProgram, Draws};
 
 use crate::instruction::Instr;
@@ -47,8 +47,9 @@ pub(crate) fn is_in_range(instr: Instr) -> bool
 impl Code {
     /// The program of these instructions, where there are 1 to 128 and their fields are in range.
     pub fn new(kind: Kind, instrs: Vec<Instr>) -> Option<Code>
-        ensures { let program : Program = record { kind = kind; instrs = instrs.items } in
+        ensures exact { let program : Program = record { kind = kind; instrs = instrs.items } in
             MatchOption result (¬ (IsProgram program)) (λ code. code ≡ program) }
+        ensures program { IfSome result IsProgram }
     {
         if instrs.is_empty() || instrs.len() > MOST_INSTRUCTIONS {
             return None;

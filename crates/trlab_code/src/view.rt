@@ -48,6 +48,7 @@ impl MotionView {
     pub fn new(speed: u32, limit: u32, gap: u32) -> Option<MotionView>
         ensures none { IsNone result → ¬ (IsView (motion_view speed limit gap)) }
         ensures some { IfSome result (λ seen. seen ≡ motion_view speed limit gap) }
+        ensures in_range { IfSome result IsView }
     {
         if 1 <= limit && limit <= GREATEST_LIMIT && speed <= limit && gap <= GREATEST_GAP {
             Some(MotionView {
@@ -110,6 +111,7 @@ impl ChangeView {
             → ¬ (IsView (change_view speed limit gap side sidegap sideback lane)) }
         ensures some { IfSome result
             (λ seen. seen ≡ change_view speed limit gap side sidegap sideback lane) }
+        ensures in_range { IfSome result IsView }
     {
         let view = View {
             speed,

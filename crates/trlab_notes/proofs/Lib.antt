@@ -1,5 +1,7 @@
+pub mod Bits
 pub mod Tables
 pub mod Fits
 pub mod Steps
 pub mod Order
 pub mod Monotone
+pub mod Settled

@@ -1,19 +1,19 @@
 -- How the code keeps notes.
-use Rattle.std.specs.Prelude.{ℕ, ◌+◌, ◌*◌, List, Option, Some, None, slice_index, slice_index_or}
-use Rattle.trlab_notes.specs.declared.note.Noted.{Noted}
+use Rattle.std.specs.Prelude.{ℕ, List, Option, Some, None, slice_index_or}
+use Rattle.trlab_notes.specs.declared.kept.Noted.{Noted}
 use Rattle.trlab_notes.specs.declared.note.Said.TheVariants.{Nothing}
-use Rattle.trlab_code.specs.declared.instruction.TheConstants.{PLACES}
-use Rattle.trlab_notes.specs.Notes.{Note, table}
+use Rattle.trlab_notes.specs.Notes.{Note, table, known}
+use Rattle.trlab_notes.specs.Rows.{level_of}
 
--- the level of two places, where row x of the table begins at PLACES * x
-abbrev pub level_at : List ℕ → ℕ → ℕ → ℕ
-level_at levels = table (λ x y. slice_index levels (PLACES * x + y))
+-- a note with all that it knows of the order in its levels; it knows no more and no less
+unfoldable pub settled : Note → Note
+settled note = record note { level = table (known note) }
 
 -- the note that is kept
 abbrev pub note_of : Noted → Note
 note_of kept = record {
   said = λ x. slice_index_or kept.said x Nothing;
-  level = level_at kept.levels;
+  level = table (level_of kept.rows);
   side = kept.side;
 }
 
@@ -21,6 +21,11 @@ note_of kept = record {
 abbrev pub maybe_note : Option Noted → Option Note
 maybe_note None = None
 maybe_note (Some kept) = Some (note_of kept)
+
+-- a note, if there is one, with all that it knows in its levels
+abbrev pub maybe_settled : Option Note → Option Note
+maybe_settled None = None
+maybe_settled (Some note) = Some (settled note)
 
 -- the note that has come to q, if there is one
 abbrev pub notes_of : List (Option Noted) → ℕ → Option Note

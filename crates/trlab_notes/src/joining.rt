@@ -1,11 +1,13 @@
 //! What two notes agree on.
 
-ghost use Rattle.std.specs.Prelude.{◌≡◌, ℕ, ◌+◌, ◌*◌, ◌<◌, min, slice_index, slice_index_or};
+ghost use Rattle.std.specs.Prelude.{◌≡◌, ℕ, ◌<◌, slice_index_or};
 ghost use Rattle.trlab_notes.specs.declared.note.Said.TheVariants.{Nothing};
-ghost use Rattle.trlab_notes.specs.Notes.{told, known, joined, said_by_both};
+ghost use Rattle.trlab_notes.specs.Notes.{told, joined, said_by_both};
 ghost use Rattle.trlab_notes.specs.Noted.{note_of};
 
-use crate::note::{LEVELS, Noted, Said};
+use crate::kept::Noted;
+use crate::note::Said;
+use crate::rows::common_rows;
 use trlab_code::PLACES;
 
 /// What both say of a value.
@@ -33,26 +35,14 @@ fn common_places(a: &Noted, b: &Noted) -> [Said; PLACES]
     said
 }
 
-/// The lesser of what the notes know of each two places.
-fn common_levels(a: &Noted, b: &Noted) -> [u8; LEVELS]
-    ensures { (x y : ℕ) → x < PLACES → y < PLACES →
-        slice_index result (PLACES * x + y) ≡ min (known (note_of a.now) x y) (known (note_of b.now) x y) }
-{
-    let mut levels = [0; LEVELS];
-    for i in 0..LEVELS {
-        let (x, y) = (i / PLACES, i % PLACES);
-        levels[i] = a.known(x, y).min(b.known(x, y));
-    }
-    levels
-}
-
 /// The note of what two notes agree on.
 pub fn join(a: &Noted, b: &Noted) -> Noted
     ensures { note_of result ≡ joined (note_of a.now) (note_of b.now) }
 {
     Noted {
         said: common_places(a, b),
-        levels: common_levels(a, b),
+        rows: common_rows(&a.rows, &b.rows),
+        columns: common_rows(&a.columns, &b.columns),
         side: a.side && b.side,
     }
 }
@@ -68,25 +58,14 @@ fn told_places(note: &Noted) -> [Said; PLACES]
     said
 }
 
-/// What a note knows of each two places.
-fn known_levels(note: &Noted) -> [u8; LEVELS]
-    ensures { (x y : ℕ) → x < PLACES → y < PLACES →
-        slice_index result (PLACES * x + y) ≡ known (note_of note.now) x y }
-{
-    let mut levels = [0; LEVELS];
-    for i in 0..LEVELS {
-        levels[i] = note.known(i / PLACES, i % PLACES);
-    }
-    levels
-}
-
-/// The join of a note with itself: all that it knows, in its levels.
+/// The join of a note with itself: all that it tells of each place.
 pub fn settle(note: &Noted) -> Noted
     ensures { note_of result ≡ joined (note_of note.now) (note_of note.now) }
 {
     Noted {
         said: told_places(note),
-        levels: known_levels(note),
+        rows: note.rows,
+        columns: note.columns,
         side: note.side,
     }
 }

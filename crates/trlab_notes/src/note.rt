@@ -1,13 +1,9 @@
-//! What the verifier notes of the values before an instruction.
+//! What is said of values.
 
-ghost use Rattle.std.specs.Prelude.{◌≡◌, ℕ, ◌+◌, ◌*◌, ◌<◌, slice_index};
-ghost use Rattle.trlab_notes.specs.Notes.{told, low, high, implies, known, range_level, ranges, entry, entry_level};
-ghost use Rattle.trlab_notes.specs.Noted.{note_of};
+ghost use Rattle.std.specs.Prelude.{◌≡◌, ℕ, ◌<◌, [], slice_index, slice_index_or};
+ghost use Rattle.trlab_notes.specs.Notes.{low, high, implies, known_of, range_level, ranges, entry_level};
 
 use trlab_code::{GREATEST_GAP, GREATEST_LIMIT, Input, Kind, PLACES};
-
-/// The levels of each place to each.
-pub const LEVELS: usize = PLACES * PLACES;
 
 /// The level of a place that is known to be at most another.
 pub const AT_MOST: u8 = 1;
@@ -56,17 +52,6 @@ impl Said {
     }
 }
 
-/// What is noted of the places before an instruction.
-#[derive(Clone, Copy)]
-pub struct Noted {
-    pub said: [Said; PLACES],
-    /// How surely each place is at most each: 0 for not known, `AT_MOST` or `BELOW`.
-    /// The row of a place x begins at `PLACES * x`.
-    pub levels: [u8; LEVELS],
-    /// Is the side cell known to be empty?
-    pub side: bool,
-}
-
 /// The level of a place up to `high` to another from `low` on.
 fn level_of_ranges(high: u32, low: u32) -> u8
     ensures { result ≡ range_level high low }
@@ -96,6 +81,17 @@ pub fn entry_said(kind: Kind) -> [Said; PLACES]
     said
 }
 
+/// What is known of the order of two places of which this is said, where they have a level.
+pub fn known_level(s: Said, t: Said, is_same: bool, level: u8) -> u8
+    ensures { result ≡ known_of s t is_same level }
+{
+    match (s, t) {
+        (Said::Between(..), Said::Between(..)) if is_same => AT_MOST,
+        (Said::Between(_, high), Said::Between(low, _)) => level.max(level_of_ranges(high, low)),
+        _ => 0,
+    }
+}
+
 /// The level of two places at the start of a program: the speed is at most the limit.
 fn entry_level(x: usize, y: usize) -> u8
     ensures { result ≡ entry_level x y }
@@ -107,55 +103,25 @@ fn entry_level(x: usize, y: usize) -> u8
     }
 }
 
-/// The levels at the start of a program.
-fn entry_levels() -> [u8; LEVELS]
-    ensures { (x y : ℕ) → x < PLACES → y < PLACES →
-        slice_index result (PLACES * x + y) ≡ entry_level x y }
+/// The levels of a place at the start of a program.
+fn entry_row(x: usize) -> [u8; PLACES]
+    ensures { (y : ℕ) → y < PLACES → slice_index result y ≡ entry_level x y }
 {
-    let mut levels = [0; LEVELS];
-    for i in 0..LEVELS {
-        levels[i] = entry_level(i / PLACES, i % PLACES);
+    let mut row = [0; PLACES];
+    for y in 0..PLACES {
+        row[y] = entry_level(x, y);
     }
-    levels
+    row
 }
 
-impl Noted {
-    /// The note of a program's first instruction.
-    pub fn entry(kind: Kind) -> Noted
-        ensures { note_of result ≡ entry kind }
-    {
-        Noted {
-            said: entry_said(kind),
-            levels: entry_levels(),
-            side: false,
-        }
+/// The levels at the start of a program.
+pub fn entry_levels() -> [[u8; PLACES]; PLACES]
+    ensures { (x y : ℕ) → x < PLACES → y < PLACES →
+        slice_index (slice_index_or result x []) y ≡ entry_level x y }
+{
+    let mut levels = [[0; PLACES]; PLACES];
+    for x in 0..PLACES {
+        levels[x] = entry_row(x);
     }
-
-    /// What is said of a place.
-    #[tactic(auto, unfolding(crate::specs::Notes::told))]
-    pub fn told(&self, x: usize) -> Said
-        requires { x < PLACES }
-        ensures { result ≡ told (note_of self.now) x }
-    {
-        match self.said[x] {
-            Said::Implies(imp) => Said::Implies(imp || self.side),
-            said => said,
-        }
-    }
-
-    /// What is known of the order of two places.
-    #[tactic(auto, unfolding(crate::specs::Notes::known))]
-    pub fn known(&self, x: usize, y: usize) -> u8
-        requires x_in { x < PLACES }
-        requires y_in { y < PLACES }
-        ensures { result ≡ known (note_of self.now) x y }
-    {
-        match (self.said[x], self.said[y]) {
-            (Said::Between(..), Said::Between(..)) if x == y => AT_MOST,
-            (Said::Between(_, high), Said::Between(low, _)) => {
-                self.levels[PLACES * x + y].max(level_of_ranges(high, low))
-            }
-            _ => 0,
-        }
-    }
+    levels
 }

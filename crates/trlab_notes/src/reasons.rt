@@ -5,7 +5,8 @@ ghost use Rattle.trlab_code.specs.Machine.{allows, input_place};
 ghost use Rattle.trlab_notes.specs.Noted.{note_of};
 ghost use Rattle.trlab_notes.specs.Reasons.{may_stand, some_unset, some_of_other_kind, too_large, below_zero, may_pass, may_bump, tests, first_true};
 
-use crate::note::{Noted, Said};
+use crate::kept::Noted;
+use crate::note::Said;
 use trlab_code::{Input, Instr, Kind};
 
 /// Whether a program of this kind may have the instruction.

@@ -1,13 +1,17 @@
 //! The notes of what instructions write.
 
-ghost use Rattle.std.specs.Prelude.{◌≡◌, ℕ, ◌+◌, ◌-◌, ◌*◌, ◌/◌, ◌<◌, ◌≤◌, ◌&&◌, ◌||◌, min, max, false, nat_eq, if◌then◌else◌, slice_index};
+ghost use Rattle.std.specs.Prelude.{◌≡◌, ℕ, ◌+◌, ◌-◌, ◌*◌, ◌/◌, ◌<◌, ◌≤◌, ◌&&◌, ◌||◌, min, max, false};
 ghost use Rattle.trlab_code.specs.Program.{InRange};
-ghost use Rattle.trlab_notes.specs.Notes.{greatest_number, low, high, implies, told, known, least_gap, after, result_said, result_to, to_result, sharper, just_below};
+ghost use Rattle.trlab_notes.specs.Notes.{greatest_number, low, high, implies, told, known, least_gap, after, result_said, result_to, to_result};
 ghost use Rattle.trlab_notes.specs.declared.note.Said.TheVariants.{Between};
-ghost use Rattle.trlab_notes.specs.Noted.{note_of};
+ghost use Rattle.trlab_notes.specs.Kept.{known_with};
+ghost use Rattle.trlab_notes.specs.Noted.{note_of, settled};
+ghost use Rattle.trlab_notes.specs.Rows.{level_in};
 ghost use Rattle.trlab_notes.specs.Reasons.{too_large};
 
-use crate::note::{AT_MOST, BELOW, LEVELS, Noted, Said};
+use crate::kept::Noted;
+use crate::note::{BELOW, Said, known_level};
+use crate::rows::{Row, with_place};
 use trlab_code::{Instr, PLACES};
 
 /// The range of a sum.
@@ -79,26 +83,34 @@ fn both_imply(p: Said, q: Said) -> bool
     p.implies() && q.implies()
 }
 
-/// The level once a number of at least `low` is added on the greater side.
-fn sharpened(level: u8, low: u32) -> u8
-    ensures { result ≡ sharper level low }
+/// The row of a place: what is known of its order to each, where it has these levels.
+fn row_of(said: &[Said; PLACES], place: usize, levels: Row) -> Row
+    requires { place < PLACES }
+    ensures { (y : ℕ) → y < PLACES → level_in result y ≡ known_with said.now place y (level_in levels y) }
 {
-    if level == 0 || low == 0 {
-        level
-    } else {
-        level.max(BELOW)
+    let mut row = levels;
+    for y in 0..PLACES {
+        row = row.with(
+            y,
+            known_level(said[place], said[y], place == y, levels.level(y)),
+        );
     }
+    row
 }
 
-/// The level of a sum to what one number has the level to, where the other number is at most `high`.
-fn sum_level(level: u8, high: u32) -> u8
-    ensures { result ≡ just_below level high }
+/// The column of a place: what is known of the order of each to it, where they have these levels.
+fn column_of(said: &[Said; PLACES], place: usize, levels: Row) -> Row
+    requires { place < PLACES }
+    ensures { (x : ℕ) → x < PLACES → level_in result x ≡ known_with said.now x place (level_in levels x) }
 {
-    if level >= BELOW && high <= 1 {
-        AT_MOST
-    } else {
-        0
+    let mut column = levels;
+    for x in 0..PLACES {
+        column = column.with(
+            x,
+            known_level(said[x], said[place], x == place, levels.level(x)),
+        );
     }
+    column
 }
 
 impl Noted {
@@ -134,78 +146,41 @@ impl Noted {
         }
     }
 
-    /// The level of an instruction's result to a place.
-    fn result_to(&self, instr: Instr, y: usize) -> u8
-        requires y_in { y < PLACES }
-        ensures { result ≡ result_to (note_of self.now) instr y }
+    /// The levels of an instruction's result to the places.
+    fn result_to(&self, instr: Instr) -> Row
+        ensures { (y : ℕ) → y < PLACES → level_in result y ≡ result_to (note_of self.now) instr y }
     {
         match instr {
-            Instr::Get(_, input) => self.known(input.place(), y),
-            Instr::Copy(_, a) | Instr::Div(_, a, _) => self.known(a.place(), y),
+            Instr::Get(_, input) => self.row(input.place()),
+            Instr::Copy(_, a) | Instr::Div(_, a, _) => self.row(a.place()),
             Instr::Add(_, a, b) => {
                 let (a, b) = (a.place(), b.place());
-                let by_first = sum_level(self.known(a, y), self.said[b].high());
-                by_first.max(sum_level(self.known(b, y), self.said[a].high()))
+                let by_first = self.row(a).raised(self.said[b].high());
+                by_first.either(self.row(b).raised(self.said[a].high()))
             }
-            Instr::Sub(_, a, b) => {
-                sharpened(self.known(a.place(), y), self.said[b.place()].low())
-            }
-            Instr::Min(_, a, b) => self.known(a.place(), y).max(self.known(b.place(), y)),
-            Instr::Max(_, a, b) => self.known(a.place(), y).min(self.known(b.place(), y)),
-            _ => 0,
+            Instr::Sub(_, a, b) => self.row(a.place()).sharpened(self.said[b.place()].low()),
+            Instr::Min(_, a, b) => self.row(a.place()).either(self.row(b.place())),
+            Instr::Max(_, a, b) => self.row(a.place()).both(self.row(b.place())),
+            _ => Row::empty(),
         }
     }
 
-    /// The level of a place to an instruction's result.
-    fn to_result(&self, instr: Instr, y: usize) -> u8
-        requires y_in { y < PLACES }
-        ensures { result ≡ to_result (note_of self.now) instr y }
+    /// The levels of the places to an instruction's result.
+    fn to_result(&self, instr: Instr) -> Row
+        ensures { (y : ℕ) → y < PLACES → level_in result y ≡ to_result (note_of self.now) instr y }
     {
         match instr {
-            Instr::Get(_, input) => self.known(y, input.place()),
-            Instr::Copy(_, a) => self.known(y, a.place()),
+            Instr::Get(_, input) => self.column(input.place()),
+            Instr::Copy(_, a) => self.column(a.place()),
             Instr::Add(_, a, b) => {
                 let (a, b) = (a.place(), b.place());
-                let by_first = sharpened(self.known(y, a), self.said[b].low());
-                by_first.max(sharpened(self.known(y, b), self.said[a].low()))
+                let by_first = self.column(a).sharpened(self.said[b].low());
+                by_first.either(self.column(b).sharpened(self.said[a].low()))
             }
-            Instr::Min(_, a, b) => self.known(y, a.place()).min(self.known(y, b.place())),
-            Instr::Max(_, a, b) => self.known(y, a.place()).max(self.known(y, b.place())),
-            _ => 0,
+            Instr::Min(_, a, b) => self.column(a.place()).both(self.column(b.place())),
+            Instr::Max(_, a, b) => self.column(a.place()).either(self.column(b.place())),
+            _ => Row::empty(),
         }
-    }
-
-    /// The level of place x to place y after an instruction has written its result.
-    fn level_after(&self, dest: usize, instr: Instr, x: usize, y: usize) -> u8
-        requires x_in { x < PLACES }
-        requires y_in { y < PLACES }
-        ensures { result ≡
-            (if nat_eq x dest then result_to (note_of self.now) instr y
-            else (if nat_eq y dest then to_result (note_of self.now) instr x
-            else slice_index self.now.levels (PLACES * x + y))) }
-    {
-        if x == dest {
-            self.result_to(instr, y)
-        } else if y == dest {
-            self.to_result(instr, x)
-        } else {
-            self.levels[PLACES * x + y]
-        }
-    }
-
-    /// The levels after an instruction has written its result.
-    fn levels_after(&self, dest: usize, instr: Instr) -> [u8; LEVELS]
-        ensures { (x y : ℕ) → x < PLACES → y < PLACES →
-            slice_index result (PLACES * x + y) ≡
-            (if nat_eq x dest then result_to (note_of self.now) instr y
-            else (if nat_eq y dest then to_result (note_of self.now) instr x
-            else slice_index self.now.levels (PLACES * x + y))) }
-    {
-        let mut levels = [0; LEVELS];
-        for i in 0..LEVELS {
-            levels[i] = self.level_after(dest, instr, i / PLACES, i % PLACES);
-        }
-        levels
     }
 
     /// The note after an instruction has written its result to `dest`.
@@ -213,13 +188,16 @@ impl Noted {
         requires inside { dest < PLACES }
         requires in_range { InRange instr }
         requires fits { too_large (note_of self.now) instr ≡ false }
-        ensures { note_of result ≡ after (note_of self.now) dest instr }
+        ensures { note_of result ≡ settled (after (note_of self.now) dest instr) }
     {
         let mut said = self.said;
         said[dest] = self.result_said(instr);
+        let row = row_of(&said, dest, self.result_to(instr));
+        let column = column_of(&said, dest, self.to_result(instr));
         Noted {
             said,
-            levels: self.levels_after(dest, instr),
+            rows: with_place(&self.rows, dest, row, column),
+            columns: with_place(&self.columns, dest, column, row),
             side: self.side,
         }
     }

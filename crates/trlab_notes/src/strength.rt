@@ -5,7 +5,8 @@ ghost use Rattle.trlab_notes.specs.Noted.{note_of};
 ghost use Rattle.trlab_notes.specs.Notes.{told, known};
 ghost use Rattle.trlab_notes.specs.Order.{NoMore, NoStronger};
 
-use crate::note::{Noted, Said};
+use crate::kept::Noted;
+use crate::note::Said;
 use trlab_code::PLACES;
 
 /// Whether what is told of a place is no more than what is told of it elsewhere.
@@ -39,10 +40,8 @@ fn knows_no_more(m: &Noted, n: &Noted) -> bool
         known (note_of m.now) x y ≤ known (note_of n.now) x y) }
 {
     for x in 0..PLACES {
-        for y in 0..PLACES {
-            if m.known(x, y) > n.known(x, y) {
-                return false;
-            }
+        if !m.row(x).is_within(n.row(x)) {
+            return false;
         }
     }
     true

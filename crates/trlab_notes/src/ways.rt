@@ -3,17 +3,19 @@
 ghost use Rattle.std.specs.Prelude.{◌≡◌, ℕ, ◌<◌, false, length, Some};
 ghost use Rattle.trlab_code.specs.Program.{InRange};
 ghost use Rattle.trlab_notes.specs.Notes.{fall, jump};
-ghost use Rattle.trlab_notes.specs.Noted.{note_of, maybe_note};
+ghost use Rattle.trlab_notes.specs.Noted.{note_of, maybe_note, maybe_settled, settled};
 ghost use Rattle.trlab_notes.specs.Reasons.{too_large};
 
-use crate::note::{AT_MOST, BELOW, Noted};
+use crate::kept::Noted;
+use crate::note::{AT_MOST, BELOW};
 use trlab_code::Instr;
 
 /// The note on the way to the next instruction, if there is one.
+#[tactic(auto, using(crate::proofs::Tables::kept_same))]
 pub fn fall_note(note: &Noted, instr: Instr) -> Option<Noted>
     requires in_range { InRange instr }
     requires fits { too_large (note_of note.now) instr ≡ false }
-    ensures { maybe_note result ≡ fall (note_of note.now) instr }
+    ensures { maybe_note result ≡ maybe_settled (fall (note_of note.now) instr) }
 {
     match instr {
         Instr::Num(dest, _)
@@ -39,8 +41,9 @@ pub fn fall_note(note: &Noted, instr: Instr) -> Option<Noted>
 }
 
 /// The note on the way to a jump's target.
+#[tactic(auto, using(crate::proofs::Tables::kept_same))]
 pub fn jump_note(note: &Noted, instr: Instr) -> Noted
-    ensures { note_of result ≡ jump (note_of note.now) instr }
+    ensures { note_of result ≡ settled (jump (note_of note.now) instr) }
 {
     match instr {
         Instr::JumpLess(a, b, _) => note.learn(a.place(), b.place(), BELOW),

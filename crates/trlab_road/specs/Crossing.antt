@@ -23,6 +23,11 @@ pub record LaneCrosses (own_crosses beside_crosses : ℕ → Bool) (own beside n
   pub each_cell : (x : ℕ) → x < length own
       → at new x ≡ crossing (own_crosses x) (beside_crosses x) (at own x) (at beside x)
 
+-- the cars of a lane that cross, where they stood, and no others
+pub record LaneLeaves (crosses : ℕ → Bool) (old leaving : Lane) : Type 0 where
+  pub same_length : length leaving ≡ length old
+  pub each_cell : (x : ℕ) → x < length old → at leaving x ≡ cond (crosses x) (at old x) None
+
 -- the sideways phase of a road
 pub record Crosses (crosses : ℕ → ℕ → Bool) (old new : Cells) : Type 0 where
   pub same_limit : new.limit ≡ old.limit

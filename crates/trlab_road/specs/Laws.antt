@@ -1,11 +1,11 @@
 -- Laws of pictures, of the two phases of a step and of evenly spread cars, for every road and
 -- whichever code moves the cars
-use Rattle.std.specs.Prelude.{◌≢◌, List, ◌≡◌, ℕ, ◌<◌, ◌↔◌, Bool}
+use Rattle.std.specs.Prelude.{◌≢◌, List, map, ◌≡◌, ℕ, ◌<◌, ◌↔◌, Bool, Result, Ok, Err}
 use Rattle.trlab_road.specs.declared.fault.RoadFault.{RoadFault}
 use Rattle.trlab_road.specs.declared.fault.RoadFault.TheVariants.{Memory}
 use Rattle.trlab_road.specs.Cells.{Cells, SameAtCars, Stands, cars}
 use Rattle.trlab_road.specs.Legal.{Legal}
-use Rattle.trlab_road.specs.Pictures.{FirstFault, GoodPictures, Shows}
+use Rattle.trlab_road.specs.Pictures.{FirstFault, GoodPictures, NumberedInOrder, Shows, picture}
 use Rattle.trlab_road.specs.Crossing.{Crosses, CrossesFree, CleanCrossing, crossed}
 use Rattle.trlab_road.specs.Spreading.{CanSpread, Even, EvenFault}
 use Rattle.trlab_road.specs.Motion.{CleanMotion, Fits, Moves}
@@ -30,6 +30,30 @@ OneFirstFault = (limit : ℕ) (pictures : List (List ℕ)) (fault other : RoadFa
 abbrev pub NoFaultInGood : Type 0
 NoFaultInGood = (limit : ℕ) (pictures : List (List ℕ)) (fault : RoadFault)
     → GoodPictures limit pictures → FirstFault limit pictures fault → fault ≡ Memory
+
+-- what a limit and pictures say: the legal road that they show, or their first fault
+abbrev pub Says : ℕ → List (List ℕ) → Result Cells RoadFault → Type 0
+Says limit pictures (Ok road) = Shows limit pictures road × Legal road
+Says limit pictures (Err fault) = FirstFault limit pictures fault × (fault ≢ Memory)
+
+-- any limit and pictures say something
+abbrev pub PicturesSaySomething : Type 0
+PicturesSaySomething = (limit : ℕ) (pictures : List (List ℕ))
+    → (said : Result Cells RoadFault) × Says limit pictures said
+
+-- no limit and pictures say two things
+abbrev pub PicturesSayOneThing : Type 0
+PicturesSayOneThing = (limit : ℕ) (pictures : List (List ℕ)) (said other : Result Cells RoadFault)
+    → Says limit pictures said → Says limit pictures other → said ≡ other
+
+-- a legal road has pictures, and they are good
+abbrev pub PicturesOfLegalRoads : Type 0
+PicturesOfLegalRoads = (road : Cells) → Legal road → GoodPictures road.limit (map picture road.lanes)
+
+-- the pictures of a legal road whose cars are numbered in standing order say this road, and nothing else
+abbrev pub PicturesSayTheRoad : Type 0
+PicturesSayTheRoad = (road : Cells) (said : Result Cells RoadFault) → Legal road → NumberedInOrder road
+    → Says road.limit (map picture road.lanes) said ↔ (said ≡ Ok road)
 
 -- where each answer is at most the gap and the limit, some road comes after the motion
 abbrev pub SomeRoadAfterMotion : Type 0
@@ -85,6 +109,21 @@ CrossingIsClean = (crosses : ℕ → ℕ → Bool) (old new : Cells)
 abbrev pub CrossingKeepsLegal : Type 0
 CrossingKeepsLegal = (crosses : ℕ → ℕ → Bool) (old new : Cells)
     → Legal old → CrossesFree crosses old → Crosses crosses old new → Legal new
+
+-- what is said of evenly spread cars: the legal road on which they stand, or the first fault
+abbrev pub SaysEven : ℕ → ℕ → ℕ → ℕ → Result Cells RoadFault → Type 0
+SaysEven lanes cells limit n (Ok road) = CanSpread lanes cells limit n × Even lanes cells limit n road × Legal road
+SaysEven lanes cells limit n (Err fault) = EvenFault lanes cells limit n fault × (fault ≢ Memory)
+
+-- something is said of any lanes, cells, limit and count of cars
+abbrev pub EvenSaysSomething : Type 0
+EvenSaysSomething = (lanes cells limit n : ℕ)
+    → (said : Result Cells RoadFault) × SaysEven lanes cells limit n said
+
+-- and no two things
+abbrev pub EvenSaysOneThing : Type 0
+EvenSaysOneThing = (lanes cells limit n : ℕ) (said other : Result Cells RoadFault)
+    → SaysEven lanes cells limit n said → SaysEven lanes cells limit n other → said ≡ other
 
 -- evenly spread cars make one road only
 abbrev pub OneEvenRoad : Type 0

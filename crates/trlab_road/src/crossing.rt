@@ -1,9 +1,10 @@
-//! The sideways phase: the cars of two lanes that cross do so at once, by a merge of their lists.
+//! The sideways phase: the cars of two lanes that cross do so at once. Those of a lane that stay are
+//! merged with those that come.
 
-ghost use Rattle.std.specs.Prelude.{◌≡◌, ◌+◌, ◌<◌, ◌≤◌, ℕ, length, sum_by, IfOk, slice_index_or, false, Option};
+ghost use Rattle.std.specs.Prelude.{◌≡◌, ◌+◌, ◌<◌, ◌≤◌, ℕ, length, sum_by, IfOk, slice_index_or, true, false, Option};
 ghost use Rattle.trlab_road.specs.declared.bounds.TheConstants.{GREATEST_LENGTH};
 ghost use Rattle.trlab_road.specs.Cells.{Cells, lane_cars};
-ghost use Rattle.trlab_road.specs.Crossing.{Crosses, LaneCrosses, crosses_at, crossing, lane_crosses_at};
+ghost use Rattle.trlab_road.specs.Crossing.{Crosses, LaneCrosses, LaneLeaves, crosses_at, crossing, lane_crosses_at};
 ghost use Rattle.trlab_road.specs.Lists.{Rises, Rising, Sorted, Sought, StandsAt, cell_at, cell_of_car, cells_of, lanes_from, place_of};
 
 use crate::lane_car::LaneCar;
@@ -59,63 +60,75 @@ fn passed(cars: &[LaneCar], k: usize, place: u32) -> usize
     }
 }
 
-/// The car of a cell after the sideways phase.
-fn crossed_car(
-    own_crosses: bool,
-    beside_crosses: bool,
-    own: Option<LaneCar>,
-    beside: Option<LaneCar>,
-) -> Option<LaneCar>
+/// The car of a cell after the sideways phase, to which a car comes or none.
+fn crossed_car(own_crosses: bool, own: Option<LaneCar>, coming: Option<LaneCar>) -> Option<LaneCar>
     ensures cell { cell_of_car result
-        ≡ crossing own_crosses beside_crosses (cell_of_car own) (cell_of_car beside) }
-    ensures there { (x : ℕ) → StandsAt x own → StandsAt x beside → StandsAt x result }
+        ≡ crossing own_crosses true (cell_of_car own) (cell_of_car coming) }
+    ensures there { (x : ℕ) → StandsAt x own → StandsAt x coming → StandsAt x result }
 {
     if own.is_some() && !own_crosses {
         own
-    } else if beside_crosses {
-        beside
     } else {
-        None
+        coming
     }
 }
 
-/// The cars of a lane after the sideways phase, beside another lane of its length.
+/// The cars of a lane that cross; only the proof reads how many cells the lane has.
+fn leaving_cars(
+    alloc: Global,
+    cells: u32,
+    lane: AnsweredLane,
+    crosses: &[bool],
+) -> Result<Vec<LaneCar>, AllocError>
+    requires sorted { Rises 0 cells lane.cars.now }
+    requires each { lane.from + length lane.cars.now ≤ length crosses.now }
+    ensures rises { IfOk result (λ leaving. Rises 0 cells leaving.items) }
+    ensures leaves { IfOk result (λ leaving.
+        let old = cells_of cells lane.entry.cars.now in
+        LaneLeaves (lane_crosses_at old crosses.now lane.entry.from)
+        old (cells_of cells leaving.items)) }
+{
+    let mut leaving = Vec::new(alloc);
+    for k in 0..lane.cars.len() {
+        if crosses[lane.from + k] {
+            leaving.push(lane.cars[k])?;
+        }
+    }
+    Ok(leaving)
+}
+
+/// The cars of a lane after the sideways phase, to which these cars come from the other lane.
 fn crossed_lane(
     alloc: Global,
     cells: u32,
     own: AnsweredLane,
-    beside: AnsweredLane,
+    coming: &[LaneCar],
     crosses: &[bool],
 ) -> Result<Vec<LaneCar>, AllocError>
     requires small { cells ≤ GREATEST_LENGTH }
     requires own_sorted { Rises 0 cells own.cars.now }
-    requires beside_sorted { Rises 0 cells beside.cars.now }
+    requires coming_sorted { Rises 0 cells coming.now }
     requires own_each { own.from + length own.cars.now ≤ length crosses.now }
-    requires beside_each { beside.from + length beside.cars.now ≤ length crosses.now }
     ensures rises { IfOk result (λ next. Rises 0 cells next.items) }
     ensures crosses { IfOk result (λ next.
         let old = cells_of cells own.entry.cars.now in
-        let other = cells_of cells beside.entry.cars.now in
-        LaneCrosses
-        (lane_crosses_at old crosses.now own.entry.from)
-        (lane_crosses_at other crosses.now beside.entry.from)
-        old other (cells_of cells next.items)) }
+        LaneCrosses (lane_crosses_at old crosses.now own.entry.from) (λ _. true)
+        old (cells_of cells coming.now) (cells_of cells next.items)) }
 {
     let mut next = Vec::with_capacity(alloc, own.cars.len())?;
     let mut i = 0;
     let mut j = 0;
-    let mut place = next_place(own.cars, i, cells).min(next_place(beside.cars, j, cells));
+    let mut place = next_place(own.cars, i, cells).min(next_place(coming, j, cells));
     while place < cells {
         let own_crosses = answer_or_no(crosses, own.from + i);
-        let beside_crosses = answer_or_no(crosses, beside.from + j);
         let own_car = car_at(own.cars, i, place);
-        let side_car = car_at(beside.cars, j, place);
-        if let Some(car) = crossed_car(own_crosses, beside_crosses, own_car, side_car) {
+        let coming_car = car_at(coming, j, place);
+        if let Some(car) = crossed_car(own_crosses, own_car, coming_car) {
             next.push(car)?;
         }
         i = passed(own.cars, i, place);
-        j = passed(beside.cars, j, place);
-        place = next_place(own.cars, i, cells).min(next_place(beside.cars, j, cells));
+        j = passed(coming, j, place);
+        place = next_place(own.cars, i, cells).min(next_place(coming, j, cells));
     }
     Ok(next)
 }
@@ -145,7 +158,9 @@ pub fn crossed_lanes(
         cars: list_of(lanes, 1),
         from: first.cars.len(),
     };
-    let new_first = crossed_lane(alloc, cells, first, second, crosses)?;
-    let new_second = crossed_lane(alloc, cells, second, first, crosses)?;
+    let from_first = leaving_cars(alloc, cells, first, crosses)?;
+    let from_second = leaving_cars(alloc, cells, second, crosses)?;
+    let new_first = crossed_lane(alloc, cells, first, &from_second, crosses)?;
+    let new_second = crossed_lane(alloc, cells, second, &from_first, crosses)?;
     Ok(vec![in alloc; new_first, new_second]?)
 }

@@ -3,12 +3,24 @@
 //!
 //! Each law is the contract of a function with nothing to do.
 
+ghost use Rattle.std.specs.Prelude.{◌≡◌};
 ghost use Rattle.trlab_road.specs.Laws.{LegalRoadShown, NoFaultInGood, OneFirstFault, OneRoadShown};
+ghost use Rattle.trlab_road.specs.Laws.{PicturesOfLegalRoads, PicturesSayOneThing, PicturesSaySomething, PicturesSayTheRoad};
 ghost use Rattle.trlab_road.specs.Laws.{AllNumbersStand, MotionByCars, MotionIsClean, MotionKeepsCars};
 ghost use Rattle.trlab_road.specs.Laws.{MotionKeepsLegal, OneRoadAfterMotion, SomeRoadAfterMotion};
 ghost use Rattle.trlab_road.specs.Laws.{CrossingByCars, CrossingIsClean, CrossingKeepsLegal};
 ghost use Rattle.trlab_road.specs.Laws.{OneRoadAfterCrossing};
 ghost use Rattle.trlab_road.specs.Laws.{EvenRoadHasAllCars, EvenRoadIsLegal, NoFaultInFitting, OneEvenFault, OneEvenRoad};
+ghost use Rattle.trlab_road.specs.Laws.{EvenSaysOneThing, EvenSaysSomething};
+
+use crate::bounds::{GREATEST_LENGTH, GREATEST_LIMIT, MOST_LANES};
+
+/// The bounds of roads.
+pub fn numbers()
+    ensures limit { GREATEST_LIMIT ≡ 9 }
+    ensures length { GREATEST_LENGTH ≡ 100000 }
+    ensures lanes { MOST_LANES ≡ 2 }
+{}
 
 /// Pictures show one road, which is legal where they are good, and else have one first fault.
 pub fn pictures_show_one_road()
@@ -16,6 +28,19 @@ pub fn pictures_show_one_road()
     ensures legal { LegalRoadShown }
     ensures one_fault { OneFirstFault }
     ensures no_fault { NoFaultInGood }
+{}
+
+/// Any limit and pictures say just one thing: the legal road that they show, or their first fault.
+pub fn pictures_say_one_thing()
+    ensures something { PicturesSaySomething }
+    ensures one_thing { PicturesSayOneThing }
+{}
+
+/// Each legal road has good pictures, and where its cars are numbered in standing order, these say the
+/// road: what is read from what was drawn is the same.
+pub fn pictures_say_the_road()
+    ensures good { PicturesOfLegalRoads }
+    ensures same { PicturesSayTheRoad }
 {}
 
 /// Answers that fit lead to one road by the motion, and only the answers at cars count.
@@ -55,4 +80,10 @@ pub fn even_cars_make_one_road()
     ensures all_cars { EvenRoadHasAllCars }
     ensures one_fault { OneEvenFault }
     ensures no_fault { NoFaultInFitting }
+{}
+
+/// Of evenly spread cars just one thing is said: the legal road on which they stand, or the first fault.
+pub fn even_cars_say_one_thing()
+    ensures something { EvenSaysSomething }
+    ensures one_thing { EvenSaysOneThing }
 {}

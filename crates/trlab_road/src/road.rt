@@ -1,8 +1,9 @@
 //! A road, kept as the list of the cars of each lane by rising place.
 
-ghost use Rattle.std.specs.Prelude.{◌≡◌, ◌<◌, ◌≤◌, ◌↔◌, ℕ, Bool, length, slice_get, Some, slice_index, slice_index_or, false, IfOk, IsTrue, MatchResult};
+ghost use Rattle.std.specs.Prelude.{◌≡◌, ◌≢◌, ◌⊎◌, ◌<◌, ◌≤◌, ◌↔◌, ℕ, Bool, length, slice_get, Some, slice_index, slice_index_or, false, IfOk, IsTrue, MatchResult};
 ghost use Rattle.trlab_road.specs.declared.bounds.TheConstants.{GREATEST_LENGTH};
 ghost use Rattle.trlab_road.specs.declared.car.Car.{Car};
+ghost use Rattle.trlab_road.specs.declared.fault.RoadFault.{RoadFault};
 ghost use Rattle.trlab_road.specs.Cells.{Cells, cars, cell, lane_of};
 ghost use Rattle.trlab_road.specs.Gaps.{gap, side, sideback, sidegap};
 ghost use Rattle.trlab_road.specs.Standing.{standing};
@@ -67,6 +68,10 @@ impl Road {
         // each legal road whose cars are numbered in standing order is read from its pictures
         ensures back { (road : Cells) → Legal road → Shows limit (pictures_of lanes.now) road
             → MatchResult result (λ next. next ≡ road) (λ fault. fault ≡ RoadFault.Memory) }
+
+        // each fault is told, but where memory runs out
+        ensures told { (fault : RoadFault) → FirstFault limit (pictures_of lanes.now) fault
+            → fault ≢ RoadFault.Memory → (result ≡ Err fault) ⊎ (result ≡ Err RoadFault.Memory) }
     {
         check_pictures(limit, lanes)?;
         let cells = lanes[0].len();
@@ -96,6 +101,10 @@ impl Road {
             (λ _. CanSpread lanes cells limit count)
             (λ fault. EvenFault lanes cells limit count fault) }
         ensures even { IfOk result (λ road. Even lanes cells limit count road) }
+
+        // each fault is told, but where memory runs out
+        ensures told { (fault : RoadFault) → EvenFault lanes cells limit count fault
+            → fault ≢ RoadFault.Memory → (result ≡ Err fault) ⊎ (result ≡ Err RoadFault.Memory) }
         ensures counted { IfOk result (λ road. cars road ≡ count) }
         ensures legal { IfOk result (λ road. Legal road) }
     {

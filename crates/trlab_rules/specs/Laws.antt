@@ -1,17 +1,27 @@
 -- Programs that answer what a rule says.
-use Rattle.std.specs.Prelude.{ℕ, Bool, List, if◌then◌else◌}
+use Rattle.std.specs.Prelude.{◌≡◌, ℕ, Bool, List, slice_index, if◌then◌else◌}
+use Rattle.trlab_words.specs.Chances.{happens_on}
+use Rattle.trlab_code.specs.declared.instruction.Register.{Register}
+use Rattle.trlab_code.specs.declared.instruction.Instr.TheVariants.{Draw}
 use Rattle.trlab_code.specs.declared.kind.Kind.TheVariants.{Motion, Change}
 use Rattle.trlab_code.specs.declared.view.View.{View}
 use Rattle.trlab_code.specs.Program.{Program}
 use Rattle.trlab_code.specs.Views.{IsView}
-use Rattle.trlab_code.specs.Machine.{Goes, Crosses, Stays, EndsWith}
+use Rattle.trlab_code.specs.Machine.{Flag, Goes, Crosses, Stays, Store, Writes, EndsWith, effect, place}
 
 -- a motion program answers the speed of a rule, whatever the car sees and whatever its words are
 abbrev pub MovesBy : (View → List ℕ → ℕ) → Program → Type 0
 MovesBy speed program = (view : View) (words : List ℕ) → IsView view
     → (n : ℕ) × EndsWith Motion program.instrs view words (Goes (speed view words)) n
 
--- a change program answers that the car crosses just where a rule says so, whatever the car sees and whatever its words are
+-- a change program answers that the car crosses just where a rule says so, whatever the car sees and whatever
+-- its words are
 abbrev pub ChangesBy : (View → List ℕ → Bool) → Program → Type 0
 ChangesBy crosses program = (view : View) (words : List ℕ) → IsView view
     → (n : ℕ) × EndsWith Change program.instrs view words (if crosses view words then Crosses else Stays) n
+
+-- a draw of a program tells whether its chance happens on its word
+abbrev pub DrawsHappenAsChances : Type 0
+DrawsHappenAsChances = (view : View) (words : List ℕ) (values : Store) (d : Register) (k chance : ℕ)
+    → effect view words values (Draw d k chance)
+    ≡ Writes (place d) (Flag (happens_on chance (slice_index words k)))

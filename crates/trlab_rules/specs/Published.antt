@@ -1,6 +1,6 @@
--- The published rules, on what a car sees and its random words: of motion by Nagel and Schreckenberg (1992), with slow
--- starts by Barlovic, Santen, Schadschneider and Schreckenberg (1998), and of a second lane by Rickert, Nagel,
--- Schreckenberg and Latour (1996), where the distances that a car asks for are this project's own profile.
+-- The published rules, on what a car sees and its random words: of motion by Nagel and Schreckenberg (1992),
+-- with slow starts by Barlovic, Santen, Schadschneider and Schreckenberg (1998), and of a second lane by Rickert,
+-- Nagel, Schreckenberg and Latour (1996), where the distances that a car asks for are this project's own profile.
 use Rattle.std.specs.Prelude.{ℕ, ◌+◌, ◌-◌, ◌&&◌, min, List, Bool, true, false, nat_eq, nat_lt, nat_le, if◌then◌else◌, slice_index}
 use Rattle.trlab_words.specs.Chances.{happens_on}
 use Rattle.trlab_code.specs.declared.view.View.{View}
@@ -22,7 +22,8 @@ happens_at chance words k = happens_on chance (slice_index words k)
 abbrev pub nasch_speed : ℕ → View → List ℕ → ℕ
 nasch_speed p view words = braked (happens_at p words 0) (calmed view.speed view.limit view.gap)
 
--- the chance of slow starts, by the speed before acceleration: p0 for a car that stands, and p for one that moves
+-- the chance of slow starts, by the speed before acceleration: p0 for a car that stands, and p for one that
+-- moves
 abbrev pub vdr_chance : ℕ → ℕ → ℕ → ℕ
 vdr_chance p p0 speed = if nat_eq speed 0 then p0 else p
 
@@ -30,13 +31,16 @@ vdr_chance p p0 speed = if nat_eq speed 0 then p0 else p
 abbrev pub vdr_speed : ℕ → ℕ → View → List ℕ → ℕ
 vdr_speed p p0 view words = nasch_speed (vdr_chance p p0 view.speed) view words
 
--- the exchange of lanes of 1996: the cell beside is empty, the gap does not allow to go one faster, the gap ahead there is above that, the gap behind there above the limit, and the chance c happens on word 1
+-- the exchange of lanes of 1996: the cell beside is empty, the gap does not allow to go one faster, the gap ahead
+-- there is above that, the gap behind there above the limit, and the chance c happens on word 1
 abbrev pub rickert_crosses : ℕ → View → List ℕ → Bool
 rickert_crosses c view words =
-    view.side && nat_lt view.gap (view.speed + 1) && nat_lt (view.speed + 1) view.sidegap && nat_lt view.limit view.sideback
+    view.side && nat_lt view.gap (view.speed + 1) && nat_lt (view.speed + 1) view.sidegap
+    && nat_lt view.limit view.sideback
     && happens_at c words 1
 
--- acceleration as worded in 1992: below the limit, and where the distance to the car ahead is above the speed and one more, one cell a step faster
+-- acceleration as worded in 1992: below the limit, and where the distance to the car ahead is above the speed and
+-- one more, one cell a step faster
 abbrev pub accelerated_1992 : ℕ → ℕ → ℕ → ℕ
 accelerated_1992 speed limit distance =
     if nat_lt speed limit && nat_lt (speed + 1) distance then speed + 1 else speed

@@ -1,13 +1,13 @@
 //! What drives the cars of a road.
 
 ghost use Rattle.std.specs.Prelude.{◌≡◌, ◌↔◌, IsTrue, IfOk, option_map};
-ghost use Rattle.trlab_rules.specs.Rules.{Programs};
+ghost use Rattle.trlab_rules.specs.Rules.{IsRule, Programs};
 
 use std::alloc::{AllocError, Global};
 use std::marker::Model;
 use trlab_verify::{Change, Motion};
 
-/// A motion program, and for two lanes perhaps a change program.
+/// An accepted motion program, and for two lanes perhaps an accepted change program.
 #[derive(Debug, Drop)]
 pub struct Rule {
     motion: Motion,
@@ -15,31 +15,36 @@ pub struct Rule {
 }
 
 impl Model for Rule {
-    ghost use Rattle.trlab_rules.specs.Rules.{Programs};
+    ghost use Rattle.trlab_rules.specs.Rules.{IsRule, Programs};
 
     ghost Value = { Programs };
 
     ghost view = { λ rule. record { motion = rule.motion; change = rule.change } };
+
+    ghost invariant = { λ rule. IsRule (record { motion = rule.motion; change = rule.change }) };
 }
 
 impl Rule {
     /// The rule of a motion program and perhaps a change program.
     pub fn new(motion: Motion, change: Option<Change>) -> Rule
-        ensures { result ≡ record { motion = motion; change = change } }
+        ensures value { result ≡ record { motion = motion; change = change } }
+        ensures rule { IsRule result }
     {
         Rule { motion, change }
     }
 
     /// The program that answers each car's new speed.
     pub fn motion(&self) -> &Motion
-        ensures { result.now ≡ self.now.motion }
+        ensures value { result.now ≡ self.now.motion }
+        ensures rule { IsRule self.now }
     {
         &self.motion
     }
 
     /// The program that answers whether a car crosses, if there is one.
     pub fn change(&self) -> Option<&Change>
-        ensures { option_map (λ change. change.now) result ≡ self.now.change }
+        ensures value { option_map (λ change. change.now) result ≡ self.now.change }
+        ensures rule { IsRule self.now }
     {
         self.change.as_ref()
     }

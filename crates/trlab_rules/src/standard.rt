@@ -3,6 +3,7 @@
 ghost use Rattle.std.specs.Prelude.{IfOk, IfErr, ◌⊎◌};
 ghost use Rattle.trlab_code.specs.declared.kind.Kind.TheVariants.{Motion as OfMotion, Change as OfChange};
 ghost use Rattle.trlab_rules.specs.Standard.{nasch_program, vdr_program, rickert_program};
+ghost use Rattle.trlab_rules.specs.Rules.{IsRule};
 ghost use Rattle.trlab_rules.specs.Given.{IsNasch, IsVdr, IsRickert, Refuses, Tells};
 
 use crate::checked::{nasch_motion, rickert_change, vdr_motion};
@@ -16,7 +17,8 @@ use trlab_words::Chance;
 /// A car accelerates by one up to the limit, slows down to its gap, and then, with the chance `p` on
 /// its word 0, brakes by one. `Refused` is answered just where the verifier refuses the program.
 pub fn nasch(alloc: Global, p: Chance) -> Result<Rule, StandardFault>
-    ensures rule { IfOk result (IsNasch p) }
+    ensures published { IfOk result (IsNasch p) }
+    ensures rule { IfOk result IsRule }
     ensures refused { IfErr result (Tells (Refuses OfMotion (nasch_program p))) }
 {
     Ok(Rule::new(nasch_motion(alloc, p)?, None))
@@ -27,7 +29,8 @@ pub fn nasch(alloc: Global, p: Chance) -> Result<Rule, StandardFault>
 /// It is `nasch` with the chance `p0` for a car whose speed before the step is 0, and `p` for one that
 /// moves. `Refused` is answered just where the verifier refuses the program.
 pub fn vdr(alloc: Global, p: Chance, p0: Chance) -> Result<Rule, StandardFault>
-    ensures rule { IfOk result (IsVdr p p0) }
+    ensures published { IfOk result (IsVdr p p0) }
+    ensures rule { IfOk result IsRule }
     ensures refused { IfErr result (Tells (Refuses OfMotion (vdr_program p p0))) }
 {
     Ok(Rule::new(vdr_motion(alloc, p, p0)?, None))
@@ -41,7 +44,8 @@ pub fn vdr(alloc: Global, p: Chance, p0: Chance) -> Result<Rule, StandardFault>
 /// `c` happens on its word 1. Then all cars move as by `nasch` with the chance `p`. `Refused` is answered
 /// just where the verifier refuses one of the two programs.
 pub fn rickert(alloc: Global, p: Chance, c: Chance) -> Result<Rule, StandardFault>
-    ensures rule { IfOk result (IsRickert p c) }
+    ensures published { IfOk result (IsRickert p c) }
+    ensures rule { IfOk result IsRule }
     ensures refused { IfErr result (Tells (Refuses OfMotion (nasch_program p) ⊎ Refuses OfChange (rickert_program c))) }
 {
     let motion = nasch_motion(alloc, p)?;

@@ -13,7 +13,9 @@ use Rattle.trlab_road.specs.Motion.{Fits}
 use Rattle.trlab_road.proofs.MotionLaws.{on_lane}
 use Rattle.trlab_machine.proofs.Choices.{checked_change_chooses}
 use Rattle.trlab_machine.proofs.Speeds.{checked_motion_moves}
-use Rattle.trlab_step.specs.Answers.{Dice, words_of, motion_seen, change_seen, AnswersSpeed, AnswersCrossing, Speeds, Crossers}
+use Rattle.trlab_machine.specs.declared.dice.Dice.{Dice}
+use Rattle.trlab_machine.specs.Blocks.{words_of}
+use Rattle.trlab_step.specs.Answers.{motion_seen, change_seen, AnswersSpeed, AnswersCrossing, Speeds, Crossers}
 
 greatest_within : (test : ℕ → Bool) (n : ℕ) → greatest test n ≤ n
 greatest_within test zero = omega arith

@@ -1,15 +1,11 @@
 -- What is seen of cars that are asked, and what their programs answer.
-use Rattle.std.proofs.Common.{◌≡◌, ◌∙◌, ℕ, ◌+◌, ◌-◌, ◌<◌, ◌≤◌, Bool, true, false, Some, None, List, length, get_or, inl, inr, refl, sym, ap, subst, arith}
+use Rattle.std.proofs.Common.{◌≡◌, ◌∙◌, ℕ, ◌≤◌, Bool, false, Some, List, refl, sym, ap, subst}
 use Rattle.std.specs.Prelude.{slice_get, slice_index, slice_index_or}
-use Rattle.std.proofs.lemmas.Bool.{cases_lt}
-use Rattle.std.proofs.lemmas.List.{get_or_past}
-use Rattle.trlab_code.specs.declared.kind.Kind.{Kind}
 use Rattle.trlab_code.specs.declared.kind.Kind.TheVariants.{Motion, Change}
-use Rattle.trlab_code.specs.declared.instruction.Instr.{Instr}
 use Rattle.trlab_code.specs.declared.view.View.{View}
 use Rattle.trlab_code.specs.Machine.{EndsWith, Goes}
 use Rattle.trlab_code.specs.Views.{IsView, motion_view, change_view}
-use Rattle.trlab_machine.specs.Blocks.{AreWords, ChoosesWith, MovesWith}
+use Rattle.trlab_machine.specs.Blocks.{ChoosesWith, MovesWith}
 use Rattle.trlab_machine.specs.Choices.{crossing_answer}
 use Rattle.trlab_road.specs.declared.car.Car.{Car}
 use Rattle.trlab_road.specs.Cells.{Cells, lane_of}
@@ -17,17 +13,15 @@ use Rattle.trlab_road.specs.Crossing.{other_lane, sides}
 use Rattle.trlab_road.specs.Gaps.{gap, side, sidegap, sideback}
 use Rattle.trlab_road.specs.Motion.{gaps}
 use Rattle.trlab_road.specs.Standing.{standing}
-use Rattle.trlab_step.specs.Answers.{Dice, words_of}
-use Rattle.trlab_step.specs.Asked.{AllNeeded, CrossesBy, GoesBy, HasWords, IsAsked}
+use Rattle.trlab_machine.specs.declared.dice.Dice.{Dice}
+use Rattle.trlab_machine.specs.Blocks.{words_of}
+use Rattle.trlab_step.specs.Answers.{dice_of}
+use Rattle.trlab_step.specs.Asked.{CrossesBy, GoesBy, IsAsked}
 use Rattle.trlab_verify.specs.Checked.{Checked}
-use Rattle.trlab_words.proofs.RandomWords.{length-random_words, random_words_small, slice_index-random_words}
 use Rattle.trlab_step.proofs.Parts.{same_view, same_change_view}
 
 some_same : {a b : Car} → Some a ≡ Some b → a ≡ b
 some_same h = cc
-
-true_false : true ≡ false → ⊥
-true_false h = cc
 
 not_change : Motion ≡ Change → ⊥
 not_change h = cc
@@ -61,23 +55,9 @@ module _ (road : Cells) (k : ℕ) (told : Car) (order : slice_get (standing road
     side = λ e. ap (λ (v : View). v.side) is ∙ side_is;
   }
 
--- the words that are made for a car do for it
-pub words_do : (code : List Instr) (dice : Dice) (needed : List Bool) (numbers : List ℕ) (cars : ℕ) (words : List (List ℕ)) (j : ℕ) → length needed ≡ 16
-    → AllNeeded code needed → HasWords dice needed numbers cars words → j < cars → AreWords code words j (words_of dice (slice_index numbers j))
-words_do code dice needed numbers cars words j sixteen all has inside = record {
-  all = length-random_words dice.key dice.road (slice_index numbers j) dice.step;
-  small = random_words_small dice.key dice.road (slice_index numbers j) dice.step;
-  drawn = λ pc instr here d w t is low high.
-      let on : slice_index_or needed w false ≡ true = all pc d w t (here ∙ ap Some is) low high in
-      slice_index-random_words dice.key dice.road (slice_index numbers j) dice.step w (within w on) ∙ sym (has w j on inside);
-}
-  where
-    within : (w : ℕ) → slice_index_or needed w false ≡ true → w < 16
-    within w on =
-        elim (cases_lt w 16) [
-          | inl low ↦ low
-          | inr past ↦ absurd (true_false (sym on ∙ get_or_past needed w false (omega (arith, sixteen, past))))
-        ]
+-- dice by their parts
+pub same_dice : (dice : Dice) (key : List ℕ) (road step : ℕ) → dice.key ≡ key → dice.road ≡ road → dice.step ≡ step → dice ≡ dice_of key road step
+same_dice dice key road step a b d = ap (λ k. dice_of k dice.road dice.step) a ∙ ap (λ r. dice_of key r dice.step) b ∙ ap (dice_of key road) d
 
 -- what a block answers to a car is what its motion program answers
 pub goes_by : (motion : Checked) (dice : Dice) (road : Cells) (k : ℕ) (view : View) (number speed : ℕ) → IsAsked Motion road k view number

@@ -6,3 +6,4 @@ pub mod Parts
 pub mod Stepped
 pub mod PartLaws
 pub mod AskedCars
+pub mod PublishedLaws

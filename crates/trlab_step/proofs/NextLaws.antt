@@ -17,7 +17,8 @@ use Rattle.trlab_road.proofs.MotionInOrder.{moves_by}
 use Rattle.trlab_road.proofs.CrossingLaws.{crosses_by, crossed_crosses, crossing_clean, crossing_legal, crossing_same_count, one_crossing_only}
 use Rattle.trlab_road.proofs.StandingOrder.{standing_cell, length-standing_lanes}
 use Rattle.trlab_step.specs.declared.tally.StepTally.{StepTally}
-use Rattle.trlab_step.specs.Answers.{Dice, Speeds, Crossers}
+use Rattle.trlab_machine.specs.declared.dice.Dice.{Dice}
+use Rattle.trlab_step.specs.Answers.{Speeds, Crossers}
 use Rattle.trlab_step.specs.Next.{total_speed, stopped_cars, crossing_cars, Sideways, Onward}
 use Rattle.trlab_step.specs.Laws.{LegalLike, NextRoadExists, NextRoadIsOne}
 use Rattle.trlab_step.proofs.AnswersExist.{speeds_exist, crossers_exist}
@@ -59,7 +60,7 @@ sideways_somewhere (Some change) dice road checked two legal =
     record {
       middle = middle;
       changes = crossing_cars crosses road;
-      sideways = (crosses, answered.1, phase, refl);
+      sideways = (two refl, crosses, answered.1, phase, refl);
       clean = crossing_clean crosses road middle legal phase free;
       like = record {
         legal = crossing_legal crosses road middle legal phase free;
@@ -155,8 +156,8 @@ crossing_cars_same road crosses others same =
 sideways_is_one : (change : Option Checked) (dice : Dice) (road middle other : Cells) (m n : ℕ) → Sideways change dice road middle m → Sideways change dice road other n → (middle ≡ other) × (m ≡ n)
 sideways_is_one None dice road middle other m n a b = (a.0 ∙ sym b.0, a.1 ∙ sym b.1)
 sideways_is_one (Some change) dice road middle other m n a b =
-    let same = crossers_agree change dice road a.0 b.0 a.1 b.1 in
-    (one_crossing_only b.0 road middle other (crosses_by a.0 b.0 road middle same a.2) b.2, a.3 ∙ crossing_cars_same road a.0 b.0 same ∙ sym b.3)
+    let same = crossers_agree change dice road a.1 b.1 a.2 b.2 in
+    (one_crossing_only b.1 road middle other (crosses_by a.1 b.1 road middle same a.3) b.3, a.4 ∙ crossing_cars_same road a.1 b.1 same ∙ sym b.4)
 
 counted : ℕ → ℕ → ℕ → StepTally
 counted distance stopped changes = record { distance = distance; stopped = stopped; changes = changes }

@@ -13,7 +13,9 @@ use Rattle.trlab_road.specs.declared.car.Car.{Car}
 use Rattle.trlab_road.specs.Cells.{Cells, cars}
 use Rattle.trlab_road.specs.Standing.{standing}
 use Rattle.trlab_road.proofs.StandingOrder.{length-standing_lanes}
-use Rattle.trlab_step.specs.Answers.{Dice, words_of, motion_seen, change_seen, AnswersSpeed, AnswersCrossing}
+use Rattle.trlab_machine.specs.declared.dice.Dice.{Dice}
+use Rattle.trlab_machine.specs.Blocks.{words_of}
+use Rattle.trlab_step.specs.Answers.{motion_seen, change_seen, AnswersSpeed, AnswersCrossing}
 use Rattle.trlab_step.specs.Laws.{SpeedsAreOne, SpeedsJoin, CrossersAreOne, CrossersJoin}
 
 one_speed : {a b : ℕ} → Goes a ≡ Goes b → a ≡ b

@@ -19,7 +19,9 @@ use Rattle.trlab_road.specs.Gaps.{gap, side, sidegap, sideback}
 use Rattle.trlab_road.specs.Motion.{Allowed, answer_at, gaps}
 use Rattle.trlab_road.specs.Standing.{standing, rank}
 use Rattle.trlab_road.proofs.StandingOrder.{car_of, standing_rank, rank_below_cars, length-standing_lanes}
-use Rattle.trlab_step.specs.Answers.{Dice, words_of, motion_seen, change_seen, AnswersSpeed, AnswersCrossing, Speeds, SpeedsPart, FitsPart, Crossers, CrossersPart, CrossesFreePart}
+use Rattle.trlab_machine.specs.declared.dice.Dice.{Dice}
+use Rattle.trlab_machine.specs.Blocks.{words_of}
+use Rattle.trlab_step.specs.Answers.{motion_seen, change_seen, AnswersSpeed, AnswersCrossing, Speeds, SpeedsPart, FitsPart, Crossers, CrossersPart, CrossesFreePart}
 
 pub same_view : (a b c x y z : ℕ) → a ≡ x → b ≡ y → c ≡ z → motion_view a b c ≡ motion_view x y z
 same_view a b c x y z e f g = ap (λ k. motion_view k b c) e ∙ ap (λ k. motion_view x k c) f ∙ ap (motion_view x y) g

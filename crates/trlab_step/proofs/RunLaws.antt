@@ -3,12 +3,11 @@ use Rattle.std.proofs.Common.{◌≡◌, ℕ, zero, suc, Bool, true, false, Opti
 use Rattle.std.proofs.lemmas.Bool.{leb-true, le-leb}
 use Rattle.std.specs.Prelude.{All, IsSome, nat_le, unwrap_or, if◌then◌else◌}
 use Rattle.trlab_road.specs.Cells.{Cells}
-use Rattle.trlab_road.specs.Legal.{Legal}
 use Rattle.trlab_rules.specs.Rules.{Programs}
 use Rattle.trlab_step.specs.declared.tally.StepTally.{StepTally}
 use Rattle.trlab_step.specs.Next.{IsNext}
-use Rattle.trlab_step.specs.Run.{Seed, Sheet, in_force, no_tally, tally_sum, dice_at, ComesTo, RoadAt, TallyAt}
-use Rattle.trlab_step.specs.Laws.{IsRuleFor, IsSheetFor, LegalLike, RoadExists, RoadIsOne, RunGoesOn}
+use Rattle.trlab_step.specs.Run.{Seed, Sheet, in_force, no_tally, tally_sum, dice_at, RoadAt, TallyAt}
+use Rattle.trlab_step.specs.Laws.{IsRuleFor, LegalLike, RoadExists, RoadIsOne, RunGoesOn}
 use Rattle.trlab_step.proofs.NextLaws.{like_itself, like_next, next_road_exists, next_road_is_one}
 
 -- the rule in force is that of the first entry, or the one in force by the others

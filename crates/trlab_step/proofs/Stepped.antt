@@ -1,21 +1,32 @@
 -- The answers of all cars lead through the two phases of a step.
 use Rattle.std.proofs.Common.{◌≡◌, ℕ, Some, List, sym, ◌∙◌, arith}
-use Rattle.std.specs.Prelude.{Bool, count_by, nat_eq, sum}
+use Rattle.std.specs.Prelude.{Bool, false, length, count_by, nat_eq, sum}
 use Rattle.trlab_verify.specs.Checked.{Checked}
 use Rattle.trlab_road.specs.Cells.{Cells, cars}
 use Rattle.trlab_road.specs.Crossing.{Crosses, crosses_at}
-use Rattle.trlab_road.specs.Motion.{Moves, answer_at}
-use Rattle.trlab_step.specs.Answers.{Dice, SpeedsPart, FitsPart, CrossersPart}
+use Rattle.trlab_road.specs.Motion.{Moves, answer_at, in_order}
+use Rattle.trlab_machine.specs.declared.dice.Dice.{Dice}
+use Rattle.trlab_step.specs.Answers.{SpeedsPart, FitsPart, CrossersPart}
 use Rattle.trlab_step.specs.Next.{total_speed, stopped_cars, Sideways, Onward}
 use Rattle.trlab_step.proofs.Parts.{whole_allowed, whole_speeds, whole_crossers}
-use Rattle.trlab_step.proofs.Totals.{total_speed-moved, stopped_cars-moved, crossing_cars-counted}
+use Rattle.trlab_step.proofs.Totals.{answers_in_order, total_speed-moved, stopped_cars-moved, crossing_cars-counted}
 
 -- where all cars are asked on the road as it stands, and cross by their answers, the sideways phase is done
-pub crossed_sideways : (change : Checked) (dice : Dice) (road middle : Cells) (crosses : List Bool) (changes : ℕ) → CrossersPart change dice road 0 (cars road) crosses
-    → Crosses (crosses_at road crosses) road middle → changes ≡ count_by (λ c. c) crosses → Sideways (Some change) dice road middle changes
-crossed_sideways change dice road middle crosses changes part phase counted =
-    let size = part.one_each in
-    (crosses_at road crosses, whole_crossers change dice road crosses part, phase, counted ∙ sym (crossing_cars-counted road crosses (omega (arith, size))))
+pub crossed_sideways : (change : Checked) (dice : Dice) (road middle : Cells) (crosses : List Bool) (changes : ℕ) → length road.lanes ≡ 2 → CrossersPart change dice road 0 (cars road) crosses
+    → ((answer : ℕ → ℕ → Bool) → crosses ≡ in_order answer road → Crosses answer road middle)
+    → changes ≡ count_by (λ c. c) crosses → Sideways (Some change) dice road middle changes
+crossed_sideways change dice road middle crosses changes two part phase counted =
+    let one_each = part.one_each in
+    let size : length crosses ≡ cars road = omega (arith, one_each) in
+    let crossed = phase (crosses_at road crosses) (sym (answers_in_order false road crosses size)) in
+    (two, crosses_at road crosses, whole_crossers change dice road crosses part, crossed, counted ∙ sym (crossing_cars-counted road crosses size))
+
+-- cars that go ahead by their answers in standing order do so by the answers of their places
+pub moved_by_place : (motion : Checked) (dice : Dice) (road next : Cells) (speeds : List ℕ) → SpeedsPart motion dice road 0 (cars road) speeds
+    → ((answer : ℕ → ℕ → ℕ) → speeds ≡ in_order answer road → Moves answer road next) → Moves (answer_at road speeds) road next
+moved_by_place motion dice road next speeds part moves =
+    let one_each = part.one_each in
+    moves (answer_at road speeds) (sym (answers_in_order 0 road speeds (omega (arith, one_each))))
 
 module _ (motion : Checked) (dice : Dice) (road next : Cells) (speeds : List ℕ) where
   -- where all cars are asked on the road as it stands, and go ahead by their answers, the motion phase is done

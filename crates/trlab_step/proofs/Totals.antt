@@ -116,7 +116,7 @@ no_one : Car
 no_one = record { number = 0; lane = 0; place = 0; speed = 0 }
 
 -- answers in standing order are those that each car has by its place
-answers_in_order : {X : Type 0} (none : X) (road : Cells) (answers : List X) → length answers ≡ cars road → map (λ (car : Car). get_or answers (rank road car.lane car.place) none) (standing road) ≡ answers
+pub answers_in_order : {X : Type 0} (none : X) (road : Cells) (answers : List X) → length answers ≡ cars road → map (λ (car : Car). get_or answers (rank road car.lane car.place) none) (standing road) ≡ answers
 unfolding no_one
 answers_in_order none road answers size =
     let answer = λ (car : Car). get_or answers (rank road car.lane car.place) none in

@@ -1,11 +1,12 @@
 -- What the programs of cars answer on a road.
 use Rattle.std.specs.Prelude.{◌≡◌, ◌+◌, ◌<◌, ◌≤◌, ℕ, Bool, true, false, Some, List, length, slice_get, slice_index, slice_index_or}
-use Rattle.trlab_words.specs.Words.{random_words}
 use Rattle.trlab_code.specs.declared.kind.Kind.TheVariants.{Motion, Change}
 use Rattle.trlab_code.specs.declared.view.View.{View}
 use Rattle.trlab_code.specs.Views.{motion_view, change_view}
 use Rattle.trlab_code.specs.Machine.{Goes, EndsWith}
 use Rattle.trlab_verify.specs.Checked.{Checked}
+use Rattle.trlab_machine.specs.declared.dice.Dice.{Dice}
+use Rattle.trlab_machine.specs.Blocks.{words_of}
 use Rattle.trlab_machine.specs.Choices.{crossing_answer}
 use Rattle.trlab_road.specs.declared.car.Car.{Car}
 use Rattle.trlab_road.specs.Cells.{Cells, cell, lane_of}
@@ -14,19 +15,9 @@ use Rattle.trlab_road.specs.Motion.{gaps}
 use Rattle.trlab_road.specs.Gaps.{gap, side, sidegap, sideback}
 use Rattle.trlab_road.specs.Crossing.{other_lane, sides}
 
--- the random numbers of a step: those of a key, a road's number and the number of the step
-pub record Dice : Type 0 where
-  pub key : List ℕ
-  pub road : ℕ
-  pub step : ℕ
-
 -- the dice of a key, a road's number and the number of a step
 abbrev pub dice_of : List ℕ → ℕ → ℕ → Dice
 dice_of key road step = record { key = key; road = road; step = step }
-
--- the words of a car in the step: they go by its number, and not by where it stands
-abbrev pub words_of : Dice → ℕ → List ℕ
-words_of dice car = random_words dice.key dice.road car dice.step
 
 -- what the motion program of a car at a place sees
 abbrev pub motion_seen : Cells → ℕ → ℕ → ℕ → View

@@ -1,21 +1,17 @@
 -- Cars of a road that are asked together.
-use Rattle.std.specs.Prelude.{◌≡◌, ◌<◌, ◌≤◌, ℕ, Bool, true, false, List, [], Some, slice_get, slice_index, slice_index_or}
-use Rattle.trlab_words.specs.Words.{random_word}
+use Rattle.std.specs.Prelude.{◌≡◌, ◌≤◌, ℕ, Bool, true, false, Some, slice_get, slice_index, slice_index_or}
 use Rattle.trlab_code.specs.declared.kind.Kind.{Kind}
 use Rattle.trlab_code.specs.declared.kind.Kind.TheVariants.{Motion, Change}
-use Rattle.trlab_code.specs.declared.instruction.Register.{Register}
-use Rattle.trlab_code.specs.declared.instruction.Instr.{Instr}
-use Rattle.trlab_code.specs.declared.instruction.Instr.TheVariants.{Draw}
-use Rattle.trlab_code.specs.declared.program.TheConstants.{CERTAIN}
 use Rattle.trlab_code.specs.declared.view.View.{View}
 use Rattle.trlab_code.specs.Views.{IsView}
+use Rattle.trlab_machine.specs.declared.dice.Dice.{Dice}
 use Rattle.trlab_road.specs.declared.car.Car.{Car}
 use Rattle.trlab_road.specs.Cells.{Cells}
 use Rattle.trlab_road.specs.Crossing.{sides}
 use Rattle.trlab_road.specs.Motion.{gaps}
 use Rattle.trlab_road.specs.Standing.{standing}
 use Rattle.trlab_verify.specs.Checked.{Checked}
-use Rattle.trlab_step.specs.Answers.{AnswersCrossing, AnswersSpeed, Dice, change_seen, motion_seen}
+use Rattle.trlab_step.specs.Answers.{AnswersCrossing, AnswersSpeed, change_seen, motion_seen}
 
 -- what a program of a kind sees of a car
 abbrev pub seen_by : Kind → Cells → Car → View
@@ -30,16 +26,6 @@ pub record IsAsked (kind : Kind) (road : Cells) (k : ℕ) (view : View) (number 
   pub limit : view.limit ≡ road.limit
   pub gap : view.gap ≡ slice_index (gaps road) k
   pub side : kind ≡ Change → view.side ≡ slice_index_or (sides road) k false
-
--- each word that a program draws on with a chance that is neither 0 nor certain is among those that are needed
-abbrev pub AllNeeded : List Instr → List Bool → Type 0
-AllNeeded code needed = (pc : ℕ) (d : Register) (w t : ℕ) →
-    slice_get code pc ≡ Some (Draw d w t) → 0 < t → t < CERTAIN → slice_index_or needed w false ≡ true
-
--- the needed words of some cars, given by their numbers, stand in columns
-abbrev pub HasWords : Dice → List Bool → List ℕ → ℕ → List (List ℕ) → Type 0
-HasWords dice needed numbers cars words = (w j : ℕ) → slice_index_or needed w false ≡ true → j < cars →
-    slice_index (slice_index_or words w []) j ≡ random_word dice.key dice.road (slice_index numbers j) dice.step w
 
 -- a motion program answers this speed to the k-th car in standing order, within its gap and the limit
 pub record GoesBy (motion : Checked) (dice : Dice) (road : Cells) (k speed : ℕ) : Type 0 where

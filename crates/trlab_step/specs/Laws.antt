@@ -6,7 +6,8 @@ use Rattle.trlab_road.specs.Cells.{Cells, cars}
 use Rattle.trlab_road.specs.Legal.{Legal}
 use Rattle.trlab_rules.specs.Rules.{Programs}
 use Rattle.trlab_step.specs.declared.tally.StepTally.{StepTally}
-use Rattle.trlab_step.specs.Answers.{Dice, SpeedsPart, CrossersPart}
+use Rattle.trlab_machine.specs.declared.dice.Dice.{Dice}
+use Rattle.trlab_step.specs.Answers.{SpeedsPart, CrossersPart}
 use Rattle.trlab_step.specs.Next.{IsNext, IsCleanNext}
 use Rattle.trlab_step.specs.Run.{Seed, Sheet, in_force, tally_sum, dice_at, ComesTo}
 

@@ -3,3 +3,4 @@ pub mod Asked
 pub mod Next
 pub mod Run
 pub mod Laws
+pub mod Published

@@ -1,5 +1,5 @@
 -- One step of a road: the sideways phase, then the motion phase, each for all cars at once.
-use Rattle.std.specs.Prelude.{◌≡◌, ℕ, Bool, Option, Some, None, sum_by, count_by, nat_eq}
+use Rattle.std.specs.Prelude.{◌≡◌, ℕ, Bool, Option, Some, None, length, sum_by, count_by, nat_eq}
 use Rattle.trlab_road.specs.declared.car.Car.{Car}
 use Rattle.trlab_road.specs.Cells.{Cells}
 use Rattle.trlab_road.specs.Standing.{standing}
@@ -8,7 +8,8 @@ use Rattle.trlab_road.specs.Motion.{Moves, CleanMotion}
 use Rattle.trlab_verify.specs.Checked.{Checked}
 use Rattle.trlab_rules.specs.Rules.{Programs}
 use Rattle.trlab_step.specs.declared.tally.StepTally.{StepTally}
-use Rattle.trlab_step.specs.Answers.{Dice, Speeds, Crossers}
+use Rattle.trlab_machine.specs.declared.dice.Dice.{Dice}
+use Rattle.trlab_step.specs.Answers.{Speeds, Crossers}
 
 -- the sum of the speeds of a road's cars
 abbrev pub total_speed : Cells → ℕ
@@ -22,13 +23,13 @@ stopped_cars road = count_by (λ (car : Car). nat_eq car.speed 0) (standing road
 abbrev pub crossing_cars : (ℕ → ℕ → Bool) → Cells → ℕ
 crossing_cars crosses road = count_by (λ (car : Car). crosses car.lane car.place) (standing road)
 
--- the sideways phase: with a change program the cars that it lets cross do so,
--- without one no car does
+-- the sideways phase: with a change program, for which there have to be two lanes, the cars that it lets
+-- cross do so; without one no car does
 abbrev pub Sideways : Option Checked → Dice → Cells → Cells → ℕ → Type 0
 Sideways None dice road middle changes = (middle ≡ road) × (changes ≡ 0)
 Sideways (Some change) dice road middle changes =
-    (crosses : ℕ → ℕ → Bool) × Crossers change dice road crosses × Crosses crosses road middle
-    × (changes ≡ crossing_cars crosses road)
+    (length road.lanes ≡ 2) × (crosses : ℕ → ℕ → Bool) × Crossers change dice road crosses
+    × Crosses crosses road middle × (changes ≡ crossing_cars crosses road)
 
 -- the motion phase: each car goes ahead by the speed that its motion program answers on this very road
 abbrev pub Onward : Checked → Dice → Cells → Cells → Type 0

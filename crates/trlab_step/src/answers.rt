@@ -3,13 +3,12 @@
 ghost use Rattle.std.specs.Prelude.{◌≡◌, ◌+◌, ◌-◌, ◌<◌, ◌≤◌, ℕ, IfOk, slice_index};
 ghost use Rattle.trlab_road.specs.Cells.{cars};
 ghost use Rattle.trlab_step.specs.Answers.{dice_of, FitsPart, SpeedsPart};
-ghost use Rattle.trlab_step.specs.Asked.{AllNeeded, GoesBy};
+ghost use Rattle.trlab_step.specs.Asked.{GoesBy};
 
-use crate::asked::{Asked, BLOCK};
-use crate::draws::Draws;
+use crate::asked::{BLOCK, ask_block};
 use std::alloc::{AllocError, Global};
 use trlab_code::Kind;
-use trlab_machine::{Column, LANES, run_motions};
+use trlab_machine::{Column, Dice, LANES, run_motions};
 use trlab_road::Road;
 use trlab_verify::Motion;
 use trlab_words::Key;
@@ -35,12 +34,12 @@ pub fn move_part(
         (λ speeds. SpeedsPart motion.now (dice_of key.now.0 number step) road.now from to speeds.items) }
     ensures fits { IfOk result (λ speeds. FitsPart road.now from speeds.items) }
 {
-    let mut draws = Draws::new(motion.code().instrs(), key, number, step);
+    let dice = Dice::new(key, number, step);
     let mut speeds = Vec::with_capacity(alloc, (to - from) as usize)?;
     for block in 0..(to - from) / BLOCK + 1 {
         let begin = from + BLOCK * block;
         let end = begin + BLOCK.min(to - begin);
-        let answers = block_speeds(road, motion, &mut draws, begin, end);
+        let answers = block_speeds(road, motion, &dice, begin, end);
         for k in begin..end {
             speeds.push(answers[(k - begin) as usize])?;
         }
@@ -49,19 +48,13 @@ pub fn move_part(
 }
 
 /// The speeds of a block of cars, from an index of the standing order up to another.
-fn block_speeds(road: &Road, motion: &Motion, draws: &mut Draws, from: u32, to: u32) -> Column
+fn block_speeds(road: &Road, motion: &Motion, dice: &Dice, from: u32, to: u32) -> Column
     requires rising { from ≤ to }
     requires few { to ≤ from + LANES }
     requires within { to ≤ cars road.now }
-    requires needed { AllNeeded motion.now.program.instrs draws.old.needed }
-    ensures speeds { (j : ℕ) → j < to - from → GoesBy motion.now
-        (dice_of draws.old.key draws.old.road draws.old.step) road.now (from + j) (slice_index result j) }
-    ensures key { draws.new.key ≡ draws.old.key }
-    ensures road { draws.new.road ≡ draws.old.road }
-    ensures step { draws.new.step ≡ draws.old.step }
-    ensures needed { draws.new.needed ≡ draws.old.needed }
+    ensures { (j : ℕ) → j < to - from
+        → GoesBy motion.now dice.now road.now (from + j) (slice_index result j) }
 {
-    let asked = Asked::new(Kind::Motion, road, from, to);
-    draws.draw(&asked.numbers, asked.views.cars);
-    run_motions(motion, &asked.views, draws.words())
+    let views = ask_block(Kind::Motion, road, from, to, &mut 0);
+    run_motions(motion, &views, dice)
 }

@@ -2,8 +2,18 @@
 //!
 //! Each law is the contract of a function with nothing to do.
 
+ghost use Rattle.std.specs.Prelude.{◌≡◌, ◌+◌};
+ghost use Rattle.trlab_road.specs.declared.bounds.TheConstants.{GREATEST_LENGTH, GREATEST_LIMIT};
+ghost use Rattle.trlab_code.specs.declared.view.TheConstants.{GREATEST_GAP, GREATEST_LIMIT as GREATEST_LIMIT_SEEN};
+ghost use Rattle.trlab_step.specs.Published.{NaschOnCells, RickertOnCells, VdrOnCells};
 ghost use Rattle.trlab_step.specs.Laws.{CrossersAreOne, CrossersJoin, SpeedsAreOne, SpeedsJoin};
 ghost use Rattle.trlab_step.specs.Laws.{NextRoadExists, NextRoadIsOne, RoadExists, RoadIsOne, RunGoesOn};
+
+/// What cars can see is what roads can show: the limit of a road, and the gap on its longest lane.
+pub fn cars_see_what_roads_show()
+    ensures limit { GREATEST_LIMIT_SEEN ≡ GREATEST_LIMIT }
+    ensures gap { GREATEST_GAP + 1 ≡ GREATEST_LENGTH }
+{}
 
 /// The cars of a part of the standing order have one list of speeds, and the lists of parts make up
 /// that of the whole: it is all one who asks the cars, and in which order.
@@ -45,4 +55,20 @@ pub fn road_is_one()
 /// added from the step on where the count begins.
 pub fn run_goes_on()
     ensures { RunGoesOn }
+{}
+
+/// In a step under `nasch` each car goes ahead by its speed of Nagel and Schreckenberg (1992).
+pub fn nasch_goes_as_published()
+    ensures { NaschOnCells }
+{}
+
+/// In a step under `vdr` each car goes ahead by its speed of Barlovic and others (1998).
+pub fn vdr_goes_as_published()
+    ensures { VdrOnCells }
+{}
+
+/// In a step under `rickert` on two lanes all cars change lanes as by Rickert and others (1996), and then
+/// each goes ahead by its speed of 1992.
+pub fn rickert_goes_as_published()
+    ensures { RickertOnCells }
 {}

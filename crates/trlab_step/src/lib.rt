@@ -3,8 +3,8 @@
 
 mod answers;
 mod asked;
+mod asker;
 mod choices;
-mod draws;
 mod fault;
 pub mod laws;
 mod phases;
@@ -14,8 +14,9 @@ mod tally;
 mod tests;
 
 pub use answers::move_part;
+pub use asker::{Asker, Caller};
 pub use choices::choose_part;
 pub use fault::StepFault;
 pub use phases::{commit_change, commit_motion};
-pub use step::step_road;
+pub use step::{step_road, step_road_by};
 pub use tally::StepTally;

@@ -1,9 +1,9 @@
 //! The phases of a step.
 
-ghost use Rattle.std.specs.Prelude.{IfOk};
-ghost use Rattle.trlab_road.specs.Crossing.{CleanCrossing, CrossAllowed, Crosses, crosses_at};
+ghost use Rattle.std.specs.Prelude.{◌≡◌, ℕ, Bool, IfOk};
+ghost use Rattle.trlab_road.specs.Crossing.{CleanCrossing, CrossAllowed, Crosses};
 ghost use Rattle.trlab_road.specs.Legal.{Legal};
-ghost use Rattle.trlab_road.specs.Motion.{Allowed, CleanMotion, Moves, answer_at};
+ghost use Rattle.trlab_road.specs.Motion.{Allowed, CleanMotion, Moves, in_order};
 
 use std::alloc::{AllocError, Global};
 use trlab_road::Road;
@@ -14,7 +14,8 @@ use trlab_road::Road;
 /// Nothing collides: each car stays, or goes to an empty cell, none is lost, and no two meet.
 pub fn commit_change(alloc: Global, road: &Road, crosses: &[bool]) -> Result<Road, AllocError>
     requires { CrossAllowed road.now crosses.now }
-    ensures crosses { IfOk result (λ next. Crosses (crosses_at road.now crosses.now) road.now next) }
+    ensures crosses { IfOk result (λ next. (answer : ℕ → ℕ → Bool)
+        → crosses.now ≡ in_order answer road.now → Crosses answer road.now next) }
     ensures clean { IfOk result (λ next. CleanCrossing road.now next) }
     ensures legal { IfOk result (λ next. Legal next) }
 {
@@ -27,7 +28,8 @@ pub fn commit_change(alloc: Global, road: &Road, crosses: &[bool]) -> Result<Roa
 /// Nothing collides: each car goes over empty cells only, none is lost, and no two meet.
 pub fn commit_motion(alloc: Global, road: &Road, speeds: &[u32]) -> Result<Road, AllocError>
     requires { Allowed road.now speeds.now }
-    ensures moves { IfOk result (λ next. Moves (answer_at road.now speeds.now) road.now next) }
+    ensures moves { IfOk result (λ next. (answer : ℕ → ℕ → ℕ)
+        → speeds.now ≡ in_order answer road.now → Moves answer road.now next) }
     ensures clean { IfOk result (λ next. CleanMotion road.now next) }
     ensures legal { IfOk result (λ next. Legal next) }
 {

@@ -7,8 +7,7 @@ ghost use Rattle.trlab_road.specs.Motion.{CleanMotion};
 ghost use Rattle.trlab_step.specs.Answers.{dice_of};
 ghost use Rattle.trlab_step.specs.Next.{IsCleanNext, IsNext, Onward, Sideways, stopped_cars, total_speed};
 
-use crate::answers::move_part;
-use crate::choices::choose_part;
+use crate::asker::{Asker, Caller};
 use crate::fault::StepFault;
 use crate::phases::{commit_change, commit_motion};
 use crate::tally::{StepTally, count_crossing, tally_of};
@@ -25,7 +24,8 @@ use trlab_words::Key;
 /// step go by the key, the number of the road and that of the step, and are the same in both phases.
 ///
 /// A change program needs two lanes: on one lane it is refused as `LanesMismatch`.
-pub fn step_road(
+pub fn step_road_by<A: Asker>(
+    asker: &A,
     alloc: Global,
     road: &Road,
     rule: &Rule,
@@ -42,18 +42,39 @@ pub fn step_road(
     ensures legal { IfOk result (λ after. Legal after.0) }
 {
     match rule.change() {
-        None => Ok(onward(alloc, road, rule.motion(), key, number, step)?),
+        None => Ok(onward(asker, alloc, road, rule.motion(), key, number, step)?),
         Some(_) if road.lanes() == 1 => Err(StepFault::LanesMismatch),
         Some(change) => {
-            let (middle, changes) = sideways(alloc, road, change, key, number, step)?;
-            let (next, tally) = onward(alloc, &middle, rule.motion(), key, number, step)?;
+            let (middle, changes) = sideways(asker, alloc, road, change, key, number, step)?;
+            let (next, tally) = onward(asker, alloc, &middle, rule.motion(), key, number, step)?;
             Ok((next, StepTally { changes, ..tally }))
         }
     }
 }
 
+/// The next road as `step_road_by` tells it, where the calling thread asks the cars.
+pub fn step_road(
+    alloc: Global,
+    road: &Road,
+    rule: &Rule,
+    key: &Key,
+    number: u32,
+    step: u32,
+) -> Result<(Road, StepTally), StepFault>
+    ensures mismatch { (result ≡ Err StepFault.LanesMismatch)
+        ↔ (IsSome rule.now.change × (length road.now.lanes ≡ 1)) }
+    ensures next { IfOk result
+        (λ after. IsNext rule.now (dice_of key.now.0 number step) road.now after.0 after.1) }
+    ensures clean { IfOk result
+        (λ after. IsCleanNext rule.now (dice_of key.now.0 number step) road.now after.0 after.1) }
+    ensures legal { IfOk result (λ after. Legal after.0) }
+{
+    step_road_by(&Caller, alloc, road, rule, key, number, step)
+}
+
 /// The road after the sideways phase under a change program, and how many cars crossed.
-fn sideways(
+fn sideways<A: Asker>(
+    asker: &A,
     alloc: Global,
     road: &Road,
     change: &Change,
@@ -67,13 +88,14 @@ fn sideways(
     ensures clean { IfOk result (λ after. CleanCrossing road.now after.0) }
     ensures legal { IfOk result (λ after. Legal after.0) }
 {
-    let crosses = choose_part(alloc, road, change, key, number, step, 0, road.cars())?;
+    let crosses = asker.crossings(alloc, road, change, key, number, step)?;
     let middle = commit_change(alloc, road, &crosses)?;
     Ok((middle, count_crossing(&crosses)))
 }
 
 /// The road after the motion phase, and the tally of a step in which no car crossed before.
-fn onward(
+fn onward<A: Asker>(
+    asker: &A,
     alloc: Global,
     road: &Road,
     motion: &Motion,
@@ -89,7 +111,7 @@ fn onward(
     ensures clean { IfOk result (λ after. CleanMotion road.now after.0) }
     ensures legal { IfOk result (λ after. Legal after.0) }
 {
-    let speeds = move_part(alloc, road, motion, key, number, step, 0, road.cars())?;
+    let speeds = asker.speeds(alloc, road, motion, key, number, step)?;
     let next = commit_motion(alloc, road, &speeds)?;
     Ok((next, tally_of(&speeds)))
 }

@@ -7,8 +7,8 @@ use crate::{
 };
 use std::alloc::{AllocError, Global};
 use trlab_code::{CERTAIN, Code, Input, Instr, Kind, Register};
-use trlab_road::Road;
-use trlab_rules::{Rule, rickert};
+use trlab_road::{Car, Road};
+use trlab_rules::{Rule, nasch, rickert};
 use trlab_verify::{Change, Motion, verify_change, verify_motion};
 use trlab_words::{Chance, Key};
 
@@ -56,6 +56,12 @@ fn crowded_rule(alloc: Global, chance: u32) -> Result<Rule, StepFault> {
         return Err(StepFault::Memory);
     };
     rickert(alloc, brake, crossing).map_err(|_| StepFault::Memory)
+}
+
+/// The rule of Nagel and Schreckenberg, under which no car brakes at random.
+fn steady_rule(alloc: Global) -> Result<Rule, StepFault> {
+    let brake = Chance::new(0).ok_or(StepFault::Memory)?;
+    nasch(alloc, brake).map_err(|_| StepFault::Memory)
 }
 
 /// The rule of that motion, without a change program.
@@ -320,5 +326,33 @@ fn goes_on_two_lanes_without_a_change_program(rt: HostRuntime) -> Result<(), Ste
         changes: 0,
     };
     assert!(rt; steps_to_lanes(alloc, &road, &rule, b"0.1.........", b"............", tally)?);
+    Ok(())
+}
+
+// The cars stand 50 cells apart on the first lane, and go 1, 2, .. 9 and once more 9 cells.
+#[test]
+fn steps_on_the_longest_road(rt: HostRuntime) -> Result<(), StepFault> {
+    let alloc = rt.alloc();
+    let rule = steady_rule(alloc)?;
+    let mut road = Road::even(alloc, 2, 100000, 9, 2000).map_err(|_| StepFault::Memory)?;
+    for step in 0..10 {
+        let (next, _) = step_road(alloc, &road, &rule, &ZERO_KEY, 0, step)?;
+        road = next;
+    }
+    assert_eq!(rt; road.cars(), 2000);
+    let wanted = Car {
+        number: 1999,
+        lane: 0,
+        place: 4,
+        speed: 9,
+    };
+    assert_eq!(rt; road.standing(0), wanted);
+    let wanted = Car {
+        number: 0,
+        lane: 0,
+        place: 54,
+        speed: 9,
+    };
+    assert_eq!(rt; road.standing(1), wanted);
     Ok(())
 }

@@ -1,21 +1,14 @@
 -- Tables that check, told by the note at each pc.
-use Rattle.std.proofs.Common.{◌≡◌, ◌∙◌, ℕ, suc, ◌<◌, ◌≤◌, sym, subst, arith, inl, inr, List, [], length, Option, Some, None, get_or, map, Bool, false}
+use Rattle.std.proofs.Common.{◌≡◌, ℕ, suc, ◌<◌, subst, List, length, Some, None}
 use Rattle.std.specs.Prelude.{slice_get, IfSome}
-use Rattle.std.specs.List.{range_with_len}
-use Rattle.std.proofs.lemmas.Bool.{cases_lt}
-use Rattle.std.proofs.lemmas.List.{get_or-map}
-use Rattle.std.proofs.lemmas.List.FromFn.{get_or-map-range_with_len}
 use Rattle.std.proofs.lemmas.Option.{slice_get_within}
 use Rattle.trlab_code.specs.declared.kind.Kind.{Kind}
 use Rattle.trlab_code.specs.declared.instruction.Instr.{Instr}
 use Rattle.trlab_code.specs.Program.{Program}
-use Rattle.trlab_code.specs.Flow.{target}
 use Rattle.trlab_notes.specs.Notes.{Note, entry, fall, jump}
 use Rattle.trlab_notes.specs.Order.{NoStronger}
 use Rattle.trlab_notes.specs.Reasons.{tests, first_true}
-use Rattle.trlab_notes.proofs.Order.{blank_least}
-use Rattle.trlab_verify.specs.Arrivals.{note_at}
-use Rattle.trlab_verify.specs.Tables.{Checks, ChecksAt, IsJudgedBy, blank, note_in}
+use Rattle.trlab_verify.specs.Tables.{Checks, ChecksAt, note_in}
 
 -- a table that checks, as a function from pcs
 pub record ChecksBy (kind : Kind) (program : Program) (note : ℕ → Note) : Type 0 where

@@ -10,10 +10,10 @@ use Rattle.trlab_code.specs.Machine.{place, update}
 use Rattle.trlab_code.specs.Flow.{target}
 use Rattle.trlab_notes.specs.declared.note.Said.{Said}
 use Rattle.trlab_notes.specs.declared.note.Said.TheVariants.{Nothing, Between, Implies}
-use Rattle.trlab_notes.specs.declared.note.Noted.{Noted}
+use Rattle.trlab_notes.specs.declared.kept.Noted.{Noted}
 use Rattle.trlab_notes.specs.Notes.{Note, with_side, told, written, after, learnt, trusted, joined, said_by_both, fall, jump, ranges, said_or_nothing, entry}
 use Rattle.trlab_verify.specs.Arrivals.{with_edge, with_edges, if_here, fall_to, jump_to, is_target, arrived}
-use Rattle.trlab_notes.specs.Noted.{note_of, maybe_note}
+use Rattle.trlab_notes.specs.Noted.{note_of, maybe_note, settled}
 use Rattle.trlab_verify.specs.Handed.{SaysRanges}
 use Rattle.trlab_notes.specs.Reasons.{is_flag}
 use Rattle.trlab_notes.proofs.Steps.{place_below}
@@ -106,13 +106,17 @@ module _ (kind : Kind) where
   edges_show pc q None i old f g = g
   edges_show pc q (Some m) None old f g = g
 
-  entry_shows : SaysRanges kind (entry kind)
+  pub entry_shows : SaysRanges kind (entry kind)
   unfolding entry
   entry_shows x ge = refl
 
   pub arrived_shows : (code : List Instr) (n q : ℕ) → IfSome (arrived kind code n q) (SaysRanges kind)
   arrived_shows code zero q = here_shows (nat_eq q 0) (Some (entry kind)) entry_shows
   arrived_shows code (suc n) q = edges_show n q (arrived kind code n n) (slice_get code n) (arrived kind code n q) (arrived_shows code n n) (arrived_shows code n q)
+
+pub settled_shows : (kind : Kind) (m : Note) → SaysRanges kind m → SaysRanges kind (settled m)
+unfolding settled
+settled_shows kind m h = h
 
 pub same_shown : (kind : Kind) (o : Option Noted) (n : Noted) (m : Note) → o ≡ Some n → maybe_note o ≡ Some m → SaysRanges kind m → SaysRanges kind (note_of n)
 same_shown kind None n m e f h = absurd (cc e)

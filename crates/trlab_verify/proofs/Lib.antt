@@ -11,3 +11,4 @@ pub mod Bounded
 pub mod Inputs
 pub mod Other
 pub mod Refusals
+pub mod Strongest

@@ -32,10 +32,10 @@ abbrev pub verdict_note : Kind → Program → ℕ → Note
 verdict_note kind program pc = note_or (entry kind) (note_at kind program.instrs pc)
 
 -- some note has come in that is no stronger than n
-abbrev Under : Note → Option Note → Type 0
+abbrev pub Under : Note → Option Note → Type 0
 Under n o = (m : Note) × (o ≡ Some m) × NoStronger m n
 
-under_old : (n : Note) (old new : Option Note) → Under n old → Under n (with_edge old new)
+pub under_old : (n : Note) (old new : Option Note) → Under n old → Under n (with_edge old new)
 under_old n old None h = h
 under_old n None (Some k) h = absurd (cc h.1)
 under_old n (Some m) (Some k) h = (joined m k, refl, through (joined m k) m n (join_first m k) (subst (λ z. NoStronger z n) (some_is h.0 m h.1) h.2))
@@ -43,11 +43,11 @@ under_old n (Some m) (Some k) h = (joined m k, refl, through (joined m k) m n (j
     some_is : (a b : Note) → Some b ≡ Some a → a ≡ b
     some_is a b e = cc e
 
-under_new : (n : Note) (old : Option Note) → Under n (with_edge old (Some n))
+pub under_new : (n : Note) (old : Option Note) → Under n (with_edge old (Some n))
 under_new n None = (joined n n, refl, join_first n n)
 under_new n (Some m) = (joined m n, refl, join_second m n)
 
-under_edges : (n : Note) (pc : ℕ) (note : Option Note) (i : Option Instr) (q : ℕ) (old : Option Note) → Under n old → Under n (with_edges pc note i q old)
+pub under_edges : (n : Note) (pc : ℕ) (note : Option Note) (i : Option Instr) (q : ℕ) (old : Option Note) → Under n old → Under n (with_edges pc note i q old)
 under_edges n pc (Some m) (Some i) q old h = under_old n (with_edge old (fall_to pc m i q)) (jump_to m i q) (under_old n old (fall_to pc m i q) h)
 under_edges n pc None i q old h = h
 under_edges n pc (Some m) None q old h = h

@@ -1,5 +1,5 @@
 -- How notes come to the instructions of a program.
-use Rattle.std.specs.Prelude.{ℕ, zero, suc, List, Bool, true, false, Option, Some, None, nat_eq, slice_get}
+use Rattle.std.specs.Prelude.{◌≡◌, ◌⊎◌, ℕ, zero, suc, ◌<◌, List, Bool, true, false, Option, Some, None, nat_eq, slice_get}
 use Rattle.trlab_code.specs.declared.kind.Kind.{Kind}
 use Rattle.trlab_code.specs.declared.instruction.Instr.{Instr}
 use Rattle.trlab_code.specs.Flow.{target}
@@ -42,3 +42,17 @@ arrived kind code (suc n) q = with_edges n (arrived kind code n n) (slice_get co
 -- the note of an instruction: the join of what comes in from earlier ones
 abbrev pub note_at : Kind → List Instr → ℕ → Option Note
 note_at kind code pc = arrived kind code pc pc
+
+-- what the instruction at p sends to the one at q, as the next one or as its jump's target
+pub record Sends (kind : Kind) (code : List Instr) (p q : ℕ) (note : Note) : Type 0 where
+  pub before : Note
+  pub instr : Instr
+  pub noted : note_at kind code p ≡ Some before
+  pub stands : slice_get code p ≡ Some instr
+  pub sent : (fall_to p before instr q ≡ Some note) ⊎ (jump_to before instr q ≡ Some note)
+
+-- a note that is sent to the instruction at pc: the entry note to the first, else what an earlier one sends on a way
+abbrev pub IsSent : Kind → List Instr → ℕ → Note → Type 0
+IsSent kind code pc note =
+    ((pc ≡ 0) × (note ≡ entry kind))
+    ⊎ ((p : ℕ) × (p < pc) × Sends kind code p pc note)

@@ -1,10 +1,11 @@
 -- Notes as callers write and read them.
-use Rattle.std.specs.Prelude.{◌≡◌, ℕ, ◌≤◌, List, [], map, false, nat_lt, if◌then◌else◌, slice_get, slice_index, slice_index_or}
+use Rattle.std.specs.Prelude.{◌≡◌, ℕ, ◌<◌, ◌≤◌, List, [], map, false, nat_lt, if◌then◌else◌, slice_get, slice_index, slice_index_or}
 use Rattle.trlab_code.specs.declared.kind.Kind.{Kind}
+use Rattle.trlab_code.specs.declared.instruction.TheConstants.{PLACES}
 use Rattle.trlab_code.specs.Program.{Program}
 use Rattle.trlab_notes.specs.declared.note.Said.{Said}
 use Rattle.trlab_notes.specs.declared.note.Said.TheVariants.{Nothing, Between, Implies}
-use Rattle.trlab_notes.specs.Notes.{Note, table, ranges, said_or_nothing}
+use Rattle.trlab_notes.specs.Notes.{Note, table, known, ranges, said_or_nothing}
 use Rattle.trlab_verify.specs.declared.table.note.Mark.{Mark}
 use Rattle.trlab_verify.specs.declared.table.note.Mark.TheVariants.{Unset, Num, Flag}
 use Rattle.trlab_verify.specs.declared.table.note.Note.{Note as Handed}
@@ -38,6 +39,10 @@ unwritten = record { regs = []; levels = []; side = false }
 -- the note that is written for the instruction at pc
 abbrev pub written_at : Kind → List Handed → ℕ → Note
 written_at kind handed pc = written kind (slice_index_or handed pc unwritten)
+
+-- no level that is looked at is above 2
+abbrev pub HasLevels : Note → Type 0
+HasLevels note = (x y : ℕ) → x < PLACES → y < PLACES → known note x y ≤ 2
 
 -- of the inputs a note says their ranges
 abbrev pub SaysRanges : Kind → Note → Type 0

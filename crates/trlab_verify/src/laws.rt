@@ -2,12 +2,14 @@
 //!
 //! Each law is the contract of a function with nothing to do.
 
-ghost use Rattle.std.specs.Prelude.{◌≡◌, ◌≢◌, ℕ, ◌<◌, ◌≤◌, List, length};
+ghost use Rattle.std.specs.Prelude.{◌≡◌, ◌≢◌, ◌⊎◌, ℕ, ◌<◌, ◌≤◌, List, Some, length};
 ghost use Rattle.trlab_code.specs.declared.instruction.TheConstants.{PLACES};
 ghost use Rattle.trlab_code.specs.declared.kind.Kind.{Kind};
 ghost use Rattle.trlab_code.specs.Machine.{IsSafe};
 ghost use Rattle.trlab_code.specs.Program.{Program};
 ghost use Rattle.trlab_notes.specs.Notes.{Note, known};
+ghost use Rattle.trlab_notes.specs.Order.{NoStronger};
+ghost use Rattle.trlab_verify.specs.Arrivals.{IsSent, note_at};
 ghost use Rattle.trlab_verify.specs.Longest.{IsLongest};
 ghost use Rattle.trlab_verify.specs.Tables.{AtLeast, Checks, IsJudgedBy, SomeTableChecks, note_in};
 ghost use Rattle.trlab_verify.specs.Verdict.{IsAccepted, IsRefused};
@@ -25,6 +27,21 @@ pub fn verdict_is_one()
     ensures refused { (kind : Kind) (program : Program) (at reason other_at other_reason : ℕ) →
         IsRefused kind program at reason → IsRefused kind program other_at other_reason →
         (at ≡ other_at) × (reason ≡ other_reason) }
+{}
+
+/// Each program is accepted as one of a kind, or refused.
+pub fn each_is_judged()
+    ensures { (kind : Kind) (program : Program) → IsAccepted kind program ⊎
+        ((at : ℕ) × (reason : ℕ) × IsRefused kind program at reason) }
+{}
+
+/// The note of an instruction is the strongest one that is no stronger than each note that is sent to it.
+pub fn note_is_strongest()
+    ensures each { (kind : Kind) (program : Program) (pc : ℕ) (note sent : Note) →
+        note_at kind program.instrs pc ≡ Some note → IsSent kind program.instrs pc sent → NoStronger note sent }
+    ensures most { (kind : Kind) (program : Program) (pc : ℕ) (note other : Note) →
+        note_at kind program.instrs pc ≡ Some note →
+        ((sent : Note) → IsSent kind program.instrs pc sent → NoStronger other sent) → NoStronger other note }
 {}
 
 /// Where some table of notes checks, the program is accepted, and the verdict's notes are at least as

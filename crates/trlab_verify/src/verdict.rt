@@ -3,7 +3,7 @@
 ghost use Rattle.std.specs.Prelude.{◌≡◌, ℕ, ◌<◌, ◌≤◌, length, All, IfOk, MatchOption, None};
 ghost use Rattle.trlab_code.specs.Program.{Program, InRange};
 ghost use Rattle.trlab_verify.specs.Arrivals.{arrived, note_at};
-ghost use Rattle.trlab_notes.specs.Noted.{notes_of};
+ghost use Rattle.trlab_notes.specs.Noted.{maybe_settled, notes_of};
 ghost use Rattle.trlab_verify.specs.Verdict.{IsAccepted, IsRefused};
 
 use crate::arrivals::pass_on;
@@ -29,10 +29,11 @@ pub fn judge(
     requires in_range { All InRange instrs.now }
     requires one_each { length notes.old ≡ length instrs.now }
     requires begins { (q : ℕ) → q < length instrs.now →
-        notes_of notes.old q ≡ arrived kind instrs.now 0 q }
+        notes_of notes.old q ≡ maybe_settled (arrived kind instrs.now 0 q) }
     ensures judged { let program : Program = record { kind = own; instrs = instrs.now } in
         MatchOption result (IsAccepted kind program) (λ no. IsRefused kind program no.at no.reason) }
-    ensures kept { result ≡ None → (q : ℕ) → q < length instrs.now → notes_of notes.new q ≡ note_at kind instrs.now q }
+    ensures kept { result ≡ None → (q : ℕ) → q < length instrs.now →
+        notes_of notes.new q ≡ maybe_settled (note_at kind instrs.now q) }
 {
     for pc in 0..instrs.len() {
         let instr = instrs[pc];

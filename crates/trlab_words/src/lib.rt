@@ -5,6 +5,7 @@ mod block;
 mod chance;
 mod key;
 mod key_words;
+pub mod laws;
 
 pub use chance::{CERTAIN, Chance, happens};
 pub use key::{Key, words};

@@ -1,15 +1,17 @@
-//! Readers and writers of std that remember a failure.
+//! Readers and writers of std that remember what has come of their calls.
 
 ghost use Rattle.std.specs.Prelude.{◌≡◌, false};
 
 use crate::device::{DeviceError, Sink, Source};
 use std::io::{Read, Write};
 
-/// A reader or a writer, and whether a call of it has failed.
+/// A reader or a writer, whether a call of it has failed, and whether a writer has handed on all that
+/// was written.
 #[derive(Drop)]
 pub struct Watched<X> {
     inner: X,
     failed: bool,
+    handed_on: bool,
 }
 
 impl<X> Watched<X> {
@@ -23,6 +25,7 @@ impl<X> Watched<X> {
         Watched {
             inner,
             failed: false,
+            handed_on: false,
         }
     }
 
@@ -54,13 +57,16 @@ impl<X: Read> Source for Watched<X> {
 }
 
 impl<X: Write> Sink for Watched<X> {
-    ghost use Rattle.trlab_campaign.specs.Watched.{inner_of, has_failed};
+    ghost use Rattle.trlab_campaign.specs.Watched.{inner_of, has_failed, has_handed_on};
 
     ghost written = { λ watched. X.contents (inner_of watched) };
+
+    ghost handed_on = { has_handed_on };
 
     ghost failed = { has_failed };
 
     fn put(&mut self, bytes: &[u8]) -> Result<usize, DeviceError> {
+        self.handed_on = false;
         match self.inner.write(bytes) {
             Ok(count) => {
                 // A writer that takes nothing would be asked for ever.
@@ -79,7 +85,10 @@ impl<X: Write> Sink for Watched<X> {
 
     fn flush(&mut self) -> Result<(), DeviceError> {
         match self.inner.flush() {
-            Ok(()) => Ok(()),
+            Ok(()) => {
+                self.handed_on = true;
+                Ok(())
+            }
             Err(_) => {
                 self.failed = true;
                 Err(DeviceError)

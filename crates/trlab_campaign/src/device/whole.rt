@@ -6,9 +6,9 @@ ghost use Rattle.trlab_campaign.specs.Device.{AppendsFront, ConsumesUpTo};
 ghost use Rattle.trlab_campaign.specs.declared.device.whole.ReadFault.TheVariants.{Device, TooBig};
 
 use crate::device::{DeviceError, Sink, Source};
-use crate::text::TEXT_LIMIT;
 use std::alloc::Global;
 use thiserror::Error;
+use trlab_texts::limits::TEXT_LIMIT;
 
 /// Why a text was not read.
 #[derive(Clone, Copy, Debug, PartialEq, Eq, Error)]
@@ -79,6 +79,7 @@ pub fn write_last<K: Sink>(writer: &mut K, text: &[u8]) -> Result<(), DeviceErro
         (Appends (K.written writer.old) (K.written writer.new) text.now) }
     ensures front { OnErr result
         (AppendsFront (K.written writer.old) (K.written writer.new) text.now) }
+    ensures handed { OnOk result (K.handed_on writer.new ≡ true) }
     ensures fails { K.failed writer.new ≡ (K.failed writer.old || is_err result) }
 {
     write_text(writer, text)?;

@@ -16,48 +16,6 @@ pub fn check(rt: &impl AllocGlobal, text: &[u8]) -> (End, Vec<u8>) {
 }
 
 #[test]
-fn faults_of_check_texts(rt: HostRuntime) {
-    for (text, wanted) in [
-        ("", "fault line 1 cause 1\n"),
-        ("\n", "fault line 1 cause 1\n"),
-        ("motion \ngo r0\n", "fault line 1 cause 1\n"),
-        ("get r0, speed\n", "fault line 1 cause 1\n"),
-        ("motion", "fault line 1 cause 17\n"),
-        ("motion\n\n", "fault line 1 cause 17\n"),
-        ("change\n; nothing\n", "fault line 1 cause 17\n"),
-        ("motion\nget r0, speed\ngo r8\n", "fault line 3 cause 12\n"),
-        (
-            "motion\nnum r0, 4294967296\ngo r0\n",
-            "fault line 2 cause 13\n",
-        ),
-        ("motion\njump L\ngo r0\n", "fault line 2 cause 15\n"),
-        ("motion\na: b: go r0\n", "fault line 2 cause 11\n"),
-        ("motion\na:\na: go r0\n", "fault line 3 cause 14\n"),
-        // Here `end` ends nothing.
-        ("motion\nnum r0, 0\ngo r0\nend\n", "fault line 4 cause 11\n"),
-        ("code\n", "fault line 1 cause 1\n"),
-        ("code 0\n", "fault line 1 cause 8\n"),
-        ("code 00\n", "fault line 1 cause 21\n"),
-        (
-            "code 54524c42010201001600000000000000",
-            "fault line 1 cause 24\n",
-        ),
-        (
-            "code 54524c42010101001700000000000000",
-            "fault line 1 cause 26\n",
-        ),
-        (
-            "code 54524c42010101001601000000000000",
-            "fault line 1 cause 27\n",
-        ),
-    ] {
-        let (end, out) = check(&rt, text.as_bytes());
-        assert_eq!(rt; end, End::Refused, "at {text}");
-        assert!(rt; out.as_slice() == wanted.as_bytes(), "at {text}");
-    }
-}
-
-#[test]
 fn no_line_stands_behind_the_code(rt: HostRuntime) -> Result<(), AllocError> {
     let alloc = rt.alloc();
     let (end, out) = check(&rt, AS_FAST.as_bytes());

@@ -1,12 +1,9 @@
 //! Job texts in, pictures out.
 
 use crate::tests::{KEY, run};
-use crate::{Cause, End, TextFault, Watched, read_job, run_job_text};
+use crate::{End, Watched, run_job_text};
 use std::alloc::{AllocError, Global};
 use std::io::{self, BufWriter};
-use trlab_asm::Why;
-use trlab_code::CodeFault;
-use trlab_road::RoadFault;
 
 /// The code line of the motion without chance: one faster, at most the limit and the gap.
 const CODE: &str =
@@ -117,94 +114,6 @@ fn a_program_may_stand_in_its_own_lines(rt: HostRuntime) -> Result<(), AllocErro
     let wanted = b"step 0\n0.0.......\nstep 1\n.1.1......\nstep 2\n..1..2....\n";
     assert!(rt; out.as_slice() == wanted.as_slice());
     Ok(())
-}
-
-#[test]
-fn faults_of_parts_have_lines_of_the_text(rt: HostRuntime) -> Result<(), AllocError> {
-    let alloc = rt.alloc();
-    for (part, wanted) in [
-        // The word `end` is missing: one past the last line, before all other faults.
-        ("motion\nget r0, speed\ngo r8\n", "fault line 9 cause 1\n"),
-        ("motion\nend ; here\nsteps 2\n", "fault line 9 cause 1\n"),
-        ("motion", "fault line 7 cause 1\n"),
-        ("motion\nend\nsteps 2\n", "fault line 6 cause 17\n"),
-        (
-            "motion\n\n; nothing\nend\nsteps 2\n",
-            "fault line 6 cause 17\n",
-        ),
-        (
-            "motion\nget r0, speed\n\ngo r8\nend\nsteps 2\n",
-            "fault line 9 cause 12\n",
-        ),
-        ("motion\njump on\ngo r0\nend\n", "fault line 7 cause 15\n"),
-        ("motion\n end\nend\nsteps 2\n", "fault line 7 cause 11\n"),
-        (
-            "motion\nget r0, speed\ngo r0\nend\nsteps 2\n",
-            "fault line 6 cause 50\n",
-        ),
-        ("motion\nstay\nend\nsteps 2\n", "fault line 6 cause 42\n"),
-        // Behind a whole part the lines are counted on.
-        (
-            "motion\nnum r0, 0\ngo r0\nend\nsteps\n",
-            "fault line 10 cause 1\n",
-        ),
-        ("motion\nnum r0, 0\ngo r0\nend", "fault line 10 cause 1\n"),
-        // The other kind does not stand here.
-        ("change\nstay\nend\nsteps 2\n", "fault line 6 cause 1\n"),
-        (
-            "code 54524c42010101001600000000000000\nsteps 2\n",
-            "fault line 6 cause 24\n",
-        ),
-    ] {
-        let front = before_program(alloc)?;
-        let text = format!(in alloc; "{front}{part}")?;
-        let (end, out) = run(&rt, text.as_str(), 1);
-        assert_eq!(rt; end, End::Refused, "at {part}");
-        assert!(rt; out.as_slice() == wanted.as_bytes(), "at {part}");
-    }
-    Ok(())
-}
-
-#[test]
-fn jobs_are_what_texts_say(rt: HostRuntime) -> Result<(), AllocError> {
-    let alloc = rt.alloc();
-    let text = job_text(alloc, 5, "0.0.......", 4)?;
-    match read_job(alloc, text.as_bytes()) {
-        Ok(job) => {
-            assert_eq!(rt; job.steps, 4);
-            assert_eq!(rt; job.key.0, [0; 32]);
-            assert_eq!(rt; job.road.cars(), 2);
-            assert_eq!(rt; job.first.motion().budget(), 8);
-            assert!(rt; job.later.is_empty());
-        }
-        Err(fault) => assert!(rt; false, "{fault}"),
-    }
-    assert_eq!(rt;
-        read_job(alloc, b"road 2").err(),
-        Some(TextFault::At {
-            line: 1,
-            cause: Cause::Line
-        })
-    );
-    Ok(())
-}
-
-#[test]
-fn causes_have_numbers(rt: HostRuntime) {
-    for (cause, number) in [
-        (Cause::OneLane, 4),
-        (Cause::Order, 5),
-        (Cause::TooMany, 6),
-        (Cause::TooBig, 9),
-        (Cause::Program(Why::Word), 11),
-        (Cause::Program(Why::Empty), 17),
-        (Cause::Code(CodeFault::Kind), 24),
-        (Cause::Road(RoadFault::Length), 32),
-        (Cause::StandardRefused, 40),
-        (Cause::Verdict(12), 52),
-    ] {
-        assert_eq!(rt; cause.number(), number);
-    }
 }
 
 #[test]

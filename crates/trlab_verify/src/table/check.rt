@@ -9,7 +9,7 @@ ghost use Rattle.trlab_notes.specs.Noted.{note_of};
 ghost use Rattle.trlab_notes.specs.Notes.{fall, jump};
 ghost use Rattle.trlab_notes.specs.Order.{NoStronger};
 ghost use Rattle.trlab_notes.specs.Reasons.{on_target, too_large};
-ghost use Rattle.trlab_verify.specs.Handed.{written_at, written_table};
+ghost use Rattle.trlab_verify.specs.Handed.{HasLevels, written, written_at, written_table};
 ghost use Rattle.trlab_verify.specs.Longest.{Follows, IsLongest};
 ghost use Rattle.trlab_verify.specs.Tables.{Checks, ChecksAt};
 
@@ -38,6 +38,16 @@ fn is_reached(instrs: &[Instr], q: usize) -> bool
     false
 }
 
+/// Whether a note that is handed in is no stronger than another.
+fn is_within(kind: Kind, handed: &Note, note: &Noted) -> bool
+    ensures { IsTrue result ↔ NoStronger (written kind handed.now) (note_of note.now) }
+{
+    match read(kind, handed) {
+        Some(kept) => is_no_stronger(&kept, note),
+        None => false,
+    }
+}
+
 /// Whether the note at the next instruction is no stronger than what comes to it from the one at `pc`.
 fn fall_checks(kind: Kind, table: &[Note], pc: usize, note: &Noted, instr: Instr) -> bool
     requires inside { pc < length table.now }
@@ -51,7 +61,7 @@ fn fall_checks(kind: Kind, table: &[Note], pc: usize, note: &Noted, instr: Instr
         return true;
     }
     match fall_note(note, instr) {
-        Some(falling) => is_no_stronger(&read(kind, &table[next]), &falling),
+        Some(falling) => is_within(kind, &table[next], &falling),
         None => true,
     }
 }
@@ -65,20 +75,22 @@ fn jump_checks(kind: Kind, table: &[Note], note: &Noted, instr: Instr) -> bool
         return true;
     };
     let to = target as usize;
-    to >= table.len() || is_no_stronger(&read(kind, &table[to]), &jump_note(note, instr))
+    to >= table.len() || is_within(kind, &table[to], &jump_note(note, instr))
 }
 
-/// Whether a table checks at `pc`.
+/// Whether a table checks at `pc`, and no level there that is looked at is above 2.
 fn checks_at(kind: Kind, instrs: &[Instr], table: &[Note], pc: usize) -> bool
     requires inside { pc < length instrs.now }
     requires few { length instrs.now ≤ MOST_INSTRUCTIONS }
     requires in_range { All InRange instrs.now }
     requires one_each { length table.now ≡ length instrs.now }
-    ensures { IsTrue result ↔ ((i : AnInstr) → slice_get instrs.now pc ≡ Some i →
-        ChecksAt kind (record { kind = kind; instrs = instrs.now }) (written_at kind table.now) pc i) }
+    ensures { IsTrue result ↔ (HasLevels (written_at kind table.now pc) × ((i : AnInstr) → slice_get instrs.now pc ≡ Some i →
+        ChecksAt kind (record { kind = kind; instrs = instrs.now }) (written_at kind table.now) pc i)) }
 {
     let instr = instrs[pc];
-    let note = read(kind, &table[pc]);
+    let Some(note) = read(kind, &table[pc]) else {
+        return false;
+    };
     if pc > 0 && !is_reached(instrs, pc) {
         return false;
     }
@@ -107,7 +119,7 @@ pub fn check_notes(code: &Code, table: &[Note]) -> bool
     if table.len() != instrs.len() {
         return false;
     }
-    if !is_no_stronger(&read(kind, &table[0]), &Noted::entry(kind)) {
+    if !is_within(kind, &table[0], &Noted::entry(kind)) {
         return false;
     }
     for pc in 0..instrs.len() {

@@ -1,11 +1,14 @@
 //! Notes as callers write and read them.
 
-ghost use Rattle.std.specs.Prelude.{◌≡◌, ℕ, ◌+◌, ◌*◌, ◌<◌, slice_index};
-ghost use Rattle.trlab_notes.specs.Noted.{note_of};
-ghost use Rattle.trlab_verify.specs.Handed.{said_of, written, SaysRanges};
+ghost use Rattle.std.specs.Prelude.{◌≡◌, ◌↔◌, ℕ, ◌<◌, ◌≤◌, IfSome, IsTrue, None, slice_index, slice_index_or};
+ghost use Rattle.trlab_notes.specs.declared.note.Said.TheVariants.{Nothing};
+ghost use Rattle.trlab_notes.specs.Kept.{AreLevels, known_with};
+ghost use Rattle.trlab_notes.specs.Noted.{note_of, settled};
+ghost use Rattle.trlab_notes.specs.Notes.{entry, known};
+ghost use Rattle.trlab_verify.specs.Handed.{said_of, written, HasLevels, SaysRanges};
 
 use trlab_code::{Kind, PLACES};
-use trlab_notes::{LEVELS, Noted, Said, entry_said};
+use trlab_notes::{Noted, Said, entry_levels, entry_said, known_level};
 
 /// What a note says of a register.
 #[derive(Clone, Copy, Debug, PartialEq, Eq)]
@@ -55,33 +58,64 @@ fn mark_of(said: Said) -> Mark
     }
 }
 
-/// A note that is handed in, as the verifier keeps it.
-pub fn read(kind: Kind, note: &Note) -> Noted
-    ensures { note_of result ≡ written kind note.now }
+/// What a note that is handed in says of the places.
+fn places(kind: Kind, note: &Note) -> [Said; PLACES]
+    ensures { (x : ℕ) → slice_index_or result x Nothing ≡ (written kind note.now).said x }
 {
     let mut places = entry_said(kind);
     for x in 0..8 {
         places[x] = said_by(note.regs[x]);
     }
-    let mut levels = [0; LEVELS];
-    for i in 0..LEVELS {
-        levels[i] = note.levels[i / PLACES][i % PLACES];
+    places
+}
+
+/// Whether no level of the place x that is looked at is above 2.
+fn has_levels_from(said: &[Said; PLACES], levels: &[u8; PLACES], x: usize) -> bool
+    requires { x < PLACES }
+    ensures { IsTrue result ↔ ((y : ℕ) → y < PLACES →
+        known_with said.now x y (slice_index levels.now y) ≤ 2) }
+{
+    for y in 0..PLACES {
+        if known_level(said[x], said[y], x == y, levels[y]) > 2 {
+            return false;
+        }
     }
-    Noted {
-        said: places,
-        levels,
-        side: note.side,
+    true
+}
+
+/// Whether no level that is looked at is above 2.
+fn has_levels(said: &[Said; PLACES], levels: &[[u8; PLACES]; PLACES]) -> bool
+    ensures { IsTrue result ↔ AreLevels said.now levels.now }
+{
+    for x in 0..PLACES {
+        if !has_levels_from(said, &levels[x], x) {
+            return false;
+        }
     }
+    true
+}
+
+/// A note that is handed in, as the verifier keeps it; there is none where a level above 2 is looked at.
+pub fn read(kind: Kind, note: &Note) -> Option<Noted>
+    ensures none { result ≡ None → ¬ (HasLevels (written kind note.now)) }
+    ensures some { IfSome result (λ kept. HasLevels (written kind note.now)) }
+    ensures kept { IfSome result (λ kept. note_of kept ≡ settled (written kind note.now)) }
+{
+    let said = places(kind, note);
+    if !has_levels(&said, &note.levels) {
+        return None;
+    }
+    Some(Noted::new(said, &note.levels, note.side))
 }
 
 /// The levels of a place to each.
-fn row(noted: &Noted, x: usize) -> [u8; PLACES]
+fn level_row(noted: &Noted, x: usize) -> [u8; PLACES]
     requires { x < PLACES }
-    ensures { (y : ℕ) → y < PLACES → slice_index result y ≡ slice_index noted.now.levels (PLACES * x + y) }
+    ensures { (y : ℕ) → y < PLACES → slice_index result y ≡ known (note_of noted.now) x y }
 {
     let mut row = [0; PLACES];
     for y in 0..PLACES {
-        row[y] = noted.levels[PLACES * x + y];
+        row[y] = noted.known(x, y);
     }
     row
 }
@@ -97,11 +131,21 @@ pub fn write(kind: Kind, noted: &Noted) -> Note
     }
     let mut levels = [[0; PLACES]; PLACES];
     for x in 0..PLACES {
-        levels[x] = row(noted, x);
+        levels[x] = level_row(noted, x);
     }
     Note {
         regs,
         levels,
         side: noted.side,
     }
+}
+
+/// The note of the first instruction, as it is handed out: of the order it says what holds at the start.
+pub fn first_note(kind: Kind) -> Note
+    ensures { written kind result ≡ entry kind }
+{
+    let mut note = write(kind, &Noted::entry(kind));
+    let levels = entry_levels();
+    note.levels = levels;
+    note
 }

@@ -4,7 +4,7 @@ use Rattle.std.proofs.lemmas.List.Elements.{All-more}
 use Rattle.trlab_code.specs.declared.instruction.Instr.TheVariants.{Num}
 use Rattle.trlab_code.specs.declared.instruction.Register.TheVariants.{R0}
 use Rattle.trlab_asm.specs.Canonical.{line_text, is_target}
-use Rattle.trlab_asm.specs.Laws.{HasWord}
+use Rattle.trlab_code.specs.Laws.{HasWord}
 use Rattle.trlab_asm.proofs.PrintedFrom.{text_next, text_end}
 use Rattle.trlab_asm.proofs.Reread.{reread}
 use Rattle.trlab_asm.proofs.canonical.disassemble.Goals as goal

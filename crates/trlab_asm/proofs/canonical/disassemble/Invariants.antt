@@ -1,6 +1,6 @@
 use Rattle.std.proofs.Common.{◌≡◌, ◌++◌, take, drop, All}
 use Rattle.trlab_asm.specs.Canonical.{text_from, text_of}
-use Rattle.trlab_asm.specs.Laws.{HasWord}
+use Rattle.trlab_code.specs.Laws.{HasWord}
 use Rattle.trlab_asm.proofs.canonical.disassemble.Given as goal
 
 abbrev pub invariant-loop-pc : goal.invariant-loop-pc

@@ -1,4 +1,4 @@
-use Rattle.trlab_campaign.proofs.OneText.{one_output}
+use Rattle.trlab_campaign.proofs.OneOutput.{one_output}
 use Rattle.trlab_campaign.proofs.laws.text_has_one_output.Goals as goal
 
 pub returns : goal.returns

@@ -1,9 +1,19 @@
-use Rattle.std.proofs.Common.{refl, rules}
-use Rattle.trlab_notes.proofs.Tables.{join_is}
+use Rattle.std.proofs.Common.{rules}
+use Rattle.trlab_notes.proofs.Tables.{join_is, join_tells, join_back}
 use Rattle.trlab_notes.proofs.joining.join.Goals as goal
+use Rattle.trlab_notes.proofs.joining.join.Goals.{then-a, else-a}
 
-pub returns-then-a : goal.returns-then-a
-returns-then-a c = join_is c.args.a.now c.args.b.now c.common_places.result c.common_levels.result c.args.b.now.side (search rules) (search rules) c.common_places.ensures c.common_levels.ensures (rw c.if-a.true refl)
+pub invariant_of-result : goal.invariant_of-result
+invariant_of-result c = record {
+  ranges = join_tells c.args.a.now c.args.b.now c.common_places.result c.common_rows.result c.common_places.ensures c.common_rows.ensures;
+  transposed = join_back c.args.a.now c.args.b.now c.common_rows.result c.common_rows-2.result c.common_rows.ensures c.common_rows-2.ensures;
+}
 
-pub returns-else-a : goal.returns-else-a
-returns-else-a c = join_is c.args.a.now c.args.b.now c.common_places.result c.common_levels.result c.args.a.now.side (search rules) (search rules) c.common_places.ensures c.common_levels.ensures (rw c.if-a.false refl)
+pub returns : goal.returns
+returns c =
+    let a = c.args.a.now in
+    let b = c.args.b.now in
+    join_is a b c.common_places.result c.common_rows.result c.if-a.result (search rules) (search rules) c.common_places.ensures c.common_rows.ensures (elim c.if-a.branch [
+      | then-a w ↦ cc (w.result-is, w.if-a.true)
+      | else-a w ↦ cc (w.result-is, w.if-a.false)
+    ])

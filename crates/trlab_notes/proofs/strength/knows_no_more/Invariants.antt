@@ -6,6 +6,3 @@ use Rattle.trlab_notes.proofs.strength.knows_no_more.Given as goal
 
 abbrev pub invariant-loop-x : goal.invariant-loop-x
 invariant-loop-x l = (j : ℕ) → j < l.x → (k : ℕ) → k < PLACES → known (note_of l.m) j k ≤ known (note_of l.n) j k
-
-abbrev pub invariant-loop-y : goal.invariant-loop-y
-invariant-loop-y l = (k : ℕ) → k < l.y → known (note_of l.m) l.x k ≤ known (note_of l.n) l.x k

@@ -1,4 +1,4 @@
-use Rattle.std.proofs.Common.{◌≤◌, ◌-◌}
+use Rattle.std.proofs.Common.{◌≤◌, ◌-◌, true}
 use Rattle.trlab_road.specs.Crossing.{lane_crosses_at}
 use Rattle.trlab_road.specs.Lists.{cells_of}
 use Rattle.trlab_road.proofs.ListCrossing.{Merged}
@@ -8,7 +8,7 @@ use Rattle.trlab_road.proofs.crossing.crossed_lane.Given as goal
 abbrev pub invariant-loop-place : goal.invariant-loop-place
 invariant-loop-place l = record {
   inside : l.place ≤ l.cells;
-  merged : Merged l.cells l.own.cars.now l.beside.cars.now (lane_crosses_at (cells_of l.cells l.own.cars.now) l.crosses l.own.from) (lane_crosses_at (cells_of l.cells l.beside.cars.now) l.crosses l.beside.from) l.next.items l.i l.j l.place;
+  merged : Merged l.cells l.own.cars.now l.coming (lane_crosses_at (cells_of l.cells l.own.cars.now) l.crosses l.own.from) (λ _. true) l.next.items l.i l.j l.place;
 }
 
 abbrev pub decreases-loop-place : goal.decreases-loop-place

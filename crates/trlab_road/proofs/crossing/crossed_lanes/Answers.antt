@@ -4,6 +4,7 @@ use Rattle.trlab_road.specs.declared.lane_car.LaneCar.{LaneCar}
 use Rattle.trlab_road.specs.Cells.{lane_cars}
 use Rattle.trlab_road.specs.Crossing.{LaneCrosses, lane_crosses_at}
 use Rattle.trlab_road.specs.Lists.{cells_of, lanes_from}
+use Rattle.trlab_road.proofs.ListLeaving.{crosses_from}
 use Rattle.trlab_road.proofs.ListRoads.{list_counted, list_within, crosses_two}
 use Rattle.trlab_road.proofs.crossing.crossed_lanes.Goals as goal
 
@@ -12,8 +13,8 @@ crossed_lane-requires-clause-own_each c =
     let two = c.requires.two in
     let a = list_within c.args.cells c.args.lanes.now 0 c.requires.sorted (omega arith) in let b = ap length c.list_of.ensures in let d = c.requires.one_each in omega (arith, a, b, d)
 
-pub crossed_lane-requires-clause-beside_each : goal.crossed_lane-requires-clause-beside_each
-crossed_lane-requires-clause-beside_each c =
+pub leaving_cars-requires-2-clause-each : goal.leaving_cars-requires-2-clause-each
+leaving_cars-requires-2-clause-each c =
     let two = c.requires.two in
     let a = list_within c.args.cells c.args.lanes.now 1 c.requires.sorted (omega arith) in let z = list_counted c.args.cells c.args.lanes.now 0 c.requires.sorted (omega arith) in
     let b = ap length c.list_of.ensures in let e = ap length c.list_of-2.ensures in let d = c.requires.one_each in omega (arith, a, b, d, e, z)
@@ -24,8 +25,8 @@ crossed_lane-requires-2-clause-own_each c =
     let a = list_within c.args.cells c.args.lanes.now 1 c.requires.sorted (omega arith) in let z = list_counted c.args.cells c.args.lanes.now 0 c.requires.sorted (omega arith) in
     let b = ap length c.list_of.ensures in let e = ap length c.list_of-2.ensures in let d = c.requires.one_each in omega (arith, a, b, d, e, z)
 
-pub crossed_lane-requires-2-clause-beside_each : goal.crossed_lane-requires-2-clause-beside_each
-crossed_lane-requires-2-clause-beside_each c =
+pub leaving_cars-requires-clause-each : goal.leaving_cars-requires-clause-each
+leaving_cars-requires-clause-each c =
     let two = c.requires.two in
     let a = list_within c.args.cells c.args.lanes.now 0 c.requires.sorted (omega arith) in let b = ap length c.list_of.ensures in let d = c.requires.one_each in omega (arith, a, b, d)
 
@@ -49,5 +50,7 @@ returns-clause-crosses c = λ limit.
     let none : 0 ≡ sum_by lane_cars (take 0 (lanes_from n lists)) = refl in
     let count : length c.list_of.result.now ≡ sum_by lane_cars (take 1 (lanes_from n lists)) = omega (arith, z, b) in
     rw c.in_ok-vec.ensures.items (crosses_two n limit lists c.in_ok-new_first.new_first c.in_ok-new_second.new_second c.args.crosses.now two
-    (at_ranks n c.args.crosses.now _ _ _ _ _ 0 _ _ _ c.list_of.ensures c.list_of-2.ensures none count c.in_ok-new_first.ensures.crosses)
-    (at_ranks n c.args.crosses.now _ _ _ _ _ _ 0 _ _ c.list_of-2.ensures c.list_of.ensures count none c.in_ok-new_second.ensures.crosses))
+    (at_ranks n c.args.crosses.now _ _ _ _ _ 0 _ _ _ c.list_of.ensures c.list_of-2.ensures none count
+    (crosses_from n _ _ _ _ _ _ (rw c.deref.ensures.value at c.in_ok-new_first.ensures.crosses) c.in_ok-from_second.ensures.leaves))
+    (at_ranks n c.args.crosses.now _ _ _ _ _ _ 0 _ _ c.list_of-2.ensures c.list_of.ensures count none
+    (crosses_from n _ _ _ _ _ _ (rw c.deref-2.ensures.value at c.in_ok-new_second.ensures.crosses) c.in_ok-from_first.ensures.leaves)))

@@ -1,18 +1,12 @@
-use Rattle.std.proofs.Common.{rules, ◌≡◌, ◌<◌, arith, length, subst, sym, slice_index}
+use Rattle.std.proofs.Common.{◌<◌, arith, slice_index}
 use Rattle.trlab_machine.specs.declared.columns.TheConstants.{LANES}
-use Rattle.trlab_machine.specs.Blocks.{AreWords, view_of}
-use Rattle.trlab_step.specs.Answers.{dice_of, words_of}
-use Rattle.trlab_step.proofs.AskedCars.{goes_by, words_do}
+use Rattle.trlab_machine.specs.Blocks.{view_of}
+use Rattle.trlab_step.proofs.AskedCars.{goes_by}
 use Rattle.trlab_step.proofs.answers.block_speeds.Goals as goal
 
-pub returns-clause-speeds : goal.returns-clause-speeds
-returns-clause-speeds c j below =
-    let code = c.args.motion.now.program.instrs in
-    let dice = dice_of c.args.draws.now.key c.args.draws.now.road c.args.draws.now.step in
-    let number = slice_index c.new-asked.result.numbers j in
-    let inside : j < c.new-asked.result.views.cars = omega (arith, below, c.new-asked.ensures.cars) in
+pub returns : goal.returns
+returns c j below =
+    let views = c.ask_block-views.result in
+    let inside : j < views.cars = omega (arith, below, c.ask_block-views.ensures.cars) in
     let low : j < LANES = omega (arith, below, c.requires.few) in
-    let sixteen : length c.args.draws.now.needed ≡ 16 = search rules in
-    let made = words_do code dice c.args.draws.now.needed c.new-asked.result.numbers c.new-asked.result.views.cars c.draw.new.self.words j sixteen c.requires.needed c.draw.ensures.words inside in
-    let are = subst (λ words. AreWords code words j (words_of dice number)) (sym c.words.ensures) made in
-    goes_by c.args.motion.now dice c.args.road.now _ (view_of c.new-asked.result.views j) number _ (c.new-asked.ensures.each j below) (c.run_motions.ensures j (words_of dice number) low inside are)
+    goes_by c.args.motion.now c.args.dice.now c.args.road.now _ (view_of views j) (slice_index views.number j) _ (c.ask_block-views.ensures.each j below) (c.run_motions.ensures j low inside)

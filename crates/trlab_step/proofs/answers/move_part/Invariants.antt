@@ -1,14 +1,12 @@
-use Rattle.std.proofs.Common.{◌≡◌, ◌+◌, ◌*◌, min}
+use Rattle.std.proofs.Common.{◌+◌, ◌*◌, min}
+use Rattle.trlab_step.specs.declared.asked.TheConstants.{BLOCK}
 use Rattle.trlab_step.specs.Answers.{dice_of, FitsPart, SpeedsPart}
-use Rattle.trlab_step.specs.Asked.{AllNeeded}
 use Rattle.trlab_step.proofs.answers.move_part.Given as goal
 
 abbrev pub invariant-loop-block : goal.invariant-loop-block
 invariant-loop-block l = record {
-  speeds : SpeedsPart l.motion (dice_of l.fn.key.0 l.number l.step) l.road l.from (min l.to (l.from + 64 * l.block)) l.speeds.items;
+  speeds : SpeedsPart l.motion (dice_of l.fn.key.0 l.number l.step) l.road l.from (min l.to (l.from + BLOCK * l.block)) l.speeds.items;
   fits : FitsPart l.road l.from l.speeds.items;
-  dice : dice_of l.draws.key l.draws.road l.draws.step ≡ dice_of l.fn.key.0 l.number l.step;
-  needed : AllNeeded l.motion.program.instrs l.draws.needed;
 }
 
 abbrev pub invariant-loop-k : goal.invariant-loop-k

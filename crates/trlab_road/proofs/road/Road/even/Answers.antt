@@ -6,6 +6,8 @@ use Rattle.trlab_road.specs.Spreading.{LaneEven, Even}
 use Rattle.trlab_road.specs.Lists.{cells_of, lanes_from, list_at}
 use Rattle.trlab_road.proofs.EvenRoads.{even_legal, even_count}
 use Rattle.trlab_road.proofs.ListRoads.{lane_from}
+use Rattle.trlab_road.proofs.EvenExists.{told_fault, told_road}
+use Rattle.std.proofs.lemmas.Result.{err_from_is_err_and}
 use Rattle.trlab_road.proofs.road.Road.even.Goals as goal
 
 -- even lists make an even road
@@ -33,3 +35,9 @@ returns-clause-counted c =
 pub returns-clause-legal : goal.returns-clause-legal
 returns-clause-legal c =
     even_legal _ _ _ _ _ c.in_ok-check_even.ensures (road_of c.args.lanes c.args.cells c.args.limit c.args.count c.in_ok-lanes.lanes.items c.in_ok-lanes.ensures.same_lanes c.in_ok-lanes.ensures.each_lane)
+
+pub returns-in_err-check_even-clause-told : goal.returns-in_err-check_even-clause-told
+returns-in_err-check_even-clause-told c = let p = err_from_is_err_and c.from_residual.result c.from_residual.ensures.1 in rw (p.1, p.2) (told_fault c.args.lanes c.args.cells c.args.limit c.args.count _ c.in_err-check_even.ensures)
+
+pub returns-clause-told : goal.returns-clause-told
+returns-clause-told c = told_road c.args.lanes c.args.cells c.args.limit c.args.count _ c.in_ok-check_even.ensures

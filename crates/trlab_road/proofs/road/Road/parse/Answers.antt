@@ -2,10 +2,9 @@ use Rattle.std.proofs.Common.{◌≡◌, ℕ, List, sym, subst}
 use Rattle.std.proofs.lemmas.Result.{err_from_is_err_and}
 use Rattle.trlab_road.specs.Cells.{Lane, Cells}
 use Rattle.trlab_road.specs.Legal.{Legal}
-use Rattle.trlab_road.specs.Pictures.{GoodPictures, FirstFault, Shows, drawn_lanes}
-use Rattle.trlab_road.proofs.PictureLaws.{draws, shown_legal, one_shown, no_fault, pictures_good}
-use Rattle.trlab_road.specs.declared.fault.RoadFault.{RoadFault}
-use Rattle.trlab_road.specs.declared.fault.RoadFault.TheVariants.{Memory}
+use Rattle.trlab_road.specs.Pictures.{GoodPictures, Shows, drawn_lanes}
+use Rattle.trlab_road.proofs.PictureLaws.{draws, shown_legal, one_shown}
+use Rattle.trlab_road.proofs.PictureFaults.{no_fault_shown, told_fault, told_road}
 use Rattle.trlab_road.proofs.road.Road.parse.Goals as goal
 
 -- what was drawn shows, and is legal
@@ -34,11 +33,11 @@ same_road limit ps next s road legal other = one_shown limit ps next road s othe
 pub returns-clause-back : goal.returns-clause-back
 returns-clause-back c = same_road c.args.limit _ _ (shows c.args.limit _ _ c.in_ok-check_pictures.ensures c.in_ok-lanes.ensures.drawn)
 
-no_other_fault : (limit : ℕ) (ps : List (List ℕ)) (fault : RoadFault) → FirstFault limit ps fault
-    → (road : Cells) → Legal road → Shows limit ps road → fault ≡ Memory
-no_other_fault limit ps fault h road legal s =
-    let good = subst (λ (qs : List (List ℕ)). GoodPictures road.limit qs) s.drawn (pictures_good road legal) in
-    no_fault limit ps fault (subst (λ (k : ℕ). GoodPictures k ps) s.same_limit good) h
-
 pub returns-in_err-check_pictures-clause-back : goal.returns-in_err-check_pictures-clause-back
-returns-in_err-check_pictures-clause-back c = let p = err_from_is_err_and c.from_residual.result c.from_residual.ensures.1 in rw (p.1, p.2) (no_other_fault c.args.limit _ _ c.in_err-check_pictures.ensures)
+returns-in_err-check_pictures-clause-back c = let p = err_from_is_err_and c.from_residual.result c.from_residual.ensures.1 in rw (p.1, p.2) (no_fault_shown c.args.limit _ _ c.in_err-check_pictures.ensures)
+
+pub returns-in_err-check_pictures-clause-told : goal.returns-in_err-check_pictures-clause-told
+returns-in_err-check_pictures-clause-told c = let p = err_from_is_err_and c.from_residual.result c.from_residual.ensures.1 in rw (p.1, p.2) (told_fault c.args.limit _ _ c.in_err-check_pictures.ensures)
+
+pub returns-clause-told : goal.returns-clause-told
+returns-clause-told c = told_road c.args.limit _ _ (legal c.args.limit _ _ c.in_ok-check_pictures.ensures c.in_ok-lanes.ensures.drawn) (shows c.args.limit _ _ c.in_ok-check_pictures.ensures c.in_ok-lanes.ensures.drawn)

@@ -1,8 +1,0 @@
-use Rattle.trlab_campaign.proofs.LaterLines.{ReadSoFar}
-use Rattle.trlab_campaign.proofs.job.later.later_rules.Given as goal
-
-abbrev pub invariant-loop-alloc : goal.invariant-loop-alloc
-invariant-loop-alloc l = ReadSoFar l.lanes l.steps l.fn.place l.later.items l.room l.least l.place
-
-abbrev pub decreases-loop-alloc : goal.decreases-loop-alloc
-decreases-loop-alloc l = l.room

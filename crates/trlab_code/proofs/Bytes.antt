@@ -1,0 +1,99 @@
+-- The spelling of a program is of bytes.
+use Rattle.std.proofs.Common.{ℕ, ◌/◌, ◌%◌, ◌^◌, ◌<◌, ◌≤◌, List, [], ◌∷◌, All, length, arith}
+use Rattle.std.specs.List.{flat_map}
+use Rattle.std.proofs.lemmas.List.Elements.{All-cons, All-append, All-head, All-tail}
+use Rattle.trlab_code.specs.declared.kind.Kind.{Kind}
+use Rattle.trlab_code.specs.declared.kind.Kind.TheVariants.{Motion, Change}
+use Rattle.trlab_code.specs.declared.instruction.Register.{Register}
+use Rattle.trlab_code.specs.declared.instruction.Register.TheVariants.{R0, R1, R2, R3, R4, R5, R6, R7}
+use Rattle.trlab_code.specs.declared.instruction.Input.{Input}
+use Rattle.trlab_code.specs.declared.instruction.Input.TheVariants.{Speed, Limit, Gap, SideGap, SideBack, Lane}
+use Rattle.trlab_code.specs.declared.instruction.Instr.{Instr}
+use Rattle.trlab_code.specs.declared.instruction.Instr.TheVariants.{Num, Get, Side, Draw, Copy, Add, Sub, Mul, Div, Min, Max, Not, And, Or, Jump, JumpLess, JumpAtMost, JumpTrue, JumpFalse, Go, Cross, Stay}
+use Rattle.trlab_code.specs.Program.{Program, InRange}
+use Rattle.trlab_code.specs.Machine.{place}
+use Rattle.trlab_code.specs.Spelling.{kind_byte, input_byte, row, row_bytes, instr_bytes, header, spelling}
+use Rattle.trlab_code.specs.Laws.{AreBytes, HasWord, IsStored}
+
+byte : ℕ → Type 0
+byte n = n < 2 ^ 8
+
+-- the same, so that the list is told by the type
+record Small (bytes : List ℕ) : Type 0 where
+  all : AreBytes bytes
+
+none : Small []
+none = record { all = λ k d h. absurd (omega arith) }
+
+more : (n : ℕ) {ns : List ℕ} → n < 2 ^ 8 → Small ns → Small (n ∷ ns)
+more n {ns} h small = record { all = All-cons (λ b. b < 2 ^ 8) n ns h small.all }
+
+place_small : (r : Register) → place r < 2 ^ 8
+place_small R0 = omega arith
+place_small R1 = omega arith
+place_small R2 = omega arith
+place_small R3 = omega arith
+place_small R4 = omega arith
+place_small R5 = omega arith
+place_small R6 = omega arith
+place_small R7 = omega arith
+
+input_byte_small : (k : Input) → input_byte k < 2 ^ 8
+input_byte_small Speed = omega arith
+input_byte_small Limit = omega arith
+input_byte_small Gap = omega arith
+input_byte_small SideGap = omega arith
+input_byte_small SideBack = omega arith
+input_byte_small Lane = omega arith
+
+row_small : (opcode a b c n : ℕ) → opcode < 2 ^ 8 → a < 2 ^ 8 → b < 2 ^ 8 → c < 2 ^ 8 → n < 2 ^ 32 → Small (row_bytes (row opcode a b c n))
+row_small opcode a b c n f g h i small =
+    more opcode f (more a g (more b h (more c i
+    (more (n % 256) (omega arith) (more (n / 256 % 256) (omega arith) (more (n / 256 ^ 2 % 256) (omega arith) (more (n / 256 ^ 3) (omega arith) none)))))))
+
+instr_bytes_small : (i : Instr) → InRange i → HasWord i → Small (instr_bytes i)
+instr_bytes_small (Num d n) fits word = row_small _ _ _ _ _ (omega arith) (place_small d) (omega arith) (omega arith) word
+instr_bytes_small (Get d k) fits word = row_small _ _ _ _ _ (omega arith) (place_small d) (input_byte_small k) (omega arith) word
+instr_bytes_small (Side d) fits word = row_small _ _ _ _ _ (omega arith) (place_small d) (omega arith) (omega arith) word
+instr_bytes_small (Draw d k t) fits word = row_small _ _ _ _ _ (omega arith) (place_small d) (omega (arith, fits.0)) (omega arith) word
+instr_bytes_small (Copy d a) fits word = row_small _ _ _ _ _ (omega arith) (place_small d) (place_small a) (omega arith) word
+instr_bytes_small (Add d a b) fits word = row_small _ _ _ _ _ (omega arith) (place_small d) (place_small a) (place_small b) word
+instr_bytes_small (Sub d a b) fits word = row_small _ _ _ _ _ (omega arith) (place_small d) (place_small a) (place_small b) word
+instr_bytes_small (Mul d a n) fits word = row_small _ _ _ _ _ (omega arith) (place_small d) (place_small a) (omega arith) word
+instr_bytes_small (Div d a n) fits word = row_small _ _ _ _ _ (omega arith) (place_small d) (place_small a) (omega arith) word
+instr_bytes_small (Min d a b) fits word = row_small _ _ _ _ _ (omega arith) (place_small d) (place_small a) (place_small b) word
+instr_bytes_small (Max d a b) fits word = row_small _ _ _ _ _ (omega arith) (place_small d) (place_small a) (place_small b) word
+instr_bytes_small (Not d a) fits word = row_small _ _ _ _ _ (omega arith) (place_small d) (place_small a) (omega arith) word
+instr_bytes_small (And d a b) fits word = row_small _ _ _ _ _ (omega arith) (place_small d) (place_small a) (place_small b) word
+instr_bytes_small (Or d a b) fits word = row_small _ _ _ _ _ (omega arith) (place_small d) (place_small a) (place_small b) word
+instr_bytes_small (Jump t) fits word = row_small _ _ _ _ _ (omega arith) (omega arith) (omega arith) (omega arith) word
+instr_bytes_small (JumpLess a b t) fits word = row_small _ _ _ _ _ (omega arith) (place_small a) (place_small b) (omega arith) word
+instr_bytes_small (JumpAtMost a b t) fits word = row_small _ _ _ _ _ (omega arith) (place_small a) (place_small b) (omega arith) word
+instr_bytes_small (JumpTrue a t) fits word = row_small _ _ _ _ _ (omega arith) (place_small a) (omega arith) (omega arith) word
+instr_bytes_small (JumpFalse a t) fits word = row_small _ _ _ _ _ (omega arith) (place_small a) (omega arith) (omega arith) word
+instr_bytes_small (Go a) fits word = row_small _ _ _ _ _ (omega arith) (place_small a) (omega arith) (omega arith) word
+instr_bytes_small Cross fits word = row_small _ _ _ _ _ (omega arith) (omega arith) (omega arith) (omega arith) word
+instr_bytes_small Stay fits word = row_small _ _ _ _ _ (omega arith) (omega arith) (omega arith) (omega arith) word
+
+rows_small : (instrs : List Instr) → All InRange instrs → All HasWord instrs → AreBytes (flat_map instr_bytes instrs)
+rows_small [] fit words = none.all
+rows_small (i ∷ instrs) fit words =
+    All-append (λ b. b < 2 ^ 8) (instr_bytes i) (flat_map instr_bytes instrs)
+    (instr_bytes_small i (All-head InRange i instrs fit) (All-head HasWord i instrs words)).all
+    (rows_small instrs (All-tail InRange i instrs fit) (All-tail HasWord i instrs words))
+
+kind_byte_small : (kind : Kind) → kind_byte kind < 2 ^ 8
+kind_byte_small Motion = omega arith
+kind_byte_small Change = omega arith
+
+header_small : (kind : Kind) (count : ℕ) → count ≤ 128 → Small (header kind count)
+header_small kind count few =
+    more 84 (omega arith) (more 82 (omega arith) (more 76 (omega arith) (more 66 (omega arith) (more 1 (omega arith)
+    (more (kind_byte kind) (kind_byte_small kind) (more (count % 256) (omega arith) (more (count / 256) (omega arith) none)))))))
+
+pub spelling_bytes : (program : Program) → IsStored program → AreBytes (spelling program)
+unfolding spelling
+spelling_bytes program stored =
+    All-append (λ b. b < 2 ^ 8) (header program.kind (length program.instrs)) (flat_map instr_bytes program.instrs)
+    (header_small program.kind (length program.instrs) stored.is_program.few).all
+    (rows_small program.instrs stored.is_program.in_range stored.has_words)

@@ -1,0 +1,251 @@
+-- Any bytes spell a program, or have a first fault.
+use Rattle.std.proofs.Common.{◌≡◌, ◌≢◌, ℕ, zero, suc, ◌+◌, ◌-◌, ◌*◌, ◌/◌, ◌%◌, ◌^◌, ◌<◌, ◌≤◌, ◌⊎◌, List, [], ◌∷◌, ◌++◌, length, take, drop, get_or, slice_index, All, Result, Ok, Err, refl, ap, ◌∙◌, arith, inl, inr, length-append}
+use Rattle.std.specs.Prelude.{bytes_eq}
+use Rattle.std.specs.List.{flat_map}
+use Rattle.std.proofs.lemmas.Bool.{cases_Bool, cases_lt}
+use Rattle.std.proofs.lemmas.Bool.Decides.{eqb_tells}
+use Rattle.std.proofs.lemmas.Slice.Eq.{bytes_eq-Decides}
+use Rattle.std.proofs.lemmas.List.Elements.{All-push}
+use Rattle.trlab_code.specs.declared.kind.Kind.{Kind}
+use Rattle.trlab_code.specs.declared.kind.Kind.TheVariants.{Motion, Change}
+use Rattle.trlab_code.specs.declared.instruction.Register.{Register}
+use Rattle.trlab_code.specs.declared.instruction.Register.TheVariants.{R0, R1, R2, R3, R4, R5, R6, R7}
+use Rattle.trlab_code.specs.declared.instruction.Input.{Input}
+use Rattle.trlab_code.specs.declared.instruction.Input.TheVariants.{Speed, Limit, Gap, SideGap, SideBack, Lane}
+use Rattle.trlab_code.specs.declared.instruction.Instr.{Instr}
+use Rattle.trlab_code.specs.declared.instruction.Instr.TheVariants.{Num, Get, Side, Draw, Copy, Add, Sub, Mul, Div, Min, Max, Not, And, Or, Jump, JumpLess, JumpAtMost, JumpTrue, JumpFalse, Go, Cross, Stay}
+use Rattle.trlab_code.specs.declared.header.TheConstants.{MAGIC, VERSION}
+use Rattle.trlab_code.specs.declared.program.TheConstants.{CERTAIN}
+use Rattle.trlab_code.specs.declared.fault.CodeFault.{CodeFault}
+use Rattle.trlab_code.specs.declared.fault.CodeFault.TheVariants as fault
+use Rattle.trlab_code.specs.Program.{Program, InRange, IsProgram}
+use Rattle.trlab_code.specs.Machine.{place}
+use Rattle.trlab_code.specs.Spelling.{kind_byte, input_byte, header, instr_bytes, spelling}
+use Rattle.trlab_code.specs.Faults.{HasRoom, SpellsInstr, GoodHeader, GoodBefore, FirstFault, stated_count, bytes_at}
+use Rattle.trlab_code.specs.Laws.{Says}
+use Rattle.trlab_code.proofs.Opcodes.{opcode_or_not}
+use Rattle.trlab_code.proofs.Rows.{rows_more, good_more}
+use Rattle.trlab_code.proofs.Whole.{spelling_of_parts}
+
+-- the register of a byte; any register for a byte of none
+register_of : ℕ → Register
+register_of byte = get_or (R0 ∷ R1 ∷ R2 ∷ R3 ∷ R4 ∷ R5 ∷ R6 ∷ R7 ∷ []) byte R0
+
+register_back : (r : Register) → register_of (place r) ≡ r
+unfolding register_of
+register_back R0 = refl
+register_back R1 = refl
+register_back R2 = refl
+register_back R3 = refl
+register_back R4 = refl
+register_back R5 = refl
+register_back R6 = refl
+register_back R7 = refl
+
+-- the input of a byte; any input for a byte of none
+input_of : ℕ → Input
+input_of byte = get_or (Speed ∷ Limit ∷ Gap ∷ SideGap ∷ SideBack ∷ Lane ∷ []) byte Speed
+
+input_back : (k : Input) → input_of (input_byte k) ≡ k
+unfolding input_of
+input_back Speed = refl
+input_back Limit = refl
+input_back Gap = refl
+input_back SideGap = refl
+input_back SideBack = refl
+input_back Lane = refl
+
+-- the number of four bytes
+number_of : ℕ → ℕ → ℕ → ℕ → ℕ
+number_of low second third high = low + 256 * second + 65536 * third + 16777216 * high
+
+number_back : (n : ℕ) → number_of (n % 256) (n / 256 % 256) (n / 256 ^ 2 % 256) (n / 256 ^ 3) ≡ n
+unfolding number_of
+number_back n = omega arith
+
+-- the only instruction that eight bytes can spell
+candidate : List ℕ → Instr
+candidate row =
+    let x = register_of (slice_index row 1) in
+    let y = register_of (slice_index row 2) in
+    let z = register_of (slice_index row 3) in
+    let n = number_of (slice_index row 4) (slice_index row 5) (slice_index row 6) (slice_index row 7) in
+    get_or ((Num x n) ∷ (Get x (input_of (slice_index row 2))) ∷ (Side x) ∷ (Draw x (slice_index row 2) n) ∷ (Copy x y) ∷ (Add x y z) ∷ (Sub x y z) ∷ (Mul x y n) ∷ (Div x y n) ∷ (Min x y z) ∷ (Max x y z) ∷ (Not x y) ∷ (And x y z) ∷ (Or x y z) ∷ (Jump n) ∷ (JumpLess x y n) ∷ (JumpAtMost x y n) ∷ (JumpTrue x n) ∷ (JumpFalse x n) ∷ (Go x) ∷ Cross ∷ Stay ∷ []) (slice_index row 0 - 1) Stay
+
+only_candidate : (i : Instr) → candidate (instr_bytes i) ≡ i
+unfolding candidate
+only_candidate (Num d n) = cc (register_back d, number_back n)
+only_candidate (Get d k) = cc (register_back d, input_back k)
+only_candidate (Side d) = cc (register_back d)
+only_candidate (Draw d k t) = cc (register_back d, number_back t)
+only_candidate (Copy d a) = cc (register_back d, register_back a)
+only_candidate (Add d a b) = cc (register_back d, register_back a, register_back b)
+only_candidate (Sub d a b) = cc (register_back d, register_back a, register_back b)
+only_candidate (Mul d a n) = cc (register_back d, register_back a, number_back n)
+only_candidate (Div d a n) = cc (register_back d, register_back a, number_back n)
+only_candidate (Min d a b) = cc (register_back d, register_back a, register_back b)
+only_candidate (Max d a b) = cc (register_back d, register_back a, register_back b)
+only_candidate (Not d a) = cc (register_back d, register_back a)
+only_candidate (And d a b) = cc (register_back d, register_back a, register_back b)
+only_candidate (Or d a b) = cc (register_back d, register_back a, register_back b)
+only_candidate (Jump t) = cc (number_back t)
+only_candidate (JumpLess a b t) = cc (register_back a, register_back b, number_back t)
+only_candidate (JumpAtMost a b t) = cc (register_back a, register_back b, number_back t)
+only_candidate (JumpTrue a t) = cc (register_back a, number_back t)
+only_candidate (JumpFalse a t) = cc (register_back a, number_back t)
+only_candidate (Go a) = cc (register_back a)
+only_candidate Cross = refl
+only_candidate Stay = refl
+
+in_range_or_not : (i : Instr) → InRange i ⊎ (¬ (InRange i))
+in_range_or_not (Num d n) = inl tt
+in_range_or_not (Get d k) = inl tt
+in_range_or_not (Side d) = inl tt
+in_range_or_not (Draw d k t) = elim (cases_lt k 16) [
+  | inl low ↦ elim (cases_lt CERTAIN t) [ inl above ↦ inr (λ h. let e = h.1 in absurd (omega arith)) | inr within ↦ inl (low, within) ]
+  | inr high ↦ inr (λ h. let e = h.0 in absurd (omega arith))
+]
+in_range_or_not (Copy d a) = inl tt
+in_range_or_not (Add d a b) = inl tt
+in_range_or_not (Sub d a b) = inl tt
+in_range_or_not (Mul d a n) = inl tt
+in_range_or_not (Div d a n) = elim (cases_lt n 1) [ inl low ↦ inr (λ h. absurd (omega arith)) | inr above ↦ inl above ]
+in_range_or_not (Min d a b) = inl tt
+in_range_or_not (Max d a b) = inl tt
+in_range_or_not (Not d a) = inl tt
+in_range_or_not (And d a b) = inl tt
+in_range_or_not (Or d a b) = inl tt
+in_range_or_not (Jump t) = inl tt
+in_range_or_not (JumpLess a b t) = inl tt
+in_range_or_not (JumpAtMost a b t) = inl tt
+in_range_or_not (JumpTrue a t) = inl tt
+in_range_or_not (JumpFalse a t) = inl tt
+in_range_or_not (Go a) = inl tt
+in_range_or_not Cross = inl tt
+in_range_or_not Stay = inl tt
+
+spells_or_not : (row : List ℕ) → SpellsInstr row ⊎ (¬ (SpellsInstr row))
+spells_or_not row =
+    let i = candidate row in
+    let same : (j : Instr) → row ≡ instr_bytes j → i ≡ j = λ j e. ap candidate e ∙ only_candidate j in
+    elim (cases_Bool (bytes_eq row (instr_bytes i))) [
+      | inl same_bytes ↦ elim (in_range_or_not i) [
+        | inl fits ↦ inl (i, ((bytes_eq-Decides row (instr_bytes i)).0 same_bytes, fits))
+        | inr not ↦ inr (λ h. let e = same h.0 h.1.0 in not (rw e h.1.1))
+      ]
+      | inr other ↦ inr (λ h. let e = same h.0 h.1.0 in let f : row ≡ instr_bytes i = rw e h.1.0 in let t = (bytes_eq-Decides row (instr_bytes i)).1 f in cc)
+    ]
+
+-- some fault of bytes is the first, and it is not that memory runs out
+abbrev Faulty : List ℕ → Type 0
+Faulty bytes = (f : CodeFault) × (FirstFault bytes f × (f ≢ fault.Memory))
+
+-- the rows before pc spell instructions, or one of them is the first fault
+rows_or_fault : (bytes : List ℕ) → GoodHeader bytes → HasRoom bytes → (pc : ℕ) → pc ≤ stated_count bytes → GoodBefore bytes pc ⊎ Faulty bytes
+rows_or_fault bytes head room zero h = inl (record { header = head; room = room; rows = λ k below. absurd (omega arith) })
+rows_or_fault bytes head room (suc pc) h =
+    elim (rows_or_fault bytes head room pc (omega arith)) [
+      | inl good ↦ elim (spells_or_not (bytes_at bytes pc)) [
+        | inl row ↦ let next : pc + 1 ≡ suc pc = omega arith in inl (rw (← next) (good_more bytes pc row.0 good row.1))
+        | inr not ↦ elim (opcode_or_not (slice_index (bytes_at bytes pc) 0)) [
+          | inl opcode ↦ inr (fault.Field pc, ((omega arith, good, opcode, not), λ e. cc))
+          | inr none ↦ inr (fault.Opcode pc, ((omega arith, good, none), λ e. cc))
+        ]
+      ]
+      | inr other ↦ inr other
+    ]
+
+-- the instructions that the rows before pc spell
+record Rows (bytes : List ℕ) (pc : ℕ) : Type 0 where
+  instrs : List Instr
+  many : length instrs ≡ pc
+  fit : All InRange instrs
+  spelt : flat_map instr_bytes instrs ≡ take (8 * pc) (drop 8 bytes)
+
+rows_of : (bytes : List ℕ) (pc : ℕ) → GoodBefore bytes pc → Rows bytes pc
+rows_of bytes zero good = record { instrs = []; many = refl; fit = λ k d h. absurd (omega arith); spelt = refl }
+rows_of bytes (suc pc) good =
+    let before = rows_of bytes pc (record { header = good.header; room = good.room; rows = λ k h. good.rows k (omega arith) }) in
+    let row = good.rows pc (omega arith) in
+    let next : pc + 1 ≡ suc pc = omega arith in
+    record {
+      instrs = before.instrs ++ row.0 ∷ [];
+      many = omega (arith, before.many, length-append before.instrs (row.0 ∷ []));
+      fit = All-push InRange before.instrs row.0 before.fit row.1.1;
+      spelt = rw (← next) (rows_more bytes before.instrs pc row.0 before.spelt row.1.0);
+    }
+
+-- the first eight bytes are a header
+header_of : (bytes : List ℕ) (kind : Kind) → All (λ byte. byte < 2 ^ 8) bytes → GoodHeader bytes → slice_index bytes 5 ≡ kind_byte kind → take 8 bytes ≡ header kind (stated_count bytes)
+header_of (t ∷ r ∷ l ∷ b ∷ v ∷ k ∷ low ∷ high ∷ rest) kind small good is =
+    let byte : low < 256 = small 6 0 (omega arith) in
+    let lower : low ≡ (low + 256 * high) % 256 = omega arith in
+    let upper : high ≡ (low + 256 * high) / 256 = omega arith in
+    let magic = good.magic in
+    let version = good.version in
+    cc
+header_of _ kind small good is = let whole = good.whole in absurd (omega arith)
+
+no_kind : (byte : ℕ) → byte ≢ 0 → byte ≢ 1 → (kind : Kind) × (byte ≡ kind_byte kind) → ⊥
+no_kind byte not_0 not_1 (Motion, e) = not_0 e
+no_kind byte not_0 not_1 (Change, e) = not_1 e
+
+kind_or_not : (byte : ℕ) → ((kind : Kind) × (byte ≡ kind_byte kind)) ⊎ (¬ ((kind : Kind) × (byte ≡ kind_byte kind)))
+kind_or_not byte =
+    elim (eqb_tells byte 0) [
+      | inl is ↦ inl (Motion, is.1)
+      | inr not ↦ elim (eqb_tells byte 1) [ inl is ↦ inl (Change, is.1) | inr more ↦ inr (no_kind byte not.1 more.1) ]
+    ]
+
+header_or_fault : (bytes : List ℕ) → GoodHeader bytes ⊎ Faulty bytes
+header_or_fault bytes =
+    elim (cases_lt (length bytes) 8) [
+      | inl short ↦ inr (fault.Short, (inl (λ h. absurd (omega arith)), λ e. cc))
+      | inr whole ↦ elim (cases_Bool (bytes_eq (take 4 bytes) MAGIC)) [
+        | inr other ↦ inr (fault.Magic, ((whole, λ h. let t = (bytes_eq-Decides (take 4 bytes) MAGIC).1 h in cc), λ e. cc))
+        | inl same ↦ let magic = (bytes_eq-Decides (take 4 bytes) MAGIC).0 same in elim (eqb_tells (slice_index bytes 4) VERSION) [
+          | inr other ↦ inr (fault.Version, ((whole, magic, other.1), λ e. cc))
+          | inl version ↦ elim (kind_or_not (slice_index bytes 5)) [
+            | inr other ↦ inr (fault.Kind, ((whole, magic, version.1, other), λ e. cc))
+            | inl kind ↦ elim (cases_lt (stated_count bytes) 1) [
+              | inl none ↦ inr (fault.Count, ((whole, magic, version.1, kind, λ h. let e = h.0 in absurd (omega arith)), λ e. cc))
+              | inr some ↦ elim (cases_lt 128 (stated_count bytes)) [
+                | inl many ↦ inr (fault.Count, ((whole, magic, version.1, kind, λ h. let e = h.1 in absurd (omega arith)), λ e. cc))
+                | inr few ↦ inl (record { whole = whole; magic = magic; version = version.1; kind = kind; count = (some, few) })
+              ]
+            ]
+          ]
+        ]
+      ]
+    ]
+
+-- the program that bytes with a good header and good rows spell
+spelt : (bytes : List ℕ) → All (λ byte. byte < 2 ^ 8) bytes → GoodBefore bytes (stated_count bytes) → length bytes ≤ 8 + 8 * stated_count bytes → (program : Program) × ((bytes ≡ spelling program) × IsProgram program)
+spelt bytes small good short =
+    let kind = good.header.kind in
+    let rows = rows_of bytes (stated_count bytes) good in
+    let program : Program = record { kind = kind.0; instrs = rows.instrs } in
+    let count = good.header.count in (
+      program,
+      (
+        spelling_of_parts bytes program (stated_count bytes) rows.many (header_of bytes kind.0 small good.header kind.1) rows.spelt short,
+        record { some = omega (arith, rows.many, count.0); few = omega (arith, rows.many, count.1); in_range = rows.fit },
+      ),
+    )
+
+-- bytes say something
+pub something : (bytes : List ℕ) → All (λ byte. byte < 2 ^ 8) bytes → (said : Result Program CodeFault) × Says bytes said
+something bytes small =
+    elim (header_or_fault bytes) [
+      | inr other ↦ (Err other.0, other.1)
+      | inl head ↦ elim (cases_lt (length bytes) (8 + 8 * stated_count bytes)) [
+        | inl short ↦ (Err fault.Short, (inr (head, λ h. absurd (omega arith)), λ e. cc))
+        | inr room ↦ elim (rows_or_fault bytes head room (stated_count bytes) (omega arith)) [
+          | inr other ↦ (Err other.0, other.1)
+          | inl good ↦ elim (cases_lt (8 + 8 * stated_count bytes) (length bytes)) [
+            | inl long ↦ (Err fault.Trailing, ((good, long), λ e. cc))
+            | inr other ↦ let found = spelt bytes small good other in (Ok found.0, found.1)
+          ]
+        ]
+      ]
+    ]

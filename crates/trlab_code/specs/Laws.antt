@@ -1,0 +1,44 @@
+-- Laws of bytes and the programs that they spell.
+use Rattle.std.specs.Prelude.{◌≡◌, ◌≢◌, ◌↔◌, ℕ, ◌<◌, ◌^◌, List, All, Result, Ok, Err}
+use Rattle.trlab_code.specs.Program.{Program, IsProgram}
+use Rattle.trlab_code.specs.Spelling.{row_of, spelling}
+use Rattle.trlab_code.specs.Faults.{FirstFault}
+use Rattle.trlab_code.specs.declared.instruction.Instr.{Instr}
+use Rattle.trlab_code.specs.declared.fault.CodeFault.{CodeFault}
+use Rattle.trlab_code.specs.declared.fault.CodeFault.TheVariants.{Memory}
+
+-- numbers that are bytes
+abbrev pub AreBytes : List ℕ → Type 0
+AreBytes bytes = All (λ byte. byte < 2 ^ 8) bytes
+
+-- the number of an instruction, or its target, is one of 32 bits
+abbrev pub HasWord : Instr → Type 0
+HasWord instr = (row_of instr).number < 2 ^ 32
+
+-- a program that a machine can hold
+pub record IsStored (program : Program) : Type 0 where
+  pub is_program : IsProgram program
+  pub has_words : All HasWord program.instrs
+
+-- what bytes say: the program that they spell, or their first fault
+abbrev pub Says : List ℕ → Result Program CodeFault → Type 0
+Says bytes (Ok program) = (bytes ≡ spelling program) × IsProgram program
+Says bytes (Err fault) = FirstFault bytes fault × (fault ≢ Memory)
+
+-- any bytes say something
+abbrev pub BytesSaySomething : Type 0
+BytesSaySomething = (bytes : List ℕ) → AreBytes bytes → (said : Result Program CodeFault) × Says bytes said
+
+-- no bytes say two things
+abbrev pub BytesSayOneThing : Type 0
+BytesSayOneThing = (bytes : List ℕ) (said other : Result Program CodeFault)
+    → Says bytes said → Says bytes other → said ≡ other
+
+-- the bytes that spell a program say this program, and nothing else
+abbrev pub SpellingSaysTheProgram : Type 0
+SpellingSaysTheProgram = (program : Program) (said : Result Program CodeFault)
+    → IsProgram program → Says (spelling program) said ↔ (said ≡ Ok program)
+
+-- each program can be written down: its spelling is of bytes
+abbrev pub SpellingIsBytes : Type 0
+SpellingIsBytes = (program : Program) → IsStored program → AreBytes (spelling program)

@@ -1,0 +1,9 @@
+pub mod Shown
+pub mod RuleSteps
+pub mod JobLines
+pub mod LaterLines
+pub mod CodeAlone
+pub mod OneLanes
+pub mod OneRule
+pub mod OneText
+pub mod OneCheck

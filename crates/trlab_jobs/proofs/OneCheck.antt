@@ -1,0 +1,23 @@
+-- A check text says one thing only.
+use Rattle.std.proofs.Common.{◌≡◌, ℕ, List, [], ◌∷◌, sym, ◌∙◌, ap}
+use Rattle.std.specs.Prelude.{Option, None, Some, Result}
+use Rattle.trlab_code.specs.declared.kind.Kind.{Kind}
+use Rattle.trlab_code.specs.Program.{Program}
+use Rattle.trlab_asm.specs.Lines.{lines_of}
+use Rattle.trlab_texts.specs.Reading.{Fault}
+use Rattle.trlab_jobs.specs.Check.{alone, kind_headed, CheckBehind, CheckLines}
+use Rattle.trlab_jobs.specs.Laws.{CheckSaysOneThing}
+use Rattle.trlab_texts.proofs.OneProgram.{code_one}
+use Rattle.trlab_texts.proofs.OneReading.{whole_one}
+
+behind_one : (headed : Option Kind) (text : List ℕ) (left : List (List ℕ)) (a b : Result Program Fault)
+    → CheckBehind headed text left a → CheckBehind headed text left b → a ≡ b
+behind_one (Some kind) text left a b p q = p ∙ sym q
+behind_one None text left a b p q = p.1.1 ∙ ap (alone left) (code_one text p.0 q.0 p.1.0 q.1.0) ∙ sym q.1.1
+
+lines_one : (lines : List (List ℕ)) (a b : Result Program Fault) → CheckLines lines a → CheckLines lines b → a ≡ b
+lines_one [] a b p q = p ∙ sym q
+lines_one (text ∷ left) a b p q = behind_one (kind_headed text) text left a b p q
+
+pub one_thing : CheckSaysOneThing
+one_thing text says other p q = whole_one (λ t. CheckLines (lines_of t)) text says other (lines_one (lines_of text)) p q

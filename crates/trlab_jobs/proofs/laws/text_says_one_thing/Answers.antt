@@ -1,0 +1,5 @@
+use Rattle.trlab_jobs.proofs.OneText.{one_thing}
+use Rattle.trlab_jobs.proofs.laws.text_says_one_thing.Goals as goal
+
+pub returns : goal.returns
+returns c = one_thing

@@ -1,0 +1,81 @@
+-- Job texts: a key, a road, a rule, a count of steps, and rules of later steps.
+use Rattle.std.specs.Prelude.{ℕ, List, ◌∷◌, length, codes, Result, Ok, Err, if◌then◌else◌}
+use Rattle.std.specs.Str.{bytes_eq}
+use Rattle.hex.specs.Hex.{decode_sized}
+use Rattle.hex.specs.declared.error.FromHexError.{FromHexError}
+use Rattle.trlab_road.specs.declared.bounds.TheConstants.{GREATEST_LIMIT}
+use Rattle.trlab_road.specs.Cells.{Cells}
+use Rattle.trlab_rules.specs.Rules.{Programs}
+use Rattle.trlab_step.specs.Run.{Seed, Sheet}
+use Rattle.trlab_texts.specs.declared.fault.Cause.{Cause}
+use Rattle.trlab_texts.specs.declared.fault.Cause.TheVariants.{Line, Key}
+use Rattle.trlab_jobs.specs.declared.limits.TheConstants.{MOST_STEPS}
+use Rattle.trlab_texts.specs.Lines.{start, Place}
+use Rattle.trlab_texts.specs.Words.{word_behind, number_within}
+use Rattle.trlab_texts.specs.Reading.{Fault, Reading, said, ◌>>=◌, ◌>>◌, line, exactly, WholeText}
+use Rattle.trlab_jobs.specs.Lanes.{lanes}
+use Rattle.trlab_jobs.specs.RuleParts.{rule}
+use Rattle.trlab_jobs.specs.Later.{later_rules}
+
+-- what a job text says
+pub record Job : Type 0 where
+  pub key : List ℕ
+  pub road : Cells
+  pub first : Programs
+  pub later : Sheet
+  pub steps : ℕ
+
+-- the line `road 1`
+abbrev pub road_line : List ℕ → Result (Unit {0}) Cause
+road_line text = if bytes_eq text (codes "road 1") then Ok tt else Err Line
+
+-- the key that hexadecimal digits write
+abbrev pub key_of_hex : Result (List ℕ) FromHexError → Result (List ℕ) Cause
+key_of_hex (Ok key) = Ok key
+key_of_hex (Err fault) = Err Key
+
+-- the key that a word writes: 64 hexadecimal digits of either case
+abbrev pub key_of : Result (List ℕ) Cause → Result (List ℕ) Cause
+key_of (Ok word) = key_of_hex (decode_sized word 32)
+key_of (Err cause) = Err cause
+
+-- the line `key H`
+abbrev pub key_line : List ℕ → Result (List ℕ) Cause
+key_line text = key_of (word_behind (codes "key ") text)
+
+-- the line `limit n`
+abbrev pub limit_line : List ℕ → Result ℕ Cause
+limit_line text = number_within 1 GREATEST_LIMIT (word_behind (codes "limit ") text)
+
+-- the line `steps n`
+abbrev pub steps_line : List ℕ → Result ℕ Cause
+steps_line text = number_within 0 MOST_STEPS (word_behind (codes "steps ") text)
+
+-- the lines of a job text, in their order
+unfoldable pub job : Reading Job
+job = do
+  line (exactly road_line)
+  key ← line (exactly key_line)
+  limit ← line (exactly limit_line)
+  road ← lanes limit
+  first ← rule (length road.lanes)
+  steps ← line (exactly steps_line)
+  later ← later_rules (length road.lanes) steps
+  said (record { key = key; road = road; first = first; later = later; steps = steps })
+
+-- what the lines of a text say
+abbrev pub LinesSay : List ℕ → Result Job Fault → Type 0
+LinesSay text (Ok said) = (place : Place) × job (start text) (Ok (said, place))
+LinesSay text (Err fault) = job (start text) (Err fault)
+
+-- what a text says: a job, or its first fault; a text that is too long has that fault alone
+abbrev pub JobText : List ℕ → Result Job Fault → Type 0
+JobText text says = WholeText LinesSay text says
+
+-- where the run of a job starts
+abbrev pub seed_of : Job → Seed
+seed_of job = record { road = job.road; key = job.key; number = 0; warm = 0 }
+
+-- the sheet of rules of a job
+abbrev pub sheet_of : Job → Sheet
+sheet_of job = (0, job.first) ∷ job.later

@@ -1,0 +1,61 @@
+-- The lanes of a road: the pictures of one line or two, which are judged together.
+use Rattle.std.specs.Prelude.{◌≡◌, ◌≢◌, ℕ, ◌+◌, ◌==◌, List, ◌∷◌, codes, Option, None, Some, Result, Ok, Err, option_to_list, if◌then◌else◌}
+use Rattle.trlab_road.specs.Cells.{Cells}
+use Rattle.trlab_road.specs.Legal.{Legal}
+use Rattle.trlab_road.specs.Pictures.{Shows, FirstFault}
+use Rattle.trlab_road.specs.declared.fault.RoadFault.{RoadFault}
+use Rattle.trlab_road.specs.declared.fault.RoadFault.TheVariants.{Lanes, Length, Limit, Character, SpeedAboveLimit, Memory, TooManyCars}
+use Rattle.trlab_texts.specs.declared.fault.Cause.{Cause}
+use Rattle.trlab_texts.specs.declared.fault.Cause.TheVariants.{Road}
+use Rattle.trlab_texts.specs.Words.{word_behind, next_word_is}
+use Rattle.trlab_texts.specs.Reading.{Fault, Reading, ◌>>=◌, line, exactly, perhaps, before}
+
+-- the picture of the line `lane P`
+abbrev pub lane_word : List ℕ → Result (List ℕ) Cause
+lane_word text = word_behind (codes "lane ") text
+
+-- the picture of a second lane, where the next line states a lane: where its first word is `lane`
+abbrev pub second_lane : Reading (Option (List ℕ))
+second_lane place out = perhaps (next_word_is (codes "lane") place.left) (line (exactly lane_word)) place out
+
+-- the line of the last lane, where the first stands on the line `first`
+abbrev pub last_line : ℕ → Option (List ℕ) → ℕ
+last_line first None = first
+last_line first (Some second) = first + 1
+
+-- the line of a lane, of which there is one or two
+abbrev pub line_of_lane : ℕ → ℕ → ℕ → ℕ
+line_of_lane first last lane = if lane == 0 then first else last
+
+-- the line of a fault of lanes: that of its own lane, or else that of the last one
+abbrev pub line_of_fault : ℕ → ℕ → RoadFault → ℕ
+line_of_fault first last Lanes = last
+line_of_fault first last Length = last
+line_of_fault first last Limit = last
+line_of_fault first last (Character lane place) = line_of_lane first last lane
+line_of_fault first last (SpeedAboveLimit lane place) = line_of_lane first last lane
+line_of_fault first last Memory = last
+line_of_fault first last TooManyCars = last
+
+-- what the pictures of lanes say under a limit, from the line `first` to the line `last`: the legal
+-- road that they show, or their first fault
+abbrev pub LanesSay : ℕ → ℕ → ℕ → List (List ℕ) → Result Cells Fault → Type 0
+LanesSay first last limit pictures (Ok road) = Legal road × Shows limit pictures road
+LanesSay first last limit pictures (Err fault) =
+    (wrong : RoadFault) × (FirstFault limit pictures wrong × ((wrong ≢ Memory)
+    × (fault ≡ record { line = line_of_fault first last wrong; cause = Road wrong })))
+
+-- what one picture or two say, of which the first stands on the line `first`
+abbrev pub PicturesSay : ℕ → ℕ → List ℕ → Option (List ℕ) → Result Cells Fault → Type 0
+PicturesSay first limit picture second says =
+    LanesSay first (last_line first second) limit (picture ∷ option_to_list second) says
+
+-- the road, once its pictures were read
+abbrev pub shown : ℕ → ℕ → List ℕ → Option (List ℕ) → Reading Cells
+shown first limit picture second place out =
+    (says : Result Cells Fault) × (PicturesSay first limit picture second says × (out ≡ before place says))
+
+-- the lanes of a road: the line `lane P`, and the next line where it states a lane
+abbrev pub lanes : ℕ → Reading Cells
+lanes limit place out =
+    (line (exactly lane_word) >>= λ picture. second_lane >>= shown place.number limit picture) place out

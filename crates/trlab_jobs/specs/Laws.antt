@@ -1,0 +1,16 @@
+-- Laws of job texts and of check texts.
+use Rattle.std.specs.Prelude.{◌≡◌, ℕ, List, Result}
+use Rattle.trlab_code.specs.Program.{Program}
+use Rattle.trlab_texts.specs.Reading.{Fault}
+use Rattle.trlab_jobs.specs.Job.{Job, JobText}
+use Rattle.trlab_jobs.specs.Check.{CheckText}
+
+-- a text says one thing only: one job, or one first fault
+abbrev pub TextSaysOneThing : Type 0
+TextSaysOneThing = (text : List ℕ) (says other : Result Job Fault)
+    → JobText text says → JobText text other → says ≡ other
+
+-- a check text says one thing only: one program, or one first fault
+abbrev pub CheckSaysOneThing : Type 0
+CheckSaysOneThing = (text : List ℕ) (says other : Result Program Fault)
+    → CheckText text says → CheckText text other → says ≡ other

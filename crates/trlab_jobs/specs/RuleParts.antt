@@ -1,0 +1,99 @@
+-- Rules in texts: a standard rule on one line, or own programs on the lines behind.
+use Rattle.std.specs.Prelude.{◌≡◌, ◌⊎◌, ℕ, ◌+◌, ◌||◌, Bool, true, false, List, [], ◌∷◌, length, codes, nat_eq, Option, None, Some, MatchOption, Result, Ok, Err}
+use Rattle.std.specs.Str.{bytes_eq}
+use Rattle.hex.specs.Hex.{decode_of}
+use Rattle.hex.specs.declared.error.FromHexError.{FromHexError}
+use Rattle.trlab_code.specs.declared.kind.Kind.{Kind}
+use Rattle.trlab_code.specs.declared.kind.Kind.TheVariants.{Motion, Change}
+use Rattle.trlab_code.specs.Program.{Program}
+use Rattle.trlab_verify.specs.Checked.{Checked, IsChecked}
+use Rattle.trlab_verify.specs.Verdict.{IsAccepted}
+use Rattle.trlab_rules.specs.Rules.{Programs}
+use Rattle.trlab_rules.specs.Standard.{nasch_program, vdr_program, rickert_program}
+use Rattle.trlab_rules.specs.Given.{Refuses}
+use Rattle.trlab_texts.specs.declared.fault.Cause.{Cause}
+use Rattle.trlab_texts.specs.declared.fault.Cause.TheVariants.{Line, Hex, OneLane, StandardRefused}
+use Rattle.trlab_jobs.specs.declared.rule_line.RuleLine.{RuleLine}
+use Rattle.trlab_jobs.specs.declared.rule_line.RuleLine.TheVariants.{Nasch, Vdr, Rickert, Own}
+use Rattle.trlab_texts.specs.Words.{word_behind, next_word_is}
+use Rattle.trlab_texts.specs.Reading.{Fault, Reading, said, ◌>>=◌, line, exactly, perhaps, of_line}
+use Rattle.trlab_texts.specs.Programs.{part, part_of, heading}
+use Rattle.trlab_jobs.specs.RuleLines.{rule_line}
+
+-- the verifier accepts this program of a kind, with its budget
+abbrev pub Accepts : Kind → Program → Checked → Type 0
+Accepts kind program checked = (checked.program ≡ program) × (IsAccepted kind program × IsChecked kind checked)
+
+-- what a standard rule of a motion program says: the rule, or that the program is refused
+abbrev pub MotionSays : Program → Result Programs Cause → Type 0
+MotionSays motion (Ok rule) = Accepts Motion motion rule.motion × (rule.change ≡ None)
+MotionSays motion (Err cause) = Refuses Motion motion × (cause ≡ StandardRefused)
+
+-- what one of a motion program and a change program says: the rule, or that one of them is refused
+abbrev pub BothSay : Program → Program → Result Programs Cause → Type 0
+BothSay motion change (Ok rule) =
+    Accepts Motion motion rule.motion × MatchOption rule.change ⊥ (Accepts Change change)
+BothSay motion change (Err cause) = (Refuses Motion motion ⊎ Refuses Change change) × (cause ≡ StandardRefused)
+
+-- what it says on a road that has one lane alone, or that has two
+abbrev pub ExchangeSays : Bool → Program → Program → Result Programs Cause → Type 0
+ExchangeSays true motion change says = says ≡ Err OneLane
+ExchangeSays false motion change says = BothSay motion change says
+
+-- what is wrong with the digits of a change program on a road of one lane
+abbrev pub digits_misplaced : Result (List ℕ) FromHexError → Cause
+digits_misplaced (Ok bytes) = OneLane
+digits_misplaced (Err fault) = Hex
+
+-- what is wrong with the line `code X` of one
+abbrev pub code_misplaced : Result (List ℕ) Cause → Cause
+code_misplaced (Ok digits) = digits_misplaced (decode_of digits)
+code_misplaced (Err cause) = cause
+
+-- what is wrong with a block of one, whose heading is the line `first`, by where its line `end` is
+abbrev pub block_misplaced : ℕ → List (List ℕ) → Option (List (List ℕ) × List (List ℕ)) → Fault
+block_misplaced first left None = record { line = first + 1 + length left; cause = Line }
+block_misplaced first left (Some parts) = record { line = first; cause = OneLane }
+
+-- what is wrong with a part of one, which has the heading of a block or has not
+abbrev pub part_misplaced : Bool → ℕ → List ℕ → List (List ℕ) → Fault
+part_misplaced true first text left = block_misplaced first left (part_of left)
+part_misplaced false first text left =
+    record { line = first; cause = code_misplaced (word_behind (codes "code ") text) }
+
+-- what is wrong with a change part on a road of one lane, from a line on: its words or the lack of
+-- its `end`, else that its digits are not hexadecimal, and else the one lane
+abbrev pub misplaced_from : ℕ → List (List ℕ) → Fault
+misplaced_from first [] = record { line = first; cause = Line }
+misplaced_from first (text ∷ left) = part_misplaced (bytes_eq text (heading Change)) first text left
+
+-- a change part on a road that has one lane alone, where it is at fault, or that has two
+abbrev pub change_by : Bool → Reading Checked
+change_by true place out = out ≡ Err (misplaced_from place.number place.left)
+change_by false place out = part Change place out
+
+-- a change part begins on the next line: its first word is `change` or `code`
+abbrev pub next_is_change : List (List ℕ) → Bool
+next_is_change left = next_word_is (codes "change") left || next_word_is (codes "code") left
+
+-- a change part, if there is one, on a road of so many lanes
+abbrev pub change_part : ℕ → Reading (Option Checked)
+change_part lanes place out = perhaps (next_is_change place.left) (change_by (nat_eq lanes 1)) place out
+
+-- own programs: a motion part, and perhaps a change part
+abbrev pub own_rule : ℕ → Reading Programs
+own_rule lanes = do
+  motion ← part Motion
+  change ← change_part lanes
+  said (record { motion = motion; change = change })
+
+-- a rule for a road of so many lanes, whose line of this number was read
+abbrev pub rule_from : ℕ → ℕ → RuleLine ℕ → Reading Programs
+rule_from lanes number (Nasch p) = of_line number (MotionSays (nasch_program p))
+rule_from lanes number (Vdr p p0) = of_line number (MotionSays (vdr_program p p0))
+rule_from lanes number (Rickert p c) = of_line number (ExchangeSays (nat_eq lanes 1) (nasch_program p) (rickert_program c))
+rule_from lanes number Own = own_rule lanes
+
+-- a rule for a road of so many lanes
+abbrev pub rule : ℕ → Reading Programs
+rule lanes place out = (line (exactly rule_line) >>= rule_from lanes place.number) place out

@@ -1,0 +1,106 @@
+//! The lanes of a job's road.
+
+ghost use Rattle.std.specs.Prelude.{◌≡◌, ◌+◌, ◌∷◌, IfOk, option_map, option_to_list};
+ghost use Rattle.std.specs.Result.{result_map_both};
+ghost use Rattle.trlab_road.specs.Legal.{Legal};
+ghost use Rattle.trlab_texts.specs.Reading.{Told, line, exactly};
+ghost use Rattle.trlab_jobs.specs.Lanes.{lane_word, second_lane, line_of_fault, LanesSay, PicturesSay, lanes};
+
+use std::alloc::Global;
+use trlab_road::{Road, RoadFault};
+use trlab_texts::word::word_behind;
+use trlab_texts::{Cause, Place, TextFault};
+
+/// The picture of the line `lane P`.
+fn lane_word(line: &[u8]) -> Result<&[u8], Cause>
+    ensures { result_map_both (λ word. word.now) (λ cause. cause) result ≡ lane_word line.now }
+{
+    word_behind(b"lane ", line)
+}
+
+/// The picture of a lane that must stand here.
+fn lane(place: Place<'_>) -> Result<(&[u8], Place<'_>), TextFault>
+    ensures told { Told (line (exactly lane_word) place.entry)
+        (result_map_both (λ found. (found.0.now, found.1)) (λ fault. fault) result) }
+    ensures next { IfOk result (λ found. found.1.number ≡ place.entry.number + 1) }
+{
+    let number = place.number();
+    let (text, after) = place.next_line()?;
+    match lane_word(text) {
+        Ok(picture) => Ok((picture, after)),
+        Err(cause) => Err(TextFault::At {
+            line: number,
+            cause,
+        }),
+    }
+}
+
+/// The picture of a second lane, where the next line states a lane.
+fn second_lane(place: Place<'_>) -> Result<(Option<&[u8]>, Place<'_>), TextFault>
+    ensures { Told (second_lane place.entry)
+        (result_map_both (λ found. (option_map (λ picture. picture.now) found.0, found.1)) (λ fault. fault) result) }
+{
+    if place.next_word_is(b"lane") {
+        let (picture, place) = lane(place)?;
+        Ok((Some(picture), place))
+    } else {
+        Ok((None, place))
+    }
+}
+
+/// The line of a fault of lanes: that of its own lane, or else that of the last one.
+fn line_of_fault(first: u32, last: u32, fault: RoadFault) -> u32
+    ensures { result ≡ line_of_fault first last fault }
+{
+    match fault {
+        RoadFault::Character { lane, .. } | RoadFault::SpeedAboveLimit { lane, .. } => {
+            if lane == 0 { first } else { last }
+        }
+        RoadFault::Lanes
+        | RoadFault::Length
+        | RoadFault::Limit
+        | RoadFault::Memory
+        | RoadFault::TooManyCars => last,
+    }
+}
+
+/// The road that one picture or two show, of which the first stands on the line `first`, before the
+/// line `behind`.
+fn shown(
+    alloc: Global,
+    first: u32,
+    behind: u32,
+    limit: u32,
+    picture: &[u8],
+    second: Option<&[u8]>,
+) -> Result<Road, TextFault>
+    requires { behind ≡ first + 1 }
+    ensures told { Told (PicturesSay first limit picture.now (option_map (λ picture. picture.now) second.entry)) result }
+    ensures legal { IfOk result (λ road. Legal road) }
+{
+    let (road, last) = match second {
+        None => (Road::parse(alloc, limit, &[picture]), first),
+        Some(second) => (Road::parse(alloc, limit, &[picture, second]), behind),
+    };
+    match road {
+        Ok(road) => Ok(road),
+        Err(RoadFault::Memory) => Err(TextFault::Memory),
+        Err(fault) => Err(TextFault::At {
+            line: line_of_fault(first, last, fault),
+            cause: Cause::Road(fault),
+        }),
+    }
+}
+
+/// The lanes of a road: the line `lane P`, and the next line where it states a lane.
+pub fn lanes(alloc: Global, limit: u32, place: Place<'_>) -> Result<(Road, Place<'_>), TextFault>
+    ensures told { Told (lanes limit place.entry) result }
+    ensures legal { IfOk result (λ found. Legal found.0) }
+{
+    let first = place.number();
+    let (picture, place) = lane(place)?;
+    let behind = place.number();
+    let (second, place) = second_lane(place)?;
+    let road = shown(alloc, first, behind, limit, picture, second)?;
+    Ok((road, place))
+}

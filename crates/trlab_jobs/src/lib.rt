@@ -1,0 +1,19 @@
+//! What job texts and check texts say.
+#![tactic(auto)]
+
+mod check;
+mod job;
+mod lane;
+mod later;
+pub mod laws;
+pub mod limits;
+mod line;
+mod reading;
+mod rule;
+mod rule_line;
+
+pub use check::read_program;
+pub use job::{Job, read_job};
+
+#[cfg(test)]
+mod tests;

@@ -1,0 +1,46 @@
+//! The lines of a job text, each by itself.
+
+ghost use Rattle.std.specs.Prelude.{◌≡◌};
+ghost use Rattle.trlab_jobs.specs.Job.{road_line, key_line, limit_line, steps_line};
+
+use crate::limits::MOST_STEPS;
+use hex::FromHex;
+use trlab_road::bounds::GREATEST_LIMIT;
+use trlab_texts::Cause;
+use trlab_texts::word::{number_behind, word_behind};
+
+/// The line `road 1`.
+pub fn road_line(line: &[u8]) -> Result<(), Cause>
+    ensures { result ≡ road_line line.now }
+{
+    if line == b"road 1".as_slice() {
+        Ok(())
+    } else {
+        Err(Cause::Line)
+    }
+}
+
+/// The line `key H`, where H is 64 hexadecimal digits of either case.
+pub fn key_line(line: &[u8]) -> Result<[u8; 32], Cause>
+    ensures { result ≡ key_line line.now }
+{
+    let digits = word_behind(b"key ", line)?;
+    match <[u8; 32]>::from_hex(digits) {
+        Ok(key) => Ok(key),
+        Err(_) => Err(Cause::Key),
+    }
+}
+
+/// The line `limit n`, the speed limit of the road.
+pub fn limit_line(line: &[u8]) -> Result<u32, Cause>
+    ensures { result ≡ limit_line line.now }
+{
+    number_behind(b"limit ", 1, GREATEST_LIMIT, line)
+}
+
+/// The line `steps n`, how many steps are run.
+pub fn steps_line(line: &[u8]) -> Result<u32, Cause>
+    ensures { result ≡ steps_line line.now }
+{
+    number_behind(b"steps ", 0, MOST_STEPS, line)
+}

@@ -1,0 +1,146 @@
+//! The lines that state rules, each by itself.
+
+ghost use Rattle.std.specs.Prelude.{◌≡◌, ◌<◌, ◌≤◌, IfOk, OnOk, option_map};
+ghost use Rattle.trlab_jobs.specs.RuleLines.{rule_words, chance_of, rule_numbers, rule_line, later_words, step_of, placed, later_line, words_held, later_held};
+
+use trlab_texts::Cause;
+use trlab_texts::word::{after, at_space, is_word, long_number, number_from, only_word, two_words};
+use trlab_words::{CERTAIN, Chance};
+
+/// A rule as a line states it, by words or by the chances that they write.
+#[derive(Clone, Copy, Debug, PartialEq, Eq)]
+pub enum RuleLine<T> {
+    /// `rule nasch t`.
+    Nasch { brake: T },
+    /// `rule vdr t t0`, the first for cars that move, the second for cars that stand.
+    Vdr { moving: T, standing: T },
+    /// `rule rickert t c`, the second for crossing.
+    Rickert { brake: T, crossing: T },
+    /// `rule own`, whose programs stand on the lines behind.
+    Own,
+}
+
+/// The words of a rule line, where they are those of a rule.
+fn rule_words(line: &[u8]) -> Option<RuleLine<&[u8]>>
+    ensures { option_map words_held result ≡ rule_words line.now }
+{
+    if let Some(words) = after(b"rule nasch ", line) {
+        return only_word(words).map(|brake| RuleLine::Nasch { brake });
+    }
+    if let Some(words) = after(b"rule vdr ", line) {
+        return match two_words(words) {
+            Some((moving, standing)) => Some(RuleLine::Vdr { moving, standing }),
+            None => None,
+        };
+    }
+    if let Some(words) = after(b"rule rickert ", line) {
+        return match two_words(words) {
+            Some((brake, crossing)) => Some(RuleLine::Rickert { brake, crossing }),
+            None => None,
+        };
+    }
+    if line == b"rule own".as_slice() {
+        Some(RuleLine::Own)
+    } else {
+        None
+    }
+}
+
+/// The chance that a word writes, in parts of 2^31.
+fn chance_of(word: &[u8]) -> Result<Chance, Cause>
+    ensures { result ≡ chance_of word.now }
+{
+    match Chance::new(number_from(0, CERTAIN, word)?) {
+        Some(chance) => Ok(chance),
+        None => unreachable!(),
+    }
+}
+
+/// The numbers of a rule line, from left to right.
+fn rule_numbers(words: RuleLine<&[u8]>) -> Result<RuleLine<Chance>, Cause>
+    ensures { result ≡ rule_numbers (words_held words.entry) }
+{
+    match words {
+        RuleLine::Nasch { brake } => Ok(RuleLine::Nasch {
+            brake: chance_of(brake)?,
+        }),
+        RuleLine::Vdr { moving, standing } => {
+            let moving = chance_of(moving)?;
+            let standing = chance_of(standing)?;
+            Ok(RuleLine::Vdr { moving, standing })
+        }
+        RuleLine::Rickert { brake, crossing } => {
+            let brake = chance_of(brake)?;
+            let crossing = chance_of(crossing)?;
+            Ok(RuleLine::Rickert { brake, crossing })
+        }
+        RuleLine::Own => Ok(RuleLine::Own),
+    }
+}
+
+/// A line `rule ..`: its words, and then its numbers.
+pub fn rule_line(line: &[u8]) -> Result<RuleLine<Chance>, Cause>
+    ensures { result ≡ rule_line line.now }
+{
+    match rule_words(line) {
+        Some(words) => rule_numbers(words),
+        None => Err(Cause::Line),
+    }
+}
+
+/// The words of a line `at s rule ..`: that of the step, and those of the rule.
+fn later_words(line: &[u8]) -> Option<(&[u8], RuleLine<&[u8]>)>
+    ensures { option_map later_held result ≡ later_words line.now }
+{
+    let (step, rule) = at_space(after(b"at ", line)?)?;
+    if !is_word(step) {
+        return None;
+    }
+    let rule = rule_words(rule)?;
+    Some((step, rule))
+}
+
+/// The step that a word writes; of its range no more is asked than of any number.
+fn step_of(word: &[u8]) -> Result<u64, Cause>
+    ensures { result ≡ step_of word.now }
+{
+    long_number(word)
+}
+
+/// A step where there is room for one more, and which is not before `least` and below `steps`.
+fn placed(room: u32, steps: u32, least: u32, step: u64) -> Result<u32, Cause>
+    ensures value { result ≡ placed room steps least step }
+    ensures room { OnOk result (0 < room) }
+    ensures rises { IfOk result (λ from. least ≤ from) }
+    ensures within { IfOk result (λ from. from < steps) }
+{
+    if room == 0 {
+        return Err(Cause::TooMany);
+    }
+    if u64::from(least) <= step && step < u64::from(steps) {
+        Ok(step as u32)
+    } else {
+        Err(Cause::Order)
+    }
+}
+
+/// A line `at s rule ..`: its words, its numbers, the room for it, and the order of the steps.
+pub fn later_line(
+    room: u32,
+    steps: u32,
+    least: u32,
+    line: &[u8],
+) -> Result<(u32, RuleLine<Chance>), Cause>
+    ensures value { result ≡ later_line room steps least line.now }
+    ensures room { OnOk result (0 < room) }
+    ensures rises { IfOk result (λ at. least ≤ at.0) }
+    ensures within { IfOk result (λ at. at.0 < steps) }
+{
+    let Some((step, rule)) = later_words(line) else {
+        return Err(Cause::Line);
+    };
+    let step = step_of(step)?;
+    let rule = rule_numbers(rule)?;
+    let from = placed(room, steps, least, step)?;
+    Ok((from, rule))
+}

@@ -1,0 +1,10 @@
+use Rattle.std.proofs.Common.{◌≡◌, ℕ, ◌<◌, length}
+use Rattle.trlab_code.specs.declared.instruction.TheConstants.{PLACES}
+use Rattle.trlab_notes.specs.Rows.{level_of}
+use Rattle.trlab_notes.proofs.rows.columns.Given as goal
+
+abbrev pub invariant-loop-y : goal.invariant-loop-y
+invariant-loop-y l = record {
+  all : length l.columns ≡ PLACES;
+  so_far : (k : ℕ) → k < l.y → (x : ℕ) → x < PLACES → level_of l.columns k x ≡ level_of l.rows x k;
+}

@@ -1,0 +1,12 @@
+use Rattle.std.proofs.Common.{◌≡◌, ℕ, ◌<◌, length, max, nat_eq, cond}
+use Rattle.trlab_code.specs.declared.instruction.TheConstants.{PLACES}
+use Rattle.trlab_notes.specs.Notes.{chained}
+use Rattle.trlab_notes.specs.Rows.{level_in, level_of}
+use Rattle.trlab_notes.proofs.rows.learn_rows.Given as goal
+
+abbrev pub invariant-loop-x : goal.invariant-loop-x
+invariant-loop-x l = record {
+  all : length l.learnt ≡ PLACES;
+  so_far : (k : ℕ) → k < l.x → (y : ℕ) → y < PLACES → level_of l.learnt k y ≡
+      cond (nat_eq y k) (level_of l.rows k k) (max (level_of l.rows k y) (chained (level_in l.fn.first k) l.fn.level (level_in l.fn.last y)));
+}

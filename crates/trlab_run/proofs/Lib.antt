@@ -1,0 +1,3 @@
+pub mod InForce
+pub mod Counts
+pub mod OnTheWay

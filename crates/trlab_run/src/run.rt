@@ -1,0 +1,124 @@
+//! A run on its way.
+
+ghost use Rattle.std.specs.Prelude.{◌≡◌, ◌+◌, ◌<◌, ◌^◌, OnOk, OnErr, length};
+ghost use Rattle.trlab_step.specs.Laws.{IsSheetFor};
+ghost use Rattle.trlab_step.specs.Run.{RoadAt, TallyAt};
+ghost use Rattle.trlab_run.specs.Reached.{IsUnderway, OneStepOn, at_start};
+
+use crate::sheet::Sheet;
+use crate::totals::{no_tally, tally_sum};
+use std::alloc::{AllocError, Global};
+use std::marker::Model;
+use std::snapshot::Snapshot;
+use trlab_road::Road;
+use trlab_step::{Asker, StepFault, StepTally, step_road_by};
+use trlab_words::Key;
+
+/// A run of a road under a sheet of rules: the step to which it has come, the road at this step,
+/// and the sum of the tallies so far.
+#[derive(Drop)]
+pub struct Run {
+    start: Snapshot<Road>,
+    key: Key,
+    number: u32,
+    warm: u32,
+    sheet: Sheet,
+    step: u32,
+    road: Road,
+    sum: StepTally,
+}
+
+impl Model for Run {
+    ghost use Rattle.trlab_run.specs.Reached.{IsUnderway, Reached};
+
+    ghost Value = { Reached };
+
+    ghost view = { λ run. record {
+      seed = record { road = run.start.value; key = run.key.0; number = run.number; warm = run.warm };
+      sheet = run.sheet;
+      step = run.step;
+      road = run.road;
+      sum = run.sum;
+    } };
+
+    ghost invariant = { λ run. IsUnderway (record {
+      seed = record { road = run.start.value; key = run.key.0; number = run.number; warm = run.warm };
+      sheet = run.sheet;
+      step = run.step;
+      road = run.road;
+      sum = run.sum;
+    }) };
+}
+
+impl Run {
+    /// The run of a road from step 0 on: its words go by the key and the number of the road, and
+    /// steps before `warm` are not counted.
+    pub fn new(key: Key, number: u32, warm: u32, road: Road, sheet: Sheet) -> Run
+        requires suits { IsSheetFor (length road.lanes) sheet }
+        ensures { result ≡ at_start (record { road = road; key = key.0; number = number; warm = warm }) sheet }
+    {
+        let _ = road.cars();
+        Run {
+            start: Snapshot::of(&road),
+            key,
+            number,
+            warm,
+            sheet,
+            step: 0,
+            road,
+            sum: no_tally(),
+        }
+    }
+
+    /// The step to which the run has come.
+    pub fn step(&self) -> u32
+        ensures value { result ≡ self.now.step }
+        ensures underway { IsUnderway self.now }
+    {
+        self.step
+    }
+
+    /// The road at this step.
+    pub fn road(&self) -> &Road
+        ensures value { result.now ≡ self.now.road }
+        ensures run { RoadAt self.now.seed self.now.sheet self.now.step result.now }
+    {
+        &self.road
+    }
+
+    /// The sum of the tallies of the steps so far, without those before `warm`.
+    pub fn tally(&self) -> StepTally
+        ensures value { result ≡ self.now.sum }
+        ensures run { TallyAt self.now.seed self.now.sheet self.now.step result }
+    {
+        self.sum
+    }
+
+    /// Takes one step, in which the asker asks the cars; where memory runs out, nothing changes.
+    pub fn advance<A: Asker>(&mut self, asker: &A, alloc: Global) -> Result<(), AllocError>
+        requires { self.old.step + 1 < 2 ^ 32 }
+        ensures on { OnOk result (OneStepOn self.old self.new) }
+        ensures same { OnErr result (self.new ≡ self.old) }
+    {
+        let rule = self.sheet.in_force(self.step);
+        let (next, tally) = match step_road_by(
+            asker,
+            alloc,
+            &self.road,
+            rule,
+            &self.key,
+            self.number,
+            self.step,
+        ) {
+            Ok(found) => found,
+            Err(StepFault::Memory) => return Err(AllocError),
+            Err(StepFault::LanesMismatch) => unreachable!(),
+        };
+        if self.warm <= self.step {
+            self.sum = tally_sum(self.sum, tally);
+        }
+        self.road = next;
+        self.step += 1;
+        Ok(())
+    }
+}

@@ -1,0 +1,9 @@
+pub mod Cuts
+pub mod Parts
+pub mod FaultLines
+pub mod Numbers
+pub mod Readings
+pub mod Programs
+pub mod OneReading
+pub mod OneProgram
+pub mod Said

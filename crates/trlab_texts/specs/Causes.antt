@@ -1,0 +1,59 @@
+-- The numbers by which refused texts tell their causes.
+use Rattle.std.specs.Prelude.{ℕ, ◌+◌}
+use Rattle.trlab_code.specs.declared.fault.CodeFault.{CodeFault}
+use Rattle.trlab_code.specs.declared.fault.CodeFault.TheVariants.{Short, Magic, Version, Kind, Count, Opcode, Field, Trailing, Memory as CodeMemory}
+use Rattle.trlab_asm.specs.declared.fault.Why.{Why}
+use Rattle.trlab_asm.specs.declared.fault.Why.TheVariants.{Word, Operand, Number as WrongNumber, LabelTwice, NoLabel, TooLong, Empty, Memory as WhyMemory}
+use Rattle.trlab_road.specs.declared.fault.RoadFault.{RoadFault}
+use Rattle.trlab_road.specs.declared.fault.RoadFault.TheVariants.{Lanes, Length, Limit, Character, SpeedAboveLimit, TooManyCars, Memory as RoadMemory}
+use Rattle.trlab_texts.specs.declared.fault.Cause.{Cause}
+use Rattle.trlab_texts.specs.declared.fault.Cause.TheVariants.{Line, Number, Key, OneLane, Order, TooMany, Hex, TooBig, Program, Code, Road, StandardRefused, Verdict}
+
+-- the number of a fault of a program's lines
+abbrev pub why_number : Why → ℕ
+why_number Word = 1
+why_number Operand = 2
+why_number WrongNumber = 3
+why_number LabelTwice = 4
+why_number NoLabel = 5
+why_number TooLong = 6
+why_number Empty = 7
+why_number WhyMemory = 8
+
+-- the number of a fault of a program's bytes
+abbrev pub code_fault_number : CodeFault → ℕ
+code_fault_number Short = 1
+code_fault_number Magic = 2
+code_fault_number Version = 3
+code_fault_number Kind = 4
+code_fault_number Count = 5
+code_fault_number (Opcode pc) = 6
+code_fault_number (Field pc) = 7
+code_fault_number Trailing = 8
+code_fault_number CodeMemory = 9
+
+-- the number of a fault of a road's pictures
+abbrev pub road_fault_number : RoadFault → ℕ
+road_fault_number Lanes = 1
+road_fault_number Length = 2
+road_fault_number Limit = 3
+road_fault_number (Character lane place) = 4
+road_fault_number (SpeedAboveLimit lane place) = 5
+road_fault_number RoadMemory = 6
+road_fault_number TooManyCars = 7
+
+-- the number of a cause in the line of a refused text
+abbrev pub cause_number : Cause → ℕ
+cause_number Line = 1
+cause_number Number = 2
+cause_number Key = 3
+cause_number OneLane = 4
+cause_number Order = 5
+cause_number TooMany = 6
+cause_number Hex = 8
+cause_number TooBig = 9
+cause_number (Program why) = 10 + why_number why
+cause_number (Code fault) = 20 + code_fault_number fault
+cause_number (Road fault) = 30 + road_fault_number fault
+cause_number StandardRefused = 40
+cause_number (Verdict reason) = 40 + reason

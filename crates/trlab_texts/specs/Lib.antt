@@ -1,0 +1,6 @@
+pub mod Lines
+pub mod Words
+pub mod Reading
+pub mod Programs
+pub mod Causes
+pub mod Laws

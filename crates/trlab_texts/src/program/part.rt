@@ -1,0 +1,122 @@
+//! Programs in lines of their own, and the program parts of a text.
+
+ghost use Rattle.std.specs.Prelude.{◌≡◌, ◌+◌, ◌<◌, ◌^◌, length, Err};
+ghost use Rattle.std.specs.Str.{bytes_eq};
+ghost use Rattle.trlab_code.specs.declared.kind.Kind.{Kind};
+ghost use Rattle.trlab_code.specs.declared.kind.Kind.TheVariants.{Motion as OfMotion, Change as OfChange};
+ghost use Rattle.trlab_code.specs.Program.{Program};
+ghost use Rattle.trlab_verify.specs.Checked.{Checked};
+ghost use Rattle.trlab_verify.specs.Faults.{Tells};
+ghost use Rattle.trlab_asm.specs.Lines.{lines_of};
+ghost use Rattle.trlab_texts.specs.Reading.{Told};
+ghost use Rattle.trlab_texts.specs.Programs.{VerdictSays, heading, part, program_behind, program_part};
+
+use crate::fault::{Cause, TextFault};
+use crate::place::Place;
+use crate::program::code::code_line_of;
+use std::alloc::Global;
+use trlab_asm::{Why, assemble};
+use trlab_code::{Code, Kind};
+use trlab_verify::{Change, Motion, VerifyFault, verify_change, verify_motion};
+
+/// Is a line the heading of a block of this kind?
+pub fn heads(kind: Kind, line: &[u8]) -> bool
+    ensures { result ≡ bytes_eq line.now (heading kind) }
+{
+    match kind {
+        Kind::Motion => line == b"motion".as_slice(),
+        Kind::Change => line == b"change".as_slice(),
+    }
+}
+
+/// The program of a kind whose lines stand behind the line `first`.
+pub fn program_behind(alloc: Global, kind: Kind, first: u32, text: &[u8]) -> Result<Code, TextFault>
+    requires { first + length (lines_of text.now) < 2 ^ 32 }
+    ensures { Told (λ says. says ≡ program_behind kind first (lines_of text.now)) result }
+{
+    match assemble(alloc, kind, text) {
+        Ok(code) => Ok(code),
+        Err(fault) => match fault.why {
+            Why::Memory => Err(TextFault::Memory),
+            why => Err(TextFault::At {
+                line: first + fault.line as u32,
+                cause: Cause::Program(why),
+            }),
+        },
+    }
+}
+
+/// The program of a kind: a block of its lines, or the line `code X`.
+fn program_part(alloc: Global, kind: Kind, place: Place<'_>) -> Result<(Code, Place<'_>), TextFault>
+    ensures { Told (program_part kind place.entry) result }
+{
+    let first = place.number();
+    let (line, after) = place.next_line()?;
+    if heads(kind, line) {
+        let (lines, after) = after.part()?;
+        let code = program_behind(alloc, kind, first, lines)?;
+        return Ok((code, after));
+    }
+    match code_line_of(alloc, kind, line) {
+        Ok(code) => Ok((code, after)),
+        Err(fault) => Err(fault.at(first)),
+    }
+}
+
+/// Why the verifier accepts no program of a part whose first line is `first`.
+fn verdict_fault(first: u32, fault: VerifyFault) -> TextFault
+    ensures { (kind : Kind) (program : Program) → Tells kind program fault
+        → Told {A = Checked} (VerdictSays kind first program) (Err result) }
+{
+    match fault {
+        VerifyFault::Why { reason, .. } => TextFault::At {
+            line: first,
+            cause: Cause::Verdict(reason),
+        },
+        VerifyFault::Memory => TextFault::Memory,
+    }
+}
+
+/// A motion program whose first line is `first`, where the verifier accepts it.
+fn accepted_motion(alloc: Global, first: u32, code: Code) -> Result<Motion, TextFault>
+    ensures { Told (VerdictSays OfMotion first code) result }
+{
+    match verify_motion(alloc, code) {
+        Ok(motion) => Ok(motion),
+        Err((_, fault)) => Err(verdict_fault(first, fault)),
+    }
+}
+
+/// A change program whose first line is `first`, where the verifier accepts it.
+fn accepted_change(alloc: Global, first: u32, code: Code) -> Result<Change, TextFault>
+    ensures { Told (VerdictSays OfChange first code) result }
+{
+    match verify_change(alloc, code) {
+        Ok(change) => Ok(change),
+        Err((_, fault)) => Err(verdict_fault(first, fault)),
+    }
+}
+
+/// The part of a motion program, which the verifier accepts.
+pub fn motion(alloc: Global, place: Place<'_>) -> Result<(Motion, Place<'_>), TextFault>
+    ensures { Told (part OfMotion place.entry) result }
+{
+    let first = place.number();
+    let (code, after) = program_part(alloc, Kind::Motion, place)?;
+    match accepted_motion(alloc, first, code) {
+        Ok(motion) => Ok((motion, after)),
+        Err(fault) => Err(fault),
+    }
+}
+
+/// The part of a change program, which the verifier accepts.
+pub fn change(alloc: Global, place: Place<'_>) -> Result<(Change, Place<'_>), TextFault>
+    ensures { Told (part OfChange place.entry) result }
+{
+    let first = place.number();
+    let (code, after) = program_part(alloc, Kind::Change, place)?;
+    match accepted_change(alloc, first, code) {
+        Ok(change) => Ok((change, after)),
+        Err(fault) => Err(fault),
+    }
+}

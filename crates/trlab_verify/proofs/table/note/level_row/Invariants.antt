@@ -1,0 +1,11 @@
+use Rattle.std.proofs.Common.{◌≡◌, ℕ, ◌<◌, get_or, length}
+use Rattle.trlab_code.specs.declared.instruction.TheConstants.{PLACES}
+use Rattle.trlab_notes.specs.Noted.{note_of}
+use Rattle.trlab_notes.specs.Notes.{known}
+use Rattle.trlab_verify.proofs.table.note.level_row.Given as goal
+
+abbrev pub invariant-loop-y : goal.invariant-loop-y
+invariant-loop-y l = record {
+  all : length l.row ≡ PLACES;
+  so_far : (k : ℕ) → k < l.y → get_or l.row k 0 ≡ known (note_of l.noted) l.fn.x k;
+}
