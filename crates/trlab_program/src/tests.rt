@@ -1,6 +1,7 @@
 //! Words of the command line, what is made of them, and how the commands end.
 
-ghost use Rattle.std.specs.Prelude.{◌≡◌, false};
+ghost use Rattle.std.specs.Prelude.{◌≡◌, false, IfOk};
+ghost use Rattle.trlab_program.specs.Asked.{HasCounts};
 
 use crate::command::carry_out;
 use crate::status::{status_of_end, status_of_print, status_of_words};
@@ -11,7 +12,9 @@ use std::test::Fail;
 use trlab_campaign::{End, Sink, Source, Watched};
 
 /// What the words of a line ask for.
-fn asked(rt: &impl AllocGlobal, line: &str) -> Result<Wanted, Error> {
+fn asked(rt: &impl AllocGlobal, line: &str) -> Result<Wanted, Error>
+    ensures { IfOk result HasCounts }
+{
     let mut words = Vec::new(rt.alloc());
     for word in line.split_whitespace() {
         words.push(String::from_str(rt.alloc(), word)?)?;
