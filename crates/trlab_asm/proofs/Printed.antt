@@ -10,13 +10,13 @@ use Rattle.trlab_code.specs.declared.instruction.Register.{Register}
 use Rattle.trlab_code.specs.declared.instruction.Register.TheVariants.{R0, R1, R2, R3, R4, R5, R6, R7}
 use Rattle.trlab_code.specs.declared.instruction.Input.{Input}
 use Rattle.trlab_code.specs.declared.instruction.Input.TheVariants.{Speed, Limit, Gap, SideGap, SideBack, Lane}
-use Rattle.trlab_code.specs.declared.program.TheConstants.{WORDS, CERTAIN}
+use Rattle.trlab_bounds.specs.declared.programs.TheConstants.{WORDS, CERTAIN}
 use Rattle.trlab_asm.specs.Names.{register_text, input_text, mnemonic_text, mnemonic_named}
 use Rattle.trlab_asm.specs.Operands.{register, input, all_digits, digits_of, numeral, ranged, number, Target, target, target_named, is_label, all_label_bytes, two_registers, three_registers, register_input, register_number, two_registers_number, word_chance, register_word_chance, register_target, two_registers_target, ◌then◌}
 use Rattle.trlab_asm.specs.Canonical.{label_text, target_text, ◌comma◌}
 use Rattle.trlab_asm.specs.declared.names.Mnemonic.{Mnemonic}
 use Rattle.trlab_asm.specs.declared.names.Mnemonic.TheVariants as name
-use Rattle.trlab_asm.specs.declared.numbers.TheConstants.{GREATEST_NUMBER}
+use Rattle.trlab_bounds.specs.declared.programs.TheConstants.{GREATEST_NUMBER}
 use Rattle.trlab_asm.proofs.Plain.{is_plain, plain_word, and_parts, and_both, alone_behind_blank, then_again}
 use Rattle.trlab_asm.proofs.Digits.{own}
 

@@ -6,7 +6,7 @@ use Rattle.std.proofs.lemmas.List.Elements.{All-cons}
 use Rattle.trlab_code.specs.declared.instruction.Register.{Register}
 use Rattle.trlab_code.specs.declared.instruction.Instr.{Instr}
 use Rattle.trlab_code.specs.declared.instruction.Instr.TheVariants.{Num, Get, Side, Draw, Copy, Add, Sub, Mul, Div, Min, Max, Not, And, Or, Jump, JumpLess, JumpAtMost, JumpTrue, JumpFalse, Go, Cross, Stay}
-use Rattle.trlab_code.specs.declared.program.TheConstants.{MOST_INSTRUCTIONS, WORDS, CERTAIN}
+use Rattle.trlab_bounds.specs.declared.programs.TheConstants.{MOST_INSTRUCTIONS, WORDS, CERTAIN}
 use Rattle.trlab_asm.specs.Lines.{HasNoEnd}
 use Rattle.trlab_asm.specs.Cutting.{unindented}
 use Rattle.trlab_asm.specs.Names.{register_text, input_text, mnemonic_text}

@@ -11,7 +11,7 @@ use Rattle.trlab_code.specs.Flow.{target}
 use Rattle.trlab_code.specs.Program.{Program, InRange, IsProgram}
 use Rattle.trlab_code.specs.declared.instruction.Instr.{Instr}
 use Rattle.trlab_code.specs.declared.instruction.Instr.TheVariants.{Num, Get, Side, Draw, Copy, Add, Sub, Mul, Div, Min, Max, Not, And, Or, Jump, JumpLess, JumpAtMost, JumpTrue, JumpFalse, Go, Cross, Stay}
-use Rattle.trlab_code.specs.declared.program.TheConstants.{MOST_INSTRUCTIONS}
+use Rattle.trlab_bounds.specs.declared.programs.TheConstants.{MOST_INSTRUCTIONS}
 use Rattle.trlab_asm.specs.Lines.{lines_of}
 use Rattle.trlab_asm.specs.Operands.{Target}
 use Rattle.trlab_asm.specs.Reading.{Labels, line_says}

@@ -5,7 +5,7 @@ use Rattle.std.proofs.lemmas.Bool.{eqb-false}
 use Rattle.std.proofs.lemmas.List.Elements.{All-cons, All-head, All-push, All-tail}
 use Rattle.trlab_code.specs.declared.instruction.Instr.{Instr}
 use Rattle.trlab_code.specs.declared.instruction.Instr.TheVariants.{Num, Get, Side, Draw, Copy, Add, Sub, Mul, Div, Min, Max, Not, And, Or, Jump, JumpLess, JumpAtMost, JumpTrue, JumpFalse, Go, Cross, Stay}
-use Rattle.trlab_code.specs.declared.program.TheConstants.{MOST_INSTRUCTIONS, WORDS, CERTAIN}
+use Rattle.trlab_bounds.specs.declared.programs.TheConstants.{MOST_INSTRUCTIONS, WORDS, CERTAIN}
 use Rattle.trlab_code.specs.Program.{InRange, IsProgram}
 use Rattle.trlab_asm.specs.Cutting.{cut, labelled, only_word, uncommented, unindented, up_to_blank}
 use Rattle.trlab_asm.specs.Names.{register_named, input_named, mnemonic_named}
@@ -14,7 +14,7 @@ use Rattle.trlab_asm.specs.Reading.{Draft, Labels, Line, body, drafted, if_free,
 use Rattle.trlab_asm.specs.Assembly.{Parts, Read, aimed, aimed_at, finished, first_pass, in_line, instrs_of, nothing, placed, second_pass, with_line, with_read}
 use Rattle.trlab_asm.specs.Laws.{TextsSaySomething}
 use Rattle.trlab_asm.specs.Lines.{lines_of}
-use Rattle.trlab_asm.specs.declared.numbers.TheConstants.{GREATEST_NUMBER, MOST_DIGITS}
+use Rattle.trlab_bounds.specs.declared.programs.TheConstants.{GREATEST_NUMBER, MOST_DIGITS}
 use Rattle.trlab_asm.specs.declared.names.Mnemonic.{Mnemonic}
 use Rattle.trlab_asm.specs.declared.names.Mnemonic.TheVariants as name
 use Rattle.trlab_asm.specs.declared.fault.Why.{Why}

@@ -5,13 +5,13 @@ use Rattle.std.specs.Char.{is_ascii_digit, is_ascii_alphanumeric}
 use Rattle.std.specs.Str.Parse.{digits_value}
 use Rattle.trlab_code.specs.declared.instruction.Register.{Register}
 use Rattle.trlab_code.specs.declared.instruction.Input.{Input}
-use Rattle.trlab_code.specs.declared.program.TheConstants.{WORDS, CERTAIN}
+use Rattle.trlab_bounds.specs.declared.programs.TheConstants.{WORDS, CERTAIN}
 use Rattle.trlab_asm.specs.Cutting.{cut, only_word}
 use Rattle.trlab_asm.specs.Names.{register_named, input_named}
 use Rattle.trlab_asm.specs.declared.fault.Why.{Why}
 use Rattle.trlab_asm.specs.declared.fault.Why.TheVariants.{Operand, Number}
-use Rattle.trlab_asm.specs.declared.numbers.TheConstants.{GREATEST_NUMBER, MOST_DIGITS}
-use Rattle.trlab_asm.specs.declared.target.TheConstants.{LONGEST_LABEL}
+use Rattle.trlab_bounds.specs.declared.programs.TheConstants.{GREATEST_NUMBER, MOST_DIGITS}
+use Rattle.trlab_bounds.specs.declared.programs.TheConstants.{LONGEST_LABEL}
 
 infixl 10 ◌>>=◌
 -- goes on with the value, and stops at the first fault

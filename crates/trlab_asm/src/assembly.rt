@@ -2,7 +2,7 @@
 
 ghost use Rattle.std.specs.Prelude.{◌≡◌, ◌≤◌, ◌⊎◌, vec_len, All, MatchResult, IfOk};
 ghost use Rattle.trlab_code.specs.Program.{InRange};
-ghost use Rattle.trlab_code.specs.declared.program.TheConstants.{MOST_INSTRUCTIONS};
+ghost use Rattle.trlab_bounds.specs.declared.programs.TheConstants.{MOST_INSTRUCTIONS};
 ghost use Rattle.trlab_asm.specs.Lines.{lines_of};
 ghost use Rattle.trlab_asm.specs.Held.{pcs, parts_held};
 ghost use Rattle.trlab_asm.specs.Assembly.{nothing, first_pass, aimed, finished, instrs_of, code_of, OutOfMemory};

@@ -2,19 +2,8 @@
 //!
 //! Each law is the contract of a function with nothing to do.
 
-ghost use Rattle.std.specs.Prelude.{◌≡◌, ◌+◌, ◌^◌};
 ghost use Rattle.trlab_asm.specs.Laws.{CanonicalTextSaysTheProgram, OneProgramOfAText, TextsSaySomething};
 ghost use Rattle.trlab_asm.specs.Laws.{InputsAreNamed, InstructionsAreNamed, RegistersAreNamed};
-
-use crate::numbers::{GREATEST_NUMBER, MOST_DIGITS};
-use crate::target::LONGEST_LABEL;
-
-/// The numbers of program texts.
-pub fn numbers()
-    ensures greatest { GREATEST_NUMBER + 1 ≡ 2 ^ 32 }
-    ensures digits { MOST_DIGITS ≡ 10 }
-    ensures label { LONGEST_LABEL ≡ 32 }
-{}
 
 /// Registers, inputs and instructions are named by their texts, and by no other words.
 pub fn names()

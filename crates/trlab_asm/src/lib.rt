@@ -21,6 +21,3 @@ pub use assembly::assemble;
 pub use canonical::disassemble;
 pub use fault::{AsmFault, Why};
 pub use lines::next_line;
-
-#[cfg(test)]
-mod tests;

@@ -5,12 +5,7 @@ ghost use Rattle.std.specs.Str.Parse.{digits_value};
 ghost use Rattle.trlab_asm.specs.Operands.{all_digits, is_numeral, digits_of, ranged, seen};
 
 use crate::fault::Why;
-
-/// The greatest number of a program.
-pub(crate) const GREATEST_NUMBER: u32 = 4294967295;
-
-/// The most digits of a number.
-pub(crate) const MOST_DIGITS: usize = 10;
+use trlab_bounds::programs::MOST_DIGITS;
 
 /// Are all bytes digits?
 fn all_digits(text: &[u8]) -> bool

@@ -1,15 +1,16 @@
 //! The operands of an instruction, in each of the shapes that they have.
 
 ghost use Rattle.std.specs.Prelude.{◌≡◌, ◌≤◌, ◌<◌, true, IfOk};
-ghost use Rattle.trlab_code.specs.declared.program.TheConstants.{WORDS, CERTAIN};
+ghost use Rattle.trlab_bounds.specs.declared.programs.TheConstants.{WORDS, CERTAIN};
 ghost use Rattle.trlab_asm.specs.Cutting.{cut};
 ghost use Rattle.trlab_asm.specs.Operands.{wanted, word, register, input, all_digits, numeral, number, target, no_operand, two_registers, three_registers, register_input, register_number, two_registers_number, word_chance, register_word_chance, register_target, two_registers_target, seen};
 
 use crate::cutting::{cut, only_word};
 use crate::fault::Why;
 use crate::names::{input_named, register_named};
-use crate::numbers::{GREATEST_NUMBER, digits_of, ranged};
+use crate::numbers::{digits_of, ranged};
 use crate::target::{Target, target_named};
+use trlab_bounds::programs::GREATEST_NUMBER;
 use trlab_code::{CERTAIN, Input, Register, WORDS};
 
 /// What stands before the first comma, and what stands behind it.

@@ -1,7 +1,7 @@
 //! What the first pass over a text has read.
 
 ghost use Rattle.std.specs.Prelude.{◌≡◌, ◌≤◌, length};
-ghost use Rattle.trlab_code.specs.declared.program.TheConstants.{MOST_INSTRUCTIONS};
+ghost use Rattle.trlab_bounds.specs.declared.programs.TheConstants.{MOST_INSTRUCTIONS};
 
 use crate::draft::Draft;
 use crate::fault::AsmFault;

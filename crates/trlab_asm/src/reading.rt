@@ -1,7 +1,7 @@
 //! What a line of a program's text says.
 
 ghost use Rattle.std.specs.Prelude.{◌≡◌, ◌<◌, option_map, IfOk, OnOk, OnSome};
-ghost use Rattle.trlab_code.specs.declared.program.TheConstants.{MOST_INSTRUCTIONS};
+ghost use Rattle.trlab_bounds.specs.declared.programs.TheConstants.{MOST_INSTRUCTIONS};
 ghost use Rattle.trlab_asm.specs.Operands.{seen};
 ghost use Rattle.trlab_asm.specs.Reading.{Line as Said, instruction, body, new_label, label_of, line_says};
 ghost use Rattle.trlab_asm.specs.Held.{pcs};

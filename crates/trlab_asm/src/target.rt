@@ -4,11 +4,9 @@ ghost use Rattle.std.specs.Prelude.{◌≡◌, option_map};
 ghost use Rattle.trlab_asm.specs.Operands.{Target as Goal, is_label, all_label_bytes, pc_named, target_named};
 
 use crate::fault::Why;
-use crate::numbers::{GREATEST_NUMBER, digits_of, ranged};
+use crate::numbers::{digits_of, ranged};
 use std::marker::Model;
-
-/// The most bytes of a label.
-pub(crate) const LONGEST_LABEL: usize = 32;
+use trlab_bounds::programs::{GREATEST_NUMBER, LONGEST_LABEL};
 
 /// Where a jump goes: a pc; or the pc that a label names, which is not known yet and is written as 0.
 #[derive(Drop)]

@@ -6,7 +6,7 @@ use Rattle.std.specs.Io.KnownBytes.{Keeps}
 use Rattle.trlab_campaign.specs.declared.end.End.{End}
 use Rattle.trlab_campaign.specs.declared.end.End.TheVariants.{Done, Refused, Memory, DeviceFault}
 use Rattle.trlab_texts.specs.declared.fault.Cause.TheVariants.{TooBig}
-use Rattle.trlab_texts.specs.declared.limits.TheConstants.{TEXT_LIMIT}
+use Rattle.trlab_bounds.specs.declared.texts.TheConstants.{TEXT_LIMIT}
 use Rattle.trlab_texts.specs.Reading.{Fault}
 use Rattle.trlab_jobs.specs.Job.{Job, JobText}
 use Rattle.trlab_code.specs.Program.{Program}

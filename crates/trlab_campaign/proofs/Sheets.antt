@@ -1,10 +1,10 @@
 -- The sheet of a job.
-use Rattle.std.proofs.Common.{ℕ, zero, suc, ◌+◌, ◌∷◌, [], refl, arith}
+use Rattle.std.proofs.Common.{ℕ, zero, suc, ◌+◌, ◌∷◌, [], arith}
 use Rattle.std.specs.Prelude.{All, length}
 use Rattle.trlab_rules.specs.Rules.{Programs}
 use Rattle.trlab_step.specs.Laws.{IsRuleFor, IsSheetFor}
-use Rattle.trlab_step.specs.Run.{Sheet}
-use Rattle.trlab_run.specs.Sheets.{Rises}
+use Rattle.trlab_step.specs.Run.{Sheet, Rises}
+use Rattle.trlab_step.proofs.Sheets.{with_is_sheet, with_all}
 use Rattle.trlab_jobs.specs.Job.{Job, sheet_of}
 use Rattle.trlab_jobs.specs.Plain.{LaterRules, IsPlain}
 
@@ -19,14 +19,9 @@ all_suit lanes steps least [] kept k d below = absurd (omega arith)
 all_suit lanes steps least (entry ∷ later) kept zero d below = kept.1.1.0
 all_suit lanes steps least (entry ∷ later) kept (suc k) d below = all_suit lanes steps (entry.0 + 1) later kept.1.1.1 k d (omega arith)
 
-with_first : (lanes : ℕ) (first : Programs) (later : Sheet) → IsRuleFor lanes first → All (λ (entry : ℕ × Programs). IsRuleFor lanes entry.1) later
-    → All (λ (entry : ℕ × Programs). IsRuleFor lanes entry.1) ((0, first) ∷ later)
-with_first lanes first later is all zero d below = is
-with_first lanes first later is all (suc k) d below = all k d (omega arith)
-
 -- the sheet of a job that was read is one for the lanes of its road
 pub plain_sheet : (job : Job) → IsPlain job → IsSheetFor (length job.road.lanes) (sheet_of job)
 plain_sheet job plain = record {
-  from_start = refl;
-  rules = with_first (length job.road.lanes) job.first job.later plain.first (all_suit (length job.road.lanes) job.steps 0 job.later plain.later);
+  is_sheet = with_is_sheet job.first job.later (later_rise (length job.road.lanes) job.steps 0 job.later plain.later);
+  rules = with_all (IsRuleFor (length job.road.lanes)) job.first job.later plain.first (all_suit (length job.road.lanes) job.steps 0 job.later plain.later);
 }

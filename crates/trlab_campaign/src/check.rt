@@ -6,15 +6,15 @@ ghost use Rattle.trlab_campaign.specs.CheckOutput.{IsCheckOutput};
 ghost use Rattle.trlab_campaign.specs.Device.{ConsumesUpTo};
 ghost use Rattle.trlab_campaign.specs.Ending.{EndsSo, OnWhole};
 ghost use Rattle.trlab_campaign.specs.declared.end.End.TheVariants.{DeviceFault};
-ghost use Rattle.trlab_texts.specs.declared.limits.TheConstants.{TEXT_LIMIT};
+ghost use Rattle.trlab_bounds.specs.declared.texts.TheConstants.{TEXT_LIMIT};
 
 use crate::device::{ReadFault, Sink, Source, read_text};
 use crate::end::End;
 use crate::refusal::{refuse, write_output};
 use crate::verdict::verdict;
 use std::alloc::{AllocGlobal, Global};
+use trlab_bounds::texts::TEXT_LIMIT;
 use trlab_jobs::read_program;
-use trlab_texts::limits::TEXT_LIMIT;
 use trlab_texts::{Cause, TextFault};
 
 /// Writes what the verifier says of the program of a text, or refuses the text.

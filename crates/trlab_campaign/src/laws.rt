@@ -2,15 +2,7 @@
 //!
 //! Each law is the contract of a function with nothing to do.
 
-ghost use Rattle.std.specs.Prelude.{◌≡◌};
 ghost use Rattle.trlab_campaign.specs.Laws.{CheckHasOneOutput, TextHasOneOutput};
-
-use crate::run::MOST_WORKERS;
-
-/// The bound of a run.
-pub fn numbers()
-    ensures workers { MOST_WORKERS ≡ 16 }
-{}
 
 /// A job text has one output only, and it is a refusal or it is none.
 pub fn text_has_one_output()

@@ -13,11 +13,8 @@ mod verdict;
 pub use check::check_text;
 pub use device::{DeviceError, Sink, Source, Watched};
 pub use end::End;
-pub use run::{MOST_WORKERS, run_job_text};
-pub use trlab_jobs::limits::{MOST_LATER, MOST_STEPS};
+pub use run::run_job_text;
+pub use trlab_bounds::runs::{MOST_LATER, MOST_STEPS, MOST_WORKERS};
+pub use trlab_bounds::texts::TEXT_LIMIT;
 pub use trlab_jobs::{Job, read_job};
-pub use trlab_texts::limits::TEXT_LIMIT;
 pub use trlab_texts::{Cause, TextFault};
-
-#[cfg(test)]
-mod tests;

@@ -14,12 +14,10 @@ use crate::end::End;
 use crate::refusal::refuse;
 use crate::run::pictures::run_job;
 use std::alloc::{AllocGlobal, Global};
+use trlab_bounds::runs::MOST_WORKERS;
+use trlab_bounds::texts::TEXT_LIMIT;
 use trlab_jobs::read_job;
-use trlab_texts::limits::TEXT_LIMIT;
 use trlab_texts::{Cause, TextFault};
-
-/// The most workers of a run.
-pub const MOST_WORKERS: u32 = 16;
 
 /// Runs the job that a text states, or refuses the text.
 fn run_text<K: Sink>(alloc: Global, text: &[u8], writer: &mut K) -> End

@@ -4,9 +4,9 @@ use Rattle.trlab_code.specs.declared.kind.Kind.{Kind}
 use Rattle.trlab_code.specs.declared.instruction.Instr.{Instr}
 use Rattle.trlab_code.specs.declared.fault.CodeFault.{CodeFault}
 use Rattle.trlab_code.specs.declared.fault.CodeFault.TheVariants as fault
-use Rattle.trlab_code.specs.declared.header.TheConstants.{MAGIC, VERSION, HEADER_BYTES}
-use Rattle.trlab_code.specs.declared.row.TheConstants.{INSTR_BYTES}
-use Rattle.trlab_code.specs.declared.program.TheConstants.{MOST_INSTRUCTIONS}
+use Rattle.trlab_bounds.specs.declared.programs.TheConstants.{MAGIC, VERSION, HEADER_BYTES}
+use Rattle.trlab_bounds.specs.declared.programs.TheConstants.{INSTR_BYTES}
+use Rattle.trlab_bounds.specs.declared.programs.TheConstants.{MOST_INSTRUCTIONS}
 use Rattle.trlab_code.specs.Spelling.{kind_byte, Spells, IsOpcode}
 
 -- the count of instructions that a header states, its lower byte first

@@ -8,7 +8,7 @@ use Rattle.trlab_code.specs.declared.instruction.Input.TheVariants.{Speed, Limit
 use Rattle.trlab_code.specs.declared.instruction.Instr.{Instr}
 use Rattle.trlab_code.specs.declared.instruction.Instr.TheVariants.{Num, Get, Side, Draw, Copy, Add, Sub, Mul, Div, Min, Max, Not, And, Or, Jump, JumpLess, JumpAtMost, JumpTrue, JumpFalse, Go, Cross, Stay}
 use Rattle.trlab_code.specs.declared.row.Row.{Row}
-use Rattle.trlab_code.specs.declared.header.TheConstants.{MAGIC, VERSION}
+use Rattle.trlab_bounds.specs.declared.programs.TheConstants.{MAGIC, VERSION}
 use Rattle.trlab_code.specs.Program.{Program, InRange}
 use Rattle.trlab_code.specs.Machine.{place}
 

@@ -8,11 +8,12 @@ ghost use Rattle.trlab_code.specs.Faults.{GoodHeader, GoodBefore, HasRoom, Spell
 ghost use Rattle.trlab_code.specs.declared.fault.CodeFault.{CodeFault};
 
 use crate::fault::CodeFault;
-use crate::header::{HEADER_BYTES, Header};
+use crate::header::Header;
 use crate::instruction::Instr;
 use crate::program::Code;
-use crate::row::{self, INSTR_BYTES, Row};
+use crate::row::{self, Row};
 use std::alloc::Global;
+use trlab_bounds::programs::{HEADER_BYTES, INSTR_BYTES};
 
 /// The instruction at pc, where all is well before it.
 fn instr_at(bytes: &[u8], pc: u32) -> Result<Instr, CodeFault>

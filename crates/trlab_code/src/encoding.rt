@@ -3,10 +3,11 @@
 ghost use Rattle.std.specs.Prelude.{◌≡◌, IfOk};
 ghost use Rattle.trlab_code.specs.Spelling.{spelling};
 
-use crate::header::{HEADER_BYTES, Header};
+use crate::header::Header;
 use crate::program::Code;
-use crate::row::{self, INSTR_BYTES};
+use crate::row;
 use std::alloc::{AllocError, Global};
+use trlab_bounds::programs::{HEADER_BYTES, INSTR_BYTES};
 
 /// The bytes that spell a program.
 pub fn encode(alloc: Global, code: &Code) -> Result<Vec<u8>, AllocError>

@@ -6,17 +6,7 @@ ghost use Rattle.trlab_code.specs.Faults.{GoodHeader, HasRoom, FirstFault, state
 
 use crate::fault::CodeFault;
 use crate::kind::Kind;
-use crate::program::MOST_INSTRUCTIONS;
-use crate::row::INSTR_BYTES;
-
-/// The bytes that every spelling of a program begins with.
-pub const MAGIC: [u8; 4] = *b"TRLB";
-
-/// The version of the spelling.
-pub const VERSION: u8 = 1;
-
-/// How many bytes a header has.
-pub const HEADER_BYTES: usize = 8;
+use trlab_bounds::programs::{HEADER_BYTES, INSTR_BYTES, MAGIC, MOST_INSTRUCTIONS, VERSION};
 
 /// What a header says.
 #[derive(Clone, Copy)]

@@ -2,8 +2,7 @@
 
 ghost use Rattle.std.specs.Prelude.{◌≡◌, ◌<◌};
 
-/// The places that hold values while a program runs: eight registers, and behind them six inputs.
-pub const PLACES: usize = 14;
+use trlab_bounds::programs::PLACES;
 
 /// One of the eight registers.
 #[derive(Clone, Copy, Debug, PartialEq, Eq)]

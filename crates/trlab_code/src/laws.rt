@@ -2,32 +2,12 @@
 //!
 //! Each law is the contract of a function with nothing to do.
 
-ghost use Rattle.std.specs.Prelude.{◌≡◌, ◌≢◌, ◌^◌, ℕ, List, codes};
+ghost use Rattle.std.specs.Prelude.{◌≡◌, ◌≢◌, ℕ, List};
 ghost use Rattle.trlab_code.specs.Program.{Program, IsProgram};
 ghost use Rattle.trlab_code.specs.Spelling.{spelling};
 ghost use Rattle.trlab_code.specs.Faults.{FirstFault};
 ghost use Rattle.trlab_code.specs.Laws.{BytesSayOneThing, BytesSaySomething, SpellingIsBytes, SpellingSaysTheProgram};
 ghost use Rattle.trlab_code.specs.declared.fault.CodeFault.{CodeFault};
-
-use crate::header::{HEADER_BYTES, MAGIC, VERSION};
-use crate::instruction::PLACES;
-use crate::program::{CERTAIN, MOST_INSTRUCTIONS, WORDS};
-use crate::row::INSTR_BYTES;
-use crate::view::{GREATEST_GAP, GREATEST_LIMIT};
-
-/// The numbers of programs, their bytes and what cars see.
-pub fn numbers()
-    ensures magic { MAGIC ≡ codes "TRLB" }
-    ensures version { VERSION ≡ 1 }
-    ensures header { HEADER_BYTES ≡ 8 }
-    ensures instruction { INSTR_BYTES ≡ 8 }
-    ensures instructions { MOST_INSTRUCTIONS ≡ 128 }
-    ensures words { WORDS ≡ 16 }
-    ensures certain { CERTAIN ≡ 2 ^ 31 }
-    ensures places { PLACES ≡ 14 }
-    ensures limit { GREATEST_LIMIT ≡ 9 }
-    ensures gap { GREATEST_GAP ≡ 99999 }
-{}
 
 /// Two programs with one spelling are one program.
 #[tactic(auto, using(crate::proofs::Injective::same_program))]

@@ -10,16 +10,16 @@ mod kind;
 pub mod laws;
 mod program;
 mod row;
-#[cfg(test)]
-mod tests;
 mod view;
 
 pub use decoding::decode;
 pub use encoding::encode;
 pub use fault::CodeFault;
-pub use header::{HEADER_BYTES, MAGIC, VERSION};
-pub use instruction::{Input, Instr, PLACES, Register};
+pub use instruction::{Input, Instr, Register};
 pub use kind::Kind;
-pub use program::{CERTAIN, Code, MOST_INSTRUCTIONS, WORDS};
-pub use row::INSTR_BYTES;
-pub use view::{ChangeView, GREATEST_GAP, GREATEST_LIMIT, MotionView, View};
+pub use program::Code;
+pub use trlab_bounds::programs::{
+    CERTAIN, HEADER_BYTES, INSTR_BYTES, MAGIC, MOST_INSTRUCTIONS, PLACES, VERSION, WORDS,
+};
+pub use trlab_bounds::roads::{GREATEST_GAP, GREATEST_LIMIT};
+pub use view::{ChangeView, MotionView, View};

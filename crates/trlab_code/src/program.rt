@@ -6,15 +6,7 @@ ghost use Rattle.trlab_code.specs.Program.{Program, InRange, IsProgram, Draws};
 use crate::instruction::Instr;
 use crate::kind::Kind;
 use std::marker::Model;
-
-/// The most instructions of a program.
-pub const MOST_INSTRUCTIONS: usize = 128;
-
-/// How many random words a program can draw on.
-pub const WORDS: usize = 16;
-
-/// The chance that always happens, in parts of 2^31.
-pub const CERTAIN: u32 = 2147483648;
+use trlab_bounds::programs::{CERTAIN, MOST_INSTRUCTIONS, WORDS};
 
 /// A program of 1 to 128 instructions whose fields are in range.
 #[derive(Debug, Drop)]

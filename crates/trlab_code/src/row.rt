@@ -7,9 +7,7 @@ ghost use Rattle.trlab_code.specs.Spelling.{input_byte, row_of, row_bytes, IsOpc
 
 use crate::instruction::{Input, Instr, Register};
 use crate::program::is_in_range;
-
-/// How many bytes spell an instruction.
-pub const INSTR_BYTES: usize = 8;
+use trlab_bounds::programs::INSTR_BYTES;
 
 /// The opcode of an instruction and its fields, 0 where the instruction has no such field.
 #[derive(Clone, Copy, Debug, PartialEq, Eq)]

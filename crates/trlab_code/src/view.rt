@@ -4,12 +4,7 @@ ghost use Rattle.std.specs.Prelude.{◌≡◌, IsNone, IfSome};
 ghost use Rattle.trlab_code.specs.Views.{IsView, motion_view, change_view};
 
 use std::marker::Model;
-
-/// The greatest speed limit of a road, in cells a step.
-pub const GREATEST_LIMIT: u32 = 9;
-
-/// The greatest gap that a car can see: one cell less than the longest lane.
-pub const GREATEST_GAP: u32 = 99999;
+use trlab_bounds::roads::{GREATEST_GAP, GREATEST_LIMIT};
 
 /// What a car sees: numbers of cells, but for its lane.
 #[derive(Clone, Copy, Debug, PartialEq, Eq)]

@@ -6,7 +6,7 @@ use Rattle.trlab_rules.specs.Rules.{Programs}
 use Rattle.trlab_step.specs.Run.{Sheet}
 use Rattle.trlab_texts.specs.declared.fault.TextFault.{TextFault}
 use Rattle.trlab_texts.specs.declared.fault.TextFault.TheVariants.{At, Memory}
-use Rattle.trlab_jobs.specs.declared.limits.TheConstants.{MOST_LATER}
+use Rattle.trlab_bounds.specs.declared.runs.TheConstants.{MOST_LATER}
 use Rattle.trlab_texts.specs.Lines.{Place}
 use Rattle.trlab_texts.specs.Reading.{Reading, said, ◌>>=◌, Told}
 use Rattle.trlab_jobs.specs.Later.{later_rule, to_the_end, later_from, later_rules}

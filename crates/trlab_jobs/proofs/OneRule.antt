@@ -10,7 +10,7 @@ use Rattle.trlab_rules.specs.Given.{Refuses}
 use Rattle.trlab_rules.specs.Standard.{nasch_program, vdr_program, rickert_program}
 use Rattle.trlab_step.specs.Run.{Sheet}
 use Rattle.trlab_texts.specs.declared.fault.Cause.{Cause}
-use Rattle.trlab_jobs.specs.declared.limits.TheConstants.{MOST_LATER}
+use Rattle.trlab_bounds.specs.declared.runs.TheConstants.{MOST_LATER}
 use Rattle.trlab_jobs.specs.declared.rule_line.RuleLine.{RuleLine}
 use Rattle.trlab_jobs.specs.declared.rule_line.RuleLine.TheVariants.{Nasch, Vdr, Rickert, Own}
 use Rattle.trlab_texts.specs.Reading.{Reading, line, exactly, said, ◌>>=◌, before, at_line, of_line}

@@ -3,13 +3,13 @@ use Rattle.std.specs.Prelude.{ℕ, List, ◌∷◌, length, codes, Result, Ok, E
 use Rattle.std.specs.Str.{bytes_eq}
 use Rattle.hex.specs.Hex.{decode_sized}
 use Rattle.hex.specs.declared.error.FromHexError.{FromHexError}
-use Rattle.trlab_road.specs.declared.bounds.TheConstants.{GREATEST_LIMIT}
+use Rattle.trlab_bounds.specs.declared.roads.TheConstants.{GREATEST_LIMIT}
 use Rattle.trlab_road.specs.Cells.{Cells}
 use Rattle.trlab_rules.specs.Rules.{Programs}
-use Rattle.trlab_step.specs.Run.{Seed, Sheet}
+use Rattle.trlab_step.specs.Run.{Seed, Sheet, sheet_with}
 use Rattle.trlab_texts.specs.declared.fault.Cause.{Cause}
 use Rattle.trlab_texts.specs.declared.fault.Cause.TheVariants.{Line, Key}
-use Rattle.trlab_jobs.specs.declared.limits.TheConstants.{MOST_STEPS}
+use Rattle.trlab_bounds.specs.declared.runs.TheConstants.{MOST_STEPS}
 use Rattle.trlab_texts.specs.Lines.{start, Place}
 use Rattle.trlab_texts.specs.Words.{word_behind, number_within}
 use Rattle.trlab_texts.specs.Reading.{Fault, Reading, said, ◌>>=◌, ◌>>◌, line, exactly, WholeText}
@@ -78,4 +78,4 @@ seed_of job = record { road = job.road; key = job.key; number = 0; warm = 0 }
 
 -- the sheet of rules of a job
 abbrev pub sheet_of : Job → Sheet
-sheet_of job = (0, job.first) ∷ job.later
+sheet_of job = sheet_with job.first job.later

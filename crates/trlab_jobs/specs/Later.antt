@@ -2,7 +2,7 @@
 use Rattle.std.specs.Prelude.{ℕ, zero, suc, ◌+◌, List, [], ◌∷◌}
 use Rattle.trlab_rules.specs.Rules.{Programs}
 use Rattle.trlab_step.specs.Run.{Sheet}
-use Rattle.trlab_jobs.specs.declared.limits.TheConstants.{MOST_LATER}
+use Rattle.trlab_bounds.specs.declared.runs.TheConstants.{MOST_LATER}
 use Rattle.trlab_texts.specs.Reading.{Reading, said, ◌>>=◌, line, exactly}
 use Rattle.trlab_jobs.specs.RuleLines.{later_line}
 use Rattle.trlab_jobs.specs.RuleParts.{rule_from}

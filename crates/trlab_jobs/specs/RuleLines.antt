@@ -2,12 +2,12 @@
 use Rattle.std.specs.Prelude.{ℕ, ◌==◌, ◌&&◌, List, codes, nat_le, nat_lt, Option, None, Some, Result, Ok, Err, option_map, option_and_then, if◌then◌else◌}
 use Rattle.std.specs.Borrow.{Bor}
 use Rattle.std.specs.Str.{bytes_eq}
-use Rattle.trlab_words.specs.declared.chance.TheConstants.{CERTAIN}
+use Rattle.trlab_bounds.specs.declared.programs.TheConstants.{CERTAIN}
 use Rattle.trlab_texts.specs.declared.fault.Cause.{Cause}
 use Rattle.trlab_texts.specs.declared.fault.Cause.TheVariants.{Line, Order, TooMany}
 use Rattle.trlab_jobs.specs.declared.rule_line.RuleLine.{RuleLine}
 use Rattle.trlab_jobs.specs.declared.rule_line.RuleLine.TheVariants.{Nasch, Vdr, Rickert, Own}
-use Rattle.trlab_texts.specs.declared.limits.TheConstants.{LONGEST_NUMBER}
+use Rattle.trlab_bounds.specs.declared.texts.TheConstants.{LONGEST_NUMBER}
 use Rattle.trlab_texts.specs.Words.{after, is_word, only_word, at_space, two_words, number_of, within}
 
 -- one thing after another, up to the first cause

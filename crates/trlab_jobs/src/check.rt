@@ -4,12 +4,12 @@ ghost use Rattle.std.specs.Prelude.{◌≡◌, ◌≤◌, length};
 ghost use Rattle.trlab_asm.specs.Lines.{lines_of};
 ghost use Rattle.trlab_jobs.specs.Check.{CheckLines, CheckText, CodeAlone, kind_headed};
 ghost use Rattle.trlab_texts.specs.Reading.{Told};
-ghost use Rattle.trlab_texts.specs.declared.limits.TheConstants.{TEXT_LIMIT};
+ghost use Rattle.trlab_bounds.specs.declared.texts.TheConstants.{TEXT_LIMIT};
 
 use std::alloc::Global;
 use trlab_asm::next_line;
+use trlab_bounds::texts::TEXT_LIMIT;
 use trlab_code::{Code, Kind};
-use trlab_texts::limits::TEXT_LIMIT;
 use trlab_texts::program::{code_line, heads, program_behind};
 use trlab_texts::{Cause, TextFault};
 

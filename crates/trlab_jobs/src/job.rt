@@ -4,14 +4,14 @@ ghost use Rattle.std.specs.Prelude.{◌≤◌, IfOk, length};
 ghost use Rattle.trlab_texts.specs.Reading.{Told};
 ghost use Rattle.trlab_jobs.specs.Job.{JobText, LinesSay};
 ghost use Rattle.trlab_jobs.specs.Plain.{IsPlain};
-ghost use Rattle.trlab_texts.specs.declared.limits.TheConstants.{TEXT_LIMIT};
+ghost use Rattle.trlab_bounds.specs.declared.texts.TheConstants.{TEXT_LIMIT};
 
 use crate::{lane, later, reading, rule};
 use std::alloc::Global;
 use std::marker::Model;
+use trlab_bounds::texts::TEXT_LIMIT;
 use trlab_road::Road;
 use trlab_rules::Rule;
-use trlab_texts::limits::TEXT_LIMIT;
 use trlab_texts::{Cause, Place, TextFault};
 use trlab_words::Key;
 

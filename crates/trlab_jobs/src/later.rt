@@ -8,10 +8,10 @@ ghost use Rattle.trlab_jobs.specs.RuleLines.{later_line};
 ghost use Rattle.trlab_jobs.specs.Later.{later_rule, later_rules};
 ghost use Rattle.trlab_jobs.specs.Plain.{LaterRules};
 
-use crate::limits::MOST_LATER;
 use crate::rule::rule_from;
 use crate::rule_line::{RuleLine, later_line};
 use std::alloc::Global;
+use trlab_bounds::runs::MOST_LATER;
 use trlab_rules::Rule;
 use trlab_texts::{Place, TextFault, in_place};
 use trlab_words::Chance;

@@ -2,16 +2,7 @@
 //!
 //! Each law is the contract of a function with nothing to do.
 
-ghost use Rattle.std.specs.Prelude.{◌≡◌};
 ghost use Rattle.trlab_jobs.specs.Laws.{CheckSaysOneThing, TextSaysOneThing};
-
-use crate::limits::{MOST_LATER, MOST_STEPS};
-
-/// The bounds of jobs.
-pub fn numbers()
-    ensures steps { MOST_STEPS ≡ 500000 }
-    ensures later { MOST_LATER ≡ 1023 }
-{}
 
 /// A job text says one thing only, a job or a first fault.
 pub fn text_says_one_thing()

@@ -6,7 +6,6 @@ mod job;
 mod lane;
 mod later;
 pub mod laws;
-pub mod limits;
 mod line;
 mod reading;
 mod rule;
@@ -14,6 +13,3 @@ mod rule_line;
 
 pub use check::read_program;
 pub use job::{Job, read_job};
-
-#[cfg(test)]
-mod tests;

@@ -3,9 +3,9 @@
 ghost use Rattle.std.specs.Prelude.{◌≡◌};
 ghost use Rattle.trlab_jobs.specs.Job.{road_line, key_line, limit_line, steps_line};
 
-use crate::limits::MOST_STEPS;
 use hex::FromHex;
-use trlab_road::bounds::GREATEST_LIMIT;
+use trlab_bounds::roads::GREATEST_LIMIT;
+use trlab_bounds::runs::MOST_STEPS;
 use trlab_texts::Cause;
 use trlab_texts::word::{number_behind, word_behind};
 

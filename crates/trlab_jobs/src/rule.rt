@@ -20,27 +20,13 @@ use trlab_texts::{Cause, LineFault, Place, TextFault, in_place, program};
 use trlab_verify::Change;
 use trlab_words::Chance;
 
-/// The programs of a rule are accepted ones.
-fn accepted(rule: &Rule)
-    ensures motion { IsChecked OfMotion rule.now.motion }
-    ensures change { IfSome rule.now.change (IsChecked OfChange) }
-{
-    let _ = rule.motion().code();
-    if let Some(change) = rule.change() {
-        let _ = change.code();
-    }
-}
-
 /// The rule of a line `rule nasch t`.
 fn nasch_rule(alloc: Global, brake: Chance) -> Result<Rule, LineFault>
     ensures told { ToldOfLine (MotionSays (nasch_program brake)) result }
     ensures suits { IfOk result (λ rule. (lanes : ℕ) → IsRuleFor lanes rule) }
 {
     match nasch(alloc, brake) {
-        Ok(rule) => {
-            accepted(&rule);
-            Ok(rule)
-        }
+        Ok(rule) => Ok(rule),
         Err(StandardFault::Memory) => Err(LineFault::Memory),
         Err(StandardFault::Refused) => Err(LineFault::Wrong(Cause::StandardRefused)),
     }
@@ -52,10 +38,7 @@ fn vdr_rule(alloc: Global, moving: Chance, standing: Chance) -> Result<Rule, Lin
     ensures suits { IfOk result (λ rule. (lanes : ℕ) → IsRuleFor lanes rule) }
 {
     match vdr(alloc, moving, standing) {
-        Ok(rule) => {
-            accepted(&rule);
-            Ok(rule)
-        }
+        Ok(rule) => Ok(rule),
         Err(StandardFault::Memory) => Err(LineFault::Memory),
         Err(StandardFault::Refused) => Err(LineFault::Wrong(Cause::StandardRefused)),
     }
@@ -78,10 +61,7 @@ fn rickert_rule(
         return Err(LineFault::Wrong(Cause::OneLane));
     }
     match rickert(alloc, brake, crossing) {
-        Ok(rule) => {
-            accepted(&rule);
-            Ok(rule)
-        }
+        Ok(rule) => Ok(rule),
         Err(StandardFault::Memory) => Err(LineFault::Memory),
         Err(StandardFault::Refused) => Err(LineFault::Wrong(Cause::StandardRefused)),
     }
@@ -171,9 +151,7 @@ fn own_rule(alloc: Global, lanes: u32, place: Place<'_>) -> Result<(Rule, Place<
 {
     let (motion, place) = program::motion(alloc, place)?;
     let (change, place) = change_part(alloc, lanes, place)?;
-    let rule = Rule::new(motion, change);
-    accepted(&rule);
-    Ok((rule, place))
+    Ok((Rule::new(motion, change), place))
 }
 
 /// What the line before a place says.

@@ -4,7 +4,7 @@ ghost use Rattle.std.specs.Prelude.{◌≡◌, ℕ, Bool, IsTrue, List, length};
 ghost use Rattle.trlab_code.specs.declared.kind.Kind.{Kind};
 ghost use Rattle.trlab_code.specs.declared.kind.Kind.TheVariants.{Motion, Change};
 ghost use Rattle.trlab_code.specs.declared.instruction.Instr.{Instr};
-ghost use Rattle.trlab_code.specs.declared.program.TheConstants.{WORDS};
+ghost use Rattle.trlab_bounds.specs.declared.programs.TheConstants.{WORDS};
 ghost use Rattle.trlab_code.specs.declared.view.View.{View};
 ghost use Rattle.trlab_code.specs.Program.{Draws};
 ghost use Rattle.trlab_code.specs.Machine.{Answer, Goes, EndsWith};

@@ -14,8 +14,6 @@ mod motions;
 mod registers;
 mod role;
 mod run;
-#[cfg(test)]
-mod tests;
 mod views;
 mod waiting;
 

@@ -2,7 +2,7 @@
 use Rattle.std.proofs.Common.{◌≡◌, ℕ, zero, suc, ◌+◌, ◌-◌, ◌≤◌, ◌&&◌, ◌||◌, min, max, refl, sym, ap, subst, arith, Bool, true, false, IsTrue, nat_eq, nat_lt, cond, ◌∙◌}
 use Rattle.trlab_notes.specs.declared.note.Said.{Said}
 use Rattle.trlab_notes.specs.declared.note.Said.TheVariants.{Nothing, Between, Implies}
-use Rattle.trlab_code.specs.declared.instruction.TheConstants.{PLACES}
+use Rattle.trlab_bounds.specs.declared.programs.TheConstants.{PLACES}
 use Rattle.trlab_code.specs.Machine.{Value, Unset, Number, Flag, update}
 use Rattle.trlab_notes.specs.Notes.{Note, with_side, told, implies, known_of, known, written, sharper, just_below, chained, learnt, trusted, said_by_both, joined}
 

@@ -1,7 +1,7 @@
 -- The order of notes is reflexive and transitive, and a join is the strongest note that is no stronger than two.
 use Rattle.std.proofs.Common.{◌≡◌, rules, ℕ, ◌<◌, ◌≤◌, ◌&&◌, ◌||◌, refl, arith, Bool, true, false, IsTrue, nat_eq}
 use Rattle.std.proofs.lemmas.Bool.{lt-ltb}
-use Rattle.trlab_code.specs.declared.instruction.TheConstants.{PLACES}
+use Rattle.trlab_bounds.specs.declared.programs.TheConstants.{PLACES}
 use Rattle.trlab_code.specs.declared.instruction.Register.{Register}
 use Rattle.trlab_code.specs.Machine.{place}
 use Rattle.trlab_notes.specs.declared.note.Said.{Said}

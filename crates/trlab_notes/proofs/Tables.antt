@@ -11,7 +11,7 @@ use Rattle.trlab_notes.specs.declared.kept.Noted.{Noted}
 use Rattle.trlab_notes.specs.declared.rows.Row.{Row}
 use Rattle.trlab_notes.specs.Rows.{level_of}
 use Rattle.trlab_notes.specs.Kept.{TellsRanges, IsTransposed}
-use Rattle.trlab_code.specs.declared.instruction.TheConstants.{PLACES}
+use Rattle.trlab_bounds.specs.declared.programs.TheConstants.{PLACES}
 use Rattle.trlab_code.specs.Machine.{update}
 use Rattle.trlab_notes.specs.Notes.{Note, table, told, with_side, known_of, known, range_level, said_by_both, joined, written, chained, learnt, trusted, implies, ranges, said_or_nothing, entry, entry_level}
 use Rattle.trlab_notes.specs.Noted.{note_of, settled}

@@ -1,6 +1,6 @@
 -- What the code keeps of a note: what is said of the places, and what is known of their order.
 use Rattle.std.specs.Prelude.{◌≡◌, ℕ, ◌<◌, ◌≤◌, List, [], nat_eq, slice_index, slice_index_or}
-use Rattle.trlab_code.specs.declared.instruction.TheConstants.{PLACES}
+use Rattle.trlab_bounds.specs.declared.programs.TheConstants.{PLACES}
 use Rattle.trlab_notes.specs.declared.note.Said.{Said}
 use Rattle.trlab_notes.specs.declared.note.Said.TheVariants.{Nothing}
 use Rattle.trlab_notes.specs.declared.rows.Row.{Row}

@@ -5,12 +5,12 @@ use Rattle.trlab_code.specs.declared.kind.Kind.TheVariants.{Motion, Change}
 use Rattle.trlab_code.specs.declared.instruction.Input.TheVariants.{Speed, Limit}
 use Rattle.trlab_code.specs.declared.instruction.Instr.{Instr}
 use Rattle.trlab_code.specs.declared.instruction.Instr.TheVariants.{Num, Get, Side, Draw, Copy, Add, Sub, Mul, Div, Min, Max, Not, And, Or, Jump, JumpLess, JumpAtMost, JumpTrue, JumpFalse, Go, Cross, Stay}
-use Rattle.trlab_code.specs.declared.view.TheConstants.{GREATEST_LIMIT, GREATEST_GAP}
+use Rattle.trlab_bounds.specs.declared.roads.TheConstants.{GREATEST_LIMIT, GREATEST_GAP}
 use Rattle.trlab_code.specs.Machine.{place, input_place, update}
 use Rattle.trlab_code.specs.Flow.{target}
 use Rattle.trlab_notes.specs.declared.note.Said.{Said}
 use Rattle.trlab_notes.specs.declared.note.Said.TheVariants.{Nothing, Between, Implies}
-use Rattle.trlab_code.specs.declared.instruction.TheConstants.{PLACES}
+use Rattle.trlab_bounds.specs.declared.programs.TheConstants.{PLACES}
 
 -- the greatest number that a register can hold
 abbrev pub greatest_number : ℕ

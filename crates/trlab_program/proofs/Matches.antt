@@ -17,7 +17,7 @@ use Rattle.clap.specs.declared.builder.value_parser.ValueParser.TheVariants.{Sig
 use Rattle.clap.proofs.OnLiterals.{clap_on_literals}
 use Rattle.clap.proofs.CallerReads.{signed_reads}
 use Rattle.clap.proofs.ValueTestLemmas.{accepts-Accepts}
-use Rattle.trlab_campaign.specs.declared.run.TheConstants.{MOST_WORKERS}
+use Rattle.trlab_bounds.specs.declared.runs.TheConstants.{MOST_WORKERS}
 use Rattle.trlab_program.specs.Asked.{GivesNumber}
 use Rattle.trlab_program.specs.CommandLine.{command_line}
 use Rattle.trlab_program.proofs.CommandLine.{Taken, check, check_level, run_level, enters_check, enters_run, run, taken, workers_value}

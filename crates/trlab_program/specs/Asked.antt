@@ -4,7 +4,7 @@ use Rattle.std.specs.Str.Parse.{digits_value, without_leading_plus}
 use Rattle.clap.specs.Words.{Row, Text, one_of}
 use Rattle.trlab_program.specs.declared.words.Wanted.{Wanted}
 use Rattle.trlab_program.specs.declared.words.Wanted.TheVariants.{Check, Run}
-use Rattle.trlab_campaign.specs.declared.run.TheConstants.{MOST_WORKERS}
+use Rattle.trlab_bounds.specs.declared.runs.TheConstants.{MOST_WORKERS}
 
 -- among the matches of a command, the value of the option is the decimal numeral of this number
 abbrev pub GivesNumber : Text → List Row → ℕ → Type 0

@@ -3,7 +3,7 @@ use Rattle.std.specs.Prelude.{[], ◌∷◌, Some, codes, pos, true}
 use Rattle.clap.specs.Words.{App, Rule, new_app, new_rule, with_rule, with_subcommand}
 use Rattle.clap.specs.Simple.{on_top}
 use Rattle.clap.specs.declared.builder.value_parser.ValueParser.TheVariants.{Signed}
-use Rattle.trlab_campaign.specs.declared.run.TheConstants.{MOST_WORKERS}
+use Rattle.trlab_bounds.specs.declared.runs.TheConstants.{MOST_WORKERS}
 
 -- the option `--workers n`: an integer from 1 to MOST_WORKERS, and 1 where the words give none
 abbrev pub workers_option : Rule

@@ -5,7 +5,7 @@ ghost use Rattle.std.specs.Io.KnownBytes.{Keeps};
 ghost use Rattle.trlab_campaign.specs.Device.{ConsumesUpTo};
 ghost use Rattle.trlab_campaign.specs.Ending.{EndsSo, OnWhole};
 ghost use Rattle.trlab_campaign.specs.declared.end.End.TheVariants.{DeviceFault};
-ghost use Rattle.trlab_texts.specs.declared.limits.TheConstants.{TEXT_LIMIT};
+ghost use Rattle.trlab_bounds.specs.declared.texts.TheConstants.{TEXT_LIMIT};
 ghost use Rattle.trlab_program.specs.Asked.{HasCounts};
 ghost use Rattle.trlab_program.specs.Commands.{output_of};
 

@@ -4,7 +4,7 @@ use Rattle.std.proofs.lemmas.Bool.{cases_lt, cases_order}
 use Rattle.std.proofs.lemmas.Bool.Decides.{eqb_tells}
 use Rattle.trlab_road.specs.declared.fault.RoadFault.{RoadFault}
 use Rattle.trlab_road.specs.declared.fault.RoadFault.TheVariants.{Lanes, Length, Limit, Character, SpeedAboveLimit, Memory}
-use Rattle.trlab_road.specs.declared.bounds.TheConstants.{GREATEST_LENGTH, GREATEST_LIMIT, MOST_LANES}
+use Rattle.trlab_bounds.specs.declared.roads.TheConstants.{GREATEST_LENGTH, GREATEST_LIMIT, MOST_LANES}
 use Rattle.trlab_road.specs.Cells.{Cells}
 use Rattle.trlab_road.specs.Legal.{Legal}
 use Rattle.trlab_road.specs.Pictures.{EqualLanes, FewLanes, FirstBad, FirstFault, GoodPictures, LimitFits, NumberedInOrder, Shows, ShowsCell, ShowsSpeed, byte_at, drawn_lanes, empty_byte, picture, picture_at}

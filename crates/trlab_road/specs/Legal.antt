@@ -1,6 +1,6 @@
 -- Roads that rules can run on.
 use Rattle.std.specs.Prelude.{◌≡◌, ℕ, ◌<◌, ◌≤◌, Some, length}
-use Rattle.trlab_road.specs.declared.bounds.TheConstants.{GREATEST_LIMIT, GREATEST_LENGTH, MOST_LANES}
+use Rattle.trlab_bounds.specs.declared.roads.TheConstants.{GREATEST_LIMIT, GREATEST_LENGTH, MOST_LANES}
 use Rattle.trlab_road.specs.Cells.{Cells, cell, lane_of, cars}
 
 -- a legal road: bounds on lanes, length and limit, no speed above the limit, and each car,

@@ -1,6 +1,6 @@
 -- Roads on which cars stand evenly spread, with speed 0.
 use Rattle.std.specs.Prelude.{◌≡◌, ℕ, ◌*◌, ◌/◌, ◌%◌, ◌<◌, ◌≤◌, Some, length}
-use Rattle.trlab_road.specs.declared.bounds.TheConstants.{GREATEST_LENGTH, MOST_LANES}
+use Rattle.trlab_bounds.specs.declared.roads.TheConstants.{GREATEST_LENGTH, MOST_LANES}
 use Rattle.trlab_road.specs.declared.fault.RoadFault.{RoadFault}
 use Rattle.trlab_road.specs.declared.fault.RoadFault.TheVariants.{Lanes, Length, Limit, Character, SpeedAboveLimit, Memory, TooManyCars}
 use Rattle.trlab_road.specs.Cells.{Lane, Cells, at, lane_of}

@@ -2,7 +2,7 @@
 //! merged with those that come.
 
 ghost use Rattle.std.specs.Prelude.{◌≡◌, ◌+◌, ◌<◌, ◌≤◌, ℕ, length, sum_by, IfOk, slice_index_or, true, false, Option};
-ghost use Rattle.trlab_road.specs.declared.bounds.TheConstants.{GREATEST_LENGTH};
+ghost use Rattle.trlab_bounds.specs.declared.roads.TheConstants.{GREATEST_LENGTH};
 ghost use Rattle.trlab_road.specs.Cells.{Cells, lane_cars};
 ghost use Rattle.trlab_road.specs.Crossing.{Crosses, LaneCrosses, LaneLeaves, crosses_at, crossing, lane_crosses_at};
 ghost use Rattle.trlab_road.specs.Lists.{Rises, Rising, Sorted, Sought, StandsAt, cell_at, cell_of_car, cells_of, lanes_from, place_of};

@@ -1,7 +1,7 @@
 //! Gaps along a lane, from its list of cars by rising place.
 
 ghost use Rattle.std.specs.Prelude.{◌≡◌, ◌<◌, ◌≤◌, ℕ, length};
-ghost use Rattle.trlab_road.specs.declared.bounds.TheConstants.{GREATEST_LENGTH};
+ghost use Rattle.trlab_bounds.specs.declared.roads.TheConstants.{GREATEST_LENGTH};
 ghost use Rattle.trlab_road.specs.Gaps.{behind, clear_cells, gap};
 ghost use Rattle.trlab_road.specs.Lists.{Parted, Rises, cells_of, place_of};
 

@@ -1,7 +1,7 @@
 //! The lanes of a road, each the list of its cars by rising place.
 
 ghost use Rattle.std.specs.Prelude.{ℕ, ◌≡◌, ◌<◌, ◌≤◌, ◌↔◌, IsTrue, IfOk, length, slice_index_or, sum_by};
-ghost use Rattle.trlab_road.specs.declared.bounds.TheConstants.{GREATEST_LENGTH, MOST_LANES};
+ghost use Rattle.trlab_bounds.specs.declared.roads.TheConstants.{GREATEST_LENGTH, MOST_LANES};
 ghost use Rattle.trlab_road.specs.Lists.{FoundAt, list_at, lists_of, no_car, on};
 
 use crate::car::Car;

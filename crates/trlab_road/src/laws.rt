@@ -3,7 +3,6 @@
 //!
 //! Each law is the contract of a function with nothing to do.
 
-ghost use Rattle.std.specs.Prelude.{◌≡◌};
 ghost use Rattle.trlab_road.specs.Laws.{LegalRoadShown, NoFaultInGood, OneFirstFault, OneRoadShown};
 ghost use Rattle.trlab_road.specs.Laws.{PicturesOfLegalRoads, PicturesSayOneThing, PicturesSaySomething, PicturesSayTheRoad};
 ghost use Rattle.trlab_road.specs.Laws.{AllNumbersStand, MotionByCars, MotionIsClean, MotionKeepsCars};
@@ -12,15 +11,6 @@ ghost use Rattle.trlab_road.specs.Laws.{CrossingByCars, CrossingIsClean, Crossin
 ghost use Rattle.trlab_road.specs.Laws.{OneRoadAfterCrossing};
 ghost use Rattle.trlab_road.specs.Laws.{EvenRoadHasAllCars, EvenRoadIsLegal, NoFaultInFitting, OneEvenFault, OneEvenRoad};
 ghost use Rattle.trlab_road.specs.Laws.{EvenSaysOneThing, EvenSaysSomething};
-
-use crate::bounds::{GREATEST_LENGTH, GREATEST_LIMIT, MOST_LANES};
-
-/// The bounds of roads.
-pub fn numbers()
-    ensures limit { GREATEST_LIMIT ≡ 9 }
-    ensures length { GREATEST_LENGTH ≡ 100000 }
-    ensures lanes { MOST_LANES ≡ 2 }
-{}
 
 /// Pictures show one road, which is legal where they are good, and else have one first fault.
 pub fn pictures_show_one_road()

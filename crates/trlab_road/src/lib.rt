@@ -2,7 +2,6 @@
 //! evenly spread cars.
 #![tactic(auto)]
 
-pub mod bounds;
 mod car;
 mod crossing;
 mod fault;
@@ -21,6 +20,3 @@ pub use car::Car;
 pub use fault::RoadFault;
 pub use road::Road;
 pub use side::Beside;
-
-#[cfg(test)]
-mod tests;

@@ -1,7 +1,7 @@
 //! The motion phase: the cars of each lane go ahead at once.
 
 ghost use Rattle.std.specs.Prelude.{◌≡◌, ◌+◌, ◌≤◌, length, IfOk, sum_by};
-ghost use Rattle.trlab_road.specs.declared.bounds.TheConstants.{GREATEST_LENGTH};
+ghost use Rattle.trlab_bounds.specs.declared.roads.TheConstants.{GREATEST_LENGTH};
 ghost use Rattle.trlab_road.specs.Cells.{lane_cars};
 ghost use Rattle.trlab_road.specs.Motion.{LaneFits, LaneMoves, lane_answer};
 ghost use Rattle.trlab_road.specs.Lists.{ListsFit, ListsMove, Rises, Sorted, cells_of, lanes_from};

@@ -1,13 +1,13 @@
 //! Cells and speeds as bytes of pictures.
 
 ghost use Rattle.std.specs.Prelude.{◌≡◌, ◌<◌, ◌≤◌, ◌↔◌, ℕ, IfOk, IsTrue, length, slice_index_or};
-ghost use Rattle.trlab_road.specs.declared.bounds.TheConstants.{GREATEST_LIMIT};
+ghost use Rattle.trlab_bounds.specs.declared.roads.TheConstants.{GREATEST_LIMIT};
 ghost use Rattle.trlab_road.specs.Lists.{Rises, cells_of, no_car};
 ghost use Rattle.trlab_road.specs.Pictures.{ShowsCell, ShowsSpeed, byte_speed, picture, speed_byte};
 
-use crate::bounds::GREATEST_LIMIT;
 use crate::lane_car::LaneCar;
 use std::alloc::{AllocError, Global};
+use trlab_bounds::roads::GREATEST_LIMIT;
 
 /// The byte of an empty cell.
 pub const EMPTY: u8 = b'.';

@@ -1,15 +1,15 @@
 //! Reads pictures of roads.
 
 ghost use Rattle.std.specs.Prelude.{◌≡◌, ◌*◌, ◌<◌, ◌≤◌, ◌↔◌, ℕ, length, IfOk, MatchResult, IsTrue, slice_index, EachIndex};
-ghost use Rattle.trlab_road.specs.declared.bounds.TheConstants.{GREATEST_LIMIT, GREATEST_LENGTH, MOST_LANES};
+ghost use Rattle.trlab_bounds.specs.declared.roads.TheConstants.{GREATEST_LIMIT, GREATEST_LENGTH, MOST_LANES};
 ghost use Rattle.trlab_road.specs.Lists.{Rises, Sorted, cells_of, lanes_from};
 ghost use Rattle.trlab_road.specs.Pictures.{EqualLanes, FewLanes, FirstFault, GoodPictures, ShowsCell, drawn_lane, drawn_lanes, picture_at, pictures_of};
 
-use crate::bounds::{GREATEST_LENGTH, GREATEST_LIMIT, MOST_LANES};
 use crate::fault::RoadFault;
 use crate::lane_car::LaneCar;
 use crate::picture::{EMPTY, byte_speed, shows_cell, shows_speed};
 use std::alloc::{AllocError, Global};
+use trlab_bounds::roads::{GREATEST_LENGTH, GREATEST_LIMIT, MOST_LANES};
 
 /// The place of the first byte that shows no cell, or the length.
 pub fn first_bad(limit: u32, picture: &[u8]) -> usize

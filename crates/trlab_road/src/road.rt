@@ -1,7 +1,7 @@
 //! A road, kept as the list of the cars of each lane by rising place.
 
 ghost use Rattle.std.specs.Prelude.{◌≡◌, ◌≢◌, ◌⊎◌, ◌<◌, ◌≤◌, ◌↔◌, ℕ, Bool, length, slice_get, Some, slice_index, slice_index_or, false, IfOk, IsTrue, MatchResult};
-ghost use Rattle.trlab_road.specs.declared.bounds.TheConstants.{GREATEST_LENGTH};
+ghost use Rattle.trlab_bounds.specs.declared.roads.TheConstants.{GREATEST_LENGTH};
 ghost use Rattle.trlab_road.specs.declared.car.Car.{Car};
 ghost use Rattle.trlab_road.specs.declared.fault.RoadFault.{RoadFault};
 ghost use Rattle.trlab_road.specs.Cells.{Cells, cars, cell, lane_of};
@@ -9,9 +9,9 @@ ghost use Rattle.trlab_road.specs.Gaps.{gap, side, sideback, sidegap};
 ghost use Rattle.trlab_road.specs.Standing.{standing};
 ghost use Rattle.trlab_road.specs.Legal.{Legal};
 ghost use Rattle.trlab_road.specs.Pictures.{FirstFault, Shows, picture, pictures_of};
-ghost use Rattle.trlab_road.specs.Crossing.{CleanCrossing, CrossAllowed, Crosses, crosses_at, other_lane, sides};
+ghost use Rattle.trlab_road.specs.Crossing.{CleanCrossing, CrossAllowed, Crosses, other_lane, sides};
 ghost use Rattle.trlab_road.specs.Spreading.{CanSpread, Even, EvenFault};
-ghost use Rattle.trlab_road.specs.Motion.{Allowed, CleanMotion, Moves, answer_at, gaps, in_order};
+ghost use Rattle.trlab_road.specs.Motion.{Allowed, CleanMotion, Moves, gaps, in_order};
 
 use crate::car::Car;
 use crate::crossing::crossed_lanes;
@@ -274,7 +274,6 @@ impl Road {
     /// standing order and gives the new speeds.
     pub fn moved(&self, alloc: Global, speeds: &[u32]) -> Result<Road, AllocError>
         requires { Allowed self.now speeds.now }
-        ensures goes { IfOk result (λ next. Moves (answer_at self.now speeds.now) self.now next) }
         ensures moves { IfOk result (λ next. (answer : ℕ → ℕ → ℕ)
             → speeds.now ≡ in_order answer self.now → Moves answer self.now next) }
         ensures clean { IfOk result (λ next. CleanMotion self.now next) }
@@ -292,9 +291,7 @@ impl Road {
     /// in standing order.
     pub fn crossed(&self, alloc: Global, crosses: &[bool]) -> Result<Road, AllocError>
         requires { CrossAllowed self.now crosses.now }
-        ensures crosses { IfOk result (λ next.
-            Crosses (crosses_at self.now crosses.now) self.now next) }
-        ensures by_cars { IfOk result (λ next. (answer : ℕ → ℕ → Bool)
+        ensures crosses { IfOk result (λ next. (answer : ℕ → ℕ → Bool)
             → crosses.now ≡ in_order answer self.now → Crosses answer self.now next) }
         ensures clean { IfOk result (λ next. CleanCrossing self.now next) }
         ensures legal { IfOk result (λ next. Legal next) }

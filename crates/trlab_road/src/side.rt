@@ -1,7 +1,7 @@
 //! The side cell of a car and the gaps beside it, by a search of the other lane's list.
 
 ghost use Rattle.std.specs.Prelude.{◌≡◌, ◌<◌, ◌≤◌, nat_lt};
-ghost use Rattle.trlab_road.specs.declared.bounds.TheConstants.{GREATEST_LENGTH};
+ghost use Rattle.trlab_bounds.specs.declared.roads.TheConstants.{GREATEST_LENGTH};
 ghost use Rattle.trlab_road.specs.Gaps.{side, sideback, sidegap};
 ghost use Rattle.trlab_road.specs.Lists.{Rises, Rising, Sought, cells_of};
 

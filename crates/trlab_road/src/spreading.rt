@@ -1,14 +1,14 @@
 //! Spreads cars evenly over lanes.
 
 ghost use Rattle.std.specs.Prelude.{◌≡◌, ◌*◌, ◌<◌, ◌≤◌, ℕ, length, IfOk, MatchResult};
-ghost use Rattle.trlab_road.specs.declared.bounds.TheConstants.{GREATEST_LENGTH, MOST_LANES};
+ghost use Rattle.trlab_bounds.specs.declared.roads.TheConstants.{GREATEST_LENGTH, MOST_LANES};
 ghost use Rattle.trlab_road.specs.Lists.{Sorted, cells_of, list_at};
 ghost use Rattle.trlab_road.specs.Spreading.{CanSpread, EvenFault, LaneEven};
 
-use crate::bounds::{GREATEST_LENGTH, GREATEST_LIMIT, MOST_LANES};
 use crate::fault::RoadFault;
 use crate::lane_car::LaneCar;
 use std::alloc::{AllocError, Global};
+use trlab_bounds::roads::{GREATEST_LENGTH, GREATEST_LIMIT, MOST_LANES};
 
 /// Finds the first fault of lanes of so many cells, a limit and a count of cars.
 pub fn check_even(lanes: u32, cells: u32, limit: u32, count: u32) -> Result<(), RoadFault>

@@ -1,16 +1,13 @@
 //! Laws of the standard rules: what their programs answer is what was published.
 
 ghost use Rattle.std.specs.Prelude.{◌≡◌, ◌≤◌, ℕ};
-ghost use Rattle.trlab_words.specs.declared.chance.TheConstants.{CERTAIN as CERTAIN_CHANCE};
-ghost use Rattle.trlab_code.specs.declared.program.TheConstants.{CERTAIN as CERTAIN_DRAW};
 ghost use Rattle.trlab_rules.specs.Published.{calmed, wording_1992, nasch_speed, vdr_speed, rickert_crosses};
 ghost use Rattle.trlab_rules.specs.Standard.{nasch_program, vdr_program, rickert_program};
 ghost use Rattle.trlab_rules.specs.Laws.{MovesBy, ChangesBy, DrawsHappenAsChances};
 
-/// A chance and a draw of a program count parts of one whole, and happen on the same words.
+/// A chance and a draw of a program happen on the same words.
 pub fn chances_are_those_of_draws()
-    ensures certain { CERTAIN_CHANCE ≡ CERTAIN_DRAW }
-    ensures happens { DrawsHappenAsChances }
+    ensures { DrawsHappenAsChances }
 {}
 
 /// The motion program of 1992 answers the speed of Nagel and Schreckenberg.

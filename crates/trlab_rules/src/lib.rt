@@ -7,8 +7,6 @@ pub mod laws;
 mod programs;
 mod rule;
 mod standard;
-#[cfg(test)]
-mod tests;
 mod wording;
 
 pub use fault::StandardFault;

@@ -5,8 +5,7 @@ use Rattle.std.specs.Prelude.{Some, None, nat_le}
 use Rattle.std.specs.List.{AllWithin}
 use Rattle.std.specs.List.Sorted.{IsNonDecreasingBy}
 use Rattle.trlab_rules.specs.Rules.{Programs}
-use Rattle.trlab_step.specs.Run.{Sheet, in_force}
-use Rattle.trlab_run.specs.Sheets.{Rises}
+use Rattle.trlab_step.specs.Run.{Sheet, Rises, in_force}
 
 -- no later rule is before the first of them
 all_late : (least : ℕ) (later : Sheet) (k : ℕ) (d : ℕ × Programs) → Rises least later → k < length later → least ≤ (get_or later k d).0

@@ -28,7 +28,7 @@ rule_here run rule on under =
 
 -- a sheet of one rule for some lanes is one for them
 pub lone_sheet : (lanes : ℕ) (rule : Programs) → IsRuleFor lanes rule → IsSheetFor lanes ((0, rule) ∷ [])
-lone_sheet lanes rule is = record { from_start = refl; rules = one }
+lone_sheet lanes rule is = record { is_sheet = (refl, tt); rules = one }
   where
     one : All (λ (entry : ℕ × Programs). IsRuleFor lanes entry.1) ((0, rule) ∷ [])
     one zero d below = is
@@ -53,7 +53,7 @@ one_more false step before sum tally small few is =
 -- so is what a run has counted
 pub small_sum : (seed : Seed) (sheet : Sheet) (step : ℕ) (road : Cells) (sum : StepTally) → Legal seed.road → IsSheetFor (length seed.road.lanes) sheet
     → ComesTo seed sheet step road sum → IsSmallSum step sum
-small_sum seed sheet zero road sum legal suits comes = rw comes.1 (record { distance = omega arith; stopped = omega arith; changes = omega arith })
+small_sum seed sheet zero road sum legal suits comes = rw comes.2 (record { distance = omega arith; stopped = omega arith; changes = omega arith })
 small_sum seed sheet (suc step) road sum legal suits comes =
     let before = like_start seed sheet step comes.0 comes.1 legal suits comes.4 in
     let after = like_start seed sheet (suc step) road sum legal suits comes in

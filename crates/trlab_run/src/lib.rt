@@ -7,6 +7,3 @@ mod totals;
 
 pub use run::Run;
 pub use sheet::Sheet;
-
-#[cfg(test)]
-mod tests;

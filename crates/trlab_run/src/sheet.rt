@@ -1,9 +1,8 @@
 //! Sheets of rules: which rule is in force at a step.
 
-ghost use Rattle.std.specs.Prelude.{◌≡◌, ◌∷◌, ◌<◌, Some, ℕ};
+ghost use Rattle.std.specs.Prelude.{◌≡◌, ◌<◌, Some, ℕ};
 ghost use Rattle.trlab_rules.specs.Rules.{Programs};
-ghost use Rattle.trlab_step.specs.Run.{in_force};
-ghost use Rattle.trlab_run.specs.Sheets.{Rises};
+ghost use Rattle.trlab_step.specs.Run.{Rises, in_force, sheet_with};
 
 use std::marker::Model;
 use trlab_rules::Rule;
@@ -17,22 +16,24 @@ pub struct Sheet {
 
 impl Model for Sheet {
     ghost use Rattle.std.specs.Prelude.{◌∷◌};
-    ghost use Rattle.trlab_run.specs.Sheets.{Rises};
-    ghost use Rattle.trlab_step.specs.Run.{Sheet as Rules};
+    ghost use Rattle.trlab_step.specs.Run.{Rises, Sheet as Rules};
 
     ghost Value = { Rules };
 
     ghost view = { λ sheet. (0, sheet.first) ∷ sheet.later.items };
 
-    ghost invariant = { λ sheet. Rises 0 sheet.later.items };
+    ghost invariant = { λ sheet. Rises 1 sheet.later.items };
 }
 
 impl Sheet {
-    /// The sheet of a first rule and of later ones, whose steps rise.
-    pub fn new(first: Rule, later: Vec<(u32, Rule)>) -> Sheet
+    /// The sheet of a first rule and of later ones, whose steps rise; a later one from step 0 on
+    /// stands in place of the first.
+    pub fn new(first: Rule, mut later: Vec<(u32, Rule)>) -> Sheet
         requires { Rises 0 later.items }
-        ensures { result ≡ (0, first) ∷ later.items }
+        ensures { result ≡ sheet_with first later.items }
     {
+        let begins = later.first().is_some_and(|entry| entry.0 == 0);
+        let first = if begins { later.remove(0).1 } else { first };
         Sheet { first, later }
     }
 

@@ -1,6 +1,7 @@
 pub mod AnswersExist
 pub mod NextLaws
 pub mod RunLaws
+pub mod Sheets
 pub mod Totals
 pub mod Parts
 pub mod Stepped

@@ -1,12 +1,12 @@
 -- Runs under a sheet of rules: each step has a road, and one only.
 use Rattle.std.proofs.Common.{◌≡◌, ℕ, zero, suc, Bool, true, false, Option, Some, None, [], ◌∷◌, refl, sym, ◌∙◌, ap, subst, inl, inr, ◌⊎◌, length, arith}
-use Rattle.std.proofs.lemmas.Bool.{leb-true, le-leb}
-use Rattle.std.specs.Prelude.{All, IsSome, nat_le, unwrap_or, if◌then◌else◌}
+use Rattle.std.proofs.lemmas.Bool.{le-leb}
+use Rattle.std.specs.Prelude.{All, nat_le, unwrap_or, if◌then◌else◌}
 use Rattle.trlab_road.specs.Cells.{Cells}
 use Rattle.trlab_rules.specs.Rules.{Programs}
 use Rattle.trlab_step.specs.declared.tally.StepTally.{StepTally}
 use Rattle.trlab_step.specs.Next.{IsNext}
-use Rattle.trlab_step.specs.Run.{Seed, Sheet, in_force, no_tally, tally_sum, dice_at, RoadAt, TallyAt}
+use Rattle.trlab_step.specs.Run.{Seed, Sheet, IsSheet, in_force, no_tally, tally_sum, dice_at, RoadAt, TallyAt}
 use Rattle.trlab_step.specs.Laws.{IsRuleFor, LegalLike, RoadExists, RoadIsOne, RunGoesOn}
 use Rattle.trlab_step.proofs.NextLaws.{like_itself, like_next, next_road_exists, next_road_is_one}
 
@@ -25,16 +25,12 @@ force_all P (entry ∷ sheet) step rule all h =
       | inr later ↦ force_all P sheet step rule (λ k d below. all (suc k) d (omega arith)) later
     ]
 
-has_begun : (b : Bool) (rule : Programs) → IsSome (if b then Some rule else None) → b ≡ true
-has_begun true rule h = refl
-has_begun false rule h = absurd cc
-
--- a sheet that begins at step 0 has a rule in force at each step
-pub some_force : (sheet : Sheet) (step : ℕ) → IsSome (in_force sheet 0) → (rule : Programs) × (in_force sheet step ≡ Some rule)
-some_force [] step h = absurd cc
-some_force (entry ∷ sheet) step h =
-    let early = leb-true entry.0 0 (has_begun (nat_le entry.0 0) (unwrap_or (in_force sheet 0) entry.1) h) in
-    (unwrap_or (in_force sheet step) entry.1, rw (le-leb entry.0 step (omega arith)) refl)
+-- a sheet has a rule in force at each step
+pub some_force : (sheet : Sheet) (step : ℕ) → IsSheet sheet → (rule : Programs) × (in_force sheet step ≡ Some rule)
+some_force [] step is = absurd is
+some_force (entry ∷ later) step is =
+    let begins = is.0 in
+    (unwrap_or (in_force later step) entry.1, rw (le-leb entry.0 step (omega arith)) refl)
 
 -- a run goes on from its road at a step to the next road under the rule in force
 pub run_goes_on : RunGoesOn
@@ -47,10 +43,10 @@ rule_for_like old new rule like is = subst (λ lanes. IsRuleFor lanes rule) (sym
 
 -- a run under a sheet for its lanes comes to a road at each step
 pub run_comes_to_road : RoadExists
-run_comes_to_road seed sheet zero legal is = (seed.road, no_tally, (refl, refl), like_itself seed.road legal)
+run_comes_to_road seed sheet zero legal is = (seed.road, no_tally, (is.is_sheet, refl, refl), like_itself seed.road legal)
 run_comes_to_road seed sheet (suc step) legal is =
     let before = run_comes_to_road seed sheet step legal is in
-    let rule = some_force sheet step is.from_start in
+    let rule = some_force sheet step is.is_sheet in
     let of_sheet = force_all (IsRuleFor (length seed.road.lanes)) sheet step rule.0 is.rules rule.1 in
     let next = next_road_exists rule.0 (dice_at seed step) before.0 (rule_for_like seed.road before.0 rule.0 before.3 of_sheet) before.3.legal in
     let sum = if nat_le seed.warm step then tally_sum before.1 next.1 else before.1 in
@@ -60,7 +56,7 @@ one_rule : {a b : Programs} → Some a ≡ Some b → a ≡ b
 one_rule h = cc
 
 pub road_is_one : RoadIsOne
-road_is_one seed sheet zero road other sum count a b = (a.0 ∙ sym b.0, a.1 ∙ sym b.1)
+road_is_one seed sheet zero road other sum count a b = (a.1 ∙ sym b.1, a.2 ∙ sym b.2)
 road_is_one seed sheet (suc step) road other sum count a b =
     let before = road_is_one seed sheet step a.0 b.0 a.1 b.1 a.4 b.4 in
     let rule = one_rule (sym a.5.under ∙ b.5.under) in

@@ -1,6 +1,6 @@
 -- The answers of all cars lead through the two phases of a step.
-use Rattle.std.proofs.Common.{◌≡◌, ℕ, Some, List, sym, ◌∙◌, arith}
-use Rattle.std.specs.Prelude.{Bool, false, length, count_by, nat_eq, sum}
+use Rattle.std.proofs.Common.{◌≡◌, ℕ, Some, None, List, refl, sym, ◌∙◌, ap, arith}
+use Rattle.std.specs.Prelude.{Bool, Option, false, length, count_by, nat_eq, sum}
 use Rattle.trlab_verify.specs.Checked.{Checked}
 use Rattle.trlab_road.specs.Cells.{Cells, cars}
 use Rattle.trlab_road.specs.Crossing.{Crosses, crosses_at}
@@ -8,6 +8,7 @@ use Rattle.trlab_road.specs.Motion.{Moves, answer_at, in_order}
 use Rattle.trlab_machine.specs.declared.dice.Dice.{Dice}
 use Rattle.trlab_step.specs.Answers.{SpeedsPart, FitsPart, CrossersPart}
 use Rattle.trlab_step.specs.Next.{total_speed, stopped_cars, Sideways, Onward}
+use Rattle.trlab_step.specs.Laws.{CrossByAnswers, AnswersLeadOn}
 use Rattle.trlab_step.proofs.Parts.{whole_allowed, whole_speeds, whole_crossers}
 use Rattle.trlab_step.proofs.Totals.{answers_in_order, total_speed-moved, stopped_cars-moved, crossing_cars-counted}
 
@@ -42,3 +43,23 @@ module _ (motion : Checked) (dice : Dice) (road next : Cells) (speeds : List ℕ
   pub all_stood : (stopped : ℕ) → SpeedsPart motion dice road 0 (cars road) speeds → FitsPart road 0 speeds → Moves (answer_at road speeds) road next
       → stopped ≡ count_by (λ speed. nat_eq speed 0) speeds → stopped ≡ stopped_cars next
   all_stood stopped part fits moves stood = stood ∙ sym (stopped_cars-moved road next speeds (whole_allowed motion dice road speeds part fits) moves)
+
+-- whoever asks the cars, who cross by their answers or do not cross
+crossed_by_answers : (change : Option Checked) (dice : Dice) (road middle : Cells) (crosses : List Bool) → CrossByAnswers change dice road middle crosses
+    → Sideways change dice road middle (count_by (λ c. c) crosses)
+crossed_by_answers None dice road middle crosses by = (by.0, ap (λ cs. count_by (λ c. c) cs) by.1)
+crossed_by_answers (Some change) dice road middle crosses by =
+    crossed_sideways change dice road middle crosses (count_by (λ c. c) crosses) by.0 by.1 by.2 refl
+
+-- and who then go ahead by theirs, the next road is come to
+pub answers_lead_on : AnswersLeadOn
+answers_lead_on rule dice road middle next crosses speeds cross go =
+    let moves = moved_by_place rule.motion dice middle next speeds go.answers go.moves in (
+      middle,
+      record {
+        sideways = crossed_by_answers rule.change dice road middle crosses cross;
+        onward = moved_onward rule.motion dice middle next speeds go.answers moves;
+        distance = all_gone rule.motion dice middle next speeds (sum speeds) go.answers go.fits moves refl;
+        stopped = all_stood rule.motion dice middle next speeds (count_by (λ speed. nat_eq speed 0) speeds) go.answers go.fits moves refl;
+      },
+    )

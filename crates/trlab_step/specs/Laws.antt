@@ -1,15 +1,17 @@
 -- Laws of answers, steps and runs, whichever code asks the cars and moves them.
-use Rattle.std.specs.Prelude.{◌≡◌, ◌≤◌, ◌++◌, ℕ, suc, Bool, Some, List, All, IfSome, IsSome, length, nat_le, if◌then◌else◌}
+use Rattle.std.specs.Prelude.{◌≡◌, ◌≤◌, ◌++◌, ℕ, suc, Bool, Option, Some, None, List, [], All, IfSome, IsSome, length, sum, count_by, nat_eq, nat_le, if◌then◌else◌}
 use Rattle.trlab_code.specs.declared.kind.Kind.TheVariants.{Motion, Change}
 use Rattle.trlab_verify.specs.Checked.{Checked, IsChecked}
 use Rattle.trlab_road.specs.Cells.{Cells, cars}
 use Rattle.trlab_road.specs.Legal.{Legal}
+use Rattle.trlab_road.specs.Crossing.{Crosses}
+use Rattle.trlab_road.specs.Motion.{Moves, in_order}
 use Rattle.trlab_rules.specs.Rules.{Programs}
 use Rattle.trlab_step.specs.declared.tally.StepTally.{StepTally}
 use Rattle.trlab_machine.specs.declared.dice.Dice.{Dice}
-use Rattle.trlab_step.specs.Answers.{SpeedsPart, CrossersPart}
+use Rattle.trlab_step.specs.Answers.{SpeedsPart, FitsPart, CrossersPart}
 use Rattle.trlab_step.specs.Next.{IsNext, IsCleanNext}
-use Rattle.trlab_step.specs.Run.{Seed, Sheet, in_force, tally_sum, dice_at, ComesTo}
+use Rattle.trlab_step.specs.Run.{Seed, Sheet, IsSheet, in_force, tally_sum, dice_at, ComesTo}
 
 -- a rule for roads of so many lanes: accepted programs; a change program wants two lanes
 pub record IsRuleFor (lanes : ℕ) (rule : Programs) : Type 0 where
@@ -17,9 +19,9 @@ pub record IsRuleFor (lanes : ℕ) (rule : Programs) : Type 0 where
   pub change : IfSome rule.change (λ change. IsChecked Change change)
   pub two_lanes : IsSome rule.change → lanes ≡ 2
 
--- a sheet for roads of so many lanes: it begins at step 0, and each of its rules is one for them
+-- a sheet for roads of so many lanes: each of its rules is one for them
 pub record IsSheetFor (lanes : ℕ) (sheet : Sheet) : Type 0 where
-  pub from_start : IsSome (in_force sheet 0)
+  pub is_sheet : IsSheet sheet
   pub rules : All (λ (entry : ℕ × Programs). IsRuleFor lanes entry.1) sheet
 
 -- a legal road with as many lanes and cars as another, and its limit
@@ -56,6 +58,36 @@ CrossersJoin =
     (change : Checked) (dice : Dice) (road : Cells) (from middle to : ℕ) (first second : List Bool)
     → CrossersPart change dice road from middle first → CrossersPart change dice road middle to second
     → CrossersPart change dice road from to (first ++ second)
+
+-- where there is a change program, all cars of a road answer in standing order whether they cross, and
+-- those that do go over at once; where there is none, no car is asked
+abbrev pub CrossByAnswers : Option Checked → Dice → Cells → Cells → List Bool → Type 0
+CrossByAnswers None dice road middle crosses = (middle ≡ road) × (crosses ≡ [])
+CrossByAnswers (Some change) dice road middle crosses =
+    (length road.lanes ≡ 2) × CrossersPart change dice road 0 (cars road) crosses
+    × ((answer : ℕ → ℕ → Bool) → crosses ≡ in_order answer road → Crosses answer road middle)
+
+-- all cars of a road answer their speeds in standing order, and go ahead at once
+pub record GoByAnswers (motion : Checked) (dice : Dice) (road next : Cells) (speeds : List ℕ) : Type 0 where
+  pub answers : SpeedsPart motion dice road 0 (cars road) speeds
+  pub fits : FitsPart road 0 speeds
+  pub moves : (answer : ℕ → ℕ → ℕ) → speeds ≡ in_order answer road → Moves answer road next
+
+-- what is counted of answers: the cells that the cars go, how many cars stand, and how many cross
+abbrev pub answered_tally : List Bool → List ℕ → StepTally
+answered_tally crosses speeds = record {
+  distance = sum speeds;
+  stopped = count_by (λ speed. nat_eq speed 0) speeds;
+  changes = count_by (λ crosses. crosses) crosses;
+}
+
+-- the answers of all cars in standing order lead through the two phases to the next road and its tally
+abbrev pub AnswersLeadOn : Type 0
+AnswersLeadOn =
+    (rule : Programs) (dice : Dice) (road middle next : Cells) (crosses : List Bool) (speeds : List ℕ)
+    → CrossByAnswers rule.change dice road middle crosses
+    → GoByAnswers rule.motion dice middle next speeds
+    → IsNext rule dice road next (answered_tally crosses speeds)
 
 -- each legal road has a next road under a rule for its lanes, which is legal too;
 -- no car goes onto or through another on the way

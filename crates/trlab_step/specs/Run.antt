@@ -1,5 +1,5 @@
 -- Runs: the road at each step from a start on, under a sheet of rules.
-use Rattle.std.specs.Prelude.{◌≡◌, ℕ, zero, suc, ◌+◌, List, [], ◌∷◌, Option, Some, None, nat_le, unwrap_or, if◌then◌else◌}
+use Rattle.std.specs.Prelude.{◌≡◌, ◌≤◌, ◌==◌, ℕ, zero, suc, ◌+◌, List, [], ◌∷◌, Option, Some, None, nat_le, unwrap_or, if◌then◌else◌}
 use Rattle.trlab_road.specs.Cells.{Cells}
 use Rattle.trlab_rules.specs.Rules.{Programs}
 use Rattle.trlab_machine.specs.declared.dice.Dice.{Dice}
@@ -14,9 +14,25 @@ pub record Seed : Type 0 where
   pub number : ℕ
   pub warm : ℕ
 
--- a sheet of rules: from which step on each is in force; the steps rise from 0
+-- rules, each with the step from which on it is in force
 abbrev pub Sheet : Type 0
 Sheet = List (ℕ × Programs)
+
+-- the steps of rules rise, and none is before `least`
+abbrev pub Rises : ℕ → Sheet → Type 0
+Rises least [] = Unit {0}
+Rises least (entry ∷ later) = (least ≤ entry.0) × Rises (entry.0 + 1) later
+
+-- a sheet of rules begins at step 0, and its steps rise
+abbrev pub IsSheet : Sheet → Type 0
+IsSheet [] = ⊥
+IsSheet (first ∷ later) = (first.0 ≡ 0) × Rises 1 later
+
+-- the sheet of a rule from step 0 on and of rules of later steps, whose steps rise; where the first of
+-- these begins at step 0 itself, it stands in place of the other
+abbrev pub sheet_with : Programs → Sheet → Sheet
+sheet_with first [] = (0, first) ∷ []
+sheet_with first (entry ∷ later) = if entry.0 == 0 then entry ∷ later else (0, first) ∷ entry ∷ later
 
 -- the rule in force at a step: that of the last entry that begins there or before
 abbrev pub in_force : Sheet → ℕ → Option Programs
@@ -47,9 +63,9 @@ pub record GoesOn (seed : Seed) (sheet : Sheet) (step : ℕ) (before after : Cel
   pub next : IsNext rule (dice_at seed step) before after tally
   pub counted : sum ≡ (if nat_le seed.warm step then tally_sum sum_before tally else sum_before)
 
--- a run comes to a road and a sum of tallies after its first steps
+-- a run under a sheet of rules comes to a road and a sum of tallies after its first steps
 abbrev pub ComesTo : Seed → Sheet → ℕ → Cells → StepTally → Type 0
-ComesTo seed sheet zero road sum = (road ≡ seed.road) × (sum ≡ no_tally)
+ComesTo seed sheet zero road sum = IsSheet sheet × (road ≡ seed.road) × (sum ≡ no_tally)
 ComesTo seed sheet (suc step) road sum =
     (before : Cells) × (sum_before : StepTally) × (rule : Programs) × (tally : StepTally)
     × ComesTo seed sheet step before sum_before

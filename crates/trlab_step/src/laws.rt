@@ -2,18 +2,9 @@
 //!
 //! Each law is the contract of a function with nothing to do.
 
-ghost use Rattle.std.specs.Prelude.{◌≡◌, ◌+◌};
-ghost use Rattle.trlab_road.specs.declared.bounds.TheConstants.{GREATEST_LENGTH, GREATEST_LIMIT};
-ghost use Rattle.trlab_code.specs.declared.view.TheConstants.{GREATEST_GAP, GREATEST_LIMIT as GREATEST_LIMIT_SEEN};
 ghost use Rattle.trlab_step.specs.Published.{NaschOnCells, RickertOnCells, VdrOnCells};
-ghost use Rattle.trlab_step.specs.Laws.{CrossersAreOne, CrossersJoin, SpeedsAreOne, SpeedsJoin};
+ghost use Rattle.trlab_step.specs.Laws.{AnswersLeadOn, CrossersAreOne, CrossersJoin, SpeedsAreOne, SpeedsJoin};
 ghost use Rattle.trlab_step.specs.Laws.{NextRoadExists, NextRoadIsOne, RoadExists, RoadIsOne, RunGoesOn};
-
-/// What cars can see is what roads can show: the limit of a road, and the gap on its longest lane.
-pub fn cars_see_what_roads_show()
-    ensures limit { GREATEST_LIMIT_SEEN ≡ GREATEST_LIMIT }
-    ensures gap { GREATEST_GAP + 1 ≡ GREATEST_LENGTH }
-{}
 
 /// The cars of a part of the standing order have one list of speeds, and the lists of parts make up
 /// that of the whole: it is all one who asks the cars, and in which order.
@@ -26,6 +17,12 @@ pub fn parts_make_the_whole()
 pub fn choices_make_the_whole()
     ensures one { CrossersAreOne }
     ensures join { CrossersJoin }
+{}
+
+/// Whoever asks the cars: answers of all cars in standing order, under which cars cross and then go
+/// ahead, lead to the next road and to its tally.
+pub fn answers_lead_on()
+    ensures { AnswersLeadOn }
 {}
 
 /// Under a rule of accepted programs each legal road has a next road; a change program wants two

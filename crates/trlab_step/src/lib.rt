@@ -10,8 +10,6 @@ pub mod laws;
 mod phases;
 mod step;
 mod tally;
-#[cfg(test)]
-mod tests;
 
 pub use answers::move_part;
 pub use asker::{Asker, Caller};

@@ -2,7 +2,7 @@
 use Rattle.std.proofs.Common.{◌≡◌, ℕ, Bool, true, false, List, [], ◌∷◌, length, sym, ◌∙◌, ap, subst}
 use Rattle.std.specs.Prelude.{Option, None, Some, Result, Ok, Err, nat_lt}
 use Rattle.trlab_texts.specs.declared.fault.Cause.{Cause}
-use Rattle.trlab_texts.specs.declared.limits.TheConstants.{TEXT_LIMIT}
+use Rattle.trlab_bounds.specs.declared.texts.TheConstants.{TEXT_LIMIT}
 use Rattle.trlab_texts.specs.Lines.{Place}
 use Rattle.trlab_texts.specs.Reading.{Fault, Rule, Reading, said, After, ◌>>=◌, in_line, NextLine, line, exactly, SizedText, WholeText, perhaps}
 

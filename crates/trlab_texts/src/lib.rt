@@ -3,13 +3,9 @@
 
 mod fault;
 pub mod laws;
-pub mod limits;
 mod place;
 pub mod program;
 pub mod word;
 
 pub use fault::{Cause, LineFault, TextFault};
 pub use place::{Place, in_place};
-
-#[cfg(test)]
-mod tests;

@@ -6,7 +6,7 @@ ghost use Rattle.std.specs.Result.{result_map_both};
 ghost use Rattle.trlab_texts.specs.Words.{after, is_word, word_behind, number_of, within, number_within, only_word, at_space, first_word, two_words};
 
 use crate::fault::Cause;
-use crate::limits::LONGEST_NUMBER;
+use trlab_bounds::texts::LONGEST_NUMBER;
 
 /// What stands behind a front of a line.
 pub fn after<'a>(front: &[u8], line: &'a [u8]) -> Option<&'a [u8]>

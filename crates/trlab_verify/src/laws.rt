@@ -3,7 +3,7 @@
 //! Each law is the contract of a function with nothing to do.
 
 ghost use Rattle.std.specs.Prelude.{◌≡◌, ◌≢◌, ◌⊎◌, ℕ, ◌<◌, ◌≤◌, List, Some, length};
-ghost use Rattle.trlab_code.specs.declared.instruction.TheConstants.{PLACES};
+ghost use Rattle.trlab_bounds.specs.declared.programs.TheConstants.{PLACES};
 ghost use Rattle.trlab_code.specs.declared.kind.Kind.{Kind};
 ghost use Rattle.trlab_code.specs.Machine.{IsSafe};
 ghost use Rattle.trlab_code.specs.Program.{Program};

@@ -9,8 +9,6 @@ mod fault;
 pub mod laws;
 mod motion;
 mod table;
-#[cfg(test)]
-mod tests;
 mod verdict;
 mod verify;
 

@@ -2,12 +2,10 @@
 
 ghost use Rattle.std.specs.Prelude.{◌≡◌, ◌↔◌, ◌≤◌, ℕ, IsSome, IfSome};
 ghost use Rattle.trlab_words.specs.Chances.{happens_on};
-ghost use Rattle.trlab_words.specs.declared.chance.TheConstants.{CERTAIN};
+ghost use Rattle.trlab_bounds.specs.declared.programs.TheConstants.{CERTAIN};
 
 use std::marker::Model;
-
-/// The chance that always happens, in parts of 2^31.
-pub const CERTAIN: u32 = 2147483648;
+use trlab_bounds::programs::CERTAIN;
 
 /// A chance, in parts of 2^31: from 0, which never happens, to `CERTAIN`.
 #[derive(Clone, Copy, Debug, PartialEq, Eq)]

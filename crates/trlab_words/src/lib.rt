@@ -5,8 +5,8 @@ mod block;
 mod chance;
 mod key;
 mod key_words;
-pub mod laws;
 
-pub use chance::{CERTAIN, Chance, happens};
+pub use chance::{Chance, happens};
 pub use key::{Key, words};
 pub use key_words::{KeyWords, word_of_cars};
+pub use trlab_bounds::programs::CERTAIN;

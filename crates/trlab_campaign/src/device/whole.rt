@@ -8,7 +8,7 @@ ghost use Rattle.trlab_campaign.specs.declared.device.whole.ReadFault.TheVariant
 use crate::device::{DeviceError, Sink, Source};
 use std::alloc::Global;
 use thiserror::Error;
-use trlab_texts::limits::TEXT_LIMIT;
+use trlab_bounds::texts::TEXT_LIMIT;
 
 /// Why a text was not read.
 #[derive(Clone, Copy, Debug, PartialEq, Eq, Error)]

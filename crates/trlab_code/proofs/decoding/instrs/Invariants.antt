@@ -3,8 +3,8 @@ use Rattle.std.specs.List.{flat_map}
 use Rattle.trlab_code.specs.Program.{InRange}
 use Rattle.trlab_code.specs.Spelling.{instr_bytes}
 use Rattle.trlab_code.specs.Faults.{GoodBefore}
-use Rattle.trlab_code.specs.declared.header.TheConstants.{HEADER_BYTES}
-use Rattle.trlab_code.specs.declared.row.TheConstants.{INSTR_BYTES}
+use Rattle.trlab_bounds.specs.declared.programs.TheConstants.{HEADER_BYTES}
+use Rattle.trlab_bounds.specs.declared.programs.TheConstants.{INSTR_BYTES}
 use Rattle.trlab_code.proofs.decoding.instrs.Given as goal
 
 abbrev pub invariant-loop-pc : goal.invariant-loop-pc

@@ -1,5 +1,5 @@
 use Rattle.std.proofs.Common.{◌≡◌, ℕ, ◌<◌, length}
-use Rattle.trlab_code.specs.declared.instruction.TheConstants.{PLACES}
+use Rattle.trlab_bounds.specs.declared.programs.TheConstants.{PLACES}
 use Rattle.trlab_notes.specs.Rows.{level_of}
 use Rattle.trlab_notes.proofs.rows.columns.Given as goal
 

@@ -1,5 +1,5 @@
 use Rattle.std.proofs.Common.{◌≡◌, ℕ, ◌<◌, length, nat_eq, cond}
-use Rattle.trlab_code.specs.declared.instruction.TheConstants.{PLACES}
+use Rattle.trlab_bounds.specs.declared.programs.TheConstants.{PLACES}
 use Rattle.trlab_notes.specs.Rows.{level_in, level_of}
 use Rattle.trlab_notes.proofs.rows.with_place.Given as goal
 

@@ -1,5 +1,5 @@
 use Rattle.std.proofs.Common.{ℕ, ◌<◌, ◌≤◌}
-use Rattle.trlab_code.specs.declared.instruction.TheConstants.{PLACES}
+use Rattle.trlab_bounds.specs.declared.programs.TheConstants.{PLACES}
 use Rattle.trlab_notes.specs.Noted.{note_of}
 use Rattle.trlab_notes.specs.Notes.{known}
 use Rattle.trlab_notes.proofs.strength.knows_no_more.Given as goal

@@ -1,6 +1,6 @@
 use Rattle.std.proofs.Common.{◌≡◌, ◌+◌, ◌<◌, ◌≤◌, ◌∙◌, ℕ, List, [], ◌∷◌, ◌++◌, map, Vec, Global, length, drop, sym, refl, ap, subst, arith, append_assoc, drop-cons, add-one}
 use Rattle.std.proofs.lemmas.List.{length-map, length_push, map-append}
-use Rattle.trlab_road.specs.declared.bounds.TheConstants.{GREATEST_LENGTH}
+use Rattle.trlab_bounds.specs.declared.roads.TheConstants.{GREATEST_LENGTH}
 use Rattle.trlab_road.specs.declared.lane_car.LaneCar.{LaneCar}
 use Rattle.trlab_road.specs.Cells.{Lane, lane_cars}
 use Rattle.trlab_road.specs.Lists.{Rises, cells_of, lanes_from}

@@ -1,5 +1,5 @@
 use Rattle.std.proofs.Common.{◌≡◌, ◌<◌, ◌*◌, ◌≤◌, ◌++◌, ℕ, drop, length, map}
-use Rattle.trlab_road.specs.declared.bounds.TheConstants.{GREATEST_LENGTH}
+use Rattle.trlab_bounds.specs.declared.roads.TheConstants.{GREATEST_LENGTH}
 use Rattle.trlab_road.specs.Lists.{Rises, lanes_from, list_at}
 use Rattle.trlab_road.specs.Pictures.{drawn_lanes}
 use Rattle.trlab_road.proofs.reading.draw_lanes.Given as goal

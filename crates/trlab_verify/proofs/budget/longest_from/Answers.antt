@@ -4,7 +4,7 @@ use Rattle.std.proofs.lemmas.Option.{slice_get-get_or}
 use Rattle.trlab_code.specs.declared.instruction.Instr.{Instr}
 use Rattle.trlab_code.specs.declared.instruction.Instr.TheVariants.{Num}
 use Rattle.trlab_code.specs.declared.instruction.Register.TheVariants.{R0}
-use Rattle.trlab_code.specs.declared.program.TheConstants.{MOST_INSTRUCTIONS}
+use Rattle.trlab_bounds.specs.declared.programs.TheConstants.{MOST_INSTRUCTIONS}
 use Rattle.trlab_code.specs.Flow.{target}
 use Rattle.trlab_verify.proofs.Ways.{next_inside, target_inside, each_some, longest_found, way_short}
 use Rattle.trlab_verify.proofs.budget.longest_from.Goals as goal

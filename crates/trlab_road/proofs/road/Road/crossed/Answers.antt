@@ -34,11 +34,6 @@ invariant_of-result c =
 pub returns-clause-crosses : goal.returns-clause-crosses
 returns-clause-crosses c =
     let m = (rw c.deref.ensures.value at c.in_ok-lanes.ensures.crosses) c.self.inside.limit in
-    rw (← c.self.view_is) m
-
-pub returns-clause-by_cars : goal.returns-clause-by_cars
-returns-clause-by_cars c =
-    let m = (rw c.deref.ensures.value at c.in_ok-lanes.ensures.crosses) c.self.inside.limit in
     rw (← c.self.view_is) (crosses_in_order _ _ c.args.crosses.now m)
 
 pub returns-clause-clean : goal.returns-clause-clean

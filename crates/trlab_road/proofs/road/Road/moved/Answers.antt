@@ -27,11 +27,6 @@ invariant_of-result c =
       sorted = c.in_ok-lanes.ensures.sorted;
     }
 
-pub returns-clause-goes : goal.returns-clause-goes
-returns-clause-goes c =
-    let m = lists_move c.self.inside.cells c.self.inside.limit c.self.inside.lanes.items c.in_ok-lanes.lanes.items c.args.speeds.now (rw c.deref.ensures.value at c.in_ok-lanes.ensures.moves) in
-    rw (← c.self.view_is) m
-
 pub returns-clause-moves : goal.returns-clause-moves
 returns-clause-moves c =
     let m = lists_move c.self.inside.cells c.self.inside.limit c.self.inside.lanes.items c.in_ok-lanes.lanes.items c.args.speeds.now (rw c.deref.ensures.value at c.in_ok-lanes.ensures.moves) in

@@ -6,7 +6,7 @@ use Rattle.trlab_run.proofs.sheet.Sheet.in_force.Goals as goal
 pub returns-then-begun-eq0 : goal.returns-then-begun-eq0
 returns-then-begun-eq0 c =
     let later = c.self.inside.later.items in
-    let parted = IsPartitionedBy-leb (λ entry. entry.0) later c.args.step (steps_rise 0 later c.self.invariant) in
+    let parted = IsPartitionedBy-leb (λ entry. entry.0) later c.args.step (steps_rise 1 later c.self.invariant) in
     let clause = rw c.deref.ensures.value at c.partition_point-begun.ensures.partitioned in
     let point = IsPartitionPoint-from_clause (λ entry. leb entry.0 c.args.step) later c.partition_point-begun.result clause parted (λ a r q k. search rules) in
     let none = rw c.if-begun-eq0.true at point.1 in
@@ -15,7 +15,7 @@ returns-then-begun-eq0 c =
 pub returns-else-begun-eq0 : goal.returns-else-begun-eq0
 returns-else-begun-eq0 c =
     let later = c.self.inside.later.items in
-    let parted = IsPartitionedBy-leb (λ entry. entry.0) later c.args.step (steps_rise 0 later c.self.invariant) in
+    let parted = IsPartitionedBy-leb (λ entry. entry.0) later c.args.step (steps_rise 1 later c.self.invariant) in
     let clause = rw c.deref.ensures.value at c.partition_point-begun.ensures.partitioned in
     let point = IsPartitionPoint-from_clause (λ entry. leb entry.0 c.args.step) later c.partition_point-begun.result clause parted (λ a r q k. search rules) in
     let some = c.if-begun-eq0.false in

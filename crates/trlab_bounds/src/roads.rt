@@ -1,0 +1,13 @@
+//! How large roads are, and what cars see of them.
+
+/// The greatest speed limit of a road, in cells a step.
+pub const GREATEST_LIMIT: u32 = 9;
+
+/// How many cells a lane has at most.
+pub const GREATEST_LENGTH: u32 = 100_000;
+
+/// How many lanes a road has at most.
+pub const MOST_LANES: u32 = 2;
+
+/// The greatest gap that a car can see: one cell less than the longest lane.
+pub const GREATEST_GAP: u32 = 99_999;
