@@ -9,3 +9,7 @@ pub mod PrintedLines
 pub mod Reread
 pub mod Said
 pub mod Named
+pub mod Pushed
+pub mod LineSaid
+pub mod Kept
+pub mod Shapes

@@ -3,6 +3,7 @@ use Rattle.std.proofs.Common.{◌≡◌, ◌≢◌, ℕ, suc, ◌+◌, ◌-◌, 
 use Rattle.std.specs.Str.Parse.{digits_value}
 use Rattle.std.proofs.lemmas.Bool.{eqb-false}
 use Rattle.std.proofs.lemmas.List.Elements.{All-cons, All-head, All-push, All-tail}
+use Rattle.trlab_code.specs.declared.kind.Kind.{Kind}
 use Rattle.trlab_code.specs.declared.instruction.Instr.{Instr}
 use Rattle.trlab_code.specs.declared.instruction.Instr.TheVariants.{Num, Get, Side, Draw, Copy, Add, Sub, Mul, Div, Min, Max, Not, And, Or, Jump, JumpLess, JumpAtMost, JumpTrue, JumpFalse, Go, Cross, Stay}
 use Rattle.trlab_bounds.specs.declared.programs.TheConstants.{MOST_INSTRUCTIONS, WORDS, CERTAIN}
@@ -11,7 +12,7 @@ use Rattle.trlab_asm.specs.Cutting.{cut, labelled, only_word, uncommented, unind
 use Rattle.trlab_asm.specs.Names.{register_named, input_named, mnemonic_named}
 use Rattle.trlab_asm.specs.Operands.{◌>>=◌, ◌then◌, behind, digits_of, input, is_label, is_numeral, no_operand, number, numeral, pc_named, ranged, register, register_input, register_number, register_target, register_word_chance, target, target_named, three_registers, two_registers, two_registers_number, two_registers_target, wanted, word, word_chance}
 use Rattle.trlab_asm.specs.Reading.{Draft, Labels, Line, body, drafted, if_free, instruction, known, label_of, line_says, new_label}
-use Rattle.trlab_asm.specs.Assembly.{Parts, Read, aimed, aimed_at, finished, first_pass, in_line, instrs_of, nothing, placed, second_pass, with_line, with_read}
+use Rattle.trlab_asm.specs.Assembly.{Parts, Read, aimed, aimed_at, code_of, finished, first_pass, in_line, instrs_of, nothing, placed, second_pass, with_line, with_read}
 use Rattle.trlab_asm.specs.Laws.{TextsSaySomething}
 use Rattle.trlab_asm.specs.Lines.{lines_of}
 use Rattle.trlab_bounds.specs.declared.programs.TheConstants.{GREATEST_NUMBER, MOST_DIGITS}
@@ -302,9 +303,13 @@ instrs_tell parts true e kept = rw e (λ f. cc)
 instrs_tell parts false e kept =
     rw e (whole_of (length parts.reads) (second_pass parts.labels parts.reads) (omega (arith, eqb-false (length parts.reads) 0 e)) kept.few (second_tells parts.labels parts.reads kept.fit))
 
-pub something : TextsSaySomething
-something kind text =
-    then_tells (λ (all : Parts). Kept all.reads) IsProgram (first_pass nothing 1 (lines_of text)) _
-    (first_tells nothing 1 (lines_of text) (record { few = omega arith; fit = λ k d h. absurd (omega arith) })) (λ parts kept.
+-- any lines say something
+pub lines_say : (kind : Kind) (lines : List (List ℕ)) → MatchResult (code_of kind lines) IsProgram (λ fault. fault.why ≢ Memory)
+lines_say kind lines =
+    then_tells (λ (all : Parts). Kept all.reads) IsProgram (first_pass nothing 1 lines) _
+    (first_tells nothing 1 lines (record { few = omega arith; fit = λ k d h. absurd (omega arith) })) (λ parts kept.
     then_tells Whole IsProgram (instrs_of parts) _ (instrs_tell parts (length parts.reads == 0) refl kept) (λ instrs h.
     record { some = h.some; few = h.few; in_range = h.fit }))
+
+pub something : TextsSaySomething
+something kind text = lines_say kind (lines_of text)

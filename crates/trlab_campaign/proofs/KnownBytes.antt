@@ -1,8 +1,8 @@
 -- Known bytes over several calls.
-use Rattle.std.proofs.Common.{ℕ, ◌+◌, ◌≤◌, List, [], ◌++◌, length, take, drop, refl, arith, append_assoc, sym, ◌∙◌, ap, length-append, append-nil, take-add, subst}
+use Rattle.std.proofs.Common.{◌≡◌, ℕ, ◌+◌, ◌<◌, ◌≤◌, List, [], ◌++◌, length, take, drop, refl, arith, append_assoc, sym, ◌∙◌, ap, length-append, append-nil, take-add, subst}
 use Rattle.std.proofs.Math.Seq.{take-length}
 use Rattle.std.specs.Prelude.{Option, None, Some, IfSome}
-use Rattle.std.specs.Io.KnownBytes.{Appends, Consumes, Keeps}
+use Rattle.std.specs.Io.KnownBytes.{Appends, Consumes, IsAtEnd, Keeps}
 use Rattle.trlab_campaign.specs.Device.{AppendsFront}
 
 pub consumes_none : (a : Option (List ℕ)) → Consumes a a []
@@ -28,6 +28,18 @@ consumes_length None b xs p = tt
 consumes_length (Some x) None xs p = absurd p
 consumes_length (Some x) (Some y) xs p = omega (arith, ap length p, length-append xs y)
 
+-- all bytes that there were
+pub consumes_whole : (P : List ℕ → Type 0) (a b : Option (List ℕ)) (xs : List ℕ) → Consumes a b xs → IsAtEnd b → P xs → IfSome a P
+consumes_whole P None b xs p end holds = tt
+consumes_whole P (Some x) None xs p end holds = absurd p
+consumes_whole P (Some x) (Some y) xs p end holds = subst P (sym (p ∙ (ap (λ t. xs ++ t) end ∙ append-nil xs))) holds
+
+-- more bytes were there than a number
+pub consumes_over : (a b : Option (List ℕ)) (xs : List ℕ) (least : ℕ) → least < length xs → Consumes a b xs → IfSome a (λ all. least < length all)
+consumes_over None b xs least over p = tt
+consumes_over (Some x) None xs least over p = absurd p
+consumes_over (Some x) (Some y) xs least over p = omega (arith, ap length p, length-append xs y)
+
 pub appends_none : (a : Option (List ℕ)) → Appends a a []
 appends_none None = tt
 appends_none (Some xs) = sym (append-nil xs)
@@ -47,6 +59,12 @@ appends_kept (Some x) (Some y) (Some z) xs p q = q ∙ p
 -- of a text whose first `done` bytes are there, `count` more
 pub appends_part : (a b c : Option (List ℕ)) (text : List ℕ) (done count : ℕ) → Appends a b (take done text) → Appends b c (take count (drop done text)) → Appends a c (take (done + count) text)
 appends_part a b c text done count p q = rw (take-add done count text) (appends_more a b c (take done text) (take count (drop done text)) p q)
+
+-- of a text all bytes are there
+pub appends_whole : (a b : Option (List ℕ)) (text : List ℕ) (done : ℕ) → done ≤ length text → length text ≤ done → Appends a b (take done text) → Appends a b text
+appends_whole a b text done inside all p =
+    let here : done ≡ length text = omega arith in
+    subst (λ (t : List ℕ). Appends a b t) (take-length text) (rw here at p)
 
 pub front_kept : (a b c : Option (List ℕ)) (text : List ℕ) → Appends a b text → Keeps b c → AppendsFront a c text
 front_kept a b c text p q = record { count = length text; front = subst (λ (t : List ℕ). Appends a c t) (sym (take-length text)) (appends_kept a b c text p q) }

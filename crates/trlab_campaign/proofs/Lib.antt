@@ -1,7 +1,10 @@
 pub mod KnownBytes
+pub mod Lines
 pub mod Owed
 pub mod Sheets
 pub mod Running
 pub mod Endings
 pub mod OneOutput
 pub mod OneVerdict
+pub mod SomeVerdict
+pub mod SomeOutput

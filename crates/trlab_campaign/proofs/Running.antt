@@ -43,16 +43,21 @@ pub record Drives (job : Job) (step : ℕ) (run : Reached) : Type 0 where
   pub sheet : run.sheet ≡ sheet_of job
   pub step_is : run.step ≡ step
 
+-- a job that was read has a road at each step of its run
+pub roads_of : (job : Job) → IsPlain job → (roads : ℕ → Cells) × Roads job roads
+roads_of job plain =
+    let at = λ (s : ℕ). run_comes_to_road (seed_of job) (sheet_of job) s plain.legal (plain_sheet job plain) in
+    (λ s. (at s).0, λ s. ((at s).1, (at s).2))
+
 -- before the first step
 pub begin : (job : Job) (old : Option (List ℕ)) → IsPlain job → Underway job 0 job.steps old old
 begin job old plain =
-    let at = λ (s : ℕ). run_comes_to_road (seed_of job) (sheet_of job) s plain.legal (plain_sheet job plain) in
-    let roads : ℕ → Cells = λ s. (at s).0 in
+    let found = roads_of job plain in
     record {
-      roads = roads;
-      each = λ s. ((at s).1, (at s).2);
+      roads = found.0;
+      each = found.1;
       ends = omega arith;
-      owes = owes_all (steps_text roads (job.steps + 1)) old;
+      owes = owes_all (steps_text found.0 (job.steps + 1)) old;
     }
 
 -- the run of a job begins

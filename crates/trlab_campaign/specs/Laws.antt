@@ -3,10 +3,18 @@ use Rattle.std.specs.Prelude.{◌≡◌, ℕ, Bool, List}
 use Rattle.trlab_campaign.specs.Output.{IsOutput}
 use Rattle.trlab_campaign.specs.CheckOutput.{IsCheckOutput}
 
+-- any text has an output
+abbrev pub TextHasSomeOutput : Type 0
+TextHasSomeOutput = (text : List ℕ) → (refused : Bool) × (out : List ℕ) × IsOutput text refused out
+
 -- a text has one output only, which is a refusal or is none
 abbrev pub TextHasOneOutput : Type 0
 TextHasOneOutput = (text : List ℕ) (refused also : Bool) (out other : List ℕ)
     → IsOutput text refused out → IsOutput text also other → (refused ≡ also) × (out ≡ other)
+
+-- any check text has an output
+abbrev pub CheckHasSomeOutput : Type 0
+CheckHasSomeOutput = (text : List ℕ) → (refused : Bool) × (out : List ℕ) × IsCheckOutput text refused out
 
 -- a check text has one output only, which is a refusal or is none
 abbrev pub CheckHasOneOutput : Type 0

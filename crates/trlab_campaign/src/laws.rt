@@ -2,14 +2,17 @@
 //!
 //! Each law is the contract of a function with nothing to do.
 
-ghost use Rattle.trlab_campaign.specs.Laws.{CheckHasOneOutput, TextHasOneOutput};
+ghost use Rattle.trlab_campaign.specs.Laws.{CheckHasOneOutput, CheckHasSomeOutput};
+ghost use Rattle.trlab_campaign.specs.Laws.{TextHasOneOutput, TextHasSomeOutput};
 
-/// A job text has one output only, and it is a refusal or it is none.
+/// Any job text has just one output, and it is a refusal or it is none.
 pub fn text_has_one_output()
-    ensures { TextHasOneOutput }
+    ensures some_output { TextHasSomeOutput }
+    ensures one_output { TextHasOneOutput }
 {}
 
-/// A check text has one output only, and it is a refusal or it is none.
+/// Any check text has just one output, and it is a refusal or it is none.
 pub fn check_has_one_output()
-    ensures { CheckHasOneOutput }
+    ensures some_output { CheckHasSomeOutput }
+    ensures one_output { CheckHasOneOutput }
 {}

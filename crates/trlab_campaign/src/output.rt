@@ -16,8 +16,7 @@ pub fn push_step(alloc: Global, out: &mut Vec<u8>, step: u32, road: &Road) -> Re
     let line = format!(in alloc; "step {step}\n")?;
     out.extend_from_slice(line.as_bytes())?;
     for lane in 0..road.lanes() {
-        let picture = road.picture(alloc, lane)?;
-        out.extend_from_slice(&picture)?;
+        road.push_picture(out, lane)?;
         out.push(b'\n')?;
     }
     Ok(())

@@ -1,5 +1,5 @@
 -- Different programs have different spellings.
-use Rattle.std.proofs.Common.{◌≡◌, ℕ, ◌/◌, ◌%◌, ◌^◌, List, [], ◌∷◌, drop, get_or, refl, ap, arith}
+use Rattle.std.proofs.Common.{◌≡◌, ◌∙◌, ℕ, ◌+◌, ◌*◌, ◌/◌, ◌%◌, ◌^◌, List, [], ◌∷◌, drop, get_or, refl, sym, ap, arith}
 use Rattle.std.specs.List.{flat_map}
 use Rattle.trlab_code.specs.declared.kind.Kind.{Kind}
 use Rattle.trlab_code.specs.declared.kind.Kind.TheVariants.{Motion, Change}
@@ -11,71 +11,94 @@ use Rattle.trlab_code.specs.declared.instruction.Instr.{Instr}
 use Rattle.trlab_code.specs.declared.instruction.Instr.TheVariants.{Num, Get, Side, Draw, Copy, Add, Sub, Mul, Div, Min, Max, Not, And, Or, Jump, JumpLess, JumpAtMost, JumpTrue, JumpFalse, Go, Cross, Stay}
 use Rattle.trlab_code.specs.Program.{Program}
 use Rattle.trlab_code.specs.Machine.{place}
-use Rattle.trlab_code.specs.Spelling.{kind_byte, input_byte, number_bytes, instr_bytes, spelling}
+use Rattle.trlab_code.specs.Spelling.{kind_byte, input_byte, instr_bytes, spelling}
 
 same_kind : (k l : Kind) → kind_byte k ≡ kind_byte l → k ≡ l
 same_kind Motion Motion h = refl
 same_kind Change Change h = refl
 same_kind _ _ h = cc
 
-same_register : (r s : Register) → place r ≡ place s → r ≡ s
-same_register R0 R0 h = refl
-same_register R1 R1 h = refl
-same_register R2 R2 h = refl
-same_register R3 R3 h = refl
-same_register R4 R4 h = refl
-same_register R5 R5 h = refl
-same_register R6 R6 h = refl
-same_register R7 R7 h = refl
-same_register _ _ h = cc
+-- what the bytes of an instruction were made of
+abbrev register_of : ℕ → Register
+register_of n = get_or (R0 ∷ R1 ∷ R2 ∷ R3 ∷ R4 ∷ R5 ∷ R6 ∷ R7 ∷ []) n R0
 
-same_input : (k l : Input) → input_byte k ≡ input_byte l → k ≡ l
-same_input Speed Speed h = refl
-same_input Limit Limit h = refl
-same_input Gap Gap h = refl
-same_input SideGap SideGap h = refl
-same_input SideBack SideBack h = refl
-same_input Lane Lane h = refl
-same_input _ _ h = cc
+register_back : (r : Register) → register_of (place r) ≡ r
+register_back R0 = refl
+register_back R1 = refl
+register_back R2 = refl
+register_back R3 = refl
+register_back R4 = refl
+register_back R5 = refl
+register_back R6 = refl
+register_back R7 = refl
 
--- a number is known by its bytes
-same_digits : (m n : ℕ) → m % 256 ≡ n % 256 → m / 256 % 256 ≡ n / 256 % 256 → m / 256 ^ 2 % 256 ≡ n / 256 ^ 2 % 256 → m / 256 ^ 3 ≡ n / 256 ^ 3 → m ≡ n
-same_digits m n low second third high = omega arith
+abbrev input_of : ℕ → Input
+input_of n = get_or (Speed ∷ Limit ∷ Gap ∷ SideGap ∷ SideBack ∷ Lane ∷ []) n Speed
 
-same_number : (m n : ℕ) → number_bytes m ≡ number_bytes n → m ≡ n
-same_number m n h = same_digits m n (cc) (cc) (cc) (cc)
+input_back : (k : Input) → input_of (input_byte k) ≡ k
+input_back Speed = refl
+input_back Limit = refl
+input_back Gap = refl
+input_back SideGap = refl
+input_back SideBack = refl
+input_back Lane = refl
 
--- an instruction is known by its bytes
-same_instr : (i j : Instr) → instr_bytes i ≡ instr_bytes j → i ≡ j
-same_instr (Num a n) (Num a' n') h = cc (same_register a a' (cc), same_number n n' (cc))
-same_instr (Get a k) (Get a' k') h = cc (same_register a a' (cc), same_input k k' (cc))
-same_instr (Side a) (Side a') h = cc (same_register a a' (cc))
-same_instr (Draw a k n) (Draw a' k' n') h = cc (same_register a a' (cc), same_number n n' (cc))
-same_instr (Copy a b) (Copy a' b') h = cc (same_register a a' (cc), same_register b b' (cc))
-same_instr (Add a b c) (Add a' b' c') h = cc (same_register a a' (cc), same_register b b' (cc), same_register c c' (cc))
-same_instr (Sub a b c) (Sub a' b' c') h = cc (same_register a a' (cc), same_register b b' (cc), same_register c c' (cc))
-same_instr (Mul a b n) (Mul a' b' n') h = cc (same_register a a' (cc), same_register b b' (cc), same_number n n' (cc))
-same_instr (Div a b n) (Div a' b' n') h = cc (same_register a a' (cc), same_register b b' (cc), same_number n n' (cc))
-same_instr (Min a b c) (Min a' b' c') h = cc (same_register a a' (cc), same_register b b' (cc), same_register c c' (cc))
-same_instr (Max a b c) (Max a' b' c') h = cc (same_register a a' (cc), same_register b b' (cc), same_register c c' (cc))
-same_instr (Not a b) (Not a' b') h = cc (same_register a a' (cc), same_register b b' (cc))
-same_instr (And a b c) (And a' b' c') h = cc (same_register a a' (cc), same_register b b' (cc), same_register c c' (cc))
-same_instr (Or a b c) (Or a' b' c') h = cc (same_register a a' (cc), same_register b b' (cc), same_register c c' (cc))
-same_instr (Jump n) (Jump n') h = cc (same_number n n' (cc))
-same_instr (JumpLess a b n) (JumpLess a' b' n') h = cc (same_register a a' (cc), same_register b b' (cc), same_number n n' (cc))
-same_instr (JumpAtMost a b n) (JumpAtMost a' b' n') h = cc (same_register a a' (cc), same_register b b' (cc), same_number n n' (cc))
-same_instr (JumpTrue a n) (JumpTrue a' n') h = cc (same_register a a' (cc), same_number n n' (cc))
-same_instr (JumpFalse a n) (JumpFalse a' n') h = cc (same_register a a' (cc), same_number n n' (cc))
-same_instr (Go a) (Go a') h = cc (same_register a a' (cc))
-same_instr Cross Cross h = refl
-same_instr Stay Stay h = refl
-same_instr _ _ h = cc
+abbrev number_of : ℕ → ℕ → ℕ → ℕ → ℕ
+number_of low second third high = low + 256 * second + 65536 * third + 16777216 * high
+
+digits_back : (n : ℕ) → n % 256 + 256 * (n / 256 % 256) + 65536 * (n / 65536 % 256) + 16777216 * (n / 16777216) ≡ n
+digits_back n = omega arith
+
+number_back : (n : ℕ) → number_of (n % 256) (n / 256 % 256) (n / 256 ^ 2 % 256) (n / 256 ^ 3) ≡ n
+number_back n = digits_back n
+
+abbrev instr_of : ℕ → ℕ → ℕ → ℕ → ℕ → Instr
+instr_of opcode a b c n =
+    let r = register_of a in
+    let s = register_of b in
+    let t = register_of c in
+    get_or (Stay ∷ Num r n ∷ Get r (input_of b) ∷ Side r ∷ Draw r b n ∷ Copy r s ∷ Add r s t ∷ Sub r s t ∷ Mul r s n ∷ Div r s n
+    ∷ Min r s t ∷ Max r s t ∷ Not r s ∷ And r s t ∷ Or r s t ∷ Jump n ∷ JumpLess r s n ∷ JumpAtMost r s n ∷ JumpTrue r n
+    ∷ JumpFalse r n ∷ Go r ∷ Cross ∷ []) opcode Stay
+
+-- the instruction at the front of bytes
+abbrev first_of : List ℕ → Instr
+first_of bytes =
+    let at : ℕ → ℕ = λ (k : ℕ). get_or bytes k 0 in
+    instr_of (at 0) (at 1) (at 2) (at 3) (number_of (at 4) (at 5) (at 6) (at 7))
+
+instr_back : (i : Instr) → first_of (instr_bytes i) ≡ i
+instr_back (Num a n) = λ z. Num (register_back a z) (number_back n z)
+instr_back (Get a k) = λ z. Get (register_back a z) (input_back k z)
+instr_back (Side a) = λ z. Side (register_back a z)
+instr_back (Draw a k n) = λ z. Draw (register_back a z) k (number_back n z)
+instr_back (Copy a b) = λ z. Copy (register_back a z) (register_back b z)
+instr_back (Add a b c) = λ z. Add (register_back a z) (register_back b z) (register_back c z)
+instr_back (Sub a b c) = λ z. Sub (register_back a z) (register_back b z) (register_back c z)
+instr_back (Mul a b n) = λ z. Mul (register_back a z) (register_back b z) (number_back n z)
+instr_back (Div a b n) = λ z. Div (register_back a z) (register_back b z) (number_back n z)
+instr_back (Min a b c) = λ z. Min (register_back a z) (register_back b z) (register_back c z)
+instr_back (Max a b c) = λ z. Max (register_back a z) (register_back b z) (register_back c z)
+instr_back (Not a b) = λ z. Not (register_back a z) (register_back b z)
+instr_back (And a b c) = λ z. And (register_back a z) (register_back b z) (register_back c z)
+instr_back (Or a b c) = λ z. Or (register_back a z) (register_back b z) (register_back c z)
+instr_back (Jump n) = λ z. Jump (number_back n z)
+instr_back (JumpLess a b n) = λ z. JumpLess (register_back a z) (register_back b z) (number_back n z)
+instr_back (JumpAtMost a b n) = λ z. JumpAtMost (register_back a z) (register_back b z) (number_back n z)
+instr_back (JumpTrue a n) = λ z. JumpTrue (register_back a z) (number_back n z)
+instr_back (JumpFalse a n) = λ z. JumpFalse (register_back a z) (number_back n z)
+instr_back (Go a) = λ z. Go (register_back a z)
+instr_back Cross = refl
+instr_back Stay = refl
+
+same_first : (x y : Instr) (xs ys : List Instr) → flat_map instr_bytes (x ∷ xs) ≡ flat_map instr_bytes (y ∷ ys) → x ≡ y
+same_first x y xs ys h = sym (instr_back x) ∙ ap first_of h ∙ instr_back y
 
 same_instrs : (xs ys : List Instr) → flat_map instr_bytes xs ≡ flat_map instr_bytes ys → xs ≡ ys
 same_instrs [] [] h = refl
 same_instrs [] (y ∷ ys) h = cc
 same_instrs (x ∷ xs) [] h = cc
-same_instrs (x ∷ xs) (y ∷ ys) h = cc (same_instr x y (cc), same_instrs xs ys cc)
+same_instrs (x ∷ xs) (y ∷ ys) h = let first = same_first x y xs ys h in let rest = same_instrs xs ys (ap (drop 8) h) in λ z. first z ∷ rest z
 
 -- a program is known by its spelling
 same_parts : {k l : Kind} {xs ys : List Instr} → k ≡ l → xs ≡ ys → ◌≡◌ {A = Program} (record { kind = k; instrs = xs }) (record { kind = l; instrs = ys })

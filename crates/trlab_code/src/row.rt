@@ -10,7 +10,7 @@ use crate::program::is_in_range;
 use trlab_bounds::programs::INSTR_BYTES;
 
 /// The opcode of an instruction and its fields, 0 where the instruction has no such field.
-#[derive(Clone, Copy, Debug, PartialEq, Eq)]
+#[derive(Clone, Copy, PartialEq)]
 pub(crate) struct Row {
     pub opcode: u8,
     pub a: u8,

@@ -7,3 +7,9 @@ pub mod OneLanes
 pub mod OneRule
 pub mod OneText
 pub mod OneCheck
+pub mod SomeCheck
+pub mod SomeLanes
+pub mod SomeLine
+pub mod SomeRule
+pub mod SomeText
+pub mod LaterWords

@@ -1,5 +1,5 @@
 -- Job texts: a key, a road, a rule, a count of steps, and rules of later steps.
-use Rattle.std.specs.Prelude.{ℕ, List, ◌∷◌, length, codes, Result, Ok, Err, if◌then◌else◌}
+use Rattle.std.specs.Prelude.{ℕ, List, length, codes, Result, Ok, Err, if◌then◌else◌}
 use Rattle.std.specs.Str.{bytes_eq}
 use Rattle.hex.specs.Hex.{decode_sized}
 use Rattle.hex.specs.declared.error.FromHexError.{FromHexError}

@@ -5,10 +5,18 @@ use Rattle.trlab_texts.specs.Reading.{Fault}
 use Rattle.trlab_jobs.specs.Job.{Job, JobText}
 use Rattle.trlab_jobs.specs.Check.{CheckText}
 
+-- any text says something: a job, or a first fault
+abbrev pub TextSaysSomething : Type 0
+TextSaysSomething = (text : List ℕ) → (says : Result Job Fault) × JobText text says
+
 -- a text says one thing only: one job, or one first fault
 abbrev pub TextSaysOneThing : Type 0
 TextSaysOneThing = (text : List ℕ) (says other : Result Job Fault)
     → JobText text says → JobText text other → says ≡ other
+
+-- any check text says something: a program, or a first fault
+abbrev pub CheckSaysSomething : Type 0
+CheckSaysSomething = (text : List ℕ) → (says : Result Program Fault) × CheckText text says
 
 -- a check text says one thing only: one program, or one first fault
 abbrev pub CheckSaysOneThing : Type 0

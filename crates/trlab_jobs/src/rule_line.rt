@@ -8,7 +8,7 @@ use trlab_texts::word::{after, at_space, is_word, long_number, number_from, only
 use trlab_words::{CERTAIN, Chance};
 
 /// A rule as a line states it, by words or by the chances that they write.
-#[derive(Clone, Copy, Debug, PartialEq, Eq)]
+#[derive(Drop)]
 pub enum RuleLine<T> {
     /// `rule nasch t`.
     Nasch { brake: T },

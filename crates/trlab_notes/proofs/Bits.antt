@@ -1,8 +1,8 @@
 -- Rows of bits as levels.
-use Rattle.std.proofs.Common.{◌≡◌, ℕ, ◌*◌, ◌^◌, ◌%◌, ◌-◌, ◌<◌, min, max, arith, ◌∙◌, bit_and, bit_or, Bool, true, false, nat_eq, cond}
+use Rattle.std.proofs.Common.{◌≡◌, ℕ, ◌/◌, ◌*◌, ◌^◌, ◌%◌, ◌-◌, ◌<◌, min, max, arith, ◌∙◌, bit_and, bit_or, Bool, true, false, nat_eq, cond}
 use Rattle.std.specs.Int.{bit_at}
 use Rattle.std.proofs.lemmas.Bool.{eqb-true, eqb-false}
-use Rattle.std.proofs.lemmas.Nat.Bits.{bit_at_and, bit_at_or, bit_at-lt, bit_at_set_same, bit_at_set_other, bit_at_clear_same, bit_at_clear_other}
+use Rattle.std.proofs.lemmas.Nat.Bits.{bit_at_and, bit_at_or, bit_at-lt, bit_at_set_same, bit_at_set_other, bit_at_clear_same, bit_at_clear_other, shr_and_one}
 use Rattle.std.proofs.Common.{w16}
 use Rattle.trlab_notes.specs.declared.rows.Row.{Row}
 use Rattle.trlab_notes.specs.Rows.{level_in}
@@ -43,3 +43,20 @@ pub clear_is : (n k y : ℕ) (on b : Bool) → k < 16 → y < 16 → on ≡ fals
     bit_at (bit_and n (65535 - 1 * 2 ^ k % 65536)) y ≡ cond b (cond on 1 0) (bit_at n y)
 clear_is n k y on true within lt e eb = let same : y ≡ k = eqb-true y k eb in rw (e, same) (bit_at_clear_same w16 n k within)
 clear_is n k y on false within lt e eb = bit_at_clear_other w16 n k within y lt (eqb-false y k eb)
+
+-- the greater of two levels that are made alike
+pub sum_levels : (made : ℕ → ℕ → ℕ) (r i j k l m n h g : ℕ) → r ≡ max i j → i ≡ made k h → j ≡ made l g → k ≡ m → l ≡ n →
+    r ≡ max (made m h) (made n g)
+sum_levels made r i j k l m n h g e p q s t = e ∙ (λ z. max ((p ∙ (λ w. made (s w) h)) z) ((q ∙ (λ w. made (t w) g)) z))
+
+two_bits : (a b u : ℕ) → a < 2 → u ≡ b → u ≡ 1 → 2 ≡ max a (2 * b)
+two_bits a b u p e f = omega arith
+
+one_bit : (a b u v : ℕ) → b < 2 → u ≡ b → (u ≡ 1 → ⊥) → v ≡ a → v ≡ max a (2 * b)
+one_bit a b u v p e f g = omega arith
+
+pub is_below : (r : Row) (y : ℕ) → bit_and (r.below / 2 ^ y) 1 ≡ 1 → 2 ≡ level_in r y
+is_below r y e = two_bits _ _ _ (bit_at-lt r.at_most y) (shr_and_one r.below y) e
+
+pub is_not_below : (r : Row) (y : ℕ) → (bit_and (r.below / 2 ^ y) 1 ≡ 1 → ⊥) → bit_and (r.at_most / 2 ^ y) 1 ≡ level_in r y
+is_not_below r y e = one_bit _ _ _ _ (bit_at-lt r.below y) (shr_and_one r.below y) e (shr_and_one r.at_most y)

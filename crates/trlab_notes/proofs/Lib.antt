@@ -1,4 +1,5 @@
 pub mod Bits
+pub mod Filling
 pub mod Tables
 pub mod Fits
 pub mod Steps

@@ -1,22 +1,25 @@
 //! The reasons to refuse an instruction.
 
 ghost use Rattle.std.specs.Prelude.{◌≡◌, ◌<◌};
-ghost use Rattle.trlab_code.specs.Machine.{allows, input_place};
+ghost use Rattle.trlab_code.specs.Machine.{allows, input_place, place};
 ghost use Rattle.trlab_notes.specs.Noted.{note_of};
-ghost use Rattle.trlab_notes.specs.Reasons.{may_stand, some_unset, some_of_other_kind, too_large, below_zero, may_pass, may_bump, tests, first_true};
+ghost use Rattle.trlab_notes.specs.Reasons.{is_nothing, is_range, is_flag, may_stand, some_unset, some_of_other_kind, too_large, below_zero, may_pass, may_bump, tests, first_true};
 
 use crate::kept::Noted;
 use crate::note::Said;
-use trlab_code::{Input, Instr, Kind};
+use trlab_code::{Input, Instr, Kind, Register};
 
 /// Whether a program of this kind may have the instruction.
 fn is_allowed(kind: Kind, instr: Instr) -> bool
     ensures { result ≡ allows kind instr }
 {
     match instr {
-        Instr::Get(_, Input::SideGap | Input::SideBack | Input::Lane) => kind == Kind::Change,
-        Instr::Side(_) | Instr::Cross | Instr::Stay => kind == Kind::Change,
-        Instr::Go(_) => kind == Kind::Motion,
+        Instr::Get(_, Input::SideGap | Input::SideBack | Input::Lane) => matches!(
+            kind,
+            Kind::Change
+        ),
+        Instr::Side(_) | Instr::Cross | Instr::Stay => matches!(kind, Kind::Change),
+        Instr::Go(_) => matches!(kind, Kind::Motion),
         _ => true,
     }
 }
@@ -26,6 +29,27 @@ fn is_of_kind(kind: Kind, own: Kind, instr: Instr) -> bool
     ensures { result ≡ may_stand kind own instr }
 {
     is_allowed(kind, instr) && is_allowed(own, instr)
+}
+
+/// Whether a register may be unset.
+fn is_unset(note: &Noted, register: Register) -> bool
+    ensures { result ≡ is_nothing ((note_of note.now).said (place register)) }
+{
+    matches!(note.said[register.place()], Said::Nothing)
+}
+
+/// Whether a register holds a number.
+fn has_number(note: &Noted, register: Register) -> bool
+    ensures { result ≡ is_range ((note_of note.now).said (place register)) }
+{
+    matches!(note.said[register.place()], Said::Between(..))
+}
+
+/// Whether a register holds a flag.
+fn has_flag(note: &Noted, register: Register) -> bool
+    ensures { result ≡ is_flag ((note_of note.now).said (place register)) }
+{
+    matches!(note.said[register.place()], Said::Implies(_))
 }
 
 /// Whether an operand may be unset.
@@ -40,17 +64,14 @@ fn has_unset(note: &Noted, instr: Instr) -> bool
         | Instr::And(_, a, b)
         | Instr::Or(_, a, b)
         | Instr::JumpLess(a, b, _)
-        | Instr::JumpAtMost(a, b, _) => {
-            matches!(note.said[a.place()], Said::Nothing)
-                || matches!(note.said[b.place()], Said::Nothing)
-        }
+        | Instr::JumpAtMost(a, b, _) => is_unset(note, a) || is_unset(note, b),
         Instr::Mul(_, a, _)
         | Instr::Div(_, a, _)
         | Instr::Go(a)
         | Instr::Not(_, a)
         | Instr::JumpTrue(a, _)
         | Instr::JumpFalse(a, _)
-        | Instr::Copy(_, a) => matches!(note.said[a.place()], Said::Nothing),
+        | Instr::Copy(_, a) => is_unset(note, a),
         _ => false,
     }
 }
@@ -65,20 +86,10 @@ fn has_other_kind(note: &Noted, instr: Instr) -> bool
         | Instr::Min(_, a, b)
         | Instr::Max(_, a, b)
         | Instr::JumpLess(a, b, _)
-        | Instr::JumpAtMost(a, b, _) => {
-            matches!(note.said[a.place()], Said::Implies(_))
-                || matches!(note.said[b.place()], Said::Implies(_))
-        }
-        Instr::And(_, a, b) | Instr::Or(_, a, b) => {
-            matches!(note.said[a.place()], Said::Between(..))
-                || matches!(note.said[b.place()], Said::Between(..))
-        }
-        Instr::Mul(_, a, _) | Instr::Div(_, a, _) | Instr::Go(a) => {
-            matches!(note.said[a.place()], Said::Implies(_))
-        }
-        Instr::Not(_, a) | Instr::JumpTrue(a, _) | Instr::JumpFalse(a, _) => {
-            matches!(note.said[a.place()], Said::Between(..))
-        }
+        | Instr::JumpAtMost(a, b, _) => has_flag(note, a) || has_flag(note, b),
+        Instr::And(_, a, b) | Instr::Or(_, a, b) => has_number(note, a) || has_number(note, b),
+        Instr::Mul(_, a, _) | Instr::Div(_, a, _) | Instr::Go(a) => has_flag(note, a),
+        Instr::Not(_, a) | Instr::JumpTrue(a, _) | Instr::JumpFalse(a, _) => has_number(note, a),
         _ => false,
     }
 }

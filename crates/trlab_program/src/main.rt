@@ -1,24 +1,17 @@
 //! The program `trlab`: it does what its words ask for, from standard input to standard output.
 #![tactic(auto)]
 
-mod command;
-mod help;
-mod status;
-mod words;
-
 ghost use Rattle.std.specs.Prelude.{◌≡◌, Bool};
 ghost use Rattle.clap.specs.Words.{kind_of};
-ghost use Rattle.trlab_program.specs.Statuses.{status_of_print};
+ghost use Rattle.trlab_commands.specs.Statuses.{status_of_print};
 
 use clap::Error;
 use clap::error::ErrorKind;
-use command::carry_out;
-use status::{REFUSED_WORDS, status_of_end, status_of_print};
 use std::process::ExitCode;
 use std::rt::Env;
 use std::{env, io};
 use trlab_campaign::{End, Watched};
-use words::{Wanted, read_words};
+use trlab_commands::{REFUSED_WORDS, carry_out, read_words, status_of_end, status_of_print};
 
 fn main(rt: HostRuntime) -> ExitCode {
     let status = match given_words(&rt) {
@@ -54,6 +47,3 @@ fn tell(rt: &(impl Print + Eprint), error: &Error) -> u8
         _ => status_of_print(error, &error.print(rt)),
     }
 }
-
-#[cfg(test)]
-mod tests;

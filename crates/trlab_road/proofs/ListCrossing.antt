@@ -3,6 +3,7 @@ use Rattle.std.proofs.Common.{◌≡◌, ◌≢◌, ℕ, zero, suc, ◌+◌, ◌
 use Rattle.std.proofs.lemmas.Bool.{cases_lt, cases_eq}
 use Rattle.std.proofs.lemmas.List.{length-take-le}
 use Rattle.std.proofs.lemmas.List.FromFn.{take-map-range_with_len}
+use Rattle.std.specs.Int.{from_bool}
 use Rattle.trlab_road.specs.declared.lane_car.LaneCar.{LaneCar}
 use Rattle.trlab_road.specs.Cells.{at, lane_cars}
 use Rattle.trlab_road.specs.Crossing.{crossing, LaneCrosses, lane_crosses_at}
@@ -41,6 +42,14 @@ sought_later n cars x y k r s le low = record {
 
 pub sought_other : (n : ℕ) (cars : List LaneCar) (x k : ℕ) → Rises 0 n cars → Sought cars x k → (k < length cars → place_of cars k ≢ x) → Sought cars (x + 1) k
 sought_other n cars x k r s other = sought_later n cars x (x + 1) k r s (omega arith) (λ low. let a = s.from k (omega arith) low in let b = other low in omega (arith, a, b))
+
+-- one car further, where the first from a place on stands there
+pub sought_next : (n : ℕ) (cars : List LaneCar) (x k : ℕ) (here : Bool) → Rises 0 n cars → Sought cars x k → (here ≡ true → k < length cars) → (here ≡ true → place_of cars k ≡ x)
+    → (here ≡ false → k < length cars → place_of cars k ≢ x) → Sought cars (x + 1) (k + from_bool here)
+sought_next n cars x k true r s low there other = sought_past n cars x k r s (low refl) (there refl)
+sought_next n cars x k false r s low there other =
+    let same : k ≡ k + 0 = omega arith in
+    subst (λ m. Sought cars (x + 1) m) same (sought_other n cars x k r s (other refl))
 
 -- as many cars as the index of the first car from x on stand before x
 cell_take : (cars : List LaneCar) (i y : ℕ) → ((k : ℕ) → i ≤ k → k < length cars → y < place_of cars k) → cell_at cars y ≡ cell_at (take i cars) y

@@ -1,8 +1,8 @@
 -- The motion of a sorted list of cars.
-use Rattle.std.proofs.Common.{◌≡◌, ℕ, zero, suc, ◌+◌, ◌-◌, ◌%◌, ◌<◌, ◌≤◌, Some, List, [], ◌∷◌, ◌++◌, length, get_or, take, refl, sym, ◌∙◌, ap, subst, inl, inr, arith, below_more, append_assoc}
+use Rattle.std.proofs.Common.{◌≡◌, ℕ, zero, suc, ◌+◌, ◌-◌, ◌%◌, ◌<◌, ◌≤◌, Some, List, [], ◌∷◌, ◌++◌, length, get_or, set, take, drop, refl, sym, ◌∙◌, ap, subst, inl, inr, arith, below_more, append_assoc, drop-cons, add-one}
 use Rattle.std.proofs.Math.Nat.{mod-eq_of_lt, mod-eq-sub-mod}
 use Rattle.std.proofs.lemmas.Bool.{cases_eq}
-use Rattle.std.proofs.lemmas.List.{length-map, get_or-map, get_or_append_left, get_or_push, length_push}
+use Rattle.std.proofs.lemmas.List.{length-map, get_or-map, get_or_append_left, get_or_push, length_push, get_or_at, set_at, drop_all, append-nil}
 use Rattle.trlab_road.specs.declared.car.Car.{Car}
 use Rattle.trlab_road.specs.declared.lane_car.LaneCar.{LaneCar}
 use Rattle.trlab_road.specs.Cells.{at, lane_cars}
@@ -193,70 +193,70 @@ moved_all n answer cars next r moved =
           );
     }
 
--- the car that passes the end, if any, stands first
-pub data Front (n : ℕ) (answer : ℕ → ℕ) (cars : List LaneCar) : ℕ → List LaneCar → Type 0 where
-  all_straight : (straight : ℕ) → straight ≡ length cars
-      → ((k : ℕ) → k + 1 ≡ length cars → place_of cars k + answer (place_of cars k) < n) → Front n answer cars straight []
-  one_turned : (straight : ℕ) (car : LaneCar) (v : ℕ) → straight + 1 ≡ length cars → v ≡ answer (place_of cars straight) → n ≤ place_of cars straight + v
-      → car ≡ record { number = (get_or cars straight no_car).number; place = place_of cars straight + v - n; speed = v } → Front n answer cars straight (car ∷ [])
+-- of the cars that stand before the last one the first k went straight ahead
+pub record Led (n : ℕ) (answer : ℕ → ℕ) (cars before now : List LaneCar) (k : ℕ) : Type 0 where
+  pub gone_on : List LaneCar
+  pub parts : now ≡ gone_on ++ drop k before
+  pub moved : Moved n answer cars gone_on k
 
--- after that car stand the first k cars, which went straight ahead
-pub record Led (n : ℕ) (answer : ℕ → ℕ) (cars next : List LaneCar) (straight k : ℕ) : Type 0 where
-  pub front : List LaneCar
-  pub rest : List LaneCar
-  pub led : Front n answer cars straight front
-  pub parts : next ≡ front ++ rest
-  pub moved : Moved n answer cars rest k
+module _ (n : ℕ) (answer : ℕ → ℕ) (cars before : List LaneCar) (last : LaneCar) (r : Rises 0 n cars) (fits : LaneFits answer (cells_of n cars)) (whole : cars ≡ before ++ last ∷ []) where
+  pub size_whole : length cars ≡ length before + 1
+  size_whole = ap length whole ∙ length_push before last
 
-module _ (n : ℕ) (answer : ℕ → ℕ) (cars : List LaneCar) (r : Rises 0 n cars) (fits : LaneFits answer (cells_of n cars)) where
-  -- a car that goes straight ahead does not pass the end
-  front_few : (straight : ℕ) (front : List LaneCar) → Front n answer cars straight front → straight ≤ length cars
-  front_few straight front (all_straight s e last) = omega (arith, e)
-  front_few straight front (one_turned s car v e same past is) = omega (arith, e)
+  pub last_kth : last ≡ get_or cars (length before) no_car
+  last_kth = sym (ap (λ (cs : List LaneCar). get_or cs (length before) no_car) whole ∙ get_or_push before last no_car (length before) refl)
 
-  short_of_end : (straight k : ℕ) (front : List LaneCar) → Front n answer cars straight front → k < straight → place_of cars k + answer (place_of cars k) < n
-  short_of_end straight k front (all_straight s e last) low =
-      elim (cases_eq (k + 1) (length cars)) [
-        | inl whole ↦ last k whole
-        | inr other ↦
-            let more : k + 1 < length cars = omega (arith, e, low, other) in
-            let a = before_next n cars answer r fits k more in
-            let b = rises_high 0 n cars (k + 1) r more in
-            omega (arith, a, b)
-      ]
-  short_of_end straight k front (one_turned s car v e same past is) low =
-      let more : k + 1 < length cars = omega (arith, e, low) in
-      let a = before_next n cars answer r fits k more in
-      let b = rises_high 0 n cars (k + 1) r more in
-      omega (arith, a, b)
+  before_kth : (k : ℕ) → k < length before → get_or before k no_car ≡ get_or cars k no_car
+  before_kth k low = sym (ap (λ (cs : List LaneCar). get_or cs k no_car) whole ∙ get_or_append_left before (last ∷ []) no_car k low)
 
-  module _ (next : List LaneCar) (straight k : ℕ) (l : Led n answer cars next straight k) where
-    pub led_few : straight ≤ length cars
-    led_few = front_few straight l.front l.led
+  pub led_none : Led n answer cars before before 0
+  led_none = record { gone_on = []; parts = refl; moved = moved_none n answer cars }
 
-    pub led_short : k < straight → place_of cars k + answer (place_of cars k) < n
-    led_short low = short_of_end straight k l.front l.led low
+  module _ (now : List LaneCar) (k : ℕ) (l : Led n answer cars before now k) where
+    drop_next : k < length before → drop k before ≡ get_or before k no_car ∷ drop (k + 1) before
+    drop_next low = drop-cons before k no_car low ∙ ap (λ i. get_or before k no_car ∷ drop i before) (sym (add-one k))
 
-    pub led_more : (car : LaneCar) (v : ℕ) → k < straight → v ≡ answer (place_of cars k) → car ≡ record { number = (get_or cars k no_car).number; place = place_of cars k + v; speed = v } → Led n answer cars (next ++ car ∷ []) straight (k + 1)
+    -- what is still there of the list
+    led_parts : k < length before → now ≡ l.gone_on ++ get_or cars k no_car ∷ drop (k + 1) before
+    led_parts low = l.parts ∙ ap (λ (cs : List LaneCar). l.gone_on ++ cs) (drop_next low ∙ ap (λ (car : LaneCar). car ∷ drop (k + 1) before) (before_kth k low))
+
+    pub led_kth : (d : LaneCar) → k < length before → get_or now k d ≡ get_or cars k no_car
+    led_kth d low = ap (λ (cs : List LaneCar). get_or cs k d) (led_parts low) ∙ get_or_at l.gone_on _ _ d k l.moved.size
+
+    pub led_short : k < length before → place_of cars k + answer (place_of cars k) < n
+    led_short low =
+        let more : k + 1 < length cars = let s = size_whole in omega (arith, s, low) in
+        let a = before_next n cars answer r fits k more in
+        let b = rises_high 0 n cars (k + 1) r more in
+        omega (arith, a, b)
+
+    pub led_more : (car : LaneCar) (v : ℕ) → k < length before → v ≡ answer (place_of cars k) → car ≡ record { number = (get_or cars k no_car).number; place = place_of cars k + v; speed = v } → Led n answer cars before (set now k car) (k + 1)
     led_more car v low same is =
-        let few = led_few in
         let short = led_short low in
+        let s = size_whole in
         record {
-          front = l.front;
-          rest = l.rest ++ car ∷ [];
-          led = l.led;
-          parts = ap (λ (cs : List LaneCar). cs ++ car ∷ []) l.parts ∙ append_assoc l.front l.rest (car ∷ []);
-          moved = moved_straight n answer cars l.rest k r fits l.moved (omega (arith, few, low)) car v same (omega (arith, short, same)) is;
+          gone_on = l.gone_on ++ car ∷ [];
+          parts = ap (λ (cs : List LaneCar). set cs k car) (led_parts low) ∙ set_at l.gone_on _ _ car k l.moved.size ∙ sym (append_assoc l.gone_on (car ∷ []) (drop (k + 1) before));
+          moved = moved_straight n answer cars l.gone_on k r fits l.moved (omega (arith, s, low)) car v same (omega (arith, short, same)) is;
         }
 
-  led_whole : (next : List LaneCar) (straight k : ℕ) (front rest : List LaneCar) → Front n answer cars straight front → next ≡ front ++ rest → Moved n answer cars rest k → k ≡ straight → Moved n answer cars next (length cars)
-  led_whole next straight k front rest (all_straight s e last) parts moved whole = rw parts (subst (Moved n answer cars rest) (whole ∙ e) moved)
-  led_whole next straight k front rest (one_turned s car v e same past is) parts moved whole =
-      let m = subst (Moved n answer cars rest) whole moved in
-      rw parts (subst (Moved n answer cars (car ∷ rest)) e (moved_round n answer cars rest straight r fits m (omega (arith, e)) car v same past is))
+    pub led_moved : k ≡ length before → Moved n answer cars now (length before)
+    led_moved all = rw (l.parts ∙ ap (λ (cs : List LaneCar). l.gone_on ++ cs) (drop_all k before (omega (arith, all))) ∙ append-nil l.gone_on) (subst (Moved n answer cars l.gone_on) all l.moved)
 
-  pub led_all : (next : List LaneCar) (straight k : ℕ) → Led n answer cars next straight k → k ≡ straight → Moved n answer cars next (length cars)
-  led_all next straight k l whole = led_whole next straight k l.front l.rest l.led l.parts l.moved whole
+    -- and then the last one, straight ahead or past the end
+    pub led_straight : k ≡ length before → (car : LaneCar) (v : ℕ) → v ≡ answer last.place → last.place + v < n → car ≡ record { number = last.number; place = last.place + v; speed = v }
+        → Moved n answer cars (now ++ car ∷ []) (length cars)
+    led_straight all car v same within is =
+        let s = size_whole in
+        let here = last_kth in
+        rw s (moved_straight n answer cars now (length before) r fits (led_moved all) (omega (arith, s)) car v (rw here at same) (rw here at within) (rw here at is))
+
+    pub led_round : k ≡ length before → (car : LaneCar) (v : ℕ) → v ≡ answer last.place → n ≤ last.place + v → car ≡ record { number = last.number; place = last.place + v - n; speed = v }
+        → Moved n answer cars (car ∷ now) (length cars)
+    led_round all car v same past is =
+        let s = size_whole in
+        let here = last_kth in
+        rw s (moved_round n answer cars now (length before) r fits (led_moved all) (omega (arith, s)) car v (rw here at same) (rw here at past) (rw here at is))
 
 -- a car's answer leads at most round the ring
 pub reach_fits : (n : ℕ) (cars : List LaneCar) (answer : ℕ → ℕ) (k : ℕ) → Rises 0 n cars → LaneFits answer (cells_of n cars) → k + 1 ≡ length cars → place_of cars k + answer (place_of cars k) < n + n

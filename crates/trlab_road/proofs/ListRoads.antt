@@ -1,7 +1,7 @@
 -- Roads that are kept as sorted lists of cars.
-use Rattle.std.proofs.Common.{below_more, Bool, ◌≡◌, ℕ, zero, suc, ◌+◌, ◌-◌, ◌<◌, ◌≤◌, Some, List, [], ◌∷◌, ◌++◌, Vec, Global, length, get_or, take, map, refl, sym, ◌∙◌, ap, subst, arith}
+use Rattle.std.proofs.Common.{below_more, Bool, ◌≡◌, ℕ, zero, suc, ◌+◌, ◌-◌, ◌<◌, ◌≤◌, Some, List, [], ◌∷◌, ◌++◌, Vec, Global, length, get_or, set, take, drop, map, refl, sym, ◌∙◌, ap, subst, arith}
 use Rattle.std.specs.Prelude.{sum_by, slice_get}
-use Rattle.std.proofs.lemmas.List.{length-map, take_more}
+use Rattle.std.proofs.lemmas.List.{length-map, take_more, take_at}
 use Rattle.std.proofs.lemmas.List.Sums.{sum_by-cons, sum_by_push}
 use Rattle.std.proofs.lemmas.Option.{slice_get-get_or}
 use Rattle.trlab_bounds.specs.declared.roads.TheConstants.{GREATEST_LENGTH, GREATEST_LIMIT, MOST_LANES}
@@ -95,6 +95,37 @@ pub list_read : (lists : List (Vec LaneCar Global)) (l : ℕ) (v : Vec LaneCar G
 list_read [] l v h is = absurd (omega arith)
 list_read (w ∷ lists) zero v h is = ap (λ (u : Vec LaneCar Global). u.items) is
 list_read (w ∷ lists) (suc l) v h is = list_read lists l v (omega arith) is
+
+pub list_here : (lists : List (Vec LaneCar Global)) (l : ℕ) (v : Vec LaneCar Global) → l < length lists → (get_or lists l v).items ≡ list_at lists l
+list_here [] l v h = absurd (omega arith)
+list_here (w ∷ lists) zero v h = refl
+list_here (w ∷ lists) (suc l) v h = list_here lists l v (omega arith)
+
+-- the lists where one of them was written
+pub list_written : (lists : List (Vec LaneCar Global)) (l : ℕ) (v : Vec LaneCar Global) → l < length lists → list_at (set lists l v) l ≡ v.items
+list_written [] l v h = absurd (omega arith)
+list_written (w ∷ lists) zero v h = refl
+list_written (w ∷ lists) (suc l) v h = list_written lists l v (omega arith)
+
+pub list_unwritten : (lists : List (Vec LaneCar Global)) (l j : ℕ) (v : Vec LaneCar Global) → (j ≡ l → ⊥) → list_at (set lists l v) j ≡ list_at lists j
+list_unwritten [] l j v other = refl
+list_unwritten (w ∷ lists) zero zero v other = absurd (other refl)
+list_unwritten (w ∷ lists) zero (suc j) v other = refl
+list_unwritten (w ∷ lists) (suc l) zero v other = refl
+list_unwritten (w ∷ lists) (suc l) (suc j) v other = list_unwritten lists l j v (λ e. other (ap suc e))
+
+-- lists that were all written
+pub all_written : (old next : List (Vec LaneCar Global)) (k : ℕ) → k ≡ length old → length next ≡ length old → take k (next ++ drop (length next) old) ≡ next
+all_written old next k e same = take_at next _ k (same ∙ sym e)
+
+pub two_written : (old : List (Vec LaneCar Global)) (v w : Vec LaneCar Global) → length old ≡ 2 → set (set old 0 v) 1 w ≡ v ∷ w ∷ []
+two_written [] v w two = absurd (omega (arith, two))
+two_written (a ∷ []) v w two = absurd (omega (arith, two))
+two_written (a ∷ b ∷ []) v w two = refl
+two_written (a ∷ b ∷ d ∷ old) v w two = absurd (omega (arith, two))
+
+pub two_sorted : (n : ℕ) (v w : Vec LaneCar Global) → Rises 0 n v.items → Rises 0 n w.items → Sorted n (v ∷ w ∷ [])
+two_sorted n v w first second = record { rises = below_more (λ l. Rises 0 n (list_at (v ∷ w ∷ []) l)) 1 (below_more (λ l. Rises 0 n (list_at (v ∷ w ∷ []) l)) 0 (λ l h. absurd (omega (arith, h))) first) second }
 
 pub some_list : (lists : List (Vec LaneCar Global)) (k : ℕ) → k < sum_by length (lists_of lists) → 0 < length lists
 some_list [] k h = absurd (omega arith)

@@ -76,16 +76,6 @@ pub record Sought (cars : List LaneCar) (x index : ℕ) : Type 0 where
   pub before : (k : ℕ) → k < index → k < length cars → place_of cars k < x
   pub from : (k : ℕ) → index ≤ k → k < length cars → x ≤ place_of cars k
 
--- the cell that a car, or none, makes
-abbrev pub cell_of_car : Option LaneCar → Cell
-cell_of_car None = None
-cell_of_car (Some car) = Some (car.number, car.speed)
-
--- a car, if there is one, stands at a place
-abbrev pub StandsAt : ℕ → Option LaneCar → Type 0
-StandsAt x None = Unit {0}
-StandsAt x (Some car) = car.place ≡ x
-
 -- the answers of the cars of lane l, where answers stand in standing order
 abbrev pub list_answer : ℕ → List (Vec LaneCar Global) → List ℕ → ℕ → ℕ → ℕ
 list_answer n lists answers l =

@@ -1,14 +1,16 @@
 //! The sideways phase: the cars of two lanes that cross do so at once. Those of a lane that stay are
 //! merged with those that come.
 
-ghost use Rattle.std.specs.Prelude.{◌≡◌, ◌+◌, ◌<◌, ◌≤◌, ℕ, length, sum_by, IfOk, slice_index_or, true, false, Option};
+ghost use Rattle.std.specs.Prelude.{◌≡◌, ◌+◌, ◌<◌, ◌≤◌, ℕ, length, sum_by, IfOk, OnOk, true, false, None};
+ghost use Rattle.std.specs.Int.{from_bool};
 ghost use Rattle.trlab_bounds.specs.declared.roads.TheConstants.{GREATEST_LENGTH};
 ghost use Rattle.trlab_road.specs.Cells.{Cells, lane_cars};
-ghost use Rattle.trlab_road.specs.Crossing.{Crosses, LaneCrosses, LaneLeaves, crosses_at, crossing, lane_crosses_at};
-ghost use Rattle.trlab_road.specs.Lists.{Rises, Rising, Sorted, Sought, StandsAt, cell_at, cell_of_car, cells_of, lanes_from, place_of};
+ghost use Rattle.trlab_road.specs.Crossing.{Crosses, LaneCrosses, LaneLeaves, crosses_at, lane_crosses_at};
+ghost use Rattle.trlab_road.specs.Lists.{Rises, Rising, Sorted, Sought, cell_at, cells_of, lanes_from, place_of};
 
 use crate::lane_car::LaneCar;
 use crate::lanes::list_of;
+use crate::room::Room;
 use std::alloc::{AllocError, Global};
 
 /// A lane before its cars cross: its list, and the index from which the answers of its cars stand.
@@ -16,13 +18,6 @@ use std::alloc::{AllocError, Global};
 struct AnsweredLane<'a> {
     cars: &'a [LaneCar],
     from: usize,
-}
-
-/// The answer at an index, or no where there is none.
-fn answer_or_no(crosses: &[bool], k: usize) -> bool
-    ensures { result ≡ slice_index_or crosses.now k false }
-{
-    k < crosses.len() && crosses[k]
 }
 
 /// The place of the k-th car, or the end of the lane.
@@ -33,109 +28,85 @@ fn next_place(cars: &[LaneCar], k: usize, cells: u32) -> u32
     if k < cars.len() { cars[k].place } else { cells }
 }
 
-/// The car at a place, where the k-th is the first from there on.
-fn car_at(cars: &[LaneCar], k: usize, place: u32) -> Option<LaneCar>
+/// Does the k-th car stand at a place, where it is the first from there on?
+fn stands_at(cars: &[LaneCar], k: usize, place: u32) -> bool
     requires sorted { Rising cars.now }
     requires sought { Sought cars.now place k }
-    ensures cell { cell_of_car result ≡ cell_at cars.now place }
-    ensures there { StandsAt place result }
+    ensures none { result ≡ false → cell_at cars.now place ≡ None }
+    ensures within { result ≡ true → k < length cars.now }
+    ensures there { result ≡ true → place_of cars.now k ≡ place }
+    ensures past { Sought cars.now (place + 1) (k + from_bool result) }
 {
-    if k < cars.len() && cars[k].place == place {
-        Some(cars[k])
-    } else {
-        None
-    }
+    k < cars.len() && cars[k].place == place
 }
 
-/// The index of the first car past a place, where the k-th is the first from there on.
-fn passed(cars: &[LaneCar], k: usize, place: u32) -> usize
-    requires sorted { Rising cars.now }
-    requires sought { Sought cars.now place k }
-    ensures { Sought cars.now (place + 1) result }
-{
-    if k < cars.len() && cars[k].place == place {
-        k + 1
-    } else {
-        k
-    }
-}
-
-/// The car of a cell after the sideways phase, to which a car comes or none.
-fn crossed_car(own_crosses: bool, own: Option<LaneCar>, coming: Option<LaneCar>) -> Option<LaneCar>
-    ensures cell { cell_of_car result
-        ≡ crossing own_crosses true (cell_of_car own) (cell_of_car coming) }
-    ensures there { (x : ℕ) → StandsAt x own → StandsAt x coming → StandsAt x result }
-{
-    if own.is_some() && !own_crosses {
-        own
-    } else {
-        coming
-    }
-}
-
-/// The cars of a lane that cross; only the proof reads how many cells the lane has.
+/// Puts the cars of a lane that cross into a list; only the proof reads how many cells the lane has.
 fn leaving_cars(
-    alloc: Global,
+    leaving: &mut Vec<LaneCar>,
     cells: u32,
     lane: AnsweredLane,
     crosses: &[bool],
-) -> Result<Vec<LaneCar>, AllocError>
+) -> Result<(), AllocError>
     requires sorted { Rises 0 cells lane.cars.now }
     requires each { lane.from + length lane.cars.now ≤ length crosses.now }
-    ensures rises { IfOk result (λ leaving. Rises 0 cells leaving.items) }
-    ensures leaves { IfOk result (λ leaving.
+    ensures rises { OnOk result (Rises 0 cells leaving.new.items) }
+    ensures leaves { OnOk result (
         let old = cells_of cells lane.entry.cars.now in
         LaneLeaves (lane_crosses_at old crosses.now lane.entry.from)
-        old (cells_of cells leaving.items)) }
+        old (cells_of cells leaving.new.items)) }
 {
-    let mut leaving = Vec::new(alloc);
+    leaving.clear();
     for k in 0..lane.cars.len() {
         if crosses[lane.from + k] {
             leaving.push(lane.cars[k])?;
         }
     }
-    Ok(leaving)
+    Ok(())
 }
 
-/// The cars of a lane after the sideways phase, to which these cars come from the other lane.
+/// Puts the cars of a lane after the sideways phase, to which these cars come from the other lane, into
+/// a list.
 fn crossed_lane(
-    alloc: Global,
+    next: &mut Vec<LaneCar>,
     cells: u32,
     own: AnsweredLane,
     coming: &[LaneCar],
     crosses: &[bool],
-) -> Result<Vec<LaneCar>, AllocError>
+) -> Result<(), AllocError>
     requires small { cells ≤ GREATEST_LENGTH }
     requires own_sorted { Rises 0 cells own.cars.now }
     requires coming_sorted { Rises 0 cells coming.now }
     requires own_each { own.from + length own.cars.now ≤ length crosses.now }
-    ensures rises { IfOk result (λ next. Rises 0 cells next.items) }
-    ensures crosses { IfOk result (λ next.
+    ensures rises { OnOk result (Rises 0 cells next.new.items) }
+    ensures crosses { OnOk result (
         let old = cells_of cells own.entry.cars.now in
         LaneCrosses (lane_crosses_at old crosses.now own.entry.from) (λ _. true)
-        old (cells_of cells coming.now) (cells_of cells next.items)) }
+        old (cells_of cells coming.now) (cells_of cells next.new.items)) }
 {
-    let mut next = Vec::with_capacity(alloc, own.cars.len())?;
+    next.clear();
+    next.reserve(own.cars.len())?;
     let mut i = 0;
     let mut j = 0;
     let mut place = next_place(own.cars, i, cells).min(next_place(coming, j, cells));
     while place < cells {
-        let own_crosses = answer_or_no(crosses, own.from + i);
-        let own_car = car_at(own.cars, i, place);
-        let coming_car = car_at(coming, j, place);
-        if let Some(car) = crossed_car(own_crosses, own_car, coming_car) {
-            next.push(car)?;
+        let own_here = stands_at(own.cars, i, place);
+        let coming_here = stands_at(coming, j, place);
+        if own_here && !crosses[own.from + i] {
+            next.push(own.cars[i])?;
+        } else if coming_here {
+            next.push(coming[j])?;
         }
-        i = passed(own.cars, i, place);
-        j = passed(coming, j, place);
+        i += usize::from(own_here);
+        j += usize::from(coming_here);
         place = next_place(own.cars, i, cells).min(next_place(coming, j, cells));
     }
-    Ok(next)
+    Ok(())
 }
 
-/// The two lanes after all cars that cross did so at once.
+/// The two lanes after all cars that cross did so at once, in lists of the room.
 pub fn crossed_lanes(
     alloc: Global,
+    room: &mut Room,
     lanes: &[Vec<LaneCar>],
     cells: u32,
     crosses: &[bool],
@@ -158,9 +129,10 @@ pub fn crossed_lanes(
         cars: list_of(lanes, 1),
         from: first.cars.len(),
     };
-    let from_first = leaving_cars(alloc, cells, first, crosses)?;
-    let from_second = leaving_cars(alloc, cells, second, crosses)?;
-    let new_first = crossed_lane(alloc, cells, first, &from_second, crosses)?;
-    let new_second = crossed_lane(alloc, cells, second, &from_first, crosses)?;
-    Ok(vec![in alloc; new_first, new_second]?)
+    let mut next = room.two_lists(alloc)?;
+    leaving_cars(&mut room.from_first, cells, first, crosses)?;
+    leaving_cars(&mut room.from_second, cells, second, crosses)?;
+    crossed_lane(&mut next[0], cells, first, &room.from_second, crosses)?;
+    crossed_lane(&mut next[1], cells, second, &room.from_first, crosses)?;
+    Ok(next)
 }

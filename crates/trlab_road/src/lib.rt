@@ -13,10 +13,12 @@ mod motion;
 mod picture;
 mod reading;
 mod road;
+mod room;
 mod side;
 mod spreading;
 
 pub use car::Car;
 pub use fault::RoadFault;
 pub use road::Road;
+pub use room::Room;
 pub use side::Beside;

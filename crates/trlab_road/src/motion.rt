@@ -1,80 +1,75 @@
 //! The motion phase: the cars of each lane go ahead at once.
 
-ghost use Rattle.std.specs.Prelude.{◌≡◌, ◌+◌, ◌≤◌, length, IfOk, sum_by};
+ghost use Rattle.std.specs.Prelude.{◌≡◌, ◌+◌, ◌≤◌, length, sum_by};
 ghost use Rattle.trlab_bounds.specs.declared.roads.TheConstants.{GREATEST_LENGTH};
 ghost use Rattle.trlab_road.specs.Cells.{lane_cars};
 ghost use Rattle.trlab_road.specs.Motion.{LaneFits, LaneMoves, lane_answer};
 ghost use Rattle.trlab_road.specs.Lists.{ListsFit, ListsMove, Rises, Sorted, cells_of, lanes_from};
 
 use crate::lane_car::LaneCar;
-use std::alloc::{AllocError, Global};
 
-/// The cars of a lane after they went ahead, where their speeds stand from an index on.
+/// Moves the cars of a lane ahead, where their speeds stand from an index on.
 ///
 /// A car that passes the end was the last, and is the first then.
-pub fn moved_lane(
-    alloc: Global,
-    cars: &[LaneCar],
-    cells: u32,
-    speeds: &[u32],
-    from: usize,
-) -> Result<Vec<LaneCar>, AllocError>
+pub fn move_lane(cars: &mut Vec<LaneCar>, cells: u32, speeds: &[u32], from: usize)
     requires small { cells ≤ GREATEST_LENGTH }
-    requires sorted { Rises 0 cells cars.now }
-    requires one_each { from + length cars.now ≤ length speeds.now }
-    requires within { LaneFits (lane_answer (cells_of cells cars.now) speeds.now from)
-        (cells_of cells cars.now) }
-    ensures rises { IfOk result (λ next. Rises 0 cells next.items) }
-    ensures moves { IfOk result (λ next. LaneMoves
-        (lane_answer (cells_of cells cars.now) speeds.now from)
-        (cells_of cells cars.now) (cells_of cells next.items)) }
+    requires sorted { Rises 0 cells cars.old.items }
+    requires one_each { from + length cars.old.items ≤ length speeds.now }
+    requires within { LaneFits (lane_answer (cells_of cells cars.old.items) speeds.now from)
+        (cells_of cells cars.old.items) }
+    ensures rises { Rises 0 cells cars.new.items }
+    ensures moves { LaneMoves (lane_answer (cells_of cells cars.old.items) speeds.now from)
+        (cells_of cells cars.old.items) (cells_of cells cars.new.items) }
+    ensures same_count { length cars.new.items ≡ length cars.old.items }
 {
-    let mut next = Vec::with_capacity(alloc, cars.len())?;
-    let mut straight = cars.len();
-    if straight > 0 {
-        let last = cars[straight - 1];
-        let speed = speeds[from + (straight - 1)];
-        let reach = last.place + speed;
-        if reach >= cells {
-            next.push(LaneCar {
-                number: last.number,
-                place: reach - cells,
-                speed,
-            })?;
-            straight -= 1;
-        }
-    }
+    let Some(last) = cars.pop() else {
+        return;
+    };
+    let straight = cars.len();
     for k in 0..straight {
         let car = cars[k];
         let speed = speeds[from + k];
-        next.push(LaneCar {
+        cars[k] = LaneCar {
             number: car.number,
             place: car.place + speed,
             speed,
-        })?;
+        };
     }
-    Ok(next)
+    let number = last.number;
+    let speed = speeds[from + straight];
+    let place = last.place + speed;
+    // there is room for the last car, since it was there
+    let _ = if place < cells {
+        cars.push(LaneCar {
+            number,
+            place,
+            speed,
+        })
+    } else {
+        let place = place - cells;
+        cars.insert(
+            0,
+            LaneCar {
+                number,
+                place,
+                speed,
+            },
+        )
+    };
 }
 
-/// The lanes after all cars went ahead at once, where their speeds stand in standing order.
-pub fn moved_lanes(
-    alloc: Global,
-    lanes: &[Vec<LaneCar>],
-    cells: u32,
-    speeds: &[u32],
-) -> Result<Vec<Vec<LaneCar>>, AllocError>
+/// Moves the cars of all lanes ahead at once, where their speeds stand in standing order.
+pub fn move_lanes(lanes: &mut [Vec<LaneCar>], cells: u32, speeds: &[u32])
     requires small { cells ≤ GREATEST_LENGTH }
-    requires sorted { Sorted cells lanes.now }
-    requires one_each { sum_by lane_cars (lanes_from cells lanes.now) ≤ length speeds.now }
-    requires within { ListsFit cells lanes.now speeds.now }
-    ensures sorted { IfOk result (λ next. Sorted cells next.items) }
-    ensures moves { IfOk result (λ next. ListsMove cells lanes.now next.items speeds.now) }
+    requires sorted { Sorted cells lanes.old }
+    requires one_each { sum_by lane_cars (lanes_from cells lanes.old) ≤ length speeds.now }
+    requires within { ListsFit cells lanes.old speeds.now }
+    ensures sorted { Sorted cells lanes.new }
+    ensures moves { ListsMove cells lanes.old lanes.new speeds.now }
 {
-    let mut next = Vec::with_capacity(alloc, lanes.len())?;
     let mut from = 0;
-    for lane in lanes {
-        next.push(moved_lane(alloc, lane, cells, speeds, from)?)?;
-        from += lane.len();
+    for l in 0..lanes.len() {
+        move_lane(&mut lanes[l], cells, speeds, from);
+        from += lanes[l].len();
     }
-    Ok(next)
 }

@@ -1,12 +1,12 @@
 //! Cells and speeds as bytes of pictures.
 
-ghost use Rattle.std.specs.Prelude.{◌≡◌, ◌<◌, ◌≤◌, ◌↔◌, ℕ, IfOk, IsTrue, length, slice_index_or};
+ghost use Rattle.std.specs.Prelude.{◌≡◌, ◌<◌, ◌≤◌, ◌↔◌, ℕ, ◌++◌, OnOk, IsTrue, length, slice_index_or};
 ghost use Rattle.trlab_bounds.specs.declared.roads.TheConstants.{GREATEST_LIMIT};
 ghost use Rattle.trlab_road.specs.Lists.{Rises, cells_of, no_car};
 ghost use Rattle.trlab_road.specs.Pictures.{ShowsCell, ShowsSpeed, byte_speed, picture, speed_byte};
 
 use crate::lane_car::LaneCar;
-use std::alloc::{AllocError, Global};
+use std::alloc::AllocError;
 use trlab_bounds::roads::GREATEST_LIMIT;
 
 /// The byte of an empty cell.
@@ -45,17 +45,18 @@ pub fn shows_cell(limit: u32, byte: u8) -> bool
     byte == EMPTY || shows_speed(limit, byte)
 }
 
-/// The picture of a lane: a point for an empty cell, the digit of the speed for a car.
-pub fn picture_of(alloc: Global, cars: &[LaneCar], cells: u32) -> Result<Vec<u8>, AllocError>
+/// Adds the picture of a lane: a point for an empty cell, the digit of the speed for a car.
+pub fn push_picture(out: &mut Vec<u8>, cars: &[LaneCar], cells: u32) -> Result<(), AllocError>
     requires sorted { Rises 0 cells cars.now }
     requires slow { (k : ℕ) → k < length cars.now
         → (slice_index_or cars.now k no_car).speed ≤ GREATEST_LIMIT }
-    ensures { IfOk result (λ bytes. bytes.items ≡ picture (cells_of cells cars.now)) }
+    ensures { OnOk result (out.new.items ≡ out.old.items ++ picture (cells_of cells cars.now)) }
 {
-    let mut bytes = vec![in alloc; EMPTY; cells as usize]?;
+    let start = out.len();
+    out.resize(start + cells as usize, EMPTY)?;
     for k in 0..cars.len() {
         let car = cars[k];
-        bytes[car.place as usize] = speed_byte(car.speed);
+        out[start + car.place as usize] = speed_byte(car.speed);
     }
-    Ok(bytes)
+    Ok(())
 }

@@ -1,6 +1,6 @@
 //! A road, kept as the list of the cars of each lane by rising place.
 
-ghost use Rattle.std.specs.Prelude.{◌≡◌, ◌≢◌, ◌⊎◌, ◌<◌, ◌≤◌, ◌↔◌, ℕ, Bool, length, slice_get, Some, slice_index, slice_index_or, false, IfOk, IsTrue, MatchResult};
+ghost use Rattle.std.specs.Prelude.{◌≡◌, ◌≢◌, ◌⊎◌, ◌<◌, ◌≤◌, ◌↔◌, ℕ, Bool, length, slice_get, Some, slice_index, slice_index_or, false, ◌++◌, IfOk, OnOk, IsTrue, MatchResult};
 ghost use Rattle.trlab_bounds.specs.declared.roads.TheConstants.{GREATEST_LENGTH};
 ghost use Rattle.trlab_road.specs.declared.car.Car.{Car};
 ghost use Rattle.trlab_road.specs.declared.fault.RoadFault.{RoadFault};
@@ -19,9 +19,10 @@ use crate::fault::RoadFault;
 use crate::gap::gap_ahead;
 use crate::lane_car::LaneCar;
 use crate::lanes::{car_of, copy_lanes, count_cars, find, list_of, same_lanes};
-use crate::motion::moved_lanes;
-use crate::picture::picture_of;
+use crate::motion::move_lanes;
+use crate::picture::push_picture;
 use crate::reading::{check_pictures, draw_lanes};
+use crate::room::Room;
 use crate::side::{Beside, look_beside};
 use crate::spreading::{check_even, even_lanes};
 use std::alloc::{AllocError, Global};
@@ -267,7 +268,17 @@ impl Road {
         requires { lane < length self.now.lanes }
         ensures { IfOk result (λ bytes. bytes.items ≡ picture (lane_of self.now lane)) }
     {
-        picture_of(alloc, list_of(&self.lanes, lane), self.cells)
+        let mut bytes = Vec::new(alloc);
+        self.push_picture(&mut bytes, lane)?;
+        Ok(bytes)
+    }
+
+    /// Adds the picture of a lane to bytes.
+    pub fn push_picture(&self, out: &mut Vec<u8>, lane: u32) -> Result<(), AllocError>
+        requires { lane < length self.now.lanes }
+        ensures { OnOk result (out.new.items ≡ out.old.items ++ picture (lane_of self.now lane)) }
+    {
+        push_picture(out, list_of(&self.lanes, lane), self.cells)
     }
 
     /// The road after all cars went ahead at once, each by its speed of the list, which stands in
@@ -279,12 +290,21 @@ impl Road {
         ensures clean { IfOk result (λ next. CleanMotion self.now next) }
         ensures legal { IfOk result (λ next. Legal next) }
     {
-        let lanes = moved_lanes(alloc, &self.lanes, self.cells, speeds)?;
-        Ok(Road {
-            limit: self.limit,
-            cells: self.cells,
-            lanes,
-        })
+        let mut next = self.copy(alloc)?;
+        next.move_cars(speeds);
+        Ok(next)
+    }
+
+    /// Moves all cars ahead at once, each by its speed of the list, which stands in standing order and
+    /// gives the new speeds. It takes no memory.
+    pub fn move_cars(&mut self, speeds: &[u32])
+        requires { Allowed self.old speeds.now }
+        ensures moves { (answer : ℕ → ℕ → ℕ)
+            → speeds.now ≡ in_order answer self.old → Moves answer self.old self.new }
+        ensures clean { CleanMotion self.old self.new }
+        ensures legal { Legal self.new }
+    {
+        move_lanes(&mut self.lanes, self.cells, speeds);
     }
 
     /// The road of two lanes after all cars that cross did so at once; whether a car crosses stands
@@ -296,11 +316,32 @@ impl Road {
         ensures clean { IfOk result (λ next. CleanCrossing self.now next) }
         ensures legal { IfOk result (λ next. Legal next) }
     {
-        let lanes = crossed_lanes(alloc, &self.lanes, self.cells, crosses)?;
+        self.crossed_in(alloc, &mut Room::new(alloc), crosses)
+    }
+
+    /// The road as `crossed` tells it, which takes its memory from the room.
+    pub fn crossed_in(
+        &self,
+        alloc: Global,
+        room: &mut Room,
+        crosses: &[bool],
+    ) -> Result<Road, AllocError>
+        requires { CrossAllowed self.now crosses.now }
+        ensures crosses { IfOk result (λ next. (answer : ℕ → ℕ → Bool)
+            → crosses.now ≡ in_order answer self.now → Crosses answer self.now next) }
+        ensures clean { IfOk result (λ next. CleanCrossing self.now next) }
+        ensures legal { IfOk result (λ next. Legal next) }
+    {
+        let lanes = crossed_lanes(alloc, room, &self.lanes, self.cells, crosses)?;
         Ok(Road {
             limit: self.limit,
             cells: self.cells,
             lanes,
         })
+    }
+
+    /// Leaves the memory of this road, which is no longer needed, to the room.
+    pub fn leave_to(self, room: &mut Room) {
+        room.keep_lists(self.lanes);
     }
 }

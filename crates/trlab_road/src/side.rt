@@ -1,9 +1,9 @@
 //! The side cell of a car and the gaps beside it, by a search of the other lane's list.
 
-ghost use Rattle.std.specs.Prelude.{◌≡◌, ◌<◌, ◌≤◌, nat_lt};
+ghost use Rattle.std.specs.Prelude.{◌≡◌, ◌<◌, ◌≤◌, ℕ, length, nat_lt};
 ghost use Rattle.trlab_bounds.specs.declared.roads.TheConstants.{GREATEST_LENGTH};
 ghost use Rattle.trlab_road.specs.Gaps.{side, sideback, sidegap};
-ghost use Rattle.trlab_road.specs.Lists.{Rises, Rising, Sought, cells_of};
+ghost use Rattle.trlab_road.specs.Lists.{Rises, Rising, Sought, cells_of, place_of};
 
 use crate::gap::{gap_ahead, gap_behind};
 use crate::lane_car::LaneCar;
@@ -33,6 +33,21 @@ pub struct Beside {
     pub next: usize,
 }
 
+/// Goes past one car from an index on, if it stands before a place: by a sum, so that no branch hangs on
+/// where it stands.
+#[inline(always)]
+fn past_one(cars: &[LaneCar], place: u32, next: usize) -> usize
+    requires within { next ≤ length cars.now }
+    requires before { (k : ℕ) → k < next → k < length cars.now → place_of cars.now k < place }
+    ensures within { result ≤ length cars.now }
+    ensures before { (k : ℕ) → k < result → k < length cars.now → place_of cars.now k < place }
+{
+    if next == cars.len() {
+        return next;
+    }
+    next + usize::from(cars[next].place < place)
+}
+
 /// The index of the first car from a place on, looked for from an index near it: from car to car
 /// where no earlier car is in question, else by halves.
 fn first_near(cars: &[LaneCar], place: u32, near: usize) -> usize
@@ -42,6 +57,7 @@ fn first_near(cars: &[LaneCar], place: u32, near: usize) -> usize
     if near == 0 || near > cars.len() || cars[near - 1].place >= place {
         return first_from(cars, place);
     }
+    let near = past_one(cars, place, past_one(cars, place, near));
     for next in near..cars.len() {
         if cars[next].place >= place {
             return next;

@@ -3,3 +3,4 @@ pub mod NaschRuns
 pub mod VdrRuns
 pub mod RickertRuns
 pub mod GivenPrograms
+pub mod StandardPrograms

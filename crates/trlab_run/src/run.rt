@@ -11,7 +11,7 @@ use std::alloc::{AllocError, Global};
 use std::marker::Model;
 use std::snapshot::Snapshot;
 use trlab_road::Road;
-use trlab_step::{Asker, StepFault, StepTally, step_road_by};
+use trlab_step::{Asker, StepRoom, StepTally, take_step};
 use trlab_words::Key;
 
 /// A run of a road under a sheet of rules: the step to which it has come, the road at this step,
@@ -26,6 +26,8 @@ pub struct Run {
     step: u32,
     road: Road,
     sum: StepTally,
+    /// The memory of the steps.
+    room: StepRoom,
 }
 
 impl Model for Run {
@@ -53,7 +55,7 @@ impl Model for Run {
 impl Run {
     /// The run of a road from step 0 on: its words go by the key and the number of the road, and
     /// steps before `warm` are not counted.
-    pub fn new(key: Key, number: u32, warm: u32, road: Road, sheet: Sheet) -> Run
+    pub fn new(alloc: Global, key: Key, number: u32, warm: u32, road: Road, sheet: Sheet) -> Run
         requires suits { IsSheetFor (length road.lanes) sheet }
         ensures { result ≡ at_start (record { road = road; key = key.0; number = number; warm = warm }) sheet }
     {
@@ -67,6 +69,7 @@ impl Run {
             step: 0,
             road,
             sum: no_tally(),
+            room: StepRoom::new(alloc),
         }
     }
 
@@ -100,24 +103,21 @@ impl Run {
         ensures on { OnOk result (OneStepOn self.old self.new) }
         ensures same { OnErr result (self.new ≡ self.old) }
     {
-        let rule = self.sheet.in_force(self.step);
-        let (next, tally) = match step_road_by(
+        let tally = take_step(
             asker,
             alloc,
-            &self.road,
-            rule,
+            &mut self.road,
+            &mut self.room,
+            self.sheet.in_force(self.step),
             &self.key,
             self.number,
             self.step,
-        ) {
-            Ok(found) => found,
-            Err(StepFault::Memory) => return Err(AllocError),
-            Err(StepFault::LanesMismatch) => unreachable!(),
+        )?;
+        self.sum = if self.warm <= self.step {
+            tally_sum(self.sum, tally)
+        } else {
+            self.sum
         };
-        if self.warm <= self.step {
-            self.sum = tally_sum(self.sum, tally);
-        }
-        self.road = next;
         self.step += 1;
         Ok(())
     }

@@ -1,6 +1,6 @@
 //! What the motion program answers to the cars of a road.
 
-ghost use Rattle.std.specs.Prelude.{◌≡◌, ◌+◌, ◌-◌, ◌<◌, ◌≤◌, ℕ, IfOk, slice_index};
+ghost use Rattle.std.specs.Prelude.{◌≡◌, ◌+◌, ◌-◌, ◌<◌, ◌≤◌, ℕ, IfOk, OnOk, slice_index};
 ghost use Rattle.trlab_road.specs.Cells.{cars};
 ghost use Rattle.trlab_step.specs.Answers.{dice_of, FitsPart, SpeedsPart};
 ghost use Rattle.trlab_step.specs.Asked.{GoesBy};
@@ -8,7 +8,7 @@ ghost use Rattle.trlab_step.specs.Asked.{GoesBy};
 use crate::asked::{BLOCK, ask_block};
 use std::alloc::{AllocError, Global};
 use trlab_code::Kind;
-use trlab_machine::{Column, Dice, LANES, run_motions};
+use trlab_machine::{Column, Dice, LANES, Views, run_motions};
 use trlab_road::Road;
 use trlab_verify::Motion;
 use trlab_words::Key;
@@ -34,27 +34,59 @@ pub fn move_part(
         (λ speeds. SpeedsPart motion.now (dice_of key.now.0 number step) road.now from to speeds.items) }
     ensures fits { IfOk result (λ speeds. FitsPart road.now from speeds.items) }
 {
+    let mut speeds = Vec::new(alloc);
+    ask_speeds(&mut speeds, road, motion, key, number, step, from, to)?;
+    Ok(speeds)
+}
+
+/// Puts the speeds that `move_part` tells into a list, in place of what stands there.
+pub fn ask_speeds(
+    speeds: &mut Vec<u32>,
+    road: &Road,
+    motion: &Motion,
+    key: &Key,
+    number: u32,
+    step: u32,
+    from: u32,
+    to: u32,
+) -> Result<(), AllocError>
+    requires rising { from ≤ to }
+    requires within { to ≤ cars road.now }
+    ensures speeds { OnOk result (SpeedsPart motion.now (dice_of key.now.0 number step)
+        road.now from to speeds.new.items) }
+    ensures fits { OnOk result (FitsPart road.now from speeds.new.items) }
+{
     let dice = Dice::new(key, number, step);
-    let mut speeds = Vec::with_capacity(alloc, (to - from) as usize)?;
+    speeds.clear();
+    speeds.reserve((to - from) as usize)?;
+    let mut views = Views::new();
     for block in 0..(to - from) / BLOCK + 1 {
         let begin = from + BLOCK * block;
         let end = begin + BLOCK.min(to - begin);
-        let answers = block_speeds(road, motion, &dice, begin, end);
+        let answers = block_speeds(&mut views, road, motion, &dice, begin, end);
         for k in begin..end {
             speeds.push(answers[(k - begin) as usize])?;
         }
     }
-    Ok(speeds)
+    Ok(())
 }
 
-/// The speeds of a block of cars, from an index of the standing order up to another.
-fn block_speeds(road: &Road, motion: &Motion, dice: &Dice, from: u32, to: u32) -> Column
+/// The speeds of a block of cars, from an index of the standing order up to another; what they see is put
+/// into the views.
+fn block_speeds(
+    views: &mut Views,
+    road: &Road,
+    motion: &Motion,
+    dice: &Dice,
+    from: u32,
+    to: u32,
+) -> Column
     requires rising { from ≤ to }
     requires few { to ≤ from + LANES }
     requires within { to ≤ cars road.now }
     ensures { (j : ℕ) → j < to - from
         → GoesBy motion.now dice.now road.now (from + j) (slice_index result j) }
 {
-    let views = ask_block(Kind::Motion, road, from, to, &mut 0);
-    run_motions(motion, &views, dice)
+    ask_block(views, Kind::Motion, road, from, to, &mut 0);
+    run_motions(motion, views, dice)
 }

@@ -1,6 +1,6 @@
 //! What the change program answers to the cars of a road.
 
-ghost use Rattle.std.specs.Prelude.{◌≡◌, ◌+◌, ◌-◌, ◌<◌, ◌≤◌, ℕ, false, IfOk, length, slice_index_or};
+ghost use Rattle.std.specs.Prelude.{◌≡◌, ◌+◌, ◌-◌, ◌<◌, ◌≤◌, ℕ, false, IfOk, OnOk, length, slice_index_or};
 ghost use Rattle.trlab_road.specs.Cells.{cars};
 ghost use Rattle.trlab_step.specs.Answers.{CrossesFreePart, CrossersPart, dice_of};
 ghost use Rattle.trlab_step.specs.Asked.{CrossesBy};
@@ -8,7 +8,7 @@ ghost use Rattle.trlab_step.specs.Asked.{CrossesBy};
 use crate::asked::{BLOCK, ask_block};
 use std::alloc::{AllocError, Global};
 use trlab_code::Kind;
-use trlab_machine::{Dice, Flags, LANES, run_changes};
+use trlab_machine::{Dice, Flags, LANES, Views, run_changes};
 use trlab_road::Road;
 use trlab_verify::Change;
 use trlab_words::Key;
@@ -35,23 +35,49 @@ pub fn choose_part(
         CrossersPart change.now (dice_of key.now.0 number step) road.now from to crosses.items) }
     ensures free { IfOk result (λ crosses. CrossesFreePart road.now from crosses.items) }
 {
+    let mut crosses = Vec::new(alloc);
+    ask_crossings(&mut crosses, road, change, key, number, step, from, to)?;
+    Ok(crosses)
+}
+
+/// Puts the answers that `choose_part` tells into a list, in place of what stands there.
+pub fn ask_crossings(
+    crosses: &mut Vec<bool>,
+    road: &Road,
+    change: &Change,
+    key: &Key,
+    number: u32,
+    step: u32,
+    from: u32,
+    to: u32,
+) -> Result<(), AllocError>
+    requires rising { from ≤ to }
+    requires within { to ≤ cars road.now }
+    requires two_lanes { length road.now.lanes ≡ 2 }
+    ensures crossers { OnOk result (CrossersPart change.now (dice_of key.now.0 number step)
+        road.now from to crosses.new.items) }
+    ensures free { OnOk result (CrossesFreePart road.now from crosses.new.items) }
+{
     let dice = Dice::new(key, number, step);
     let mut near = 0;
-    let mut crosses = Vec::with_capacity(alloc, (to - from) as usize)?;
+    crosses.clear();
+    crosses.reserve((to - from) as usize)?;
+    let mut views = Views::new();
     for block in 0..(to - from) / BLOCK + 1 {
         let begin = from + BLOCK * block;
         let end = begin + BLOCK.min(to - begin);
-        let answers = block_crosses(road, change, &dice, begin, end, &mut near);
+        let answers = block_crosses(&mut views, road, change, &dice, begin, end, &mut near);
         for k in begin..end {
             crosses.push(answers[(k - begin) as usize])?;
         }
     }
-    Ok(crosses)
+    Ok(())
 }
 
-/// Whether the cars of a block cross, from an index of the standing order up to another; `near` is
-/// where to look next on the other lane.
+/// Whether the cars of a block cross, from an index of the standing order up to another; what they see is
+/// put into the views, and `near` is where to look next on the other lane.
 fn block_crosses(
+    views: &mut Views,
     road: &Road,
     change: &Change,
     dice: &Dice,
@@ -66,6 +92,6 @@ fn block_crosses(
     ensures { (j : ℕ) → j < to - from
         → CrossesBy change.now dice.now road.now (from + j) (slice_index_or result j false) }
 {
-    let views = ask_block(Kind::Change, road, from, to, near);
-    run_changes(change, &views, dice)
+    ask_block(views, Kind::Change, road, from, to, near);
+    run_changes(change, views, dice)
 }

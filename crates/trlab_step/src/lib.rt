@@ -8,6 +8,7 @@ mod choices;
 mod fault;
 pub mod laws;
 mod phases;
+mod room;
 mod step;
 mod tally;
 
@@ -16,5 +17,6 @@ pub use asker::{Asker, Caller};
 pub use choices::choose_part;
 pub use fault::StepFault;
 pub use phases::{commit_change, commit_motion};
-pub use step::{step_road, step_road_by};
+pub use room::StepRoom;
+pub use step::{step_road, step_road_by, take_step};
 pub use tally::StepTally;

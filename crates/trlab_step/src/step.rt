@@ -1,6 +1,6 @@
 //! One step of a road.
 
-ghost use Rattle.std.specs.Prelude.{◌≡◌, ◌↔◌, Some, Err, IfOk, IsSome, length};
+ghost use Rattle.std.specs.Prelude.{◌≡◌, ◌↔◌, Some, Err, IfOk, OnOk, OnErr, IsSome, length};
 ghost use Rattle.trlab_road.specs.Crossing.{CleanCrossing};
 ghost use Rattle.trlab_road.specs.Legal.{Legal};
 ghost use Rattle.trlab_road.specs.Motion.{CleanMotion};
@@ -9,9 +9,10 @@ ghost use Rattle.trlab_step.specs.Next.{IsCleanNext, IsNext, Onward, Sideways, s
 
 use crate::asker::{Asker, Caller};
 use crate::fault::StepFault;
-use crate::phases::{commit_change, commit_motion};
+use crate::room::StepRoom;
 use crate::tally::{StepTally, count_crossing, tally_of};
 use std::alloc::{AllocError, Global};
+use std::mem;
 use trlab_road::Road;
 use trlab_rules::Rule;
 use trlab_verify::{Change, Motion};
@@ -41,15 +42,13 @@ pub fn step_road_by<A: Asker>(
         (λ after. IsCleanNext rule.now (dice_of key.now.0 number step) road.now after.0 after.1) }
     ensures legal { IfOk result (λ after. Legal after.0) }
 {
-    match rule.change() {
-        None => Ok(onward(asker, alloc, road, rule.motion(), key, number, step)?),
-        Some(_) if road.lanes() == 1 => Err(StepFault::LanesMismatch),
-        Some(change) => {
-            let (middle, changes) = sideways(asker, alloc, road, change, key, number, step)?;
-            let (next, tally) = onward(asker, alloc, &middle, rule.motion(), key, number, step)?;
-            Ok((next, StepTally { changes, ..tally }))
-        }
+    if rule.change().is_some() && road.lanes() == 1 {
+        return Err(StepFault::LanesMismatch);
     }
+    let mut next = road.copy(alloc)?;
+    let mut room = StepRoom::new(alloc);
+    let tally = take_step(asker, alloc, &mut next, &mut room, rule, key, number, step)?;
+    Ok((next, tally))
 }
 
 /// The next road as `step_road_by` tells it, where the calling thread asks the cars.
@@ -72,11 +71,58 @@ pub fn step_road(
     step_road_by(&Caller, alloc, road, rule, key, number, step)
 }
 
+/// Takes the step that `step_road_by` tells: the road becomes the next road, and the memory of the step
+/// is that of the room. Where memory runs out, the road stays.
+///
+/// It is the caller's part that the rule is one for the lanes of the road.
+pub fn take_step<A: Asker>(
+    asker: &A,
+    alloc: Global,
+    road: &mut Road,
+    room: &mut StepRoom,
+    rule: &Rule,
+    key: &Key,
+    number: u32,
+    step: u32,
+) -> Result<StepTally, AllocError>
+    requires lanes { IsSome rule.now.change → length road.old.lanes ≡ 2 }
+    ensures next { IfOk result
+        (λ tally. IsNext rule.now (dice_of key.now.0 number step) road.old road.new tally) }
+    ensures clean { IfOk result
+        (λ tally. IsCleanNext rule.now (dice_of key.now.0 number step) road.old road.new tally) }
+    ensures legal { OnOk result (Legal road.new) }
+    ensures same { OnErr result (road.new ≡ road.old) }
+{
+    let motion = rule.motion();
+    match rule.change() {
+        None => onward(
+            asker,
+            alloc,
+            road,
+            &mut room.speeds,
+            motion,
+            key,
+            number,
+            step,
+        ),
+        Some(change) => {
+            let (mut middle, changes) = sideways(
+                asker, alloc, road, room, change, key, number, step,
+            )?;
+            let speeds = &mut room.speeds;
+            let tally = onward(asker, alloc, &mut middle, speeds, motion, key, number, step)?;
+            mem::replace(road, middle).leave_to(&mut room.lanes);
+            Ok(StepTally { changes, ..tally })
+        }
+    }
+}
+
 /// The road after the sideways phase under a change program, and how many cars crossed.
 fn sideways<A: Asker>(
     asker: &A,
     alloc: Global,
     road: &Road,
+    room: &mut StepRoom,
     change: &Change,
     key: &Key,
     number: u32,
@@ -88,30 +134,32 @@ fn sideways<A: Asker>(
     ensures clean { IfOk result (λ after. CleanCrossing road.now after.0) }
     ensures legal { IfOk result (λ after. Legal after.0) }
 {
-    let crosses = asker.crossings(alloc, road, change, key, number, step)?;
-    let middle = commit_change(alloc, road, &crosses)?;
-    Ok((middle, count_crossing(&crosses)))
+    asker.crossings(alloc, &mut room.crosses, road, change, key, number, step)?;
+    let middle = road.crossed_in(alloc, &mut room.lanes, &room.crosses)?;
+    Ok((middle, count_crossing(&room.crosses)))
 }
 
-/// The road after the motion phase, and the tally of a step in which no car crossed before.
+/// Takes the motion phase, and tells the tally of a step in which no car crossed before.
 fn onward<A: Asker>(
     asker: &A,
     alloc: Global,
-    road: &Road,
+    road: &mut Road,
+    speeds: &mut Vec<u32>,
     motion: &Motion,
     key: &Key,
     number: u32,
     step: u32,
-) -> Result<(Road, StepTally), AllocError>
-    ensures phase { IfOk result
-        (λ after. Onward motion.now (dice_of key.now.0 number step) road.now after.0) }
-    ensures distance { IfOk result (λ after. after.1.distance ≡ total_speed after.0) }
-    ensures stopped { IfOk result (λ after. after.1.stopped ≡ stopped_cars after.0) }
-    ensures changes { IfOk result (λ after. after.1.changes ≡ 0) }
-    ensures clean { IfOk result (λ after. CleanMotion road.now after.0) }
-    ensures legal { IfOk result (λ after. Legal after.0) }
+) -> Result<StepTally, AllocError>
+    ensures phase { OnOk result
+        (Onward motion.now (dice_of key.now.0 number step) road.old road.new) }
+    ensures distance { IfOk result (λ tally. tally.distance ≡ total_speed road.new) }
+    ensures stopped { IfOk result (λ tally. tally.stopped ≡ stopped_cars road.new) }
+    ensures changes { IfOk result (λ tally. tally.changes ≡ 0) }
+    ensures clean { OnOk result (CleanMotion road.old road.new) }
+    ensures legal { OnOk result (Legal road.new) }
+    ensures same { OnErr result (road.new ≡ road.old) }
 {
-    let speeds = asker.speeds(alloc, road, motion, key, number, step)?;
-    let next = commit_motion(alloc, road, &speeds)?;
-    Ok((next, tally_of(&speeds)))
+    asker.speeds(alloc, speeds, road, motion, key, number, step)?;
+    road.move_cars(speeds);
+    Ok(tally_of(speeds))
 }

@@ -7,3 +7,5 @@ pub mod Programs
 pub mod OneReading
 pub mod OneProgram
 pub mod Said
+pub mod SomeReading
+pub mod SomeProgram

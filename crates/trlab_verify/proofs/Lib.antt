@@ -12,3 +12,4 @@ pub mod Inputs
 pub mod Other
 pub mod Refusals
 pub mod Strongest
+pub mod Judged

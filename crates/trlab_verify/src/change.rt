@@ -3,6 +3,7 @@
 ghost use Rattle.std.specs.Prelude.{◌≡◌, ◌↔◌, IsTrue, IfOk};
 ghost use Rattle.trlab_code.specs.declared.kind.Kind.TheVariants.{Change as OfChange};
 ghost use Rattle.trlab_verify.specs.Checked.{IsChecked};
+ghost use Rattle.trlab_verify.specs.Longest.{IsLongest};
 
 use crate::copies::{are_same, copy_of};
 use std::alloc::{AllocError, Global};
@@ -47,7 +48,8 @@ impl Change {
 
     /// How many instructions a run takes at most, the end counted.
     pub fn budget(&self) -> u32
-        ensures { result ≡ self.now.budget }
+        ensures value { result ≡ self.now.budget }
+        ensures longest { IsLongest self.now.program.instrs 0 result }
     {
         self.budget
     }

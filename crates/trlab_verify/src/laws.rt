@@ -6,10 +6,11 @@ ghost use Rattle.std.specs.Prelude.{◌≡◌, ◌≢◌, ◌⊎◌, ℕ, ◌<�
 ghost use Rattle.trlab_bounds.specs.declared.programs.TheConstants.{PLACES};
 ghost use Rattle.trlab_code.specs.declared.kind.Kind.{Kind};
 ghost use Rattle.trlab_code.specs.Machine.{IsSafe};
-ghost use Rattle.trlab_code.specs.Program.{Program};
+ghost use Rattle.trlab_code.specs.Program.{Program, IsProgram};
 ghost use Rattle.trlab_notes.specs.Notes.{Note, known};
 ghost use Rattle.trlab_notes.specs.Order.{NoStronger};
 ghost use Rattle.trlab_verify.specs.Arrivals.{IsSent, note_at};
+ghost use Rattle.trlab_verify.specs.Checked.{IsChecked};
 ghost use Rattle.trlab_verify.specs.Longest.{IsLongest};
 ghost use Rattle.trlab_verify.specs.Tables.{AtLeast, Checks, IsJudgedBy, SomeTableChecks, note_in};
 ghost use Rattle.trlab_verify.specs.Verdict.{IsAccepted, IsRefused};
@@ -33,6 +34,13 @@ pub fn verdict_is_one()
 pub fn each_is_judged()
     ensures { (kind : Kind) (program : Program) → IsAccepted kind program ⊎
         ((at : ℕ) × (reason : ℕ) × IsRefused kind program at reason) }
+{}
+
+/// Each program that is accepted has a longest way: with that as its budget it is a checked program.
+#[tactic(auto, using(crate::proofs::Judged::some_budget))]
+pub fn accepted_is_checked()
+    ensures { (kind : Kind) (program : Program) → IsProgram program → IsAccepted kind program →
+        (budget : ℕ) × IsChecked kind (record { program = program; budget = budget }) }
 {}
 
 /// The note of an instruction is the strongest one that is no stronger than each note that is sent to it.

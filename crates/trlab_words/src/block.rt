@@ -110,6 +110,20 @@ fn diagonal_round(x: [u32x4; 16]) -> [u32x4; 16]
     ]
 }
 
+// Word k after the quarter round on each diagonal of the states. The words that the standard rules
+// draw on, 0 and 1, want one diagonal only.
+#[inline(always)]
+fn diagonal_word(x: [u32x4; 16], k: usize) -> u32x4
+    requires { k < 16 }
+    ensures { (j : ℕ) → j < 4 → slice_index result j ≡ slice_index (diagonal_round (lane j x)) k }
+{
+    match k {
+        0 => quarter_round(x[0], x[5], x[10], x[15]).0,
+        1 => quarter_round(x[1], x[6], x[11], x[12]).0,
+        _ => diagonal_round(x)[k],
+    }
+}
+
 // The states that the blocks of four cars in one step of a road begin with.
 #[inline(always)]
 fn initial_states(key: &[u32; 8], road: u32, cars: [u32; 4], step: u32) -> [u32x4; 16]
@@ -149,8 +163,8 @@ pub(crate) fn block_word_of_cars(
 {
     let first = initial_states(key, road, cars, step);
     let mut x = first;
-    'rounds: for _round in 0..DOUBLE_ROUNDS {
+    'rounds: for _round in 0..DOUBLE_ROUNDS - 1 {
         x = diagonal_round(column_round(x));
     }
-    add(x[k], first[k]).to_array()
+    add(diagonal_word(column_round(x), k), first[k]).to_array()
 }

@@ -51,27 +51,3 @@ pub fn happens(word: u32, chance: Chance) -> bool
 {
     word / 2 < chance.parts
 }
-
-#[cfg(test)]
-mod tests {
-    use super::{CERTAIN, Chance, happens};
-
-    #[test]
-    fn chances_are_cut_at_half_of_the_word(rt: HostRuntime) {
-        // The first word of the zero key, and the least chance that happens on it.
-        let word = 2917185654;
-        for (parts, wanted) in [(1458592827, false), (1458592828, true)] {
-            let happened = Chance::new(parts).map(|chance| happens(word, chance));
-            assert_eq!(rt; happened, Some(wanted), "at {parts}");
-        }
-    }
-
-    #[test]
-    fn chances_are_at_most_certain(rt: HostRuntime) {
-        assert_eq!(rt;
-            Chance::new(CERTAIN).map(|chance| chance.get()),
-            Some(2147483648)
-        );
-        assert_eq!(rt; Chance::new(2147483649), None);
-    }
-}

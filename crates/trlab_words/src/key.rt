@@ -27,15 +27,3 @@ pub fn words(key: &Key, road: u32, car: u32, step: u32) -> [u32; 16]
     }
     list
 }
-
-#[cfg(test)]
-mod tests {
-    use super::{Key, words};
-
-    #[test]
-    fn the_zero_key_begins_as_published(rt: HostRuntime) {
-        let list = words(&Key([0; 32]), 0, 0, 0);
-        assert_eq!(rt; list[0], 2917185654);
-        assert_eq!(rt; list[1], 2419978656);
-    }
-}

@@ -58,29 +58,3 @@ pub fn word_of_cars(key: &KeyWords, road: u32, cars: [u32; 4], step: u32, k: usi
 {
     block_word_of_cars(&key.words, road, cars, step, k)
 }
-
-#[cfg(test)]
-mod tests {
-    use super::word_of_cars;
-    use crate::{Key, words};
-
-    #[test]
-    fn the_zero_key_begins_as_published(rt: HostRuntime) {
-        let key = Key([0; 32]).words();
-        let [first, ..] = word_of_cars(&key, 0, [0, 1, 2, 3], 0, 0);
-        let [second, ..] = word_of_cars(&key, 0, [0, 1, 2, 3], 0, 1);
-        assert_eq!(rt; first, 2917185654);
-        assert_eq!(rt; second, 2419978656);
-    }
-
-    #[test]
-    fn each_car_has_its_own_words(rt: HostRuntime) {
-        let key = Key(*b"0123456789abcdefghijklmnopqrstuv");
-        let cars = [3, 0, 4294967295, 70000];
-        for k in 0..16 {
-            let drawn = word_of_cars(&key.words(), 5, cars, 4000000000, k);
-            let wanted = cars.map(|car| words(&key, 5, car, 4000000000)[k]);
-            assert_eq!(rt; drawn, wanted);
-        }
-    }
-}

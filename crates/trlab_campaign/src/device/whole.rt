@@ -7,18 +7,15 @@ ghost use Rattle.trlab_campaign.specs.declared.device.whole.ReadFault.TheVariant
 
 use crate::device::{DeviceError, Sink, Source};
 use std::alloc::Global;
-use thiserror::Error;
 use trlab_bounds::texts::TEXT_LIMIT;
 
 /// Why a text was not read.
-#[derive(Clone, Copy, Debug, PartialEq, Eq, Error)]
+#[derive(Clone, Copy)]
 pub enum ReadFault {
     /// One byte more has come than a text may have.
-    #[error("the text is too long")]
     TooBig,
-    #[error("out of memory")]
     Memory,
-    #[error("the reader failed")]
+    /// The reader failed.
     Device,
 }
 

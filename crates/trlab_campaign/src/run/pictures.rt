@@ -14,18 +14,16 @@ use crate::device::{DeviceError, Sink, write_text};
 use crate::end::End;
 use crate::output::push_step;
 use std::alloc::{AllocError, Global};
-use thiserror::Error;
 use trlab_jobs::Job;
 use trlab_road::Road;
 use trlab_run::{Run, Sheet};
 use trlab_step::Caller;
 
 /// Why the pictures were not all written.
-#[derive(Clone, Copy, Debug, PartialEq, Eq, Error)]
+#[derive(Clone, Copy)]
 pub enum WriteFault {
-    #[error("out of memory")]
     Memory,
-    #[error("the writer failed")]
+    /// The writer failed.
     Device,
 }
 
@@ -68,7 +66,7 @@ fn write_step<K: Sink>(
 }
 
 /// The run of a job from step 0 on.
-fn run_of(job: Job) -> Run
+fn run_of(alloc: Global, job: Job) -> Run
     ensures { result ≡ at_start (seed_of job) (sheet_of job) }
 {
     let Job {
@@ -78,7 +76,7 @@ fn run_of(job: Job) -> Run
         later,
         steps: _,
     } = job;
-    Run::new(key, 0, 0, road, Sheet::new(first, later))
+    Run::new(alloc, key, 0, 0, road, Sheet::new(first, later))
 }
 
 /// Writes the pictures of a job's road at each step, as they are made.
@@ -92,7 +90,7 @@ fn write_pictures<K: Sink>(alloc: Global, job: Job, writer: &mut K) -> Result<()
     ensures fails { IfErr result (λ fault. (fault ≡ Device) ↔ (K.failed writer.new ≡ true)) }
 {
     let steps = job.steps;
-    let mut run = run_of(job);
+    let mut run = run_of(alloc, job);
     let mut buffer = Vec::new(alloc);
     for step in 0..steps {
         write_step(alloc, &mut buffer, step, run.road(), writer)?;

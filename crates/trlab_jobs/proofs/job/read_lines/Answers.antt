@@ -1,5 +1,4 @@
-use Rattle.std.proofs.Common.{◌≡◌, length, subst, arith}
-use Rattle.std.proofs.lemmas.Grind.{common_steps}
+use Rattle.std.proofs.Common.{length, subst}
 use Rattle.std.specs.Prelude.{Ok, Err}
 use Rattle.trlab_rules.specs.Rules.{Programs}
 use Rattle.trlab_step.specs.Run.{Sheet}
@@ -9,26 +8,27 @@ use Rattle.trlab_jobs.specs.Lanes.{lanes}
 use Rattle.trlab_jobs.specs.RuleParts.{rule}
 use Rattle.trlab_jobs.specs.Later.{later_rules}
 use Rattle.trlab_jobs.specs.Job.{Job, road_line, key_line, limit_line, steps_line}
+use Rattle.trlab_asm.proofs.Kept.{handed_on}
 use Rattle.trlab_jobs.proofs.JobLines.{after_road, after_key, after_limit, after_lanes, after_rule, after_steps, after_all, behind_road, behind_key, behind_limit, behind_lanes, behind_rule, behind_steps, behind_all, lines_say, lines_fail}
 use Rattle.trlab_texts.proofs.Readings.{stops}
 use Rattle.trlab_jobs.proofs.job.read_lines.Goals as goal
 
 pub returns-in_err-place-clause-told : goal.returns-in_err-place-clause-told
 returns-in_err-place-clause-told c =
-    let fault : c.from_residual.result ≡ Err c.in_err-place.field-0.0 = grind (arith, common_steps) in
+    let fault = handed_on c.from_residual.result c.in_err-place.field-0.0 c.from_residual.ensures.0 c.from_residual.ensures.1 in
     rw fault (lines_fail c.args.text.now c.start.result c.in_err-place.field-0.0 c.start.ensures
     (stops (line (exactly road_line)) (λ _. after_road) c.start.result c.in_err-place.field-0.0 c.in_err-place.ensures))
 
 pub returns-in_err-key-clause-told : goal.returns-in_err-key-clause-told
 returns-in_err-key-clause-told c =
-    let fault : c.from_residual-in_err-key.result ≡ Err c.in_err-key.field-0.0 = grind (arith, common_steps) in
+    let fault = handed_on c.from_residual-in_err-key.result c.in_err-key.field-0.0 c.from_residual-in_err-key.ensures.0 c.from_residual-in_err-key.ensures.1 in
     rw fault (lines_fail c.args.text.now c.start.result c.in_err-key.field-0.0 c.start.ensures
     (behind_road c.start.result c.in_ok-place.place (Err c.in_err-key.field-0.0) c.in_ok-place.ensures
     (stops (line (exactly key_line)) after_key c.in_ok-place.place c.in_err-key.field-0.0 c.in_err-key.ensures)))
 
 pub returns-in_err-limit-clause-told : goal.returns-in_err-limit-clause-told
 returns-in_err-limit-clause-told c =
-    let fault : c.from_residual-in_err-limit.result ≡ Err c.in_err-limit.field-0.0 = grind (arith, common_steps) in
+    let fault = handed_on c.from_residual-in_err-limit.result c.in_err-limit.field-0.0 c.from_residual-in_err-limit.ensures.0 c.from_residual-in_err-limit.ensures.1 in
     rw fault (lines_fail c.args.text.now c.start.result c.in_err-limit.field-0.0 c.start.ensures
     (behind_road c.start.result c.in_ok-place.place (Err c.in_err-limit.field-0.0) c.in_ok-place.ensures
     (behind_key c.in_ok-key.key c.in_ok-place.place c.in_ok-key.place (Err c.in_err-limit.field-0.0) c.in_ok-key.ensures
@@ -36,7 +36,7 @@ returns-in_err-limit-clause-told c =
 
 pub returns-in_err-road-clause-told : goal.returns-in_err-road-clause-told
 returns-in_err-road-clause-told c =
-    let fault : c.from_residual-in_err-road.result ≡ Err c.in_err-road.field-0.0 = grind (arith, common_steps) in
+    let fault = handed_on c.from_residual-in_err-road.result c.in_err-road.field-0.0 c.from_residual-in_err-road.ensures.0 c.from_residual-in_err-road.ensures.1 in
     rw fault (lines_fail c.args.text.now c.start.result c.in_err-road.field-0.0 c.start.ensures
     (behind_road c.start.result c.in_ok-place.place (Err c.in_err-road.field-0.0) c.in_ok-place.ensures
     (behind_key c.in_ok-key.key c.in_ok-place.place c.in_ok-key.place (Err c.in_err-road.field-0.0) c.in_ok-key.ensures
@@ -45,7 +45,7 @@ returns-in_err-road-clause-told c =
 
 pub returns-in_err-first-clause-told : goal.returns-in_err-first-clause-told
 returns-in_err-first-clause-told c =
-    let fault : c.from_residual-in_err-first.result ≡ Err c.in_err-first.field-0.0 = grind (arith, common_steps) in
+    let fault = handed_on c.from_residual-in_err-first.result c.in_err-first.field-0.0 c.from_residual-in_err-first.ensures.0 c.from_residual-in_err-first.ensures.1 in
     let told = subst (λ n. Told {A = Programs × Place} (rule n c.in_ok-road.place) (Err c.in_err-first.field-0.0)) c.lanes-count.ensures.value c.in_err-first.ensures.told in
     rw fault (lines_fail c.args.text.now c.start.result c.in_err-first.field-0.0 c.start.ensures
     (behind_road c.start.result c.in_ok-place.place (Err c.in_err-first.field-0.0) c.in_ok-place.ensures
@@ -56,7 +56,7 @@ returns-in_err-first-clause-told c =
 
 pub returns-in_err-steps-clause-told : goal.returns-in_err-steps-clause-told
 returns-in_err-steps-clause-told c =
-    let fault : c.from_residual-in_err-steps.result ≡ Err c.in_err-steps.field-0.0 = grind (arith, common_steps) in
+    let fault = handed_on c.from_residual-in_err-steps.result c.in_err-steps.field-0.0 c.from_residual-in_err-steps.ensures.0 c.from_residual-in_err-steps.ensures.1 in
     let first = rw c.lanes-count.ensures.value at c.in_ok-first.ensures.told in
     rw fault (lines_fail c.args.text.now c.start.result c.in_err-steps.field-0.0 c.start.ensures
     (behind_road c.start.result c.in_ok-place.place (Err c.in_err-steps.field-0.0) c.in_ok-place.ensures
@@ -68,7 +68,7 @@ returns-in_err-steps-clause-told c =
 
 pub returns-in_err-later-clause-told : goal.returns-in_err-later-clause-told
 returns-in_err-later-clause-told c =
-    let fault : c.from_residual-in_err-later.result ≡ Err c.in_err-later.field-0.0 = grind (arith, common_steps) in
+    let fault = handed_on c.from_residual-in_err-later.result c.in_err-later.field-0.0 c.from_residual-in_err-later.ensures.0 c.from_residual-in_err-later.ensures.1 in
     let first = rw c.lanes-count.ensures.value at c.in_ok-first.ensures.told in
     let told = subst (λ n. Told {A = Sheet × Place} (later_rules n c.in_ok-steps.steps c.in_ok-steps.place) (Err c.in_err-later.field-0.0)) c.lanes-count.ensures.value c.in_err-later.ensures.told in
     rw fault (lines_fail c.args.text.now c.start.result c.in_err-later.field-0.0 c.start.ensures

@@ -1,12 +1,10 @@
-use Rattle.std.proofs.Common.{◌≡◌, arith}
-use Rattle.std.proofs.lemmas.Grind.{common_steps}
-use Rattle.std.specs.Prelude.{Err}
+use Rattle.trlab_asm.proofs.Kept.{handed_on}
 use Rattle.trlab_jobs.proofs.Shown.{lanes_show, lanes_fail}
 use Rattle.trlab_jobs.proofs.lane.lanes.Goals as goal
 
 pub returns-in_err-road-clause-told : goal.returns-in_err-road-clause-told
 returns-in_err-road-clause-told c =
-    let fault : c.from_residual-in_err-road.result ≡ Err c.in_err-road.field-0.0 = grind (arith, common_steps) in
+    let fault = handed_on c.from_residual-in_err-road.result c.in_err-road.field-0.0 c.from_residual-in_err-road.ensures.0 c.from_residual-in_err-road.ensures.1 in
     rw fault (lanes_fail c.args.limit c.number-first.result _ _ _ _ _ c.in_err-road.field-0.0 c.number-first.ensures c.in_ok-picture.ensures.told c.in_ok-second.ensures c.in_err-road.ensures.told)
 
 pub returns-clause-told : goal.returns-clause-told

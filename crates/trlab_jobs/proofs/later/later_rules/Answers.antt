@@ -1,12 +1,12 @@
 use Rattle.std.proofs.Common.{◌≡◌, [], ◌∷◌, ◌++◌, suc, ◌-◌, arith}
 use Rattle.std.proofs.lemmas.Grind.{common_steps}
-use Rattle.std.specs.Prelude.{Err}
+use Rattle.trlab_asm.proofs.Kept.{handed_on}
 use Rattle.trlab_jobs.proofs.LaterLines.{one_more, stopped, all_read, all_kept, some_left}
 use Rattle.trlab_jobs.proofs.later.later_rules.Goals as goal
 
 pub returns-in_err-from-clause-told : goal.returns-in_err-from-clause-told
 returns-in_err-from-clause-told c =
-    let fault : c.from_residual.result ≡ Err c.in_err-from.field-0.0 = grind (arith, common_steps) in
+    let fault = handed_on c.from_residual.result c.in_err-from.field-0.0 c.from_residual.ensures.0 c.from_residual.ensures.1 in
     rw fault (stopped c.args.lanes c.args.steps c.args.place c.loop-alloc.later.items c.loop-alloc.room c.loop-alloc.least c.loop-alloc.place c.in_err-from.field-0.0
     c.loop-alloc.invariant (some_left c.loop-alloc.place c.is_end.result c.loop-alloc-test.true c.is_end.ensures) c.in_err-from.ensures.told)
 

@@ -5,7 +5,7 @@ use Rattle.trlab_road.specs.Cells.{lane_cars}
 use Rattle.trlab_road.specs.Crossing.{LaneCrosses, lane_crosses_at}
 use Rattle.trlab_road.specs.Lists.{cells_of, lanes_from}
 use Rattle.trlab_road.proofs.ListLeaving.{crosses_from}
-use Rattle.trlab_road.proofs.ListRoads.{list_counted, list_within, crosses_two}
+use Rattle.trlab_road.proofs.ListRoads.{list_counted, list_within, crosses_two, two_written, two_sorted}
 use Rattle.trlab_road.proofs.crossing.crossed_lanes.Goals as goal
 
 pub crossed_lane-requires-clause-own_each : goal.crossed_lane-requires-clause-own_each
@@ -49,8 +49,18 @@ returns-clause-crosses c = λ limit.
     let b = ap length c.list_of.ensures in
     let none : 0 ≡ sum_by lane_cars (take 0 (lanes_from n lists)) = refl in
     let count : length c.list_of.result.now ≡ sum_by lane_cars (take 1 (lanes_from n lists)) = omega (arith, z, b) in
-    rw c.in_ok-vec.ensures.items (crosses_two n limit lists c.in_ok-new_first.new_first c.in_ok-new_second.new_second c.args.crosses.now two
+    rw (two_written c.in_ok-next.next.items c.crossed_lane.new.next c.crossed_lane-2.new.next c.in_ok-next.ensures) (crosses_two n limit lists c.crossed_lane.new.next c.crossed_lane-2.new.next c.args.crosses.now two
     (at_ranks n c.args.crosses.now _ _ _ _ _ 0 _ _ _ c.list_of.ensures c.list_of-2.ensures none count
-    (crosses_from n _ _ _ _ _ _ (rw c.deref.ensures.value at c.in_ok-new_first.ensures.crosses) c.in_ok-from_second.ensures.leaves))
+    (crosses_from n _ _ _ _ _ _ (rw c.deref.ensures.value at c.in_ok-crossed_lane.ensures.crosses) c.in_ok-leaving_cars-2.ensures.leaves))
     (at_ranks n c.args.crosses.now _ _ _ _ _ _ 0 _ _ c.list_of-2.ensures c.list_of.ensures count none
-    (crosses_from n _ _ _ _ _ _ (rw c.deref-2.ensures.value at c.in_ok-new_second.ensures.crosses) c.in_ok-from_first.ensures.leaves)))
+    (crosses_from n _ _ _ _ _ _ (rw c.deref-2.ensures.value at c.in_ok-crossed_lane-2.ensures.crosses) c.in_ok-leaving_cars.ensures.leaves)))
+
+pub crossed_lane-requires-clause-coming_sorted : goal.crossed_lane-requires-clause-coming_sorted
+crossed_lane-requires-clause-coming_sorted c = rw c.deref.ensures.value c.in_ok-leaving_cars-2.ensures.rises
+
+pub crossed_lane-requires-2-clause-coming_sorted : goal.crossed_lane-requires-2-clause-coming_sorted
+crossed_lane-requires-2-clause-coming_sorted c = rw c.deref-2.ensures.value c.in_ok-leaving_cars.ensures.rises
+
+pub returns-clause-sorted : goal.returns-clause-sorted
+returns-clause-sorted c = rw (two_written c.in_ok-next.next.items c.crossed_lane.new.next c.crossed_lane-2.new.next c.in_ok-next.ensures)
+    (two_sorted c.args.cells c.crossed_lane.new.next c.crossed_lane-2.new.next c.in_ok-crossed_lane.ensures.rises c.in_ok-crossed_lane-2.ensures.rises)

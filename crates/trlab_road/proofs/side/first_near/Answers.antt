@@ -3,8 +3,9 @@ use Rattle.trlab_road.specs.Lists.{place_of}
 use Rattle.trlab_road.proofs.Lists.{rises_weakly}
 use Rattle.trlab_road.proofs.side.first_near.Goals as goal
 
-pub loop-next-init : goal.loop-next-init
-loop-next-init c = λ k low on.
+-- the cars before the index stand before the place
+pub past_one-requires-clause-before : goal.past_one-requires-clause-before
+past_one-requires-clause-before c = λ k low on.
     let near : 0 < c.args.near = omega (arith, c.if-near-eq0.false) in
     let inside : c.args.near - 1 < length c.args.cars.now = omega (arith, c.if-near-cars.false, near) in
     let last : place_of c.args.cars.now (c.args.near - 1) < c.args.place = omega (arith, c.if-cars-near.false) in

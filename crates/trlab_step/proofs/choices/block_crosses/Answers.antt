@@ -6,7 +6,7 @@ use Rattle.trlab_step.proofs.choices.block_crosses.Goals as goal
 
 pub returns : goal.returns
 returns c j below =
-    let views = c.ask_block-views.result in
-    let inside : j < views.cars = omega (arith, below, c.ask_block-views.ensures.cars) in
+    let views = c.ask_block.new.views in
+    let inside : j < views.cars = omega (arith, below, c.ask_block.ensures.cars) in
     let low : j < LANES = omega (arith, below, c.requires.few) in
-    crosses_by c.args.change.now c.args.dice.now c.args.road.now _ (view_of views j) (slice_index views.number j) _ (c.ask_block-views.ensures.each j below) (c.run_changes.ensures j low inside)
+    crosses_by c.args.change.now c.args.dice.now c.args.road.now _ (view_of views j) (slice_index views.number j) _ (c.ask_block.ensures.each j below) (c.run_changes.ensures j low inside)

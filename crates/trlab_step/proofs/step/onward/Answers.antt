@@ -6,22 +6,22 @@ use Rattle.trlab_step.proofs.step.onward.Goals as goal
 pub returns-clause-phase : goal.returns-clause-phase
 returns-clause-phase g c =
     let part = c.in_ok-speeds.ensures.speeds in
-    let moves = moved_by_place c.args.motion.now _ c.args.road.now c.in_ok-next.next c.in_ok-speeds.speeds.items part (rw c.deref.ensures.value at c.in_ok-next.ensures.moves) in
-    moved_onward c.args.motion.now _ c.args.road.now c.in_ok-next.next c.in_ok-speeds.speeds.items part moves
+    let moves = moved_by_place c.args.motion.now _ c.args.road.now c.move_cars.new.self c.speeds.new.answers.items part (rw c.deref.ensures.value at c.move_cars.ensures.moves) in
+    moved_onward c.args.motion.now _ c.args.road.now c.move_cars.new.self c.speeds.new.answers.items part moves
 
 pub returns-clause-distance : goal.returns-clause-distance
 returns-clause-distance g c =
     let part = c.in_ok-speeds.ensures.speeds in
-    let moves = moved_by_place c.args.motion.now _ c.args.road.now c.in_ok-next.next c.in_ok-speeds.speeds.items part (rw c.deref.ensures.value at c.in_ok-next.ensures.moves) in
+    let moves = moved_by_place c.args.motion.now _ c.args.road.now c.move_cars.new.self c.speeds.new.answers.items part (rw c.deref.ensures.value at c.move_cars.ensures.moves) in
     let gone = c.tally_of.ensures.distance ∙ ap sum c.deref-2.ensures.value in
-    all_gone c.args.motion.now _ c.args.road.now c.in_ok-next.next c.in_ok-speeds.speeds.items c.tally_of.result.distance part c.in_ok-speeds.ensures.fits moves gone
+    all_gone c.args.motion.now _ c.args.road.now c.move_cars.new.self c.speeds.new.answers.items c.tally_of.result.distance part c.in_ok-speeds.ensures.fits moves gone
 
 pub returns-clause-stopped : goal.returns-clause-stopped
 returns-clause-stopped g c =
     let part = c.in_ok-speeds.ensures.speeds in
-    let moves = moved_by_place c.args.motion.now _ c.args.road.now c.in_ok-next.next c.in_ok-speeds.speeds.items part (rw c.deref.ensures.value at c.in_ok-next.ensures.moves) in
+    let moves = moved_by_place c.args.motion.now _ c.args.road.now c.move_cars.new.self c.speeds.new.answers.items part (rw c.deref.ensures.value at c.move_cars.ensures.moves) in
     let stood = c.tally_of.ensures.stopped ∙ ap (count_by (λ speed. nat_eq speed 0)) c.deref-2.ensures.value in
-    all_stood c.args.motion.now _ c.args.road.now c.in_ok-next.next c.in_ok-speeds.speeds.items c.tally_of.result.stopped part c.in_ok-speeds.ensures.fits moves stood
+    all_stood c.args.motion.now _ c.args.road.now c.move_cars.new.self c.speeds.new.answers.items c.tally_of.result.stopped part c.in_ok-speeds.ensures.fits moves stood
 
 pub tally_of-requires : goal.tally_of-requires
 tally_of-requires g c = rw c.deref-2.ensures.value c.in_ok-speeds.ensures.few

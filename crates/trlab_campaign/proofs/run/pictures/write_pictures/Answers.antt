@@ -1,9 +1,7 @@
 use Rattle.std.proofs.Common.{◌≡◌, ◌+◌, ◌-◌, ap, arith}
-use Rattle.std.proofs.lemmas.Grind.{common_steps}
-use Rattle.std.specs.Prelude.{Err}
+use Rattle.std.proofs.lemmas.Result.{err_from_is_err_and}
 use Rattle.trlab_jobs.specs.Job.{Job}
 use Rattle.trlab_jobs.specs.Plain.{IsPlain}
-use Rattle.trlab_campaign.specs.declared.run.pictures.WriteFault.TheVariants.{Memory}
 use Rattle.trlab_campaign.proofs.Running.{begin, begin_run, drive_on, driven_road, wrote, went_on, stop_within, stop_behind, last_whole, last_front}
 use Rattle.trlab_campaign.proofs.run.pictures.write_pictures.Goals as goal
 
@@ -20,16 +18,16 @@ loop-step-init g c =
 
 pub returns-in_err-write_step-clause-front : goal.returns-in_err-write_step-clause-front
 returns-in_err-write_step-clause-front g c =
-    let fault : c.from_residual.result ≡ Err c.in_err-write_step.field-0.0 = grind (arith, common_steps) in
+    let fault = err_from_is_err_and c.from_residual.result c.from_residual.ensures.1 in
     let at = driven_road c.args.job c.loop-step.step c.loop-step.run c.road.result.now c.loop-step.invariant.drives c.road.ensures.run in
-    rw fault (stop_within c.args.job c.loop-step.step _ c.road.result.now _ _ _ c.loop-step.invariant.underway at c.in_err-write_step.ensures.front)
+    rw fault.1 (stop_within c.args.job c.loop-step.step _ c.road.result.now _ _ _ c.loop-step.invariant.underway at c.in_err-write_step.ensures.front)
 
 pub returns-in_err-advance-clause-front : goal.returns-in_err-advance-clause-front
 returns-in_err-advance-clause-front g c =
-    let fault : c.from_residual-in_err-advance.result ≡ Err Memory = grind (arith, common_steps) in
+    let fault = err_from_is_err_and c.from_residual-in_err-advance.result c.from_residual-in_err-advance.ensures.1 in
     let at = driven_road c.args.job c.loop-step.step c.loop-step.run c.road.result.now c.loop-step.invariant.drives c.road.ensures.run in
     let written = wrote c.args.job c.loop-step.step (c.job.inside.steps - c.loop-step.step) c.road.result.now _ _ _ c.loop-step.invariant.underway at c.in_ok-write_step.ensures.whole in
-    rw fault (stop_behind c.args.job c.loop-step.step _ _ _ written)
+    rw fault.1 (stop_behind c.args.job c.loop-step.step _ _ _ written)
 
 pub loop-step-preserved : goal.loop-step-preserved
 loop-step-preserved g c =

@@ -1,23 +1,23 @@
-use Rattle.std.proofs.Common.{◌≡◌, ◌∙◌, ap, arith}
+use Rattle.std.proofs.Common.{◌≡◌, ◌∙◌, ap, arith, add-one}
 use Rattle.std.specs.Prelude.{Err}
 use Rattle.trlab_step.specs.declared.fault.StepFault.TheVariants.{LanesMismatch}
 use Rattle.trlab_run.specs.Reached.{Reached}
 use Rattle.trlab_run.proofs.OnTheWay.{rule_here, room_for}
+use Rattle.std.proofs.lemmas.Bool.{le-leb, lt-leb}
+use Rattle.std.specs.Prelude.{nat_le, if◌then◌else◌}
+use Rattle.trlab_step.specs.Run.{tally_sum}
+use Rattle.trlab_run.proofs.run.Run.advance.Goals.{then-self, else-self}
 use Rattle.trlab_run.proofs.run.Run.advance.Goals as goal
 
-pub unreachable-requires : goal.unreachable-requires
-unreachable-requires g c =
-    let suits = rule_here _ c.in_force-rule.result.now c.self.invariant c.in_force-rule.ensures in
-    let refused : c.step_road_by.result ≡ Err LanesMismatch = c.in-Err-LanesMismatch.is ∙ ap Err c.in-Err-LanesMismatch.field-0-is in
-    let mismatch = c.step_road_by.ensures.mismatch.0 refused in
-    let two = suits.two_lanes mismatch.0 in
-    let one = mismatch.1 in
-    omega arith
+pub take_step-requires : goal.take_step-requires
+take_step-requires g c =
+    let suits = rule_here _ c.in_force.result.now c.self.invariant c.in_force.ensures in
+    record { lanes = suits.two_lanes }
 
 pub tally_sum-self-inside-requires-clause-distance :
     goal.tally_sum-self-inside-requires-clause-distance
 tally_sum-self-inside-requires-clause-distance g c =
-    let room = room_for _ c.in_force-rule.result.now c.in-Ok.found.0 c.in-Ok.found.1 c.self.invariant c.in-Ok.ensures.legal c.in-Ok.ensures.next in
+    let room = room_for _ c.in_force.result.now c.take_step.new.road c.in_ok-tally.tally c.self.invariant c.in_ok-tally.ensures.legal c.in_ok-tally.ensures.next in
     let few = room.distance in
     let same : c.self.inside.step ≡ c.args.self.now.step = ap (λ (run : Reached). run.step) c.self.view_is in
     let early = c.requires in
@@ -26,7 +26,7 @@ tally_sum-self-inside-requires-clause-distance g c =
 pub tally_sum-self-inside-requires-clause-stopped :
     goal.tally_sum-self-inside-requires-clause-stopped
 tally_sum-self-inside-requires-clause-stopped g c =
-    let room = room_for _ c.in_force-rule.result.now c.in-Ok.found.0 c.in-Ok.found.1 c.self.invariant c.in-Ok.ensures.legal c.in-Ok.ensures.next in
+    let room = room_for _ c.in_force.result.now c.take_step.new.road c.in_ok-tally.tally c.self.invariant c.in_ok-tally.ensures.legal c.in_ok-tally.ensures.next in
     let few = room.stopped in
     let same : c.self.inside.step ≡ c.args.self.now.step = ap (λ (run : Reached). run.step) c.self.view_is in
     let early = c.requires in
@@ -35,8 +35,27 @@ tally_sum-self-inside-requires-clause-stopped g c =
 pub tally_sum-self-inside-requires-clause-changes :
     goal.tally_sum-self-inside-requires-clause-changes
 tally_sum-self-inside-requires-clause-changes g c =
-    let room = room_for _ c.in_force-rule.result.now c.in-Ok.found.0 c.in-Ok.found.1 c.self.invariant c.in-Ok.ensures.legal c.in-Ok.ensures.next in
+    let room = room_for _ c.in_force.result.now c.take_step.new.road c.in_ok-tally.tally c.self.invariant c.in_ok-tally.ensures.legal c.in_ok-tally.ensures.next in
     let few = room.changes in
     let same : c.self.inside.step ≡ c.args.self.now.step = ap (λ (run : Reached). run.step) c.self.view_is in
     let early = c.requires in
     omega arith
+
+pub invariant_of-self-2 : goal.invariant_of-self-2
+invariant_of-self-2 g c =
+    let counted : c.if-self.self ≡ (if nat_le c.self.inside.warm c.self.inside.step then tally_sum c.self.inside.sum c.in_ok-tally.tally else c.self.inside.sum) = elim c.if-self.branch [
+      | then-self w ↦ rw (le-leb c.self.inside.warm c.self.inside.step w.if-self.true) (w.self-is ∙ w.tally_sum-self-inside.ensures)
+      | else-self w ↦ rw (lt-leb c.self.inside.warm c.self.inside.step w.if-self.false) w.self-is
+    ] in
+    record {
+      legal = c.self.invariant.legal;
+      suits = c.self.invariant.suits;
+      comes = rw add-one (
+        c.self.inside.road,
+        c.self.inside.sum,
+        c.in_force.result.now,
+        c.in_ok-tally.tally,
+        c.self.invariant.comes,
+        record { under = c.in_force.ensures; next = c.in_ok-tally.ensures.next; counted = counted },
+      );
+    }

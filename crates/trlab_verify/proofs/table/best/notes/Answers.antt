@@ -22,3 +22,9 @@ returns-clause-checks c =
     let accepted = rw (c.kind-kind.ensures, c.instrs-instrs.ensures.value) at c.judged.ensures.accepted in
     let best = rw (c.kind-kind.ensures, c.instrs-instrs.ensures.value) at c.judged.ensures.best in
     checks_too (λ notes. written_table c.args.code.now.kind notes.items) c.args.code.now.kind c.args.code.now c.judged.result accepted best
+
+pub returns-clause-accepted : goal.returns-clause-accepted
+returns-clause-accepted c = rw (c.kind-kind.ensures, c.instrs-instrs.ensures.value) at c.judged.ensures.accepted
+
+pub returns-clause-best : goal.returns-clause-best
+returns-clause-best c = rw (c.kind-kind.ensures, c.instrs-instrs.ensures.value) at c.judged.ensures.best

@@ -1,0 +1,192 @@
+//! What a text gives, by the command that it is tried with.
+
+ghost use Rattle.std.specs.Prelude.{◌≤◌};
+ghost use Rattle.trlab_bounds.specs.declared.runs.TheConstants.{MOST_WORKERS};
+
+use crate::notes::note_line;
+use crate::roads::{pictured, spread, stepped};
+use std::alloc::{AllocError, AllocGlobal, Global};
+use trlab_asm::{AsmFault, Why, assemble, disassemble};
+use trlab_campaign::{End, Watched, check_text, run_job_text};
+use trlab_code::{Code, CodeFault, Kind, decode, encode};
+use trlab_verify::{Note, NotesFault, check_notes, notes};
+
+/// What is done with a text.
+#[derive(Clone, Copy)]
+pub enum Command {
+    /// Runs a job text.
+    Run,
+    /// Checks a driver program.
+    Check,
+    /// Assembles a program of this kind.
+    Assemble(Kind),
+    /// Decodes the bytes of a program.
+    Decode,
+    /// Notes what holds at each instruction of a program of this kind.
+    Notes(Kind),
+    /// Reads a road from its limit and its pictures.
+    Road,
+    /// Spreads cars over a road.
+    Even,
+    /// Takes the first step of a job.
+    Step,
+}
+
+/// How it ends, and what is written.
+#[derive(Drop)]
+pub struct Answer {
+    pub end: End,
+    pub output: Vec<u8>,
+}
+
+/// The answer to a text.
+pub fn answer_to<R: AllocGlobal>(
+    rt: &R,
+    command: Command,
+    text: &str,
+) -> Result<Answer, AllocError> {
+    let bytes = text.as_bytes();
+    match command {
+        Command::Run => run(rt, bytes),
+        Command::Check => Ok(check(rt, bytes)),
+        Command::Assemble(kind) => assembled(rt.alloc(), kind, bytes),
+        Command::Decode => decoded(rt.alloc(), bytes),
+        Command::Notes(kind) => noted(rt.alloc(), kind, bytes),
+        Command::Road => pictured(rt.alloc(), text),
+        Command::Even => spread(rt.alloc(), text),
+        Command::Step => stepped(rt.alloc(), bytes),
+    }
+}
+
+/// What a run gives, where sixteen workers give the same as one.
+fn run<R: AllocGlobal>(rt: &R, text: &[u8]) -> Result<Answer, AllocError> {
+    let alone = run_by(rt, text, 1);
+    let together = run_by(rt, text, 16);
+    if alone.end == together.end && alone.output == together.output {
+        Ok(alone)
+    } else {
+        told(rt.alloc(), End::Done, "another answer by 16 workers\n")
+    }
+}
+
+/// What a run by so many workers gives.
+fn run_by<R: AllocGlobal>(rt: &R, text: &[u8], workers: u32) -> Answer
+    requires some { 1 ≤ workers }
+    requires few { workers ≤ MOST_WORKERS }
+{
+    let mut reader = Watched::new(text);
+    let mut writer = Watched::new(Vec::new(rt.alloc()));
+    let end = run_job_text(rt, &mut reader, &mut writer, workers);
+    Answer {
+        end,
+        output: writer.into_inner(),
+    }
+}
+
+/// What the check of a driver program gives.
+fn check<R: AllocGlobal>(rt: &R, text: &[u8]) -> Answer {
+    let mut reader = Watched::new(text);
+    let mut writer = Watched::new(Vec::new(rt.alloc()));
+    let end = check_text(rt, &mut reader, &mut writer);
+    Answer {
+        end,
+        output: writer.into_inner(),
+    }
+}
+
+/// The bytes and the canonical text of the program that is assembled, or the fault.
+fn assembled(alloc: Global, kind: Kind, text: &[u8]) -> Result<Answer, AllocError> {
+    match assemble(alloc, kind, text) {
+        Ok(code) => spelt(alloc, &code),
+        Err(fault) => not_assembled(alloc, fault),
+    }
+}
+
+/// Why no program is assembled.
+fn not_assembled(alloc: Global, fault: AsmFault) -> Result<Answer, AllocError> {
+    let AsmFault { line, why } = fault;
+    if why == Why::Memory {
+        return Err(AllocError);
+    }
+    let why = why as u32;
+    let line = format!(in alloc; "line {line} why {why}\n")?;
+    told(alloc, End::Refused, line.as_str())
+}
+
+/// The bytes and the canonical text of a program.
+fn spelt(alloc: Global, code: &Code) -> Result<Answer, AllocError> {
+    let mut output = Vec::new(alloc);
+    for row in encode(alloc, code)?.chunks(8) {
+        output.extend_from_slice(hex::encode(alloc, row)?.as_bytes())?;
+        output.push(b'\n')?;
+    }
+    output.extend_from_slice(&disassemble(alloc, code)?)?;
+    Ok(Answer {
+        end: End::Done,
+        output,
+    })
+}
+
+/// The kind and the canonical text of the program of these bytes, or the fault.
+fn decoded(alloc: Global, text: &[u8]) -> Result<Answer, AllocError> {
+    let digits: Vec<u8> = text
+        .iter()
+        .copied()
+        .filter(|byte| !byte.is_ascii_whitespace())
+        .collect(alloc)?;
+    let Ok(bytes) = hex::decode(alloc, digits) else {
+        return told(alloc, End::Refused, "no hexadecimal\n");
+    };
+    match decode(alloc, &bytes) {
+        Ok(code) => read(alloc, &code),
+        Err(CodeFault::Memory) => Err(AllocError),
+        Err(fault) => told(
+            alloc,
+            End::Refused,
+            format!(in alloc; "{fault:?}\n")?.as_str(),
+        ),
+    }
+}
+
+/// The kind and the canonical text of a program.
+fn read(alloc: Global, code: &Code) -> Result<Answer, AllocError> {
+    let kind = code.kind();
+    let mut answer = told(alloc, End::Done, format!(in alloc; "{kind:?}\n")?.as_str())?;
+    answer.output.extend_from_slice(&disassemble(alloc, code)?)?;
+    Ok(answer)
+}
+
+/// The notes of a program, which check as a table, or the fault.
+fn noted(alloc: Global, kind: Kind, text: &[u8]) -> Result<Answer, AllocError> {
+    let code = match assemble(alloc, kind, text) {
+        Ok(code) => code,
+        Err(fault) => return not_assembled(alloc, fault),
+    };
+    match notes(alloc, &code) {
+        Ok(table) if check_notes(&code, &table) => listed(alloc, &table),
+        Ok(_) => told(alloc, End::Refused, "notes that do not check\n"),
+        Err(NotesFault::Refused) => told(alloc, End::Refused, "no notes\n"),
+        Err(NotesFault::Memory) => Err(AllocError),
+    }
+}
+
+/// The lines of these notes.
+fn listed(alloc: Global, table: &[Note]) -> Result<Answer, AllocError> {
+    let mut output = Vec::new(alloc);
+    for note in table {
+        output.extend_from_slice(note_line(alloc, note)?.as_bytes())?;
+        output.push(b'\n')?;
+    }
+    Ok(Answer {
+        end: End::Done,
+        output,
+    })
+}
+
+/// An end with this output.
+pub fn told(alloc: Global, end: End, output: &str) -> Result<Answer, AllocError> {
+    Ok(Answer {
+        end,
+        output: Vec::from_slice(alloc, output.as_bytes())?,
+    })
+}

@@ -1,0 +1,106 @@
+//! The parts of a case file: words, and the text beside them.
+
+use crate::line::add_line;
+use std::alloc::{AllocError, AllocFailed, Global};
+
+/// A part: its words, the number of its first line, and its text.
+#[derive(Drop)]
+pub struct Part<'a> {
+    pub words: &'a str,
+    pub line: usize,
+    pub text: String,
+}
+
+/// Why a text is no case file.
+#[derive(Clone, Copy)]
+pub enum Broken {
+    /// The line of this number is none of a case file, or does not stand where it may.
+    Line(usize),
+    /// Memory ran out.
+    Memory,
+}
+
+impl From<AllocError> for Broken {
+    fn from(_: AllocError) -> Broken {
+        Broken::Memory
+    }
+}
+
+impl<T: Drop> From<AllocFailed<T>> for Broken {
+    fn from(_: AllocFailed<T>) -> Broken {
+        Broken::Memory
+    }
+}
+
+/// The parts of a text, in order. A title is a part without text.
+pub fn read_parts(alloc: Global, text: &str) -> Result<Vec<Part<'_>>, Broken> {
+    let mut parts = Vec::new(alloc);
+    let mut number = 0usize;
+    for line in text.lines() {
+        number = number.saturating_add(1);
+        if !line.is_empty() && !line.starts_with('#') {
+            read_line(alloc, &mut parts, number, line)?;
+        }
+    }
+    Ok(parts)
+}
+
+/// Begins a part, or adds to the text of the last one.
+fn read_line<'a>(
+    alloc: Global,
+    parts: &mut Vec<Part<'a>>,
+    number: usize,
+    line: &'a str,
+) -> Result<(), Broken> {
+    let Some((words, text)) = line.split_once('|') else {
+        return begin(alloc, parts, line, number);
+    };
+    let words = words.trim();
+    let repeats = if words.is_empty() {
+        Some(1)
+    } else {
+        words.parse::<u32>().ok()
+    };
+    if repeats.is_none() {
+        begin(alloc, parts, words, number)?;
+    }
+    let Some(part) = parts.last_mut() else {
+        return Err(Broken::Line(number));
+    };
+    let text = text.strip_prefix(' ').unwrap_or(text);
+    if add_lines(alloc, &mut part.text, text, repeats.unwrap_or(1))? {
+        Ok(())
+    } else {
+        Err(Broken::Line(number))
+    }
+}
+
+/// Begins a part that has no text yet.
+fn begin<'a>(
+    alloc: Global,
+    parts: &mut Vec<Part<'a>>,
+    words: &'a str,
+    line: usize,
+) -> Result<(), Broken> {
+    parts.push(Part {
+        words,
+        line,
+        text: String::new(alloc),
+    })?;
+    Ok(())
+}
+
+/// Adds so many lines that are the same to a text, and answers whether they are well written.
+fn add_lines(
+    alloc: Global,
+    text: &mut String,
+    line: &str,
+    repeats: u32,
+) -> Result<bool, AllocError> {
+    for number in 0..repeats {
+        if !add_line(alloc, text, line, number)? {
+            return Ok(false);
+        }
+    }
+    Ok(true)
+}

@@ -1,0 +1,206 @@
+//! Roads, and the first steps of jobs, as lines of text.
+
+use crate::answer::{Answer, told};
+use std::alloc::{AllocError, Global};
+use trlab_campaign::End;
+use trlab_jobs::{Job, read_job};
+use trlab_road::{Car, Road, RoadFault};
+use trlab_step::{StepFault, choose_part, commit_change, commit_motion, move_part, step_road};
+use trlab_verify::{Change, Motion};
+use trlab_words::Key;
+
+/// The road of a limit and the pictures of its lanes, each on a line, or the fault.
+pub fn pictured(alloc: Global, text: &str) -> Result<Answer, AllocError> {
+    let mut lines = text.lines();
+    let limit = lines.next().unwrap_or("").parse::<u32>().unwrap_or(0);
+    let lanes: Vec<&[u8]> = lines.map(|line| line.as_bytes()).collect(alloc)?;
+    drawn(alloc, Road::parse(alloc, limit, &lanes))
+}
+
+/// The road of a count of lanes, a length, a limit and a count of cars that are spread, or the fault.
+pub fn spread(alloc: Global, text: &str) -> Result<Answer, AllocError> {
+    let numbers: Vec<u32> = text
+        .split_whitespace()
+        .map(|word| word.parse::<u32>().unwrap_or(0))
+        .collect(alloc)?;
+    match numbers.as_slice() {
+        [lanes, length, limit, cars] => {
+            drawn(alloc, Road::even(alloc, *lanes, *length, *limit, *cars))
+        }
+        _ => told(alloc, End::Refused, "not four numbers\n"),
+    }
+}
+
+/// The measures of a road, its cars in standing order, and its pictures, or the fault.
+fn drawn(alloc: Global, road: Result<Road, RoadFault>) -> Result<Answer, AllocError> {
+    let road = match road {
+        Ok(road) => road,
+        Err(RoadFault::Memory) => return Err(AllocError),
+        Err(fault) => {
+            return told(
+                alloc,
+                End::Refused,
+                format!(in alloc; "{fault:?}\n")?.as_str(),
+            );
+        }
+    };
+    let mut output = Vec::new(alloc);
+    add_measures(alloc, &mut output, &road)?;
+    for k in 0..road.cars() {
+        add_car(alloc, &mut output, road.standing(k), road.gap(k))?;
+        if road.lanes() == 2 {
+            let beside = (road.side(k), road.sidegap(k), road.sideback(k));
+            add_beside(alloc, &mut output, beside)?;
+        }
+        output.push(b'\n')?;
+    }
+    add_pictures(alloc, &mut output, &road)?;
+    Ok(Answer {
+        end: End::Done,
+        output,
+    })
+}
+
+/// Adds the counts of lanes and cells, the limit and the count of cars.
+fn add_measures(alloc: Global, output: &mut Vec<u8>, road: &Road) -> Result<(), AllocError> {
+    add_number(alloc, output, "lanes ", road.lanes())?;
+    add_number(alloc, output, " length ", road.length())?;
+    add_number(alloc, output, " limit ", road.limit())?;
+    add_number(alloc, output, " cars ", road.cars())?;
+    output.push(b'\n')?;
+    Ok(())
+}
+
+/// Adds a car and the gap ahead of it.
+fn add_car(alloc: Global, output: &mut Vec<u8>, car: Car, gap: u32) -> Result<(), AllocError> {
+    add_number(alloc, output, "car ", car.number)?;
+    add_number(alloc, output, " lane ", car.lane)?;
+    add_number(alloc, output, " place ", car.place)?;
+    add_number(alloc, output, " speed ", car.speed)?;
+    add_number(alloc, output, " gap ", gap)
+}
+
+/// Adds whether the side cell is empty, and the gaps ahead and behind on the other lane.
+fn add_beside(
+    alloc: Global,
+    output: &mut Vec<u8>,
+    (side, sidegap, sideback): (bool, u32, u32),
+) -> Result<(), AllocError> {
+    add_words(output, if side { " side empty" } else { " side taken" })?;
+    add_number(alloc, output, " sidegap ", sidegap)?;
+    add_number(alloc, output, " sideback ", sideback)
+}
+
+fn add_words(output: &mut Vec<u8>, words: &str) -> Result<(), AllocError> {
+    output.extend_from_slice(words.as_bytes())
+}
+
+/// Adds a number behind some words.
+fn add_number(
+    alloc: Global,
+    output: &mut Vec<u8>,
+    words: &str,
+    number: u32,
+) -> Result<(), AllocError> {
+    add_words(output, words)?;
+    add_words(output, number.to_string(alloc)?.as_str())
+}
+
+/// Adds the picture of each lane, on a line.
+fn add_pictures(alloc: Global, output: &mut Vec<u8>, road: &Road) -> Result<(), AllocError> {
+    for lane in 0..road.lanes() {
+        output.extend_from_slice(&road.picture(alloc, lane)?)?;
+        output.push(b'\n')?;
+    }
+    Ok(())
+}
+
+/// The first step of a job, phase by phase, and its tally; or that its first rule is none for its road.
+pub fn stepped(alloc: Global, text: &[u8]) -> Result<Answer, AllocError> {
+    let Ok(job) = read_job(alloc, text) else {
+        return told(alloc, End::Refused, "no job\n");
+    };
+    let mut output = Vec::new(alloc);
+    let middle = match job.first.change() {
+        Some(change) => after_crossing(alloc, &mut output, &job.road, change, &job.key)?,
+        None => job.road.copy(alloc)?,
+    };
+    let next = after_motion(alloc, &mut output, &middle, job.first.motion(), &job.key)?;
+    add_tally(alloc, &mut output, &job, &next)?;
+    Ok(Answer {
+        end: End::Done,
+        output,
+    })
+}
+
+/// The road after the sideways phase; adds who crosses, and the road.
+fn after_crossing(
+    alloc: Global,
+    output: &mut Vec<u8>,
+    road: &Road,
+    change: &Change,
+    key: &Key,
+) -> Result<Road, AllocError> {
+    if road.lanes() != 2 {
+        return road.copy(alloc);
+    }
+    let crosses = choose_part(alloc, road, change, key, 0, 0, 0, road.cars())?;
+    let middle = commit_change(alloc, road, &crosses)?;
+    add_words(output, "crosses")?;
+    for cross in &crosses {
+        add_words(output, if *cross { " yes" } else { " no" })?;
+    }
+    add_road(alloc, output, &middle)?;
+    Ok(middle)
+}
+
+/// The road after the motion phase; adds how fast the cars are, and the road.
+fn after_motion(
+    alloc: Global,
+    output: &mut Vec<u8>,
+    road: &Road,
+    motion: &Motion,
+    key: &Key,
+) -> Result<Road, AllocError> {
+    let speeds = move_part(alloc, road, motion, key, 0, 0, 0, road.cars())?;
+    let next = commit_motion(alloc, road, &speeds)?;
+    add_words(output, "speeds")?;
+    for speed in &speeds {
+        add_number(alloc, output, " ", *speed)?;
+    }
+    add_road(alloc, output, &next)?;
+    Ok(next)
+}
+
+/// Adds the pictures of a road, and the numbers of its cars in standing order.
+fn add_road(alloc: Global, output: &mut Vec<u8>, road: &Road) -> Result<(), AllocError> {
+    output.push(b'\n')?;
+    add_pictures(alloc, output, road)?;
+    add_words(output, "cars")?;
+    for k in 0..road.cars() {
+        add_number(alloc, output, " ", road.standing(k).number)?;
+    }
+    output.push(b'\n')?;
+    Ok(())
+}
+
+/// Adds the tally of the first step of a job, which leads to this road.
+fn add_tally(
+    alloc: Global,
+    output: &mut Vec<u8>,
+    job: &Job,
+    wanted: &Road,
+) -> Result<(), AllocError> {
+    match step_road(alloc, &job.road, &job.first, &job.key, 0, 0) {
+        Ok((next, tally)) if next.equals(wanted) => {
+            let (distance, stopped, changes) = (tally.distance, tally.stopped, tally.changes);
+            let line = format!(in alloc;
+                "distance {distance} stopped {stopped} changes {changes}\n"
+            )?;
+            add_words(output, line.as_str())
+        }
+        Ok(_) => add_words(output, "another road\n"),
+        Err(StepFault::Memory) => Err(AllocError),
+        Err(StepFault::LanesMismatch) => add_words(output, "another count of lanes\n"),
+    }
+}

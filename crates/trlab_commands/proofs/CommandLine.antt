@@ -1,0 +1,211 @@
+-- Which words the command line takes without a fault: first a command's name, and then words that
+-- the command takes.
+use Rattle.std.proofs.Common.{◌≡◌, ◌∙◌, ◌&&◌, ◌⊎◌, ℕ, zero, suc, Bool, cond, true, false, not, refl, sym, ap, subst, inl, inr, List, [], ◌∷◌, length, drop, Option, Some, None, codes}
+use Rattle.std.specs.Prelude.{encode_utf8, fold, find, slice_get}
+use Rattle.std.specs.List.{slice_index_or}
+use Rattle.std.specs.Option.{option_map_or}
+use Rattle.std.specs.Str.{bytes_eq, chars}
+use Rattle.std.proofs.lemmas.Slice.Eq.{bytes_eq-Decides}
+use Rattle.clap.specs.Lexer.{long_of, short_of}
+use Rattle.clap.specs.Kinds.{Kinds, or_else}
+use Rattle.clap.specs.Values.{read_as}
+use Rattle.clap.specs.Walk.{Held, Names, Rule, Text, Walk, after_flag, Outcome, long_or_other, short_or_plain, value, bundle, bundle_met, bundle_step, has_long, has_short, idle, nothing_held, one_of, plain, reading_by, rows_after, subcommand_met, subcommand_or_other, walk, walk_from, walked}
+use Rattle.clap.specs.Takes.{value_passes}
+use Rattle.clap.specs.Simple.{Shape, built, entered, filled, help_rule, names_of, subcommand_of}
+use Rattle.clap.specs.Faults.{bundle_fault, bundle_step_fault, entered_fault, fault_of, flag_word_fault, flags_fault, level_fault, long_fault, other_fault, short_fault, step_fault, turn_fault, walk_fault}
+use Rattle.clap.specs.declared.error.kind.ErrorKind.TheVariants.{DisplayHelpOnMissingArgumentOrSubcommand}
+use Rattle.clap.proofs.OnLiterals.{clap_on_literals}
+use Rattle.clap.proofs.WalkLemmas.{walk_stopped}
+use Rattle.trlab_commands.specs.CommandLine.{command_line}
+use Rattle.trlab_commands.proofs.Options.{IsHelp, IsOption, none_fails, own_value}
+
+-- the command line once it is built, and its commands
+abbrev top : Shape
+top = (built command_line).top
+
+abbrev names : Names
+names = names_of (built command_line)
+
+abbrev pub check_level : Shape
+check_level = slice_index_or (built command_line).subs 0 top
+
+abbrev pub run_level : Shape
+run_level = slice_index_or (built command_line).subs 1 top
+
+-- the flag that calls for help, which each command has
+abbrev help_flag : Rule
+help_flag = filled help_rule
+
+-- ---- before a command is named
+
+-- `--name` is unknown or calls for help
+long_fails : (b : Bool) (v : Option Text) → long_fault top.rules false (cond b (Some help_flag) None) v nothing_held ≡ [] → ⊥
+long_fails false v e = cc
+long_fails true None e = cc
+long_fails true (Some v) e = cc
+
+-- so do the flags of `-abc`, unless there are none
+flags_fail : (k : ℕ) (flags : Text) → flags_fault top.rules false k flags 0 nothing_held ≡ [] → bundle_met top.rules k flags 0 plain nothing_held ≡ (nothing_held, plain)
+unfolding flags_fault bundle_met
+flags_fail zero flags e = refl
+flags_fail (suc k) flags e = go (slice_get (chars flags) 0) e
+  where
+    flag : (b : Bool) (rest : Text) (next : Held → Kinds) → short_fault top.rules false (cond b (Some help_flag) None) rest nothing_held next ≡ [] → ⊥
+    flag false rest next h = cc
+    flag true rest next h = cc
+
+    go : (o : Option ℕ) → bundle_step_fault top.rules false o flags 0 nothing_held (flags_fault top.rules false k) ≡ []
+        → bundle_step top.rules o flags 0 plain nothing_held (bundle_met top.rules k) ≡ (nothing_held, plain)
+    go None h = refl
+    go (Some x) h = absurd (flag (not false && has_short help_flag x) (drop (length (encode_utf8 x)) flags) _ h)
+
+-- the word is no command's name and not `--`
+abbrev StrayFault : Text → Option Text → Kinds
+StrayFault word name =
+    let met = subcommand_or_other top.rules name idle 1 word nothing_held in
+    or_else (other_fault top name word nothing_held) (step_fault top 1 met.0 met.1)
+
+stray_fails : (word : Text) → bytes_eq word (45 ∷ 45 ∷ []) ≡ false → StrayFault word None ≡ [] → ⊥
+stray_fails word other e = long (long_of word) (rw other at e)
+  where
+    plain_fails : (h : Held) → step_fault top 1 h value ≡ [] → ⊥
+    plain_fails h f = cc
+
+    short : (o : Option Text) → or_else (option_map_or (λ flags. bundle_fault top.rules false flags nothing_held) o [])
+        (step_fault top 1 (short_or_plain top.rules idle word o nothing_held).0 (short_or_plain top.rules idle word o nothing_held).1) ≡ [] → ⊥
+    short None f = cc
+    short (Some flags) f =
+        let met = bundle top.rules flags nothing_held in
+        let taken = after_flag top.rules idle word met.0 met.1 in
+        let steps = none_fails (bundle_fault top.rules false flags nothing_held) (step_fault top 1 taken.0 taken.1) f in
+        let is : met ≡ (nothing_held, plain) = flags_fail (length flags) flags steps.0 in
+        let last = subst (λ (m : Held × Outcome). step_fault top 1 (after_flag top.rules idle word m.0 m.1).0 (after_flag top.rules idle word m.0 m.1).1 ≡ []) is steps.1 in
+        cc
+
+    long : (o : Option (Text × Option Text)) → or_else (flag_word_fault top.rules false o word nothing_held)
+        (step_fault top 1 (long_or_other top.rules idle word o nothing_held).0 (long_or_other top.rules idle word o nothing_held).1) ≡ [] → ⊥
+    long None f = short (short_of word) f
+    long (Some p) f = long_fails (not false && has_long help_flag p.0) p.1 (none_fails (flag_word_fault top.rules false (Some p) word nothing_held) _ f).0
+
+-- the words, where no fault is met: a command's name, and words that it takes
+pub data Taken (words : List Text) : Type 0 where
+  check : (rest : List Text) → words ≡ codes "check" ∷ rest → Taken words
+  run : (rest : List Text) → words ≡ codes "run" ∷ rest → level_fault run_level [] nothing_held rest false [] ≡ [] → Taken words
+
+abbrev start : Walk
+start = walk_from nothing_held
+
+-- where a walk stops at a name
+stop_at : (name : Text) (rest : List Text) → walked top.rules names start name ≡ record start { stopped = Some (name, []) }
+    → (walk top.rules names nothing_held (name ∷ rest)).stopped ≡ Some (name, rest)
+stop_at name rest is = ap (λ (w : Walk). (fold (walked top.rules names) w rest).stopped) is
+    ∙ ap (λ (w : Walk). w.stopped) (sym (walk_stopped top.rules names start name [] rest))
+
+stop_check : (rest : List Text) → (walk top.rules names nothing_held (codes "check" ∷ rest)).stopped ≡ Some (codes "check", rest)
+unfolding walked
+stop_check rest = stop_at (codes "check") rest refl
+
+stop_run : (rest : List Text) → (walk top.rules names nothing_held (codes "run" ∷ rest)).stopped ≡ Some (codes "run", rest)
+unfolding walked
+stop_run rest = stop_at (codes "run") rest refl
+
+-- the command that is entered, with its matches
+pub enters_check : (rest : List Text) → subcommand_of command_line (codes "check" ∷ rest) ≡ Some (codes "check", rows_after check_level.rules [] rest)
+enters_check rest = ap (entered (built command_line)) (stop_check rest)
+
+pub enters_run : (rest : List Text) → subcommand_of command_line (codes "run" ∷ rest) ≡ Some (codes "run", rows_after run_level.rules [] rest)
+enters_run rest = ap (entered (built command_line)) (stop_run rest)
+
+-- the words of `run` have no fault of their own
+run_passes : (rest : List Text) → fault_of command_line (codes "run" ∷ rest) ≡ [] → level_fault run_level [] nothing_held rest false [] ≡ []
+run_passes rest e =
+    let stop = (walk top.rules names nothing_held (codes "run" ∷ rest)).stopped in
+    let steps = none_fails (walk_fault top names start (codes "run" ∷ rest)) _ e in
+    let below : entered_fault (built command_line) stop ≡ [] = (none_fails (entered_fault (built command_line) stop) _ steps.1).0 in
+    subst (λ o. entered_fault (built command_line) o ≡ []) (stop_run rest) below
+
+-- the walk over the words comes first
+walk_passes : (words : List Text) → fault_of command_line words ≡ [] → walk_fault top names start words ≡ []
+walk_passes words e = (none_fails (walk_fault top names start words) _ e).0
+
+-- `help` is a call for help
+help_fails : (rest : List Text) → walk_fault top names start (codes "help" ∷ rest) ≡ [] → ⊥
+unfolding walk_fault
+help_fails rest e = cc
+
+-- behind `--` every word is a stray one, and a command is missing
+dashes_fail : (rest : List Text) → fault_of command_line ((45 ∷ 45 ∷ []) ∷ rest) ≡ [] → ⊥
+unfolding clap_on_literals
+dashes_fail [] e =
+    let missing : fault_of command_line ((45 ∷ 45 ∷ []) ∷ []) ≡ DisplayHelpOnMissingArgumentOrSubcommand ∷ [] = refl in
+    cc (sym e ∙ missing)
+dashes_fail (word ∷ rest) e =
+    let walks : walk_fault top names start ((45 ∷ 45 ∷ []) ∷ word ∷ rest) ≡ [] = walk_passes ((45 ∷ 45 ∷ []) ∷ word ∷ rest) e in
+    cc
+
+other_fails : (word : Text) (rest : List Text) → subcommand_met names idle word ≡ None → bytes_eq word (45 ∷ 45 ∷ []) ≡ false
+    → walk_fault top names start (word ∷ rest) ≡ [] → ⊥
+unfolding walk_fault
+other_fails word rest none other e =
+    let turn : StrayFault word (subcommand_met names idle word) ≡ [] = (none_fails (turn_fault top names start word) _ e).0 in
+    stray_fails word other (subst (λ o. StrayFault word o ≡ []) none turn)
+
+is_word : (a b : Text) → bytes_eq a b ≡ true → a ≡ b
+is_word a b same = (bytes_eq-Decides a b).0 same
+
+-- the first word, by whether it is a command's name or `--`
+first_word : (word : Text) (rest : List Text) → fault_of command_line (word ∷ rest) ≡ [] → Taken (word ∷ rest)
+first_word word rest e = by_check (bytes_eq (codes "check") word) refl
+  where
+    by_dashes : (b : Bool) → bytes_eq word (45 ∷ 45 ∷ []) ≡ b → subcommand_met names idle word ≡ None → Taken (word ∷ rest)
+    by_dashes true is none = absurd (dashes_fail rest (subst (λ w. fault_of command_line (w ∷ rest) ≡ []) (is_word word _ is) e))
+    by_dashes false is none = absurd (other_fails word rest none is (walk_passes (word ∷ rest) e))
+
+    by_help : (b : Bool) → bytes_eq (codes "help") word ≡ b → bytes_eq (codes "check") word ≡ false → bytes_eq (codes "run") word ≡ false → Taken (word ∷ rest)
+    by_help true is not_check not_run = absurd (help_fails rest (subst (λ w. walk_fault top names start (w ∷ rest) ≡ []) (sym (is_word _ word is)) (walk_passes (word ∷ rest) e)))
+    by_help false is not_check not_run = by_dashes (bytes_eq word (45 ∷ 45 ∷ [])) refl (rw (not_check, not_run, is) refl)
+
+    by_run : (b : Bool) → bytes_eq (codes "run") word ≡ b → bytes_eq (codes "check") word ≡ false → Taken (word ∷ rest)
+    by_run true is not_check =
+        let same : codes "run" ≡ word = is_word _ word is in
+        run rest (ap (λ w. w ∷ rest) (sym same)) (run_passes rest (subst (λ w. fault_of command_line (w ∷ rest) ≡ []) (sym same) e))
+    by_run false is not_check = by_help (bytes_eq (codes "help") word) refl not_check is
+
+    by_check : (b : Bool) → bytes_eq (codes "check") word ≡ b → Taken (word ∷ rest)
+    by_check true is = check rest (ap (λ w. w ∷ rest) (sym (is_word _ word is)))
+    by_check false is = by_run (bytes_eq (codes "run") word) refl is
+
+-- the words that meet no fault
+pub taken : (words : List Text) → fault_of command_line words ≡ [] → Taken words
+unfolding clap_on_literals
+taken [] e =
+    let missing : fault_of command_line [] ≡ DisplayHelpOnMissingArgumentOrSubcommand ∷ [] = refl in
+    let bad = sym e ∙ missing in
+    absurd cc
+taken (word ∷ rest) e = first_word word rest e
+
+-- ---- the option of `run`
+
+abbrev workers : Rule
+workers = slice_index_or run_level.rules 0 help_flag
+
+known : (test : Rule → Bool) (a : Rule) → find test run_level.rules ≡ Some a → (IsOption a × (bytes_eq a.id workers.id ≡ true → a ≡ workers)) ⊎ IsHelp a
+known test a found = first (test workers) found
+  where
+    same : (x y : Rule) → Some x ≡ Some y → x ≡ y
+    same x y e = cc
+
+    second : (b : Bool) → cond b (Some help_flag) None ≡ Some a → (IsOption a × (bytes_eq a.id workers.id ≡ true → a ≡ workers)) ⊎ IsHelp a
+    second false e = absurd cc
+    second true e = inr (subst IsHelp (same help_flag a e) (record { action = refl; range = refl }))
+
+    first : (b : Bool) → cond b (Some workers) (cond (test help_flag) (Some help_flag) None) ≡ Some a → (IsOption a × (bytes_eq a.id workers.id ≡ true → a ≡ workers)) ⊎ IsHelp a
+    first true e = inl (subst IsOption (same workers a e) (record { action = refl; range = refl }), λ _. sym (same workers a e))
+    first false e = second (test help_flag) e
+
+-- where the words of `run` meet no fault, its option has a value that passed the option's parser
+pub workers_value : (words : List Text) → level_fault run_level [] nothing_held words false [] ≡ []
+    → (v : Text) × (one_of (codes "workers") (rows_after run_level.rules [] words) ≡ Some (read_as (reading_by workers) v)) × (value_passes workers v ≡ true)
+workers_value words e =
+    own_value run_level.rules workers known (λ _. refl) run_level words [] (help_flag ∷ []) (codes "1") refl refl
+    (inr (codes "1", refl, refl, λ _. refl), (inl refl, tt)) e

@@ -1,0 +1,174 @@
+-- What the matches of a parse of the command line tell its caller.
+use Rattle.std.proofs.Common.{◌≡◌, ◌∙◌, ◌≤◌, ◌⊎◌, ℕ, true, false, inl, inr, refl, sym, ap, subst, List, [], ◌∷◌, Option, Some, None, Result, Ok, codes, arith}
+use Rattle.std.specs.Prelude.{option_map, unwrap_or, pos, Box}
+use Rattle.std.specs.Str.Parse.{ParsesUnsigned, digits_value, without_leading_plus}
+use Rattle.std.specs.Box.{box_value}
+use Rattle.clap.specs.Lexer.{without_minus}
+use Rattle.std.specs.Borrow.{Bor}
+use Rattle.clap.specs.Matches.{ReadsOne, found_of, subcommand_name_of}
+use Rattle.clap.specs.Values.{IsSignedIn}
+use Rattle.clap.specs.Walk.{Row, Text, one_of, rows_after, rows_of}
+use Rattle.clap.specs.Simple.{App, HasMatchesOf, subcommand_of, subcommand_rows, subcommand_rows_of}
+use Rattle.clap.specs.Faults.{fault_of, is_simple_and_free}
+use Rattle.clap.specs.declared.parser.matches.ArgMatches.{ArgMatches}
+use Rattle.clap.specs.declared.parser.matches.ArgMatches.TheViews.{out-ArgMatches, out-SubCommand}
+use Rattle.clap.specs.declared.parser.matches.SubCommand.{SubCommand}
+use Rattle.clap.specs.declared.builder.value_parser.ValueParser.TheVariants.{Signed}
+use Rattle.clap.proofs.OnLiterals.{clap_on_literals}
+use Rattle.clap.proofs.CallerReads.{signed_reads}
+use Rattle.clap.proofs.ValueTestLemmas.{accepts-Accepts}
+use Rattle.trlab_bounds.specs.declared.runs.TheConstants.{MOST_WORKERS}
+use Rattle.trlab_commands.specs.Asked.{GivesNumber}
+use Rattle.trlab_commands.specs.CommandLine.{command_line}
+use Rattle.trlab_commands.proofs.CommandLine.{Taken, check, check_level, run_level, enters_check, enters_run, run, taken, workers_value}
+
+-- the command that was entered, of a command that is the command line
+pub entered_of : (app : App) (words : List Text) (m : ArgMatches) → app ≡ command_line → HasMatchesOf app words m → subcommand_rows_of m ≡ subcommand_of command_line words
+entered_of app words m is has =
+    let here : HasMatchesOf command_line words m = subst (λ a. HasMatchesOf a words m) is has in
+    (here refl).1
+
+pub fault_none : (app : App) (words : List Text) → app ≡ command_line → (is_simple_and_free app ≡ true → fault_of app words ≡ []) → fault_of command_line words ≡ []
+fault_none app words is h =
+    let here : is_simple_and_free command_line ≡ true → fault_of command_line words ≡ [] =
+    subst (λ a. is_simple_and_free a ≡ true → fault_of a words ≡ []) is h in
+    here refl
+
+module _ {Z : Type 0} where
+  -- the name is that of the rows
+  pub name_of_rows : (o : Option (Box SubCommand Z)) → option_map (λ b. (out-SubCommand (box_value b)).name.now) o ≡ option_map (λ p. p.0) (subcommand_rows o)
+  name_of_rows None = refl
+  name_of_rows (Some b) = refl
+
+abbrev WorkersGiven : List Row → Text → Type 0
+WorkersGiven rows v = (one_of (codes "workers") rows ≡ Some (without_minus v)) × IsSignedIn (pos 1) (pos MOST_WORKERS) v
+
+-- the command that was entered at these words, which name it first
+pub data Entered (words : List Text) (o : Option (Text × List Row)) : Type 0 where
+  in_check : (rest : List Text) (rows : List Row) → words ≡ codes "check" ∷ rest → o ≡ Some (codes "check", rows) → Entered words o
+  in_run : (rest : List Text) (rows : List Row) (v : Text) → words ≡ codes "run" ∷ rest → o ≡ Some (codes "run", rows) → WorkersGiven rows v → Entered words o
+
+abbrev run_rows : List Text → List Row
+run_rows rest = rows_after run_level.rules [] rest
+
+-- where no fault is met, one of the two is entered
+pub entered : (words : List Text) → fault_of command_line words ≡ [] → Entered words (subcommand_of command_line words)
+entered words e = go (taken words e)
+  where
+    go : Taken words → Entered words (subcommand_of command_line words)
+    go (check rest is) = in_check rest (rows_after check_level.rules [] rest) is (ap (subcommand_of command_line) is ∙ enters_check rest)
+    go (run rest is passes) =
+        let value = workers_value rest passes in
+        in_run rest (run_rows rest) value.0 is (ap (subcommand_of command_line) is ∙ enters_run rest)
+        (value.1, accepts-Accepts false (Signed (pos 1) (pos MOST_WORKERS)) value.0 value.2)
+
+-- two commands with their rows
+abbrev Command : Type 0
+Command = Text × List Row
+
+same_command : (p q : Command) → Some p ≡ Some q → p ≡ q
+same_command p q e = ap (λ o. unwrap_or o p) e
+
+name_is : (o : Option Command) (p : Command) (name : Text) → o ≡ Some p → Some name ≡ option_map (λ p. p.0) o → name ≡ p.0
+name_is o p name is named = ap (λ t. unwrap_or t name) (named ∙ ap (option_map (λ p. p.0)) is)
+
+rows_are : (o : Option Command) (p : Command) (rows : List Row) → o ≡ Some p → Some rows ≡ option_map (λ p. p.1) o → rows ≡ p.1
+rows_are o p rows is has = ap (λ t. unwrap_or t rows) (has ∙ ap (option_map (λ p. p.1)) is)
+
+check_not_run : codes "check" ≡ codes "run" → ⊥
+check_not_run e = absurd cc
+
+-- what is known where the command that was entered has this name
+pub at_check : (words : List Text) (o : Option Command) → Entered words o → Some (codes "check") ≡ option_map (λ p. p.0) o
+    → ((rows : List Row) × (o ≡ Some (codes "check", rows))) × ((rest : List Text) × (words ≡ codes "check" ∷ rest))
+at_check words o (in_check rest rows is at) named = ((rows, at), (rest, is))
+at_check words o (in_run rest rows v is at given) named = absurd (check_not_run (name_is o (codes "run", rows) (codes "check") at named))
+
+pub at_run : (words : List Text) (o : Option Command) (rows : List Row) → Entered words o → Some (codes "run") ≡ option_map (λ p. p.0) o → Some rows ≡ option_map (λ p. p.1) o
+    → (o ≡ Some (codes "run", rows)) × ((rest : List Text) × (words ≡ codes "run" ∷ rest)) × ((v : Text) × WorkersGiven rows v)
+at_run words o rows (in_check rest own is at) named has = absurd (check_not_run (sym (name_is o (codes "check", own) (codes "run") at named)))
+at_run words o rows (in_run rest own v is at given) named has =
+    let same : rows ≡ own = rows_are o (codes "run", own) rows at has in
+    (at ∙ ap (λ rs. Some (codes "run", rs)) (sym same), (rest, is), (v, subst (λ rs. WorkersGiven rs v) (sym same) given))
+
+-- the number that is read of the option
+module _ (E : Type 0) (G : List ℕ → Result ℕ E → Type 0) (only : (u : List ℕ) (x : Result ℕ E) → G u x → ParsesUnsigned 32 10 u x)
+    (rows : List Row) (v : Text) (given : WorkersGiven rows v) (r : Option ℕ) (read : (t : List ℕ) → one_of (codes "workers") rows ≡ Some t → ReadsOne G t r) where
+  bounds : (n : ℕ) × (r ≡ Some n) × (1 ≤ n) × (n ≤ MOST_WORKERS)
+  bounds = signed_reads E G 32 1 MOST_WORKERS v r (read (without_minus v) given.0) only (omega arith) given.1
+
+  pub some_number : r ≡ None → ⊥
+  some_number is =
+      let bad = sym is ∙ bounds.1 in
+      absurd cc
+
+  pub the_number : (n : ℕ) → r ≡ Some n → GivesNumber (codes "workers") rows n × ((1 ≤ n) × (n ≤ MOST_WORKERS))
+  the_number n is =
+      let same : bounds.0 ≡ n = ap (λ o. unwrap_or o n) (sym bounds.1 ∙ is) in
+      let parsed : ParsesUnsigned {E = E} 32 10 (without_minus v) (Ok n) = only (without_minus v) (Ok n) (subst (ReadsOne G (without_minus v)) is (read (without_minus v) given.0)) in
+      ((without_minus v, given.0, sym parsed.1), (subst (λ k. 1 ≤ k) same bounds.2, subst (λ k. k ≤ MOST_WORKERS) same bounds.3))
+
+-- ---- by what the getters of the matches answer
+
+-- what a parse of the command line found, and the command that its matches answer
+pub record Found (words : List Text) (m : ArgMatches) (r : Option (Bor Text × Bor ArgMatches)) : Type 0 where
+  pub fault : fault_of command_line words ≡ []
+  pub at : Entered words (subcommand_of command_line words)
+  pub name : option_map (λ p. p.0.now) r ≡ option_map (λ p. p.0) (subcommand_of command_line words)
+  pub rows : option_map (λ p. rows_of (found_of p.1.now)) r ≡ option_map (λ p. p.1) (subcommand_of command_line words)
+
+pub found : (app : App) (words : List Text) (m : ArgMatches) (r : Option (Bor Text × Bor ArgMatches)) → app ≡ command_line → HasMatchesOf app words m
+    → (is_simple_and_free app ≡ true → fault_of app words ≡ []) → option_map (λ p. p.0.now) r ≡ subcommand_name_of m
+    → option_map (λ p. rows_of (found_of p.1.now)) r ≡ option_map (λ p. p.1) (subcommand_rows_of m) → Found words m r
+found app words m r is has kinds name rows =
+    let here = entered_of app words m is has in
+    let none = fault_none app words is kinds in
+    record {
+      fault = none;
+      at = entered words none;
+      name = name ∙ name_of_rows (out-ArgMatches m).subcommand ∙ ap (option_map (λ p. p.0)) here;
+      rows = rows ∙ ap (option_map (λ p. p.1)) here;
+    }
+
+pub found_check : (words : List Text) (m : ArgMatches) (r : Option (Bor Text × Bor ArgMatches)) (p : Bor Text × Bor ArgMatches) → Found words m r → r ≡ Some p → p.0.now ≡ codes "check"
+    → ((rows : List Row) × (subcommand_of command_line words ≡ Some (codes "check", rows))) × ((rest : List Text) × (words ≡ codes "check" ∷ rest))
+found_check words m r p f is named =
+    at_check words (subcommand_of command_line words) f.at (ap Some (sym named) ∙ ap (option_map (λ p. p.0.now)) (sym is) ∙ f.name)
+
+pub found_run : (words : List Text) (m : ArgMatches) (r : Option (Bor Text × Bor ArgMatches)) (p : Bor Text × Bor ArgMatches) → Found words m r → r ≡ Some p → p.0.now ≡ codes "run"
+    → (subcommand_of command_line words ≡ Some (codes "run", rows_of (found_of p.1.now))) × ((rest : List Text) × (words ≡ codes "run" ∷ rest))
+    × ((v : Text) × WorkersGiven (rows_of (found_of p.1.now)) v)
+found_run words m r p f is named =
+    at_run words (subcommand_of command_line words) (rows_of (found_of p.1.now)) f.at (ap Some (sym named) ∙ ap (option_map (λ p. p.0.now)) (sym is) ∙ f.name)
+    (ap (option_map (λ p. rows_of (found_of p.1.now))) (sym is) ∙ f.rows)
+
+-- the name is that of one of the two
+pub found_name : (words : List Text) (m : ArgMatches) (r : Option (Bor Text × Bor ArgMatches)) (p : Bor Text × Bor ArgMatches) → Found words m r → r ≡ Some p
+    → (p.0.now ≡ codes "check") ⊎ (p.0.now ≡ codes "run")
+found_name words m r p f is = go (subcommand_of command_line words) f.at (ap (option_map (λ p. p.0.now)) (sym is) ∙ f.name)
+  where
+    go : (o : Option Command) → Entered words o → Some p.0.now ≡ option_map (λ p. p.0) o → (p.0.now ≡ codes "check") ⊎ (p.0.now ≡ codes "run")
+    go o (in_check rest rows first at) named = inl (name_is o (codes "check", rows) p.0.now at named)
+    go o (in_run rest rows v first at given) named = inr (name_is o (codes "run", rows) p.0.now at named)
+
+-- a command was entered
+pub found_one : (words : List Text) (m : ArgMatches) (r : Option (Bor Text × Bor ArgMatches)) → Found words m r → r ≡ None → ⊥
+found_one words m r f is = go (subcommand_of command_line words) f.at (ap (option_map (λ p. p.0.now)) (sym is) ∙ f.name)
+  where
+    go : (o : Option Command) → Entered words o → None ≡ option_map (λ p. p.0) o → ⊥
+    go o (in_check rest rows first at) named = let bad = named ∙ ap (option_map (λ p. p.0)) at in absurd cc
+    go o (in_run rest rows v first at given) named = let bad = named ∙ ap (option_map (λ p. p.0)) at in absurd cc
+
+-- ---- the word `run` alone
+
+run_alone : option_map (λ p. one_of (codes "workers") p.1) (subcommand_of command_line (codes "run" ∷ [])) ≡ Some (Some (codes "1"))
+unfolding clap_on_literals
+run_alone = refl
+
+pub alone_is_one : (words : List Text) (rows : List Row) (n : ℕ) → words ≡ codes "run" ∷ [] → subcommand_of command_line words ≡ Some (codes "run", rows)
+    → GivesNumber (codes "workers") rows n → n ≡ 1
+alone_is_one words rows n is at gives =
+    let here : option_map (λ (p : Command). one_of (codes "workers") p.1) (Some (codes "run", rows)) ≡ Some (Some (codes "1")) =
+    ap (option_map (λ (p : Command). one_of (codes "workers") p.1)) (sym at ∙ ap (subcommand_of command_line) is) ∙ run_alone in
+    let same : gives.0 ≡ codes "1" = ap (λ o. unwrap_or (unwrap_or o None) gives.0) (ap Some (sym gives.1) ∙ here) in
+    sym gives.2 ∙ ap (λ t. digits_value 10 (without_leading_plus t)) same

@@ -1,0 +1,38 @@
+//! What is done for the words of the command line.
+
+ghost use Rattle.std.specs.Prelude.{◌≡◌, ◌+◌, ◌||◌, ◌↔◌, true, false, IfSome};
+ghost use Rattle.std.specs.Io.KnownBytes.{Keeps};
+ghost use Rattle.trlab_campaign.specs.Device.{ConsumesUpTo};
+ghost use Rattle.trlab_campaign.specs.Ending.{EndsSo, OnWhole};
+ghost use Rattle.trlab_campaign.specs.declared.end.End.TheVariants.{DeviceFault};
+ghost use Rattle.trlab_bounds.specs.declared.texts.TheConstants.{TEXT_LIMIT};
+ghost use Rattle.trlab_commands.specs.Asked.{HasCounts};
+ghost use Rattle.trlab_commands.specs.Commands.{output_of};
+
+use crate::words::Wanted;
+use std::alloc::AllocGlobal;
+use trlab_campaign::{End, Sink, Source, check_text, run_job_text};
+
+/// Does what is wanted, from a reader to a writer.
+pub fn carry_out<R: AllocGlobal, S: Source, K: Sink>(
+    rt: &R,
+    wanted: Wanted,
+    reader: &mut S,
+    writer: &mut K,
+) -> End
+    requires counts { HasCounts wanted }
+    requires reader_works { S.failed reader.old ≡ false }
+    requires writer_works { K.failed writer.old ≡ false }
+    // Where the reader tells its bytes, and the writer those that it has.
+    ensures answer { IfSome (S.left reader.old)
+        (λ text. EndsSo (output_of wanted text) result (K.written writer.old) (K.written writer.new)) }
+    ensures silent { S.failed reader.new ≡ true → Keeps (K.written writer.old) (K.written writer.new) }
+    ensures handed { OnWhole result (K.handed_on writer.new ≡ true) }
+    ensures device { (result ≡ DeviceFault) ↔ ((S.failed reader.new || K.failed writer.new) ≡ true) }
+    ensures read { ConsumesUpTo (TEXT_LIMIT + 1) (S.left reader.old) (S.left reader.new) }
+{
+    match wanted {
+        Wanted::Check => check_text(rt, reader, writer),
+        Wanted::Run { workers } => run_job_text(rt, reader, writer, workers),
+    }
+}

@@ -1,0 +1,12 @@
+//! The commands of `trlab`: what the words of its command line ask for, what is done for them, and
+//! the exit status of each end.
+#![tactic(auto)]
+
+mod command;
+mod help;
+mod status;
+mod words;
+
+pub use command::carry_out;
+pub use status::{REFUSED_WORDS, status_of_end, status_of_print, status_of_words};
+pub use words::{Wanted, read_words};

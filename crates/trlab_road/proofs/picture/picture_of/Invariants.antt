@@ -1,8 +1,0 @@
-use Rattle.std.proofs.Common.{◌≡◌, take}
-use Rattle.trlab_road.specs.Lists.{cells_of}
-use Rattle.trlab_road.specs.Pictures.{picture}
-use Rattle.trlab_road.proofs.picture.picture_of.Given as goal
-
--- the picture of the cars so far
-abbrev pub invariant-loop-k : goal.invariant-loop-k
-invariant-loop-k l = l.bytes.items ≡ picture (cells_of l.cells (take l.k l.cars))

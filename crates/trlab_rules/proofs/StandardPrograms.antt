@@ -1,0 +1,40 @@
+-- The standard programs are programs: they have not too many instructions, and their fields are in range.
+use Rattle.std.proofs.Common.{ℕ, ◌≤◌, List, [], ◌∷◌, All, arith}
+use Rattle.std.proofs.lemmas.List.Elements.{All-cons, All-nil}
+use Rattle.trlab_bounds.specs.declared.programs.TheConstants.{CERTAIN}
+use Rattle.trlab_code.specs.declared.instruction.Instr.{Instr}
+use Rattle.trlab_code.specs.Program.{InRange, IsProgram}
+use Rattle.trlab_rules.specs.Standard.{nasch_program, vdr_program, rickert_program}
+
+-- the fields of each instruction are in range
+abbrev Each : List Instr → Type 0
+Each [] = Unit {0}
+Each (i ∷ instrs) = InRange i × Each instrs
+
+each_all : (instrs : List Instr) → Each instrs → All InRange instrs
+each_all [] each = All-nil InRange
+each_all (i ∷ instrs) each = All-cons InRange i instrs each.0 (each_all instrs each.1)
+
+pub nasch_is_program : (p : ℕ) → p ≤ CERTAIN → IsProgram (nasch_program p)
+nasch_is_program p fits = record {
+  some = omega arith;
+  few = omega arith;
+  in_range = each_all (nasch_program p).instrs
+      (tt, (tt, (tt, (tt, (tt, (tt, (tt, ((omega arith, fits), (tt, (tt, (tt, (tt, tt))))))))))));
+}
+
+pub vdr_is_program : (p p0 : ℕ) → p ≤ CERTAIN → p0 ≤ CERTAIN → IsProgram (vdr_program p p0)
+vdr_is_program p p0 fits fits0 = record {
+  some = omega arith;
+  few = omega arith;
+  in_range = each_all (vdr_program p p0).instrs
+      (tt, (tt, (tt, ((omega arith, fits0), (tt, ((omega arith, fits), (tt, (tt, (tt, (tt, (tt, (tt, (tt, (tt, (tt, tt)))))))))))))));
+}
+
+pub rickert_is_program : (c : ℕ) → c ≤ CERTAIN → IsProgram (rickert_program c)
+rickert_is_program c fits = record {
+  some = omega arith;
+  few = omega arith;
+  in_range = each_all (rickert_program c).instrs
+      (tt, (tt, (tt, (tt, (tt, (tt, (tt, (tt, (tt, (tt, (tt, (tt, ((omega arith, fits), (tt, (tt, (tt, tt))))))))))))))));
+}

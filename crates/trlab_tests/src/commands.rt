@@ -1,0 +1,183 @@
+//! Words of the command line, what is made of them, and how the commands end.
+
+ghost use Rattle.std.specs.Prelude.{◌≡◌, false, IfOk};
+ghost use Rattle.trlab_commands.specs.Asked.{HasCounts};
+
+use clap::Error;
+use std::io;
+use std::test::Fail;
+use trlab_campaign::{End, Sink, Source, Watched};
+use trlab_commands::{
+    Wanted, carry_out, read_words, status_of_end, status_of_print, status_of_words,
+};
+
+/// What the words of a line ask for.
+fn asked(rt: &impl AllocGlobal, line: &str) -> Result<Wanted, Error>
+    ensures { IfOk result HasCounts }
+{
+    let mut words = Vec::new(rt.alloc());
+    for word in line.split_whitespace() {
+        words.push(String::from_str(rt.alloc(), word)?)?;
+    }
+    read_words(rt.alloc(), &words)
+}
+
+/// The exit status of the words of a line, where they ask for nothing.
+fn status(rt: &impl AllocGlobal, line: &str) -> Option<u8> {
+    match asked(rt, line) {
+        Ok(_) => None,
+        Err(error) => Some(status_of_words(&error)),
+    }
+}
+
+#[test]
+fn words_ask_for_commands(rt: HostRuntime) -> Result<(), Fail> {
+    for (line, wanted) in [
+        ("check", Wanted::Check),
+        ("check --", Wanted::Check),
+        ("run", Wanted::Run { workers: 1 }),
+        ("run --", Wanted::Run { workers: 1 }),
+        ("run --workers 1", Wanted::Run { workers: 1 }),
+        ("run --workers 2", Wanted::Run { workers: 2 }),
+        ("run --workers 16", Wanted::Run { workers: 16 }),
+        ("run --workers=4", Wanted::Run { workers: 4 }),
+        ("run --workers +4", Wanted::Run { workers: 4 }),
+        ("run --workers 007", Wanted::Run { workers: 7 }),
+    ] {
+        assert_eq!(rt; asked(&rt, line)?, wanted, "at {line:?}");
+    }
+    Ok(())
+}
+
+#[test]
+fn other_words_are_refused(rt: HostRuntime) {
+    for line in [
+        "",
+        "walk",
+        "rum",
+        "--",
+        "-- run",
+        "--version",
+        "--workers 2 run",
+        "check --workers 1",
+        "check run",
+        "run run",
+        "run 2",
+        "run -",
+        "run -w 2",
+        "run --workers",
+        "run --workers=",
+        "run --workers 0",
+        "run --workers 17",
+        "run --workers -1",
+        "run --workers 4294967297",
+        "run --workers 18446744073709551617",
+        "run --workers two",
+        "run --workers 2 2",
+        "run --workers 2 --workers 2",
+        "run --workers -- 2",
+        "help walk",
+    ] {
+        assert_eq!(rt; status(&rt, line), Some(2), "at {line:?}");
+    }
+}
+
+#[test]
+fn help_is_no_fault(rt: HostRuntime) {
+    for line in [
+        "--help",
+        "-h",
+        "help",
+        "help check",
+        "help run",
+        "check --help",
+        "run --help",
+        "run -h",
+        "run --workers 2 --help",
+    ] {
+        assert_eq!(rt; status(&rt, line), Some(0), "at {line:?}");
+    }
+}
+
+/// The exit status of the command of a line, from a reader to a writer.
+fn carried<S: Source, K: Sink>(
+    rt: &impl AllocGlobal,
+    line: &str,
+    reader: &mut S,
+    writer: &mut K,
+) -> Result<u8, Error>
+    requires reader_works { S.failed reader.old ≡ false }
+    requires writer_works { K.failed writer.old ≡ false }
+{
+    let wanted = asked(rt, line)?;
+    Ok(status_of_end(carry_out(rt, wanted, reader, writer)))
+}
+
+#[test]
+fn commands_write_their_own_output(rt: HostRuntime) -> Result<(), Fail> {
+    let job =
+        "road 1\nkey 0000000000000000000000000000000000000000000000000000000000000000\nlimit 5\nlane 0.\nrule nasch 0\nsteps 1\n";
+    for (line, text, status, wanted) in [
+        ("check", "change\nstay", 0, "accepted budget 1\nstay\n"),
+        ("check", "change\ncross", 1, "refused at 0 reason 12\n"),
+        ("check", "walk", 1, "fault line 1 cause 1\n"),
+        ("check", job, 1, "fault line 1 cause 1\n"),
+        ("run", job, 0, "step 0\n0.\nstep 1\n.1\n"),
+        ("run --workers 16", job, 0, "step 0\n0.\nstep 1\n.1\n"),
+        ("run", "change\nstay", 1, "fault line 1 cause 1\n"),
+    ] {
+        let mut reader = Watched::new(text.as_bytes());
+        let mut writer = Watched::new(Vec::new(rt.alloc()));
+        assert_eq!(rt;
+            carried(&rt, line, &mut reader, &mut writer)?,
+            status,
+            "at {line:?}"
+        );
+        assert!(rt;
+            writer.into_inner().as_slice() == wanted.as_bytes(),
+            "at {line:?}"
+        );
+    }
+    Ok(())
+}
+
+#[test]
+fn a_writer_without_room_is_a_failed_write(rt: HostRuntime) -> Result<(), Fail> {
+    for line in ["check", "run"] {
+        let mut room = [0; 5];
+        let mut reader = Watched::new(b"walk".as_slice());
+        let mut writer = Watched::new(room.as_mut_slice());
+        assert_eq!(rt;
+            carried(&rt, line, &mut reader, &mut writer)?,
+            4,
+            "at {line}"
+        );
+    }
+    Ok(())
+}
+
+#[test]
+fn each_end_has_its_status(rt: HostRuntime) {
+    for (end, status) in [
+        (End::Done, 0),
+        (End::Refused, 1),
+        (End::Memory, 3),
+        (End::DeviceFault, 4),
+    ] {
+        assert_eq!(rt; status_of_end(end), status);
+    }
+}
+
+#[test]
+fn help_that_is_not_written_is_a_failed_write(rt: HostRuntime) {
+    let failed: io::Result<()> = Err(io::Error::from(io::ErrorKind::BrokenPipe));
+    for (line, written, not_written) in [("--help", 0, 4), ("help run", 0, 4), ("walk", 2, 2)] {
+        match asked(&rt, line) {
+            Ok(_) => assert!(rt; false, "at {line}"),
+            Err(error) => {
+                assert_eq!(rt; status_of_print(&error, &Ok(())), written, "at {line}");
+                assert_eq!(rt; status_of_print(&error, &failed), not_written, "at {line}");
+            }
+        }
+    }
+}

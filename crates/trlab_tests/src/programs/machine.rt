@@ -1,0 +1,49 @@
+//! Runs of programs, worked out by hand.
+
+use super::{CROSSING, change, slowing};
+use std::alloc::Global;
+use trlab_code::{ChangeView, MotionView};
+use trlab_machine::{run_change, run_motion};
+use trlab_words::{Key, words};
+
+/// The new speed of a car of the zero key with this chance, speed and gap, under limit 5, and how many
+/// instructions it took.
+fn moved(alloc: Global, chance: u32, speed: u32, gap: u32) -> Option<(u32, u32)> {
+    let motion = slowing(alloc, chance)?;
+    let view = MotionView::new(speed, 5, gap)?;
+    let moved = run_motion(&motion, view, &words(&Key([0; 32]), 0, 0, 0));
+    Some((moved.speed, moved.steps))
+}
+
+// Word 0 is 2917185654, whose half is 1458592827.
+#[test]
+fn slows_down_where_the_chance_happens(rt: HostRuntime) {
+    assert_eq!(rt; moved(rt.alloc(), 1458592828, 0, 9), Some((0, 12)));
+    assert_eq!(rt; moved(rt.alloc(), 1458592828, 3, 9), Some((3, 12)));
+    assert_eq!(rt; moved(rt.alloc(), 1458592828, 5, 9), Some((4, 12)));
+    assert_eq!(rt; moved(rt.alloc(), 1458592828, 4, 2), Some((1, 12)));
+    assert_eq!(rt; moved(rt.alloc(), 1458592828, 3, 0), Some((0, 12)));
+}
+
+#[test]
+fn goes_on_where_it_does_not(rt: HostRuntime) {
+    assert_eq!(rt; moved(rt.alloc(), 1458592827, 0, 9), Some((1, 10)));
+    assert_eq!(rt; moved(rt.alloc(), 1458592827, 3, 9), Some((4, 10)));
+    assert_eq!(rt; moved(rt.alloc(), 1458592827, 5, 9), Some((5, 10)));
+    assert_eq!(rt; moved(rt.alloc(), 1458592827, 4, 2), Some((2, 10)));
+    assert_eq!(rt; moved(rt.alloc(), 1458592827, 3, 0), Some((0, 10)));
+}
+
+/// Whether a car beside an empty cell or a car crosses, and how many instructions it took.
+fn chosen(alloc: Global, side: bool) -> Option<(bool, u32)> {
+    let change = change(alloc, CROSSING)?;
+    let view = ChangeView::new(3, 5, 1, side, 9, 9, 0)?;
+    let chosen = run_change(&change, view, &words(&Key([0; 32]), 0, 0, 0));
+    Some((chosen.cross, chosen.steps))
+}
+
+#[test]
+fn crosses_where_the_side_cell_is_empty(rt: HostRuntime) {
+    assert_eq!(rt; chosen(rt.alloc(), false), Some((false, 5)));
+    assert_eq!(rt; chosen(rt.alloc(), true), Some((true, 5)));
+}

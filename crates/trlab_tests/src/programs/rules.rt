@@ -1,0 +1,112 @@
+//! The standard rules, and each public function once.
+
+use std::alloc::Global;
+use trlab_rules::{Rule, nasch, rickert, slowed_1992, vdr};
+use trlab_words::Chance;
+
+/// The rule of 1992 with this chance.
+fn of_1992(alloc: Global, p: u32) -> Option<Rule> {
+    nasch(alloc, Chance::new(p)?).ok()
+}
+
+/// The rule of 1998 with these chances.
+fn of_1998(alloc: Global, p: u32, p0: u32) -> Option<Rule> {
+    vdr(alloc, Chance::new(p)?, Chance::new(p0)?).ok()
+}
+
+/// The rule of 1996 with these chances.
+fn of_1996(alloc: Global, p: u32, c: u32) -> Option<Rule> {
+    rickert(alloc, Chance::new(p)?, Chance::new(c)?).ok()
+}
+
+/// The budgets of a rule's programs.
+fn budgets(rule: Option<Rule>) -> Option<(u32, Option<u32>)> {
+    let rule = rule?;
+    let change = rule.change().map(|change| change.budget());
+    Some((rule.motion().budget(), change))
+}
+
+#[test]
+fn gives_the_published_rules(rt: HostRuntime) {
+    assert_eq!(rt; budgets(of_1992(rt.alloc(), 1)), Some((12, None)));
+    assert_eq!(rt; budgets(of_1998(rt.alloc(), 1, 2)), Some((14, None)));
+    assert_eq!(rt; budgets(of_1996(rt.alloc(), 1, 2)), Some((12, Some(15))));
+}
+
+/// Whether a rule equals its copy, and the copy the rule.
+fn equals_its_copy(alloc: Global, rule: Option<Rule>) -> Option<bool> {
+    let rule = rule?;
+    let copy = rule.copy(alloc).ok()?;
+    Some(copy.equals(&rule) && rule.equals(&copy))
+}
+
+#[test]
+fn copies_are_equal(rt: HostRuntime) {
+    let alloc = rt.alloc();
+    assert_eq!(rt; equals_its_copy(alloc, of_1992(alloc, 1)), Some(true));
+    assert_eq!(rt; equals_its_copy(alloc, of_1998(alloc, 1, 2)), Some(true));
+    assert_eq!(rt; equals_its_copy(alloc, of_1996(alloc, 1, 2)), Some(true));
+}
+
+/// Whether two rules are equal.
+fn are_equal(first: Option<Rule>, second: Option<Rule>) -> Option<bool> {
+    Some(first?.equals(&second?))
+}
+
+#[test]
+fn rules_of_other_chances_are_not_equal(rt: HostRuntime) {
+    let alloc = rt.alloc();
+    let q = 1073741824;
+    assert_eq!(rt;
+        are_equal(of_1992(alloc, 0), of_1992(alloc, q)),
+        Some(false)
+    );
+    assert_eq!(rt;
+        are_equal(of_1998(alloc, 0, q), of_1998(alloc, q, 0)),
+        Some(false)
+    );
+    assert_eq!(rt;
+        are_equal(of_1996(alloc, 0, q), of_1996(alloc, 0, 0)),
+        Some(false)
+    );
+    assert_eq!(rt;
+        are_equal(of_1996(alloc, 0, 0), of_1996(alloc, q, 0)),
+        Some(false)
+    );
+}
+
+#[test]
+fn other_rules_are_not_equal(rt: HostRuntime) {
+    let alloc = rt.alloc();
+    let p = 1073741824;
+    assert_eq!(rt;
+        are_equal(of_1992(alloc, p), of_1998(alloc, p, p)),
+        Some(false)
+    );
+    assert_eq!(rt;
+        are_equal(of_1992(alloc, p), of_1996(alloc, p, p)),
+        Some(false)
+    );
+    assert_eq!(rt;
+        are_equal(of_1996(alloc, p, p), of_1992(alloc, p)),
+        Some(false)
+    );
+}
+
+/// The speed of a car after acceleration and slowing down, by its speed, its limit and its gap.
+fn slowed(speed: u32, limit: u32, gap: u32) -> u32 {
+    slowed_1992(speed, limit, gap)
+}
+
+#[test]
+fn slows_as_in_1992(rt: HostRuntime) {
+    let most = 4294967295;
+    assert_eq!(rt; slowed(3, 5, 2), 2);
+    assert_eq!(rt; slowed(5, 5, 9), 5);
+    assert_eq!(rt; slowed(0, 5, 0), 0);
+    assert_eq!(rt; slowed(2, 5, 2), 2);
+    assert_eq!(rt; slowed(2, 5, 3), 3);
+    assert_eq!(rt; slowed(7, 5, 9), 7);
+    assert_eq!(rt; slowed(most, most, most), most);
+    assert_eq!(rt; slowed(0, most, most), 1);
+}

@@ -1,0 +1,86 @@
+//! Runs, step by step.
+
+use crate::roads::shows;
+use crate::texts::job;
+use std::alloc::{AllocError, Global};
+use trlab_jobs::Job;
+use trlab_run::{Run, Sheet};
+use trlab_step::Caller;
+
+/// The run of a job, whose steps count from `warm` on.
+fn run_of(alloc: Global, job: Job, warm: u32) -> Run {
+    let Job {
+        key,
+        road,
+        first,
+        later,
+        steps: _,
+    } = job;
+    Run::new(alloc, key, 0, warm, road, Sheet::new(first, later))
+}
+
+/// Whether a run has come to a step, its cars have gone so many cells without a stop, and its one
+/// lane has this picture.
+fn is_at(
+    alloc: Global,
+    run: &Run,
+    step: u32,
+    distance: u64,
+    picture: &[u8],
+) -> Result<bool, AllocError> {
+    let tally = run.tally();
+    let is_counted = tally.distance == distance && tally.stopped == 0 && tally.changes == 0;
+    Ok(is_counted && run.step() == step && shows(alloc, run.road(), picture)?)
+}
+
+/// Takes the next step of a run, up to step 100.
+fn go_on(alloc: Global, run: &mut Run) -> Result<(), AllocError> {
+    if run.step() < 100 {
+        run.advance(&Caller, alloc)?;
+    }
+    Ok(())
+}
+
+/// The run of a job behind so many steps, of which those before `warm` are not counted.
+fn run_behind(alloc: Global, lines: &str, warm: u32, steps: u32) -> Option<Run> {
+    let mut run = run_of(alloc, job(alloc, lines)?, warm);
+    for _ in 0..steps {
+        go_on(alloc, &mut run).ok()?;
+    }
+    Some(run)
+}
+
+/// Whether the run of two cars, which counts from step 2 on, is at a step as it is to be.
+fn comes_to(alloc: Global, step: u32, distance: u64, picture: &[u8]) -> Option<bool> {
+    let run = run_behind(alloc, "limit 5\nlane 0.0.......\nrule nasch 0\n", 2, step)?;
+    is_at(alloc, &run, step, distance, picture).ok()
+}
+
+#[test]
+fn a_run_comes_to_each_road(rt: HostRuntime) {
+    assert_eq!(rt; comes_to(rt.alloc(), 0, 0, b"0.0......."), Some(true));
+    assert_eq!(rt; comes_to(rt.alloc(), 1, 0, b".1.1......"), Some(true));
+    assert_eq!(rt; comes_to(rt.alloc(), 2, 0, b"..1..2...."), Some(true));
+    assert_eq!(rt; comes_to(rt.alloc(), 3, 5, b"....2...3."), Some(true));
+    assert_eq!(rt; comes_to(rt.alloc(), 4, 12, b"..4....3.."), Some(true));
+}
+
+/// Whether two runs have come to the same road.
+fn are_level(first: &Run, second: &Run) -> bool {
+    first.road().equals(second.road())
+}
+
+/// Whether the road of two cars that went half round a ring so often is that of the start.
+fn is_as_before(alloc: Global, steps: u32) -> Option<bool> {
+    let lines = "limit 5\nlane 1.1.\nrule nasch 0\n";
+    let start = run_behind(alloc, lines, 0, 0)?;
+    Some(are_level(&start, &run_behind(alloc, lines, 0, steps)?))
+}
+
+// Behind two steps each car is at the place of the other, and the picture is that of the start.
+#[test]
+fn roads_with_other_cars_at_the_same_places_differ(rt: HostRuntime) {
+    assert_eq!(rt; is_as_before(rt.alloc(), 0), Some(true));
+    assert_eq!(rt; is_as_before(rt.alloc(), 2), Some(false));
+    assert_eq!(rt; is_as_before(rt.alloc(), 4), Some(true));
+}

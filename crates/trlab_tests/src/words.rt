@@ -1,0 +1,45 @@
+//! Random words, and chances on them.
+
+use trlab_words::{CERTAIN, Chance, Key, happens, word_of_cars, words};
+
+#[test]
+fn the_zero_key_begins_as_published(rt: HostRuntime) {
+    let key = Key([0; 32]);
+    let list = words(&key, 0, 0, 0);
+    assert_eq!(rt; list[0], 2917185654);
+    assert_eq!(rt; list[1], 2419978656);
+    let [first, ..] = word_of_cars(&key.words(), 0, [0, 1, 2, 3], 0, 0);
+    let [second, ..] = word_of_cars(&key.words(), 0, [0, 1, 2, 3], 0, 1);
+    assert_eq!(rt; first, 2917185654);
+    assert_eq!(rt; second, 2419978656);
+}
+
+#[test]
+fn each_car_has_its_own_words(rt: HostRuntime) {
+    let key = Key(*b"0123456789abcdefghijklmnopqrstuv");
+    let cars = [3, 0, 4294967295, 70000];
+    for k in 0..16 {
+        let drawn = word_of_cars(&key.words(), 5, cars, 4000000000, k);
+        let wanted = cars.map(|car| words(&key, 5, car, 4000000000)[k]);
+        assert_eq!(rt; drawn, wanted);
+    }
+}
+
+#[test]
+fn chances_are_cut_at_half_of_the_word(rt: HostRuntime) {
+    // The first word of the zero key, and the least chance that happens on it.
+    let word = 2917185654;
+    for (parts, wanted) in [(1458592827, false), (1458592828, true)] {
+        let happened = Chance::new(parts).map(|chance| happens(word, chance));
+        assert_eq!(rt; happened, Some(wanted), "at {parts}");
+    }
+}
+
+#[test]
+fn chances_are_at_most_certain(rt: HostRuntime) {
+    assert_eq!(rt;
+        Chance::new(CERTAIN).map(|chance| chance.get()),
+        Some(2147483648)
+    );
+    assert_eq!(rt; Chance::new(2147483649), None);
+}

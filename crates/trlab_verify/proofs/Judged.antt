@@ -1,0 +1,65 @@
+-- Each program is refused, or it is accepted and has a longest way, with which it is a checked program.
+use Rattle.std.proofs.Common.{◌≡◌, ℕ, zero, suc, ◌+◌, ◌<◌, ◌≤◌, ◌⊎◌, inl, inr, refl, arith, max, cond, length, List, Option, Some, None, subst}
+use Rattle.std.specs.Prelude.{slice_get}
+use Rattle.std.proofs.lemmas.Bool.{cases_lt}
+use Rattle.std.proofs.lemmas.Option.{slice_get-get_or}
+use Rattle.trlab_code.specs.declared.kind.Kind.{Kind}
+use Rattle.trlab_code.specs.declared.instruction.Instr.{Instr}
+use Rattle.trlab_code.specs.declared.instruction.Instr.TheVariants.{Stay}
+use Rattle.trlab_code.specs.Flow.{falls, target}
+use Rattle.trlab_code.specs.Program.{Program, IsProgram}
+use Rattle.trlab_verify.specs.Checked.{IsChecked}
+use Rattle.trlab_verify.specs.Longest.{Follows, IsLongest, IsForward}
+use Rattle.trlab_verify.specs.Verdict.{IsAccepted, IsRefused, fault_at}
+use Rattle.trlab_verify.proofs.Accepted.{checked, forward}
+use Rattle.trlab_verify.proofs.Ways.{of_target, longest_is}
+
+module _ (kind : Kind) (program : Program) where
+  abbrev Refused : Type 0
+  Refused = (at : ℕ) × (reason : ℕ) × IsRefused kind program at reason
+
+  -- as far as n no instruction has a fault, or the program is refused
+  judged : (n : ℕ) → n ≤ length program.instrs → ((pc : ℕ) → pc < n → fault_at kind program pc ≡ None) ⊎ Refused
+  judged zero le = inl (λ pc lt. absurd (omega arith))
+  judged (suc n) le = elim (judged n (omega arith)) [
+    | inl clear ↦ at clear (fault_at kind program n) refl
+    | inr refused ↦ inr refused
+  ]
+    where
+      at : ((pc : ℕ) → pc < n → fault_at kind program pc ≡ None) → (o : Option ℕ) → fault_at kind program n ≡ o →
+          ((pc : ℕ) → pc < suc n → fault_at kind program pc ≡ None) ⊎ Refused
+      at clear None e = inl (λ pc lt. elim (cases_lt pc n) [
+        | inl less ↦ clear pc less
+        | inr ge ↦ let same : n ≡ pc = omega arith in subst (λ z. fault_at kind program z ≡ None) same e
+      ])
+      at clear (Some reason) e = inr (n, reason, record { within = le; here = e; first = clear })
+
+  pub accepted_or_refused : IsAccepted kind program ⊎ ((at : ℕ) × (reason : ℕ) × IsRefused kind program at reason)
+  accepted_or_refused = judged (length program.instrs) (omega arith)
+
+-- an instruction stands at each place of the code
+none_within : (code : List Instr) (pc : ℕ) → pc < length code → slice_get code pc ≡ None → ⊥
+none_within code pc within e = let stands = slice_get-get_or code pc Stay within in cc
+
+-- the longest way from pc, where an instruction stands there, by those from the instructions behind it
+longest_here : (code : List Instr) (pc : ℕ) (longest : ℕ → ℕ) (o : Option Instr) → slice_get code pc ≡ o
+    → (n : ℕ) × (pc < length code → ((q : ℕ) → Follows code pc q → IsLongest code q (longest q)) → IsLongest code pc n)
+longest_here code pc longest None e = (0, λ within later. absurd (none_within code pc within e))
+longest_here code pc longest (Some i) e =
+    (suc (max (cond (falls i) (longest (suc pc)) 0) (of_target longest (target i))), λ within later. longest_is code pc i longest e later)
+
+-- the longest way from pc, where pc is one of the last k places of a code whose control goes forward
+longest_of_last : (code : List Instr) → IsForward code → (k pc : ℕ)
+    → (n : ℕ) × (pc < length code → length code ≤ pc + k → IsLongest code pc n)
+longest_of_last code forward zero pc = (0, λ within last. absurd (omega arith))
+longest_of_last code forward (suc k) pc =
+    let behind : (q : ℕ) → (n : ℕ) × (q < length code → length code ≤ q + k → IsLongest code q n) = longest_of_last code forward k in
+    let here = longest_here code pc (λ q. (behind q).0) (slice_get code pc) refl in
+    (here.0, λ within last. here.1 within (λ q follows. let ahead = forward pc q follows in (behind q).1 ahead.1 (omega (arith, ahead.0))))
+
+-- a program that is accepted has a longest way, with which it is a checked program
+pub some_budget : (kind : Kind) (program : Program) → IsProgram program → IsAccepted kind program
+    → (budget : ℕ) × IsChecked kind (record { program = program; budget = budget })
+some_budget kind program is accepted =
+    let found = longest_of_last program.instrs (forward kind program accepted) (length program.instrs) 0 in
+    (found.0, checked kind program found.0 is accepted (found.1 is.some (omega arith)))

@@ -1,0 +1,15 @@
+use Rattle.std.proofs.Common.{ℕ, ap, sym, ◌∙◌, slice_index}
+use Rattle.rand_chacha.specs.Block.{quarter_round, diagonal_round}
+use Rattle.rand_chacha.specs.Lanes.{lane}
+use Rattle.trlab_words.proofs.LaneLemmas.{slice_index-lane}
+use Rattle.trlab_words.proofs.block.diagonal_word.Goals.{in-0, in-1, in_default}
+use Rattle.trlab_words.proofs.block.diagonal_word.Goals as goal
+
+pub returns : goal.returns
+unfolding diagonal_round
+returns c j h =
+    elim c.match-k.branch [
+      | in-0 w ↦ rw (w.result-is, w.in-0.is) (ap (λ (q : ℕ × ℕ × ℕ × ℕ). q.0) (w.quarter_round.ensures j h))
+      | in-1 w ↦ rw (w.result-is, w.in-1.is) (ap (λ (q : ℕ × ℕ × ℕ × ℕ). q.0) (w.quarter_round-in-1.ensures j h))
+      | in_default w ↦ rw w.result-is (sym (slice_index-lane w.diagonal_round.result j c.args.k c.requires) ∙ ap (λ x. slice_index x c.args.k) (w.diagonal_round.ensures j h))
+    ]
