@@ -1,11 +1,12 @@
 -- A text that is cut behind its first line.
-use Rattle.std.proofs.Common.{◌≡◌, ◌==◌, ℕ, suc, ◌+◌, ◌<◌, ◌≤◌, List, [], ◌∷◌, ◌++◌, length, take, drop, get_or, refl, sym, ◌∙◌, ap, arith, Bool, true, false, cond, add-one, nat_lt, drop-cons}
-use Rattle.std.specs.Prelude.{None, Some}
+use Rattle.std.proofs.Common.{◌≡◌, ◌==◌, ℕ, suc, ◌+◌, ◌<◌, ◌≤◌, List, [], ◌∷◌, ◌++◌, length, take, drop, get_or, refl, sym, ◌∙◌, ap, subst, arith, Bool, true, false, cond, add-one, nat_lt, drop-cons}
+use Rattle.std.specs.Prelude.{Option, None, Some, unwrap_or}
 use Rattle.std.specs.List.{position, position_or_len}
 use Rattle.std.proofs.lemmas.Bool.{ltb-false, eqb-true, eq-eqb, ne_eqb}
 use Rattle.std.proofs.lemmas.List.{take-append-drop, get_or-take, length-take-le}
 use Rattle.std.proofs.lemmas.List.Quantifiers.{position-Some}
 use Rattle.std.proofs.lemmas.List.Sums.{fails_before_first}
+use Rattle.trlab_asm.specs.Cutting.{around, cut}
 use Rattle.trlab_asm.specs.Lines.{lines_of, HasNoEnd}
 
 rest_has_no_end : (c : ℕ) (line : List ℕ) → HasNoEnd (c ∷ line) → HasNoEnd line
@@ -59,7 +60,7 @@ nowhere text none =
     λ k d inside. differs (get_or text k d) (fails_before_first (λ byte. byte == 10) text k d (omega arith))
 
 -- where one is found, before that there is none
-pub none_before : (text : List ℕ) (end : ℕ) → position (λ byte. byte == 10) text ≡ Some end → HasNoEnd (take end text)
+none_before : (text : List ℕ) (end : ℕ) → position (λ byte. byte == 10) text ≡ Some end → HasNoEnd (take end text)
 none_before text end found =
     let at = position-Some (λ byte. byte == 10) text end 0 found in
     λ k d inside.
@@ -67,12 +68,8 @@ none_before text end found =
     let others = position-Some (λ byte. byte == 10) text end d found in
     rw (get_or-take end text k d below) (differs (get_or text k d) (others.2 k below))
 
--- it stands in the text
-pub end_inside : (text : List ℕ) (end : ℕ) → position (λ byte. byte == 10) text ≡ Some end → end < length text
-end_inside text end found = (position-Some (λ byte. byte == 10) text end 0 found).0
-
 -- and the text is what stands before it, the LF, and what stands behind
-pub end_between : (text : List ℕ) (end : ℕ) → position (λ byte. byte == 10) text ≡ Some end → text ≡ take end text ++ (10 ∷ drop (end + 1) text)
+end_between : (text : List ℕ) (end : ℕ) → position (λ byte. byte == 10) text ≡ Some end → text ≡ take end text ++ (10 ∷ drop (end + 1) text)
 end_between text end found =
     let at = position-Some (λ byte. byte == 10) text end 0 found in
     let is : get_or text end 0 ≡ 10 = eqb-true (get_or text end 0) 10 at.1 in
@@ -80,10 +77,55 @@ end_between text end found =
     sym (take-append-drop end text) ∙ rw (drop-cons text end 0, is, add-one) refl
 
 -- so the lines are the one before it, and those behind it
-pub line_before : (text : List ℕ) (end : ℕ) → position (λ byte. byte == 10) text ≡ Some end → lines_of text ≡ take end text ∷ lines_of (drop (end + 1) text)
+line_before : (text : List ℕ) (end : ℕ) → position (λ byte. byte == 10) text ≡ Some end → lines_of text ≡ take end text ∷ lines_of (drop (end + 1) text)
 line_before text end found = ap lines_of (end_between text end found) ∙ line_and_rest (take end text) (drop (end + 1) text) (none_before text end found)
 
 -- where none is found, the text is one line
 pub only_line : (text : List ℕ) → 0 < length text → position (λ byte. byte == 10) text ≡ None → lines_of text ≡ text ∷ []
 only_line [] some none = absurd (omega arith)
 only_line (c ∷ text) some none = last_line c text (nowhere (c ∷ text) none)
+
+-- what a cut at an LF tells: where it is, and what stands on both sides
+record IsEnd (text line rest : List ℕ) : Type 0 where
+  end : ℕ
+  found : position (λ byte. byte == 10) text ≡ Some end
+  before : line ≡ take end text
+  behind : rest ≡ drop (end + 1) text
+
+end_around : (text line rest : List ℕ) (place : Option ℕ) → position (λ byte. byte == 10) text ≡ place → Some (line, rest) ≡ around text place → IsEnd text line rest
+end_around text line rest None at e = cc
+end_around text line rest (Some end) at e = record {
+  end = end;
+  found = at;
+  before = ap (λ (o : Option (List ℕ × List ℕ)). (unwrap_or o ([], [])).0) e;
+  behind = ap (λ (o : Option (List ℕ × List ℕ)). (unwrap_or o ([], [])).1) e;
+}
+
+end_of_cut : (text line rest : List ℕ) → Some (line, rest) ≡ cut 10 text → IsEnd text line rest
+end_of_cut text line rest e = end_around text line rest (position (λ byte. byte == 10) text) refl e
+
+-- so the lines are the one before it, and those behind it
+pub lines_of_cut : (text line rest : List ℕ) → Some (line, rest) ≡ cut 10 text → lines_of text ≡ line ∷ lines_of rest
+lines_of_cut text line rest e =
+    let at = end_of_cut text line rest e in
+    line_before text at.end at.found ∙ (ap (λ l. l ∷ lines_of (drop (at.end + 1) text)) (sym at.before) ∙ ap (λ r. line ∷ lines_of r) (sym at.behind))
+
+-- and so are the bytes
+pub bytes_of_cut : (text line rest : List ℕ) → Some (line, rest) ≡ cut 10 text → text ≡ line ++ (10 ∷ rest)
+bytes_of_cut text line rest e =
+    let at = end_of_cut text line rest e in
+    end_between text at.end at.found ∙ (ap (λ l. l ++ (10 ∷ drop (at.end + 1) text)) (sym at.before) ∙ ap (λ r. line ++ (10 ∷ r)) (sym at.behind))
+
+-- and the line has no LF
+pub no_end_of_cut : (text line rest : List ℕ) → Some (line, rest) ≡ cut 10 text → HasNoEnd line
+no_end_of_cut text line rest e =
+    let at = end_of_cut text line rest e in
+    subst HasNoEnd (sym at.before) (none_before text at.end at.found)
+
+none_around : (text : List ℕ) (place : Option ℕ) → None ≡ around text place → place ≡ None
+none_around text None e = refl
+none_around text (Some end) e = cc
+
+-- and where there is no cut
+pub no_cut : (text : List ℕ) → None ≡ cut 10 text → position (λ byte. byte == 10) text ≡ None
+no_cut text e = none_around text (position (λ byte. byte == 10) text) e

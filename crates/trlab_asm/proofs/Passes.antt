@@ -4,9 +4,9 @@ use Rattle.std.specs.Prelude.{Result, Ok, Err}
 use Rattle.std.proofs.Math.ListN.{drop_of_length-le}
 use Rattle.std.proofs.lemmas.Bool.{ne_eqb}
 use Rattle.trlab_code.specs.declared.instruction.Instr.{Instr}
-use Rattle.trlab_asm.specs.Operands.{◌>>=◌}
+use Rattle.trlab_asm.specs.Results.{◌>>=◌}
 use Rattle.trlab_asm.specs.Reading.{Labels, Line, line_says}
-use Rattle.trlab_asm.specs.Assembly.{Parts, Read, in_line, with_line, first_pass, finished, second_pass, instrs_of}
+use Rattle.trlab_asm.specs.Assembly.{Parts, LineDraft, in_line, with_line, first_pass, resolve, second_pass, instrs_of}
 use Rattle.trlab_asm.specs.declared.fault.AsmFault.{AsmFault}
 
 -- a line that says something
@@ -35,24 +35,24 @@ regroup front instr (Ok instrs) = ap Ok (sym (append_assoc front (instr ∷ []) 
 regroup front instr (Err fault) = refl
 
 -- an instruction whose label is found
-pub second_next : (labels : Labels) (reads : List Read) (i : ℕ) (d : Read) (front : List Instr) (instr : Instr) → i < length reads → Ok instr ≡ finished labels (get_or reads i d)
+pub second_next : (labels : Labels) (reads : List LineDraft) (i : ℕ) (d : LineDraft) (front : List Instr) (instr : Instr) → i < length reads → Ok instr ≡ resolve labels (get_or reads i d)
     → following front (second_pass labels (drop i reads)) ≡ following (front ++ (instr ∷ [])) (second_pass labels (drop (i + 1) reads))
 unfolding second_pass
 second_next labels reads i d front instr inside e = rw (add-one, drop-cons reads i d, ← e) (regroup front instr (second_pass labels (drop (suc i) reads)))
 
 -- an instruction whose label is not
-pub second_fault : (labels : Labels) (reads : List Read) (i : ℕ) (d : Read) (front : List Instr) (fault : AsmFault) → i < length reads → Err fault ≡ finished labels (get_or reads i d)
+pub second_fault : (labels : Labels) (reads : List LineDraft) (i : ℕ) (d : LineDraft) (front : List Instr) (fault : AsmFault) → i < length reads → Err fault ≡ resolve labels (get_or reads i d)
     → following front (second_pass labels (drop i reads)) ≡ Err fault
 unfolding second_pass
 second_fault labels reads i d front fault inside e = rw (drop-cons reads i d, ← e) refl
 
 -- the end of the instructions
-pub second_end : (labels : Labels) (reads : List Read) (i : ℕ) (front : List Instr) → length reads ≤ i → following front (second_pass labels (drop i reads)) ≡ Ok front
+pub second_end : (labels : Labels) (reads : List LineDraft) (i : ℕ) (front : List Instr) → length reads ≤ i → following front (second_pass labels (drop i reads)) ≡ Ok front
 unfolding second_pass
 second_end labels reads i front past = rw (drop_of_length-le reads past) (ap Ok (append-nil front))
 
 -- where there is an instruction, the second pass tells the rest
-pub some_instrs : (parts : Parts) (reads : List Read) (labels : Labels) → 0 < length reads → reads ≡ parts.reads → labels ≡ parts.labels → instrs_of parts ≡ second_pass labels reads
+pub some_instrs : (parts : Parts) (reads : List LineDraft) (labels : Labels) → 0 < length reads → reads ≡ parts.reads → labels ≡ parts.labels → instrs_of parts ≡ second_pass labels reads
 some_instrs parts reads labels some all known = rw (all, known) (some_of parts (rw all at some))
   where
     some_of : (parts : Parts) → 0 < length parts.reads → instrs_of parts ≡ second_pass parts.labels parts.reads

@@ -5,7 +5,7 @@ use Rattle.std.specs.List.{position, position_or_len, list_all}
 use Rattle.std.proofs.Math.Seq.{take-append_seam, drop-append_seam, drop-append-add}
 use Rattle.std.proofs.lemmas.Bool.{lt-ltb, ltb-true, ne_eqb}
 use Rattle.std.proofs.lemmas.Bool.Decides.{nat_tests}
-use Rattle.trlab_asm.specs.Cutting.{cut, is_blank, unindented, up_to_blank, only_word}
+use Rattle.trlab_asm.specs.Cutting.{cut, is_blank, without_indent, up_to_blank, only_word}
 use Rattle.trlab_asm.specs.Operands.{◌then◌}
 use Rattle.trlab_asm.specs.Canonical.{◌comma◌}
 use Rattle.trlab_asm.specs.declared.fault.Why.{Why}
@@ -92,10 +92,10 @@ cut_here c front rest none same = rw (stops (λ b. b == c) front c rest none sam
 pub cut_nowhere : (c : ℕ) (w : List ℕ) → none_of (λ b. b == c) w ≡ true → cut c w ≡ None
 cut_nowhere c w none = rw (never (λ b. b == c) w none) refl
 
-pub without_blank : (c : ℕ) (cs : List ℕ) → is_plain c ≡ true → unindented (c ∷ cs) ≡ c ∷ cs
+pub without_blank : (c : ℕ) (cs : List ℕ) → is_plain c ≡ true → without_indent (c ∷ cs) ≡ c ∷ cs
 without_blank c cs plain = rw (no_blank c plain, lt-ltb 0 (length (c ∷ cs)) (omega arith)) refl
 
-pub behind_blank : (c : ℕ) (cs : List ℕ) → is_plain c ≡ true → unindented (32 ∷ c ∷ cs) ≡ c ∷ cs
+pub behind_blank : (c : ℕ) (cs : List ℕ) → is_plain c ≡ true → without_indent (32 ∷ c ∷ cs) ≡ c ∷ cs
 behind_blank c cs plain = rw (no_blank c plain, lt-ltb 1 (length (32 ∷ c ∷ cs)) (omega arith)) refl
 
 pub one_word : (w : List ℕ) → plain_word w ≡ true → up_to_blank w ≡ (w, [])

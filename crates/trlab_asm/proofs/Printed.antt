@@ -12,7 +12,7 @@ use Rattle.trlab_code.specs.declared.instruction.Input.{Input}
 use Rattle.trlab_code.specs.declared.instruction.Input.TheVariants.{Speed, Limit, Gap, SideGap, SideBack, Lane}
 use Rattle.trlab_bounds.specs.declared.programs.TheConstants.{WORDS, CERTAIN}
 use Rattle.trlab_asm.specs.Names.{register_text, input_text, mnemonic_text, mnemonic_named}
-use Rattle.trlab_asm.specs.Operands.{register, input, all_digits, digits_of, numeral, ranged, number, Target, target, target_named, is_label, all_label_bytes, two_registers, three_registers, register_input, register_number, two_registers_number, word_chance, register_word_chance, register_target, two_registers_target, ◌then◌}
+use Rattle.trlab_asm.specs.Operands.{register, input, all_digits, digits_of, numeral, value_within, number, Target, target, target_named, is_label, all_label_bytes, two_registers, three_registers, register_input, register_number, two_registers_number, word_chance, register_word_chance, register_target, two_registers_target, ◌then◌}
 use Rattle.trlab_asm.specs.Canonical.{label_text, target_text, ◌comma◌}
 use Rattle.trlab_asm.specs.declared.names.Mnemonic.{Mnemonic}
 use Rattle.trlab_asm.specs.declared.names.Mnemonic.TheVariants as name
@@ -105,7 +105,7 @@ decimal_number n small = rw (lt-ltb 0 (length (decimal n)) (decimal_nonempty n (
 numeral_again : (n : ℕ) → n < 2 ^ 32 → numeral (32 ∷ decimal n) ≡ Ok (decimal n)
 numeral_again n small = rw (alone_behind_blank (decimal n) (decimal_plain n small) (decimal_nonempty n (omega arith))) (decimal_number n small)
 
-ranged_again : (low high n : ℕ) → n < 2 ^ 32 → low ≤ n → n ≤ high → ranged low high (decimal n) ≡ Ok n
+ranged_again : (low high n : ℕ) → n < 2 ^ 32 → low ≤ n → n ≤ high → value_within low high (decimal n) ≡ Ok n
 ranged_again low high n small above below =
     let value : digits_value 10 (decimal n) ≡ n = digits_value-decimal own n (omega arith) in
     let short : length (decimal n) ≤ 10 = length-decimal-le 10 n (omega arith) (omega arith) (omega arith) in

@@ -8,8 +8,8 @@ use Rattle.trlab_code.specs.declared.instruction.Instr.TheVariants.{Num, Get, Si
 use Rattle.trlab_bounds.specs.declared.programs.TheConstants.{MOST_INSTRUCTIONS}
 use Rattle.trlab_asm.specs.Names.{register_text, input_text, mnemonic_text}
 use Rattle.trlab_asm.specs.Operands.{Target}
-use Rattle.trlab_asm.specs.Reading.{Draft, drafted, body}
-use Rattle.trlab_asm.specs.Canonical.{target_text, ◌comma◌, named, instr_text}
+use Rattle.trlab_asm.specs.Reading.{Draft, draft_of, body}
+use Rattle.trlab_asm.specs.Canonical.{target_text, ◌comma◌, row_text, instr_text}
 use Rattle.trlab_code.specs.Laws.{HasWord}
 use Rattle.trlab_asm.specs.declared.names.Mnemonic.{Mnemonic}
 use Rattle.trlab_asm.specs.declared.names.Mnemonic.TheVariants as name
@@ -27,41 +27,41 @@ abbrev plain_draft : Instr → Draft
 plain_draft instr = record { instr = instr; label = None }
 
 -- an instruction as it is read from its canonical text
-abbrev pub draft_of : ℕ → Instr → Draft
-draft_of count (Num d n) = plain_draft (Num d n)
-draft_of count (Get d k) = plain_draft (Get d k)
-draft_of count (Side d) = plain_draft (Side d)
-draft_of count (Draw d k t) = plain_draft (Draw d k t)
-draft_of count (Copy d a) = plain_draft (Copy d a)
-draft_of count (Add d a b) = plain_draft (Add d a b)
-draft_of count (Sub d a b) = plain_draft (Sub d a b)
-draft_of count (Mul d a n) = plain_draft (Mul d a n)
-draft_of count (Div d a n) = plain_draft (Div d a n)
-draft_of count (Min d a b) = plain_draft (Min d a b)
-draft_of count (Max d a b) = plain_draft (Max d a b)
-draft_of count (Not d a) = plain_draft (Not d a)
-draft_of count (And d a b) = plain_draft (And d a b)
-draft_of count (Or d a b) = plain_draft (Or d a b)
-draft_of count (Jump t) = jump_draft Jump (goal_of count t)
-draft_of count (JumpLess a b t) = jump_draft (JumpLess a b) (goal_of count t)
-draft_of count (JumpAtMost a b t) = jump_draft (JumpAtMost a b) (goal_of count t)
-draft_of count (JumpTrue a t) = jump_draft (JumpTrue a) (goal_of count t)
-draft_of count (JumpFalse a t) = jump_draft (JumpFalse a) (goal_of count t)
-draft_of count (Go a) = plain_draft (Go a)
-draft_of count Cross = plain_draft Cross
-draft_of count Stay = plain_draft Stay
+abbrev pub draft_again : ℕ → Instr → Draft
+draft_again count (Num d n) = plain_draft (Num d n)
+draft_again count (Get d k) = plain_draft (Get d k)
+draft_again count (Side d) = plain_draft (Side d)
+draft_again count (Draw d k t) = plain_draft (Draw d k t)
+draft_again count (Copy d a) = plain_draft (Copy d a)
+draft_again count (Add d a b) = plain_draft (Add d a b)
+draft_again count (Sub d a b) = plain_draft (Sub d a b)
+draft_again count (Mul d a n) = plain_draft (Mul d a n)
+draft_again count (Div d a n) = plain_draft (Div d a n)
+draft_again count (Min d a b) = plain_draft (Min d a b)
+draft_again count (Max d a b) = plain_draft (Max d a b)
+draft_again count (Not d a) = plain_draft (Not d a)
+draft_again count (And d a b) = plain_draft (And d a b)
+draft_again count (Or d a b) = plain_draft (Or d a b)
+draft_again count (Jump t) = jump_draft Jump (goal_of count t)
+draft_again count (JumpLess a b t) = jump_draft (JumpLess a b) (goal_of count t)
+draft_again count (JumpAtMost a b t) = jump_draft (JumpAtMost a b) (goal_of count t)
+draft_again count (JumpTrue a t) = jump_draft (JumpTrue a) (goal_of count t)
+draft_again count (JumpFalse a t) = jump_draft (JumpFalse a) (goal_of count t)
+draft_again count (Go a) = plain_draft (Go a)
+draft_again count Cross = plain_draft Cross
+draft_again count Stay = plain_draft Stay
 
 not_empty : (text rest : List ℕ) → 0 < length text → (length (text ++ rest) == 0) ≡ false
 not_empty text rest some = ne_eqb (length (text ++ rest)) 0 (λ e. absurd (omega (arith, length-append text rest)))
 
 -- a name and operands that say a draft
-named_again : (pc : ℕ) (x : Mnemonic) (operands : List ℕ) (draft : Draft) → pc < MOST_INSTRUCTIONS → drafted x (32 ∷ operands) ≡ Ok draft → body pc (named x operands) ≡ Ok (Some draft)
+named_again : (pc : ℕ) (x : Mnemonic) (operands : List ℕ) (draft : Draft) → pc < MOST_INSTRUCTIONS → draft_of x (32 ∷ operands) ≡ Ok draft → body pc (row_text x operands) ≡ Ok (Some draft)
 named_again pc x operands draft room says =
     let known = name_again x in
     rw (not_empty (mnemonic_text x) (32 ∷ operands) known.some, word_and_more (mnemonic_text x) operands known.plain, known.again, lt-ltb pc MOST_INSTRUCTIONS room, says) refl
 
 -- an instruction's text says the instruction
-pub instr_again : (count pc : ℕ) (i : Instr) → pc < MOST_INSTRUCTIONS → Fits i → body pc (instr_text count i) ≡ Ok (Some (draft_of count i))
+pub instr_again : (count pc : ℕ) (i : Instr) → pc < MOST_INSTRUCTIONS → Fits i → body pc (instr_text count i) ≡ Ok (Some (draft_again count i))
 instr_again count pc (Num d n) room fits = named_again pc name.Num (register_text d comma decimal n) (plain_draft (Num d n)) room (rw (one_number_again d n fits.1) refl)
 instr_again count pc (Get d k) room fits = named_again pc name.Get (register_text d comma input_text k) (plain_draft (Get d k)) room (rw (get_again d k) refl)
 instr_again count pc (Side d) room fits = named_again pc name.Side (register_text d) (plain_draft (Side d)) room (rw (register_again d) refl)

@@ -8,15 +8,15 @@ use Rattle.trlab_code.specs.declared.instruction.Instr.{Instr}
 use Rattle.trlab_code.specs.declared.instruction.Instr.TheVariants.{Num, Get, Side, Draw, Copy, Add, Sub, Mul, Div, Min, Max, Not, And, Or, Jump, JumpLess, JumpAtMost, JumpTrue, JumpFalse, Go, Cross, Stay}
 use Rattle.trlab_bounds.specs.declared.programs.TheConstants.{MOST_INSTRUCTIONS, WORDS, CERTAIN}
 use Rattle.trlab_asm.specs.Lines.{HasNoEnd}
-use Rattle.trlab_asm.specs.Cutting.{unindented}
+use Rattle.trlab_asm.specs.Cutting.{without_indent}
 use Rattle.trlab_asm.specs.Names.{register_text, input_text, mnemonic_text}
 use Rattle.trlab_asm.specs.Reading.{Labels, line_says}
-use Rattle.trlab_asm.specs.Canonical.{label_text, target_text, ◌comma◌, named, instr_text, line_text}
+use Rattle.trlab_asm.specs.Canonical.{label_text, target_text, ◌comma◌, row_text, instr_text, line_text}
 use Rattle.trlab_asm.specs.declared.names.Mnemonic.{Mnemonic}
 use Rattle.trlab_asm.specs.declared.names.Mnemonic.TheVariants as name
 use Rattle.trlab_asm.proofs.Plain.{is_plain, plain_word, and_parts, and_both, not_true, none_of, none_in_plain, alone_at_front, without_blank, behind_blank, cut_here, cut_nowhere, no_colon, no_semicolon, no_line_end}
 use Rattle.trlab_asm.proofs.Printed.{name_again, register_plain, input_plain, decimal_plain, target_plain, label_again}
-use Rattle.trlab_asm.proofs.PrintedInstrs.{Fits, draft_of, instr_again}
+use Rattle.trlab_asm.proofs.PrintedInstrs.{Fits, draft_again, instr_again}
 
 -- a test that passes none of the bytes of words, no space and no comma
 record IsAside (p : ℕ → Bool) : Type 0 where
@@ -42,16 +42,16 @@ spaced_none p [] rest aside plain none = rw aside.space none
 spaced_none p (c ∷ word) rest aside plain none = let both = and_parts (is_plain c) (plain_word word) plain in rw (aside.word c both.0) (spaced_none p word rest aside both.1 none)
 
 -- a name and operands
-named_none : (p : ℕ → Bool) (x : Mnemonic) (operands : List ℕ) → IsAside p → none_of p operands ≡ true → none_of p (named x operands) ≡ true
+named_none : (p : ℕ → Bool) (x : Mnemonic) (operands : List ℕ) → IsAside p → none_of p operands ≡ true → none_of p (row_text x operands) ≡ true
 named_none p x operands aside none = spaced_none p (mnemonic_text x) operands aside (name_again x).plain none
 
-one_none : (p : ℕ → Bool) (x : Mnemonic) (d : Register) (rest : List ℕ) → IsAside p → none_of p rest ≡ true → none_of p (named x (register_text d comma rest)) ≡ true
+one_none : (p : ℕ → Bool) (x : Mnemonic) (d : Register) (rest : List ℕ) → IsAside p → none_of p rest ≡ true → none_of p (row_text x (register_text d comma rest)) ≡ true
 one_none p x d rest aside none = named_none p x (register_text d comma rest) aside (comma_none p (register_text d) rest aside (register_plain d) none)
 
-two_none : (p : ℕ → Bool) (x : Mnemonic) (d a : Register) (rest : List ℕ) → IsAside p → none_of p rest ≡ true → none_of p (named x (register_text d comma register_text a comma rest)) ≡ true
+two_none : (p : ℕ → Bool) (x : Mnemonic) (d a : Register) (rest : List ℕ) → IsAside p → none_of p rest ≡ true → none_of p (row_text x (register_text d comma register_text a comma rest)) ≡ true
 two_none p x d a rest aside none = one_none p x d (register_text a comma rest) aside (comma_none p (register_text a) rest aside (register_plain a) none)
 
-draw_none : (p : ℕ → Bool) (d : Register) (k t : ℕ) → IsAside p → k < WORDS → t ≤ CERTAIN → none_of p (named name.Draw (register_text d comma decimal k comma decimal t)) ≡ true
+draw_none : (p : ℕ → Bool) (d : Register) (k t : ℕ) → IsAside p → k < WORDS → t ≤ CERTAIN → none_of p (row_text name.Draw (register_text d comma decimal k comma decimal t)) ≡ true
 draw_none p d k t aside low less =
     one_none p name.Draw d (decimal k comma decimal t) aside (comma_none p (decimal k) (decimal t) aside (decimal_plain k (omega arith)) (decimal_none p t aside (omega arith)))
 
@@ -105,11 +105,11 @@ begins_plain count (Go a) = refl
 begins_plain count Cross = refl
 begins_plain count Stay = refl
 
-unindented_is : (text : List ℕ) → is_plain (get_or text 0 0) ≡ true → unindented text ≡ text
+unindented_is : (text : List ℕ) → is_plain (get_or text 0 0) ≡ true → without_indent text ≡ text
 unindented_is [] plain = refl
 unindented_is (c ∷ cs) plain = without_blank c cs plain
 
-spaced_is : (text : List ℕ) → is_plain (get_or text 0 0) ≡ true → unindented (32 ∷ text) ≡ text
+spaced_is : (text : List ℕ) → is_plain (get_or text 0 0) ≡ true → without_indent (32 ∷ text) ≡ text
 spaced_is [] plain = refl
 spaced_is (c ∷ cs) plain = behind_blank c cs plain
 
@@ -156,7 +156,7 @@ mark marked pc = cond marked (Some (label_text pc)) None
 
 -- a line that is printed says its instruction and its label
 pub line_again : (labels : Labels) (count pc : ℕ) (marked : Bool) (i : Instr) → pc < MOST_INSTRUCTIONS → Fits i → labels (label_text pc) ≡ None
-    → line_says labels pc (line_text count marked pc i) ≡ Ok (record { label = mark marked pc; draft = Some (draft_of count i) })
+    → line_says labels pc (line_text count marked pc i) ≡ Ok (record { label = mark marked pc; draft = Some (draft_again count i) })
 line_again labels count pc true i room fits free =
     rw (
       cut_nowhere 59 (label_text pc ++ (58 ∷ 32 ∷ instr_text count i)) (marked_none (λ b. b == 59) count pc i semicolon_aside refl room fits),

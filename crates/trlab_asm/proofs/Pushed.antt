@@ -1,7 +1,7 @@
 -- Texts that were put behind a list, one after the other.
 use Rattle.std.proofs.Common.{◌≡◌, ℕ, List, [], ◌∷◌, ◌++◌, ◌∙◌, ap, append_assoc}
 use Rattle.std.specs.Prelude.{Result, Ok, Err, OnOk, is_ok, if◌then◌else◌}
-use Rattle.trlab_asm.specs.Canonical.{◌comma◌, named}
+use Rattle.trlab_asm.specs.Canonical.{◌comma◌, row_text}
 use Rattle.trlab_asm.specs.declared.names.Mnemonic.{Mnemonic}
 
 -- the last of several calls put a text behind a list
@@ -30,20 +30,20 @@ pushed_on (Err e) new mid old front last text p m q = tt
 
 -- of an instruction's text, a comma and a last operand were put behind one operand
 pub comma_put : {E : Type 0} (r : Result (Unit {0}) E) (name : Mnemonic) (new mid start old first last : List ℕ) → OnOk r (new ≡ mid ++ last) → mid ≡ start ++ (44 ∷ 32 ∷ [])
-    → start ≡ old ++ named name first → OnOk r (new ≡ old ++ named name (first comma last))
+    → start ≡ old ++ row_text name first → OnOk r (new ≡ old ++ row_text name (first comma last))
 comma_put (Ok x) name new mid start old first last p m s = rw (p, m, s) (simp append_assoc)
 comma_put (Err e) name new mid start old first last p m s = tt
 
 pub comma_pushed : {E : Type 0} (r : Result (Unit {0}) E) (name : Mnemonic) (new mid start old more first last : List ℕ) → new ≡ (if is_ok r then mid ++ more else mid) → more ≡ last
-    → mid ≡ start ++ (44 ∷ 32 ∷ []) → start ≡ old ++ named name first → OnOk r (new ≡ old ++ named name (first comma last))
+    → mid ≡ start ++ (44 ∷ 32 ∷ []) → start ≡ old ++ row_text name first → OnOk r (new ≡ old ++ row_text name (first comma last))
 comma_pushed r name new mid start old more first last p q m s = comma_put r name new mid start old first last (pushed r new mid more last p q) m s
 
 -- and behind two
 pub second_comma_put : {E : Type 0} (r : Result (Unit {0}) E) (name : Mnemonic) (new mid start old first second last : List ℕ) → OnOk r (new ≡ mid ++ last)
-    → mid ≡ start ++ (44 ∷ 32 ∷ []) → start ≡ old ++ named name (first comma second) → OnOk r (new ≡ old ++ named name (first comma second comma last))
+    → mid ≡ start ++ (44 ∷ 32 ∷ []) → start ≡ old ++ row_text name (first comma second) → OnOk r (new ≡ old ++ row_text name (first comma second comma last))
 second_comma_put (Ok x) name new mid start old first second last p m s = rw (p, m, s) (simp append_assoc)
 second_comma_put (Err e) name new mid start old first second last p m s = tt
 
 pub second_comma_pushed : {E : Type 0} (r : Result (Unit {0}) E) (name : Mnemonic) (new mid start old more first second last : List ℕ) → new ≡ (if is_ok r then mid ++ more else mid)
-    → more ≡ last → mid ≡ start ++ (44 ∷ 32 ∷ []) → start ≡ old ++ named name (first comma second) → OnOk r (new ≡ old ++ named name (first comma second comma last))
+    → more ≡ last → mid ≡ start ++ (44 ∷ 32 ∷ []) → start ≡ old ++ row_text name (first comma second) → OnOk r (new ≡ old ++ row_text name (first comma second comma last))
 second_comma_pushed r name new mid start old more first second last p q m s = second_comma_put r name new mid start old first second last (pushed r new mid more last p q) m s

@@ -15,14 +15,14 @@ use Rattle.trlab_bounds.specs.declared.programs.TheConstants.{MOST_INSTRUCTIONS}
 use Rattle.trlab_asm.specs.Lines.{lines_of}
 use Rattle.trlab_asm.specs.Operands.{Target}
 use Rattle.trlab_asm.specs.Reading.{Labels, line_says}
-use Rattle.trlab_asm.specs.Assembly.{Read, with_label, first_pass, aimed, placed, finished, second_pass, code_of}
+use Rattle.trlab_asm.specs.Assembly.{LineDraft, with_label, first_pass, with_target, resolve_label, resolve, second_pass, code_of}
 use Rattle.trlab_asm.specs.Canonical.{label_text, line_text, is_pc, is_target, text_from, text_of}
 use Rattle.trlab_code.specs.Laws.{HasWord}
 use Rattle.trlab_asm.specs.Laws.{CanonicalTextSaysTheProgram, OneProgramOfAText}
 use Rattle.trlab_asm.proofs.Cuts.{line_and_rest}
 use Rattle.trlab_asm.proofs.Passes.{first_next}
 use Rattle.trlab_asm.proofs.Printed.{goal_of}
-use Rattle.trlab_asm.proofs.PrintedInstrs.{Fits, draft_of}
+use Rattle.trlab_asm.proofs.PrintedInstrs.{Fits, draft_again}
 use Rattle.trlab_asm.proofs.PrintedLines.{mark, line_has_no_end, line_again}
 
 -- the labels of the pcs below one
@@ -31,9 +31,9 @@ labels_below instrs zero = λ name. None
 labels_below instrs (suc pc) = with_label (labels_below instrs pc) pc (mark (is_target instrs pc) pc)
 
 -- the instructions as they are read
-abbrev reads_of : ℕ → ℕ → List Instr → List Read
+abbrev reads_of : ℕ → ℕ → List Instr → List LineDraft
 reads_of count number [] = []
-reads_of count number (i ∷ left) = record { line = number; draft = draft_of count i } ∷ reads_of count (number + 1) left
+reads_of count number (i ∷ left) = record { line = number; draft = draft_again count i } ∷ reads_of count (number + 1) left
 
 tail_same : (a b : List ℕ) → (76 ∷ a) ≡ (76 ∷ b) → a ≡ b
 tail_same a b e = cc
@@ -79,35 +79,35 @@ found instrs (suc n) t below small marked =
     (λ differ. found instrs n t (omega arith) (omega arith) marked)
 
 says_at : (labels : Labels) (count pc here : ℕ) (marked : Bool) (i : Instr) → here ≡ pc → pc < MOST_INSTRUCTIONS → Fits i → labels (label_text pc) ≡ None
-    → line_says labels here (line_text count marked pc i) ≡ Ok (record { label = mark marked pc; draft = Some (draft_of count i) })
-says_at labels count pc here marked i same room fits none = subst (λ n. line_says labels n (line_text count marked pc i) ≡ Ok (record { label = mark marked pc; draft = Some (draft_of count i) })) (sym same) (line_again labels count pc marked i room fits none)
+    → line_says labels here (line_text count marked pc i) ≡ Ok (record { label = mark marked pc; draft = Some (draft_again count i) })
+says_at labels count pc here marked i same room fits none = subst (λ n. line_says labels n (line_text count marked pc i) ≡ Ok (record { label = mark marked pc; draft = Some (draft_again count i) })) (sym same) (line_again labels count pc marked i room fits none)
 
 -- the first pass over the canonical text
-first_again : (instrs : List Instr) (pc number : ℕ) (front : List Read) (left : List Instr) → length front ≡ pc → pc + length left ≤ MOST_INSTRUCTIONS → AllByRecursion Fits left
+first_again : (instrs : List Instr) (pc number : ℕ) (front : List LineDraft) (left : List Instr) → length front ≡ pc → pc + length left ≤ MOST_INSTRUCTIONS → AllByRecursion Fits left
     → first_pass (record { labels = labels_below instrs pc; reads = front }) number (lines_of (text_from instrs pc left)) ≡ Ok (record { labels = labels_below instrs (pc + length left); reads = front ++ reads_of (length instrs) number left })
 unfolding first_pass text_from lines_of
 first_again instrs pc number front [] at room fit = let end : pc + 0 ≡ pc = omega arith in rw (append-nil front, end) refl
 first_again instrs pc number front (i ∷ left) at room fit =
     let says = says_at (labels_below instrs pc) (length instrs) pc (length front) (is_target instrs pc) i at (omega arith) fit.0 (free instrs pc pc (omega arith) (omega arith)) in
     let line = line_and_rest (line_text (length instrs) (is_target instrs pc) pc i) (text_from instrs (pc + 1) left) (line_has_no_end (length instrs) pc (is_target instrs pc) i (omega arith) fit.0) in
-    let next = first_next (record { labels = labels_below instrs pc; reads = front }) number (line_text (length instrs) (is_target instrs pc) pc i) (lines_of (text_from instrs (pc + 1) left)) (record { label = mark (is_target instrs pc) pc; draft = Some (draft_of (length instrs) i) }) (rw says refl) in
-    let more = first_again instrs (pc + 1) (number + 1) (front ++ (record { line = number; draft = draft_of (length instrs) i } ∷ [])) left (simp length-append (omega arith)) (omega arith) fit.1 in
+    let next = first_next (record { labels = labels_below instrs pc; reads = front }) number (line_text (length instrs) (is_target instrs pc) pc i) (lines_of (text_from instrs (pc + 1) left)) (record { label = mark (is_target instrs pc) pc; draft = Some (draft_again (length instrs) i) }) (rw says refl) in
+    let more = first_again instrs (pc + 1) (number + 1) (front ++ (record { line = number; draft = draft_again (length instrs) i } ∷ [])) left (simp length-append (omega arith)) (omega arith) fit.1 in
     let marked : labels_below instrs (pc + 1) ≡ with_label (labels_below instrs pc) (length front) (mark (is_target instrs pc) pc) = rw (at, add-one) refl in
     let end : pc + 1 + length left ≡ pc + length (i ∷ left) = omega arith in
     ap (first_pass (record { labels = labels_below instrs pc; reads = front }) number) line ∙ (next ∙ rw (marked, end, append_assoc) at more)
 
 -- where a jump goes is read again
-jump_again : (labels : Labels) (count line t : ℕ) (instr : ℕ → Instr) → ((pc q : ℕ) → aimed pc (instr q) ≡ instr pc) → (t < count → labels (label_text t) ≡ Some t)
-    → placed labels line (instr (goal_of count t).pc) (goal_of count t).label ≡ Ok (instr t)
+jump_again : (labels : Labels) (count line t : ℕ) (instr : ℕ → Instr) → ((pc q : ℕ) → with_target pc (instr q) ≡ instr pc) → (t < count → labels (label_text t) ≡ Some t)
+    → resolve_label labels line (instr (goal_of count t).pc) (goal_of count t).label ≡ Ok (instr t)
 jump_again labels count line t instr aim known = by_cases (nat_lt t count) refl
   where
     by_cases : (b : Bool) → nat_lt t count ≡ b
-        → placed labels line (instr (cond {A = Target} b (record { pc = 0; label = Some (label_text t) }) (record { pc = t; label = None })).pc) (cond {A = Target} b (record { pc = 0; label = Some (label_text t) }) (record { pc = t; label = None })).label ≡ Ok (instr t)
+        → resolve_label labels line (instr (cond {A = Target} b (record { pc = 0; label = Some (label_text t) }) (record { pc = t; label = None })).pc) (cond {A = Target} b (record { pc = 0; label = Some (label_text t) }) (record { pc = t; label = None })).label ≡ Ok (instr t)
     by_cases true e = rw (known (ltb-true t count e), aim t 0) refl
     by_cases false e = refl
 
 finish_again : (labels : Labels) (count line : ℕ) (i : Instr) → ((t : ℕ) → is_pc t (target i) ≡ true → t < count → labels (label_text t) ≡ Some t)
-    → finished labels (record { line = line; draft = draft_of count i }) ≡ Ok i
+    → resolve labels (record { line = line; draft = draft_again count i }) ≡ Ok i
 finish_again labels count line (Num d n) known = refl
 finish_again labels count line (Get d k) known = refl
 finish_again labels count line (Side d) known = refl

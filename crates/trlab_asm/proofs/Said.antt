@@ -1,5 +1,6 @@
 -- Any text says a program, or has a first fault that is not want of memory.
 use Rattle.std.proofs.Common.{◌≡◌, ◌≢◌, ℕ, suc, ◌+◌, ◌-◌, ◌<◌, ◌≤◌, Bool, true, false, ◌&&◌, ◌==◌, if◌then◌else◌, nat_le, nat_lt, List, [], ◌∷◌, length, All, Option, Some, None, Result, Ok, Err, MatchResult, refl, arith, length-append, leb-true, ltb-true, codes}
+use Rattle.std.specs.Prelude.{ok_or}
 use Rattle.std.specs.Str.Parse.{digits_value}
 use Rattle.std.proofs.lemmas.Bool.{eqb-false}
 use Rattle.std.proofs.lemmas.List.Elements.{All-cons, All-head, All-push, All-tail}
@@ -8,18 +9,19 @@ use Rattle.trlab_code.specs.declared.instruction.Instr.{Instr}
 use Rattle.trlab_code.specs.declared.instruction.Instr.TheVariants.{Num, Get, Side, Draw, Copy, Add, Sub, Mul, Div, Min, Max, Not, And, Or, Jump, JumpLess, JumpAtMost, JumpTrue, JumpFalse, Go, Cross, Stay}
 use Rattle.trlab_bounds.specs.declared.programs.TheConstants.{MOST_INSTRUCTIONS, WORDS, CERTAIN}
 use Rattle.trlab_code.specs.Program.{InRange, IsProgram}
-use Rattle.trlab_asm.specs.Cutting.{cut, labelled, only_word, uncommented, unindented, up_to_blank}
+use Rattle.trlab_asm.specs.Cutting.{behind, cut, label_and_rest, only_word, without_comment, without_indent, up_to_blank}
 use Rattle.trlab_asm.specs.Names.{register_named, input_named, mnemonic_named}
-use Rattle.trlab_asm.specs.Operands.{◌>>=◌, ◌then◌, behind, digits_of, input, is_label, is_numeral, no_operand, number, numeral, pc_named, ranged, register, register_input, register_number, register_target, register_word_chance, target, target_named, three_registers, two_registers, two_registers_number, two_registers_target, wanted, word, word_chance}
-use Rattle.trlab_asm.specs.Reading.{Draft, Labels, Line, body, drafted, if_free, instruction, known, label_of, line_says, new_label}
-use Rattle.trlab_asm.specs.Assembly.{Parts, Read, aimed, aimed_at, code_of, finished, first_pass, in_line, instrs_of, nothing, placed, second_pass, with_line, with_read}
+use Rattle.trlab_asm.specs.Operands.{◌then◌, digits_of, input, is_label, is_numeral, no_operand, number, numeral, pc_named, value_within, register, register_input, register_number, register_target, register_word_chance, target, target_named, three_registers, two_registers, two_registers_number, two_registers_target, word, word_chance}
+use Rattle.trlab_asm.specs.Results.{◌>>=◌}
+use Rattle.trlab_asm.specs.Reading.{Draft, Labels, Line, body, draft_of, if_free, instruction, label_of, line_says, new_label}
+use Rattle.trlab_asm.specs.Assembly.{Parts, LineDraft, with_target, jump_to, code_of, resolve, first_pass, in_line, instrs_of, nothing, resolve_label, second_pass, with_line, with_draft}
 use Rattle.trlab_asm.specs.Laws.{TextsSaySomething}
 use Rattle.trlab_asm.specs.Lines.{lines_of}
 use Rattle.trlab_bounds.specs.declared.programs.TheConstants.{GREATEST_NUMBER, MOST_DIGITS}
 use Rattle.trlab_asm.specs.declared.names.Mnemonic.{Mnemonic}
 use Rattle.trlab_asm.specs.declared.names.Mnemonic.TheVariants as name
 use Rattle.trlab_asm.specs.declared.fault.Why.{Why}
-use Rattle.trlab_asm.specs.declared.fault.Why.TheVariants.{Memory, Number, TooLong}
+use Rattle.trlab_asm.specs.declared.fault.Why.TheVariants.{Memory, Number, Operand, TooLong, Word}
 use Rattle.trlab_asm.specs.declared.fault.AsmFault.{AsmFault}
 
 -- a result has a property, or is a fault that is not want of memory
@@ -45,9 +47,12 @@ weaker P (Err why) h = h
 
 -- operands
 
-wanted_gives : {A : Type 0} (o : Option A) → Gives Anything (wanted o)
-wanted_gives None = λ e. cc
-wanted_gives (Some x) = tt
+ok_or_gives : {A : Type 0} (o : Option A) (why : Why) → why ≢ Memory → Gives Anything (ok_or o why)
+ok_or_gives None why other = other
+ok_or_gives (Some x) why other = tt
+
+wanted_gives : {A : Type 0} (o : Option A) → Gives Anything (ok_or o Operand)
+wanted_gives o = ok_or_gives o Operand (λ e. cc)
 
 word_gives : (text : List ℕ) → Gives Anything (word text)
 word_gives text = wanted_gives (only_word text)
@@ -71,19 +76,19 @@ within_if true false below low high n h k = λ e. cc
 within_if true true false low high n h k = λ e. cc
 within_if true true true low high n h k = (h refl, k refl)
 
-ranged_gives : (low high : ℕ) (digits : List ℕ) → Gives (λ m. (low ≤ m) × (m ≤ high)) (ranged low high digits)
+ranged_gives : (low high : ℕ) (digits : List ℕ) → Gives (λ m. (low ≤ m) × (m ≤ high)) (value_within low high digits)
 ranged_gives low high digits =
     let n = digits_value 10 digits in
     within_if (nat_le (length digits) MOST_DIGITS) (nat_le low n) (nat_le n high) low high n (leb-true low n) (leb-true n high)
 
 number_gives : (low high : ℕ) (text : List ℕ) → Gives (λ m. (low ≤ m) × (m ≤ high)) (number low high text)
-number_gives low high text = then_gives Anything _ (numeral text) (ranged low high) (numeral_gives text) (λ digits h. ranged_gives low high digits)
+number_gives low high text = then_gives Anything _ (numeral text) (value_within low high) (numeral_gives text) (λ digits h. ranged_gives low high digits)
 
 both_give : {A B : Type 0} (P : A → Type 0) (Q : B → Type 0) (first : List ℕ → Result A Why) (rest : List ℕ → Result B Why)
     → ((text : List ℕ) → Gives P (first text)) → ((text : List ℕ) → Gives Q (rest text))
     → (text : List ℕ) → Gives (λ x. P x.0 × Q x.1) ((first then rest) text)
 both_give P Q first rest h k text =
-    then_gives Anything _ (wanted (cut 44 text)) _ (wanted_gives (cut 44 text)) (λ parts a.
+    then_gives Anything _ (ok_or (cut 44 text) Operand) _ (wanted_gives (cut 44 text)) (λ parts a.
     then_gives P _ (first parts.0) _ (h parts.0) (λ x p.
     then_gives Q _ (rest parts.1) _ (k parts.1) (λ y q. (p, q))))
 
@@ -105,17 +110,17 @@ two_registers_number_gives low = both_give Anything _ register (register then nu
 word_chance_gives : (text : List ℕ) → Gives (λ x. (x.0 ≤ WORDS - 1) × (x.1 ≤ CERTAIN)) (word_chance text)
 word_chance_gives text =
     then_gives (λ x. Anything x.0 × Anything x.1) _ ((numeral then numeral) text) _ (both_give Anything Anything numeral numeral numeral_gives numeral_gives text) (λ digits a.
-    then_gives (λ m. (0 ≤ m) × (m ≤ WORDS - 1)) _ (ranged 0 (WORDS - 1) digits.0) _ (ranged_gives 0 (WORDS - 1) digits.0) (λ k p.
-    then_gives (λ m. (0 ≤ m) × (m ≤ CERTAIN)) _ (ranged 0 CERTAIN digits.1) _ (ranged_gives 0 CERTAIN digits.1) (λ t q. (p.1, q.1))))
+    then_gives (λ m. (0 ≤ m) × (m ≤ WORDS - 1)) _ (value_within 0 (WORDS - 1) digits.0) _ (ranged_gives 0 (WORDS - 1) digits.0) (λ k p.
+    then_gives (λ m. (0 ≤ m) × (m ≤ CERTAIN)) _ (value_within 0 CERTAIN digits.1) _ (ranged_gives 0 CERTAIN digits.1) (λ t q. (p.1, q.1))))
 
 draw_gives : (text : List ℕ) → Gives (λ x. Anything x.0 × ((x.1.0 ≤ WORDS - 1) × (x.1.1 ≤ CERTAIN))) (register_word_chance text)
 draw_gives = both_give Anything _ register word_chance register_gives word_chance_gives
 
 pc_gives : (text : List ℕ) → Gives Anything (pc_named text)
 pc_gives text =
-    then_gives Anything Anything (wanted (behind (codes "@") text)) _ (wanted_gives (behind (codes "@") text)) (λ digits a.
+    then_gives Anything Anything (ok_or (behind (codes "@") text) Operand) _ (wanted_gives (behind (codes "@") text)) (λ digits a.
     then_gives Anything Anything (digits_of digits) _ (digits_give digits) (λ more b.
-    then_gives (λ m. (0 ≤ m) × (m ≤ GREATEST_NUMBER)) Anything (ranged 0 GREATEST_NUMBER more) _ (ranged_gives 0 GREATEST_NUMBER more) (λ pc c. tt)))
+    then_gives (λ m. (0 ≤ m) × (m ≤ GREATEST_NUMBER)) Anything (value_within 0 GREATEST_NUMBER more) _ (ranged_gives 0 GREATEST_NUMBER more) (λ pc c. tt)))
 
 target_gives : (text : List ℕ) → Gives Anything (target text)
 target_gives text = then_gives Anything Anything (word text) target_named (word_gives text) (λ name h. if_gives Anything (is_label name) (Ok _) (pc_named name) tt (pc_gives name))
@@ -138,33 +143,32 @@ Fits draft = InRange draft.instr
 made : {A : Type 0} (P : A → Type 0) (r : Result A Why) (f : A → Result Draft Why) → Gives P r → ((x : A) → P x → Gives Fits (f x)) → Gives Fits (r >>= f)
 made P = then_gives P Fits
 
-drafted_fits : (x : Mnemonic) (text : List ℕ) → Gives Fits (drafted x text)
-drafted_fits name.Num text = made (λ x. Anything x.0 × ((0 ≤ x.1) × (x.1 ≤ GREATEST_NUMBER))) (register_number text) _ (register_number_gives text) (λ x h. tt)
-drafted_fits name.Get text = made (λ x. Anything x.0 × Anything x.1) (register_input text) _ (register_input_gives text) (λ x h. tt)
-drafted_fits name.Side text = made Anything (register text) _ (register_gives text) (λ x h. tt)
-drafted_fits name.Draw text = made (λ x. Anything x.0 × ((x.1.0 ≤ WORDS - 1) × (x.1.1 ≤ CERTAIN))) (register_word_chance text) _ (draw_gives text) (λ x h. (omega (arith, h.1.0), h.1.1))
-drafted_fits name.Copy text = made (λ x. Anything x.0 × Anything x.1) (two_registers text) _ (two_gives text) (λ x h. tt)
-drafted_fits name.Add text = made (λ x. Anything x.0 × (Anything x.1.0 × Anything x.1.1)) (three_registers text) _ (three_gives text) (λ x h. tt)
-drafted_fits name.Sub text = made (λ x. Anything x.0 × (Anything x.1.0 × Anything x.1.1)) (three_registers text) _ (three_gives text) (λ x h. tt)
-drafted_fits name.Mul text = made (λ x. Anything x.0 × (Anything x.1.0 × ((0 ≤ x.1.1) × (x.1.1 ≤ GREATEST_NUMBER)))) (two_registers_number 0 text) _ (two_registers_number_gives 0 text) (λ x h. tt)
-drafted_fits name.Div text = made (λ x. Anything x.0 × (Anything x.1.0 × ((1 ≤ x.1.1) × (x.1.1 ≤ GREATEST_NUMBER)))) (two_registers_number 1 text) _ (two_registers_number_gives 1 text) (λ x h. h.1.1.0)
-drafted_fits name.Min text = made (λ x. Anything x.0 × (Anything x.1.0 × Anything x.1.1)) (three_registers text) _ (three_gives text) (λ x h. tt)
-drafted_fits name.Max text = made (λ x. Anything x.0 × (Anything x.1.0 × Anything x.1.1)) (three_registers text) _ (three_gives text) (λ x h. tt)
-drafted_fits name.Not text = made (λ x. Anything x.0 × Anything x.1) (two_registers text) _ (two_gives text) (λ x h. tt)
-drafted_fits name.And text = made (λ x. Anything x.0 × (Anything x.1.0 × Anything x.1.1)) (three_registers text) _ (three_gives text) (λ x h. tt)
-drafted_fits name.Or text = made (λ x. Anything x.0 × (Anything x.1.0 × Anything x.1.1)) (three_registers text) _ (three_gives text) (λ x h. tt)
-drafted_fits name.Jump text = made Anything (target text) _ (target_gives text) (λ x h. tt)
-drafted_fits name.JumpLess text = made (λ x. Anything x.0 × (Anything x.1.0 × Anything x.1.1)) (two_registers_target text) _ (two_target_gives text) (λ x h. tt)
-drafted_fits name.JumpAtMost text = made (λ x. Anything x.0 × (Anything x.1.0 × Anything x.1.1)) (two_registers_target text) _ (two_target_gives text) (λ x h. tt)
-drafted_fits name.JumpTrue text = made (λ x. Anything x.0 × Anything x.1) (register_target text) _ (one_target_gives text) (λ x h. tt)
-drafted_fits name.JumpFalse text = made (λ x. Anything x.0 × Anything x.1) (register_target text) _ (one_target_gives text) (λ x h. tt)
-drafted_fits name.Go text = made Anything (register text) _ (register_gives text) (λ x h. tt)
-drafted_fits name.Cross text = made Anything (no_operand text) _ (none_gives text) (λ x h. tt)
-drafted_fits name.Stay text = made Anything (no_operand text) _ (none_gives text) (λ x h. tt)
+draft_fits : (x : Mnemonic) (text : List ℕ) → Gives Fits (draft_of x text)
+draft_fits name.Num text = made (λ x. Anything x.0 × ((0 ≤ x.1) × (x.1 ≤ GREATEST_NUMBER))) (register_number text) _ (register_number_gives text) (λ x h. tt)
+draft_fits name.Get text = made (λ x. Anything x.0 × Anything x.1) (register_input text) _ (register_input_gives text) (λ x h. tt)
+draft_fits name.Side text = made Anything (register text) _ (register_gives text) (λ x h. tt)
+draft_fits name.Draw text = made (λ x. Anything x.0 × ((x.1.0 ≤ WORDS - 1) × (x.1.1 ≤ CERTAIN))) (register_word_chance text) _ (draw_gives text) (λ x h. (omega (arith, h.1.0), h.1.1))
+draft_fits name.Copy text = made (λ x. Anything x.0 × Anything x.1) (two_registers text) _ (two_gives text) (λ x h. tt)
+draft_fits name.Add text = made (λ x. Anything x.0 × (Anything x.1.0 × Anything x.1.1)) (three_registers text) _ (three_gives text) (λ x h. tt)
+draft_fits name.Sub text = made (λ x. Anything x.0 × (Anything x.1.0 × Anything x.1.1)) (three_registers text) _ (three_gives text) (λ x h. tt)
+draft_fits name.Mul text = made (λ x. Anything x.0 × (Anything x.1.0 × ((0 ≤ x.1.1) × (x.1.1 ≤ GREATEST_NUMBER)))) (two_registers_number 0 text) _ (two_registers_number_gives 0 text) (λ x h. tt)
+draft_fits name.Div text = made (λ x. Anything x.0 × (Anything x.1.0 × ((1 ≤ x.1.1) × (x.1.1 ≤ GREATEST_NUMBER)))) (two_registers_number 1 text) _ (two_registers_number_gives 1 text) (λ x h. h.1.1.0)
+draft_fits name.Min text = made (λ x. Anything x.0 × (Anything x.1.0 × Anything x.1.1)) (three_registers text) _ (three_gives text) (λ x h. tt)
+draft_fits name.Max text = made (λ x. Anything x.0 × (Anything x.1.0 × Anything x.1.1)) (three_registers text) _ (three_gives text) (λ x h. tt)
+draft_fits name.Not text = made (λ x. Anything x.0 × Anything x.1) (two_registers text) _ (two_gives text) (λ x h. tt)
+draft_fits name.And text = made (λ x. Anything x.0 × (Anything x.1.0 × Anything x.1.1)) (three_registers text) _ (three_gives text) (λ x h. tt)
+draft_fits name.Or text = made (λ x. Anything x.0 × (Anything x.1.0 × Anything x.1.1)) (three_registers text) _ (three_gives text) (λ x h. tt)
+draft_fits name.Jump text = made Anything (target text) _ (target_gives text) (λ x h. tt)
+draft_fits name.JumpLess text = made (λ x. Anything x.0 × (Anything x.1.0 × Anything x.1.1)) (two_registers_target text) _ (two_target_gives text) (λ x h. tt)
+draft_fits name.JumpAtMost text = made (λ x. Anything x.0 × (Anything x.1.0 × Anything x.1.1)) (two_registers_target text) _ (two_target_gives text) (λ x h. tt)
+draft_fits name.JumpTrue text = made (λ x. Anything x.0 × Anything x.1) (register_target text) _ (one_target_gives text) (λ x h. tt)
+draft_fits name.JumpFalse text = made (λ x. Anything x.0 × Anything x.1) (register_target text) _ (one_target_gives text) (λ x h. tt)
+draft_fits name.Go text = made Anything (register text) _ (register_gives text) (λ x h. tt)
+draft_fits name.Cross text = made Anything (no_operand text) _ (none_gives text) (λ x h. tt)
+draft_fits name.Stay text = made Anything (no_operand text) _ (none_gives text) (λ x h. tt)
 
-known_gives : {A : Type 0} (o : Option A) → Gives Anything (known o)
-known_gives None = λ e. cc
-known_gives (Some x) = tt
+known_gives : {A : Type 0} (o : Option A) → Gives Anything (ok_or o Word)
+known_gives o = ok_or_gives o Word (λ e. cc)
 
 -- an instruction is in range, and there is room for it at pc
 MayStand : ℕ → Option Draft → Type 0
@@ -180,8 +184,8 @@ room_gives pc false r room fits = λ e. cc
 
 instruction_gives : (pc : ℕ) (parts : List ℕ × List ℕ) → Gives (MayStand pc) (instruction pc parts)
 instruction_gives pc parts =
-    then_gives Anything (MayStand pc) (known (mnemonic_named parts.0)) _ (known_gives (mnemonic_named parts.0)) (λ x h.
-    room_gives pc (nat_lt pc MOST_INSTRUCTIONS) (drafted x parts.1) (ltb-true pc MOST_INSTRUCTIONS) (drafted_fits x parts.1))
+    then_gives Anything (MayStand pc) (ok_or (mnemonic_named parts.0) Word) _ (known_gives (mnemonic_named parts.0)) (λ x h.
+    room_gives pc (nat_lt pc MOST_INSTRUCTIONS) (draft_of x parts.1) (ltb-true pc MOST_INSTRUCTIONS) (draft_fits x parts.1))
 
 nothing_stands : (pc : ℕ) → MayStand pc None
 unfolding MayStand
@@ -196,13 +200,13 @@ free_gives text (Some pc) = λ e. cc
 
 label_gives : (labels : Labels) (o : Option (List ℕ)) → Gives Anything (label_of labels o)
 label_gives labels None = tt
-label_gives labels (Some text) = then_gives Anything Anything (known (only_word text)) (new_label labels) (known_gives (only_word text)) (λ name h. if_gives Anything (is_label name) (if_free name (labels name)) _ (free_gives name (labels name)) (λ e. cc))
+label_gives labels (Some text) = then_gives Anything Anything (ok_or (only_word text) Word) (new_label labels) (known_gives (only_word text)) (λ name h. if_gives Anything (is_label name) (if_free name (labels name)) _ (free_gives name (labels name)) (λ e. cc))
 
 line_gives : (labels : Labels) (pc : ℕ) (line : List ℕ) → Gives (λ (said : Line). MayStand pc said.draft) (line_says labels pc line)
 line_gives labels pc line =
-    let parts = labelled (uncommented line) in
+    let parts = label_and_rest (without_comment line) in
     then_gives Anything (λ (said : Line). MayStand pc said.draft) (label_of labels parts.0) _ (label_gives labels parts.0) (λ label h.
-    then_gives (MayStand pc) (λ (said : Line). MayStand pc said.draft) (body pc (unindented parts.1)) _ (body_gives pc (unindented parts.1)) (λ draft k. k))
+    then_gives (MayStand pc) (λ (said : Line). MayStand pc said.draft) (body pc (without_indent parts.1)) _ (body_gives pc (without_indent parts.1)) (λ draft k. k))
 
 -- the two passes
 
@@ -220,18 +224,18 @@ in_line_tells P number (Ok x) h = h
 in_line_tells P number (Err why) h = h
 
 -- what was read has instructions in range, and not too many
-record Kept (reads : List Read) : Type 0 where
+record Kept (reads : List LineDraft) : Type 0 where
   few : length reads ≤ MOST_INSTRUCTIONS
-  fit : All (λ (read : Read). InRange read.draft.instr) reads
+  fit : All (λ (read : LineDraft). InRange read.draft.instr) reads
 
-kept_more : (reads : List Read) (number : ℕ) (o : Option Draft) → Kept reads → MayStand (length reads) o → Kept (with_read reads number o)
+kept_more : (reads : List LineDraft) (number : ℕ) (o : Option Draft) → Kept reads → MayStand (length reads) o → Kept (with_draft reads number o)
 unfolding MayStand
 kept_more reads number None kept may = kept
 kept_more reads number (Some draft) kept may =
-    let read : Read = record { line = number; draft = draft } in
+    let read : LineDraft = record { line = number; draft = draft } in
     record {
       few = omega (arith, length-append reads (read ∷ []), may.1);
-      fit = All-push (λ (one : Read). InRange one.draft.instr) reads read kept.fit may.0;
+      fit = All-push (λ (one : LineDraft). InRange one.draft.instr) reads read kept.fit may.0;
     }
 
 first_tells : (parts : Parts) (number : ℕ) (lines : List (List ℕ)) → Kept parts.reads → Tells (λ (all : Parts). Kept all.reads) (first_pass parts number lines)
@@ -242,49 +246,49 @@ first_tells parts number (line ∷ left) kept =
     (in_line_tells (λ (said : Line). MayStand (length parts.reads) said.draft) number (line_says parts.labels (length parts.reads) line) (line_gives parts.labels (length parts.reads) line))
     (λ said may. first_tells (with_line parts number said) (number + 1) left (kept_more parts.reads number said.draft kept may))
 
-aimed_fits : (pc : ℕ) (i : Instr) → InRange i → InRange (aimed pc i)
-aimed_fits pc (Num d n) h = h
-aimed_fits pc (Get d k) h = h
-aimed_fits pc (Side d) h = h
-aimed_fits pc (Draw d k t) h = h
-aimed_fits pc (Copy d a) h = h
-aimed_fits pc (Add d a b) h = h
-aimed_fits pc (Sub d a b) h = h
-aimed_fits pc (Mul d a n) h = h
-aimed_fits pc (Div d a n) h = h
-aimed_fits pc (Min d a b) h = h
-aimed_fits pc (Max d a b) h = h
-aimed_fits pc (Not d a) h = h
-aimed_fits pc (And d a b) h = h
-aimed_fits pc (Or d a b) h = h
-aimed_fits pc (Jump t) h = tt
-aimed_fits pc (JumpLess a b t) h = tt
-aimed_fits pc (JumpAtMost a b t) h = tt
-aimed_fits pc (JumpTrue a t) h = tt
-aimed_fits pc (JumpFalse a t) h = tt
-aimed_fits pc (Go a) h = h
-aimed_fits pc Cross h = h
-aimed_fits pc Stay h = h
+target_fits : (pc : ℕ) (i : Instr) → InRange i → InRange (with_target pc i)
+target_fits pc (Num d n) h = h
+target_fits pc (Get d k) h = h
+target_fits pc (Side d) h = h
+target_fits pc (Draw d k t) h = h
+target_fits pc (Copy d a) h = h
+target_fits pc (Add d a b) h = h
+target_fits pc (Sub d a b) h = h
+target_fits pc (Mul d a n) h = h
+target_fits pc (Div d a n) h = h
+target_fits pc (Min d a b) h = h
+target_fits pc (Max d a b) h = h
+target_fits pc (Not d a) h = h
+target_fits pc (And d a b) h = h
+target_fits pc (Or d a b) h = h
+target_fits pc (Jump t) h = tt
+target_fits pc (JumpLess a b t) h = tt
+target_fits pc (JumpAtMost a b t) h = tt
+target_fits pc (JumpTrue a t) h = tt
+target_fits pc (JumpFalse a t) h = tt
+target_fits pc (Go a) h = h
+target_fits pc Cross h = h
+target_fits pc Stay h = h
 
-aimed_tells : (line : ℕ) (i : Instr) (o : Option ℕ) → InRange i → Tells InRange (aimed_at line i o)
-aimed_tells line i None h = λ e. cc
-aimed_tells line i (Some pc) h = aimed_fits pc i h
+jump_tells : (line : ℕ) (i : Instr) (o : Option ℕ) → InRange i → Tells InRange (jump_to line i o)
+jump_tells line i None h = λ e. cc
+jump_tells line i (Some pc) h = target_fits pc i h
 
-placed_tells : (labels : Labels) (line : ℕ) (i : Instr) (o : Option (List ℕ)) → InRange i → Tells InRange (placed labels line i o)
-placed_tells labels line i None h = h
-placed_tells labels line i (Some name) h = aimed_tells line i (labels name) h
+label_tells : (labels : Labels) (line : ℕ) (i : Instr) (o : Option (List ℕ)) → InRange i → Tells InRange (resolve_label labels line i o)
+label_tells labels line i None h = h
+label_tells labels line i (Some name) h = jump_tells line i (labels name) h
 
 -- as many instructions, in range
 record Finished (many : ℕ) (instrs : List Instr) : Type 0 where
   all : length instrs ≡ many
   fit : All InRange instrs
 
-second_tells : (labels : Labels) (reads : List Read) → All (λ (read : Read). InRange read.draft.instr) reads → Tells (Finished (length reads)) (second_pass labels reads)
+second_tells : (labels : Labels) (reads : List LineDraft) → All (λ (read : LineDraft). InRange read.draft.instr) reads → Tells (Finished (length reads)) (second_pass labels reads)
 unfolding second_pass
 second_tells labels [] fit = record { all = refl; fit = λ k d h. absurd (omega arith) }
 second_tells labels (read ∷ reads) fit =
-    let P : Read → Type 0 = λ one. InRange one.draft.instr in
-    then_tells InRange (Finished (suc (length reads))) (finished labels read) _ (placed_tells labels read.line read.draft.instr read.draft.label (All-head P read reads fit)) (λ i h.
+    let P : LineDraft → Type 0 = λ one. InRange one.draft.instr in
+    then_tells InRange (Finished (suc (length reads))) (resolve labels read) _ (label_tells labels read.line read.draft.instr read.draft.label (All-head P read reads fit)) (λ i h.
     then_tells (Finished (length reads)) (Finished (suc (length reads))) (second_pass labels reads) _ (second_tells labels reads (All-tail P read reads fit)) (λ instrs k.
     record { all = omega (arith, k.all); fit = All-cons InRange i instrs h k.fit }))
 

@@ -5,8 +5,8 @@ use Rattle.std.specs.Map.{update}
 use Rattle.trlab_code.specs.Program.{Program}
 use Rattle.trlab_code.specs.declared.kind.Kind.{Kind}
 use Rattle.trlab_code.specs.declared.instruction.Instr.{Instr}
-use Rattle.trlab_code.specs.declared.instruction.Instr.TheVariants.{Num, Get, Side, Draw, Copy, Add, Sub, Mul, Div, Min, Max, Not, And, Or, Jump, JumpLess, JumpAtMost, JumpTrue, JumpFalse, Go, Cross, Stay}
-use Rattle.trlab_asm.specs.Operands.{◌>>=◌}
+use Rattle.trlab_code.specs.declared.instruction.Instr.TheVariants.{Jump, JumpLess, JumpAtMost, JumpTrue, JumpFalse}
+use Rattle.trlab_asm.specs.Results.{◌>>=◌}
 use Rattle.trlab_asm.specs.Reading.{Draft, Labels, Line, line_says}
 use Rattle.trlab_asm.specs.declared.fault.Why.{Why}
 use Rattle.trlab_asm.specs.declared.fault.Why.TheVariants.{Empty, NoLabel, Memory}
@@ -18,14 +18,14 @@ in_line number (Ok x) = Ok x
 in_line number (Err why) = Err (record { line = number; why = why })
 
 -- an instruction as it was read, and the number of its line
-pub record Read : Type 0 where
+pub record LineDraft : Type 0 where
   pub line : ℕ
   pub draft : Draft
 
 -- the labels and the instructions of a text
 pub record Parts : Type 0 where
   pub labels : Labels
-  pub reads : List Read
+  pub reads : List LineDraft
 
 -- of no line
 abbrev pub nothing : Parts
@@ -37,15 +37,15 @@ with_label labels pc None = labels
 with_label labels pc (Some name) = update bytes_eq labels name (Some pc)
 
 -- instructions with one more, if there is one
-abbrev pub with_read : List Read → ℕ → Option Draft → List Read
-with_read reads number None = reads
-with_read reads number (Some draft) = reads ++ (record { line = number; draft = draft } ∷ [])
+abbrev pub with_draft : List LineDraft → ℕ → Option Draft → List LineDraft
+with_draft reads number None = reads
+with_draft reads number (Some draft) = reads ++ (record { line = number; draft = draft } ∷ [])
 
 -- what was read so far, and what one line more says: its label names the next instruction
 abbrev pub with_line : Parts → ℕ → Line → Parts
 with_line parts number line = record {
   labels = with_label parts.labels (length parts.reads) line.label;
-  reads = with_read parts.reads number line.draft;
+  reads = with_draft parts.reads number line.draft;
 }
 
 -- the first pass: what the lines from a number on say behind what was read so far, or the first fault
@@ -56,54 +56,39 @@ first_pass parts number (line ∷ left) =
     >>= λ said. first_pass (with_line parts number said) (number + 1) left
 
 -- a jump with another target; other instructions have none
-abbrev pub aimed : ℕ → Instr → Instr
-aimed pc (Num d n) = Num d n
-aimed pc (Get d k) = Get d k
-aimed pc (Side d) = Side d
-aimed pc (Draw d k t) = Draw d k t
-aimed pc (Copy d a) = Copy d a
-aimed pc (Add d a b) = Add d a b
-aimed pc (Sub d a b) = Sub d a b
-aimed pc (Mul d a n) = Mul d a n
-aimed pc (Div d a n) = Div d a n
-aimed pc (Min d a b) = Min d a b
-aimed pc (Max d a b) = Max d a b
-aimed pc (Not d a) = Not d a
-aimed pc (And d a b) = And d a b
-aimed pc (Or d a b) = Or d a b
-aimed pc (Jump t) = Jump pc
-aimed pc (JumpLess a b t) = JumpLess a b pc
-aimed pc (JumpAtMost a b t) = JumpAtMost a b pc
-aimed pc (JumpTrue a t) = JumpTrue a pc
-aimed pc (JumpFalse a t) = JumpFalse a pc
-aimed pc (Go a) = Go a
-aimed pc Cross = Cross
-aimed pc Stay = Stay
+abbrev pub with_target : ℕ → Instr → Instr
+with_target pc (Jump t) = Jump pc
+with_target pc (JumpLess a b t) = JumpLess a b pc
+with_target pc (JumpAtMost a b t) = JumpAtMost a b pc
+with_target pc (JumpTrue a t) = JumpTrue a pc
+with_target pc (JumpFalse a t) = JumpFalse a pc
+with_target pc instr = instr
 
 -- a jump to the pc of its label, which must be there
-abbrev pub aimed_at : ℕ → Instr → Option ℕ → Result Instr AsmFault
-aimed_at line instr None = Err (record { line = line; why = NoLabel })
-aimed_at line instr (Some pc) = Ok (aimed pc instr)
+abbrev pub jump_to : ℕ → Instr → Option ℕ → Result Instr AsmFault
+jump_to line instr None = Err (record { line = line; why = NoLabel })
+jump_to line instr (Some pc) = Ok (with_target pc instr)
 
 -- an instruction with the pc of its label, if it names one
-abbrev pub placed : Labels → ℕ → Instr → Option (List ℕ) → Result Instr AsmFault
-placed labels line instr None = Ok instr
-placed labels line instr (Some name) = aimed_at line instr (labels name)
+abbrev pub resolve_label : Labels → ℕ → Instr → Option (List ℕ) → Result Instr AsmFault
+resolve_label labels line instr None = Ok instr
+resolve_label labels line instr (Some name) = jump_to line instr (labels name)
 
 -- an instruction that was read, with the pc of its label, if it names one
-abbrev pub finished : Labels → Read → Result Instr AsmFault
-finished labels read = placed labels read.line read.draft.instr read.draft.label
+abbrev pub resolve : Labels → LineDraft → Result Instr AsmFault
+resolve labels read = resolve_label labels read.line read.draft.instr read.draft.label
 
 -- the second pass: the instructions with their targets, or the first fault
-unfoldable pub second_pass : Labels → List Read → Result (List Instr) AsmFault
+unfoldable pub second_pass : Labels → List LineDraft → Result (List Instr) AsmFault
 second_pass labels [] = Ok []
 second_pass labels (read ∷ reads) =
-    finished labels read >>= λ instr. second_pass labels reads >>= λ instrs. Ok (instr ∷ instrs)
+    resolve labels read >>= λ instr. second_pass labels reads >>= λ instrs. Ok (instr ∷ instrs)
 
 -- the instructions of what was read; none is a fault of no line
 abbrev pub instrs_of : Parts → Result (List Instr) AsmFault
 instrs_of parts =
-    if length parts.reads == 0 then Err (record { line = 0; why = Empty }) else second_pass parts.labels parts.reads
+    if length parts.reads == 0 then Err (record { line = 0; why = Empty })
+    else second_pass parts.labels parts.reads
 
 -- the program of this kind that the lines of a text say, numbered from 1, or their first fault
 abbrev pub code_of : Kind → List (List ℕ) → Result Program AsmFault
@@ -113,5 +98,5 @@ code_of kind lines = do
   Ok (record { kind = kind; instrs = instrs })
 
 -- the fault where memory runs out, which says nothing of the text
-abbrev pub OutOfMemory : AsmFault → Type 0
-OutOfMemory fault = fault ≡ record { line = 0; why = Memory }
+abbrev pub IsOutOfMemory : AsmFault → Type 0
+IsOutOfMemory fault = fault ≡ record { line = 0; why = Memory }

@@ -21,34 +21,34 @@ infixr 20 ◌comma◌
 abbrev pub ◌comma◌ : List ℕ → List ℕ → List ℕ
 operand comma others = operand ++ (44 ∷ 32 ∷ others)
 
--- a name, a space, and operands
-abbrev pub named : Mnemonic → List ℕ → List ℕ
-named name operands = mnemonic_text name ++ (32 ∷ operands)
+-- a row: a name, a space, and operands
+abbrev pub row_text : Mnemonic → List ℕ → List ℕ
+row_text name operands = mnemonic_text name ++ (32 ∷ operands)
 
 -- an instruction, in a program of so many
 abbrev pub instr_text : ℕ → Instr → List ℕ
-instr_text count (Num d n) = named name.Num (register_text d comma decimal n)
-instr_text count (Get d k) = named name.Get (register_text d comma input_text k)
-instr_text count (Side d) = named name.Side (register_text d)
-instr_text count (Draw d k t) = named name.Draw (register_text d comma decimal k comma decimal t)
-instr_text count (Copy d a) = named name.Copy (register_text d comma register_text a)
-instr_text count (Add d a b) = named name.Add (register_text d comma register_text a comma register_text b)
-instr_text count (Sub d a b) = named name.Sub (register_text d comma register_text a comma register_text b)
-instr_text count (Mul d a n) = named name.Mul (register_text d comma register_text a comma decimal n)
-instr_text count (Div d a n) = named name.Div (register_text d comma register_text a comma decimal n)
-instr_text count (Min d a b) = named name.Min (register_text d comma register_text a comma register_text b)
-instr_text count (Max d a b) = named name.Max (register_text d comma register_text a comma register_text b)
-instr_text count (Not d a) = named name.Not (register_text d comma register_text a)
-instr_text count (And d a b) = named name.And (register_text d comma register_text a comma register_text b)
-instr_text count (Or d a b) = named name.Or (register_text d comma register_text a comma register_text b)
-instr_text count (Jump t) = named name.Jump (target_text count t)
+instr_text count (Num d n) = row_text name.Num (register_text d comma decimal n)
+instr_text count (Get d k) = row_text name.Get (register_text d comma input_text k)
+instr_text count (Side d) = row_text name.Side (register_text d)
+instr_text count (Draw d k t) = row_text name.Draw (register_text d comma decimal k comma decimal t)
+instr_text count (Copy d a) = row_text name.Copy (register_text d comma register_text a)
+instr_text count (Add d a b) = row_text name.Add (register_text d comma register_text a comma register_text b)
+instr_text count (Sub d a b) = row_text name.Sub (register_text d comma register_text a comma register_text b)
+instr_text count (Mul d a n) = row_text name.Mul (register_text d comma register_text a comma decimal n)
+instr_text count (Div d a n) = row_text name.Div (register_text d comma register_text a comma decimal n)
+instr_text count (Min d a b) = row_text name.Min (register_text d comma register_text a comma register_text b)
+instr_text count (Max d a b) = row_text name.Max (register_text d comma register_text a comma register_text b)
+instr_text count (Not d a) = row_text name.Not (register_text d comma register_text a)
+instr_text count (And d a b) = row_text name.And (register_text d comma register_text a comma register_text b)
+instr_text count (Or d a b) = row_text name.Or (register_text d comma register_text a comma register_text b)
+instr_text count (Jump t) = row_text name.Jump (target_text count t)
 instr_text count (JumpLess a b t) =
-    named name.JumpLess (register_text a comma register_text b comma target_text count t)
+    row_text name.JumpLess (register_text a comma register_text b comma target_text count t)
 instr_text count (JumpAtMost a b t) =
-    named name.JumpAtMost (register_text a comma register_text b comma target_text count t)
-instr_text count (JumpTrue a t) = named name.JumpTrue (register_text a comma target_text count t)
-instr_text count (JumpFalse a t) = named name.JumpFalse (register_text a comma target_text count t)
-instr_text count (Go a) = named name.Go (register_text a)
+    row_text name.JumpAtMost (register_text a comma register_text b comma target_text count t)
+instr_text count (JumpTrue a t) = row_text name.JumpTrue (register_text a comma target_text count t)
+instr_text count (JumpFalse a t) = row_text name.JumpFalse (register_text a comma target_text count t)
+instr_text count (Go a) = row_text name.Go (register_text a)
 instr_text count Cross = mnemonic_text name.Cross
 instr_text count Stay = mnemonic_text name.Stay
 

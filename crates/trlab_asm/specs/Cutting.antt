@@ -1,8 +1,8 @@
 -- How a line is cut: at `;`, at `:`, at commas, and at blanks.
-use Rattle.std.specs.Prelude.{ℕ, ◌+◌, ◌==◌, ◌||◌, not, Bool, List, [], length, take, drop, Option, None, Some, if◌then◌else◌}
+use Rattle.std.specs.Prelude.{ℕ, ◌+◌, ◌==◌, ◌||◌, not, Bool, List, [], length, take, drop, bytes_eq, Option, None, Some, if◌then◌else◌}
 use Rattle.std.specs.List.{position}
 
--- what stands before a place, and what stands behind its byte
+-- what stands before a position, and what stands behind its byte
 abbrev pub around : List ℕ → Option ℕ → Option (List ℕ × List ℕ)
 around text None = None
 around text (Some i) = Some (take i text, drop (i + 1) text)
@@ -11,39 +11,44 @@ around text (Some i) = Some (take i text, drop (i + 1) text)
 abbrev pub cut : ℕ → List ℕ → Option (List ℕ × List ℕ)
 cut c text = around text (position (λ b. b == c) text)
 
+-- what follows a front of a text
+abbrev pub behind : List ℕ → List ℕ → Option (List ℕ)
+behind front text =
+    if bytes_eq (take (length front) text) front then Some (drop (length front) text) else None
+
 -- a space or a tab
 abbrev pub is_blank : ℕ → Bool
 is_blank b = b == 32 || b == 9
 
--- a text from a place on
-abbrev pub from_place : List ℕ → Option ℕ → List ℕ
-from_place text None = []
-from_place text (Some i) = drop i text
+-- a text from a position on
+abbrev pub from_position : List ℕ → Option ℕ → List ℕ
+from_position text None = []
+from_position text (Some i) = drop i text
 
 -- a text without the blanks at its front
-abbrev pub unindented : List ℕ → List ℕ
-unindented text = from_place text (position (λ b. not (is_blank b)) text)
+abbrev pub without_indent : List ℕ → List ℕ
+without_indent text = from_position text (position (λ b. not (is_blank b)) text)
 
--- a text up to a place, and the rest
-abbrev pub parted : List ℕ → Option ℕ → List ℕ × List ℕ
-parted text None = (text, [])
-parted text (Some i) = (take i text, drop i text)
+-- a text up to a position, and the rest
+abbrev pub split_text : List ℕ → Option ℕ → List ℕ × List ℕ
+split_text text None = (text, [])
+split_text text (Some i) = (take i text, drop i text)
 
 -- a text up to its first blank, and the rest
 abbrev pub up_to_blank : List ℕ → List ℕ × List ℕ
-up_to_blank text = parted text (position (λ b. is_blank b) text)
+up_to_blank text = split_text text (position (λ b. is_blank b) text)
 
 -- the first word of a text, and the rest
 abbrev pub first_word : List ℕ → List ℕ × List ℕ
-first_word text = up_to_blank (unindented text)
+first_word text = up_to_blank (without_indent text)
 
 -- a word that has but blanks behind it
-abbrev pub alone : List ℕ × List ℕ → Option (List ℕ)
-alone parts = if length (unindented parts.1) == 0 then Some parts.0 else None
+abbrev pub lone_word : List ℕ × List ℕ → Option (List ℕ)
+lone_word parts = if length (without_indent parts.1) == 0 then Some parts.0 else None
 
 -- the word of a text that has but blanks beside it; of blanks alone it is the empty word
 abbrev pub only_word : List ℕ → Option (List ℕ)
-only_word text = alone (first_word text)
+only_word text = lone_word (first_word text)
 
 -- the front part, or the whole line where it was not cut
 abbrev pub front_or_all : List ℕ → Option (List ℕ × List ℕ) → List ℕ
@@ -51,14 +56,14 @@ front_or_all line None = line
 front_or_all line (Some parts) = parts.0
 
 -- a line without its comment, which begins at the first `;`
-abbrev pub uncommented : List ℕ → List ℕ
-uncommented line = front_or_all line (cut 59 line)
+abbrev pub without_comment : List ℕ → List ℕ
+without_comment line = front_or_all line (cut 59 line)
 
 -- the front part as a label's, and the rest; or no label, and the whole text
-abbrev pub label_apart : List ℕ → Option (List ℕ × List ℕ) → Option (List ℕ) × List ℕ
-label_apart text None = (None, text)
-label_apart text (Some parts) = (Some parts.0, parts.1)
+abbrev pub split_label : List ℕ → Option (List ℕ × List ℕ) → Option (List ℕ) × List ℕ
+split_label text None = (None, text)
+split_label text (Some parts) = (Some parts.0, parts.1)
 
 -- what stands before the first `:` of a text, if it has one, and what stands behind
-abbrev pub labelled : List ℕ → Option (List ℕ) × List ℕ
-labelled text = label_apart text (cut 58 text)
+abbrev pub label_and_rest : List ℕ → Option (List ℕ) × List ℕ
+label_and_rest text = split_label text (cut 58 text)

@@ -1,9 +1,10 @@
 pub mod Lines
+pub mod Results
 pub mod Cutting
 pub mod Names
 pub mod Operands
 pub mod Reading
 pub mod Assembly
-pub mod Held
+pub mod Stored
 pub mod Canonical
 pub mod Laws

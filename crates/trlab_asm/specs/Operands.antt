@@ -1,40 +1,30 @@
 -- The operands of an instruction. Several are separated by commas, and each may have blanks beside it.
-use Rattle.std.specs.Prelude.{ℕ, ◌-◌, ◌==◌, ◌&&◌, ◌||◌, not, Bool, List, length, take, drop, codes, bytes_eq, nat_le, nat_lt, Option, None, Some, Result, Ok, Err, slice_index, if◌then◌else◌}
+use Rattle.std.specs.Prelude.{ℕ, ◌-◌, ◌==◌, ◌&&◌, ◌||◌, not, Bool, List, length, codes, nat_le, nat_lt, Option, None, Some, ok_or, Result, Ok, Err, slice_index, if◌then◌else◌}
 use Rattle.std.specs.List.{list_all}
 use Rattle.std.specs.Char.{is_ascii_digit, is_ascii_alphanumeric}
 use Rattle.std.specs.Str.Parse.{digits_value}
 use Rattle.trlab_code.specs.declared.instruction.Register.{Register}
 use Rattle.trlab_code.specs.declared.instruction.Input.{Input}
 use Rattle.trlab_bounds.specs.declared.programs.TheConstants.{WORDS, CERTAIN}
-use Rattle.trlab_asm.specs.Cutting.{cut, only_word}
+use Rattle.trlab_asm.specs.Cutting.{behind, cut, only_word}
+use Rattle.trlab_asm.specs.Results.{◌>>=◌}
 use Rattle.trlab_asm.specs.Names.{register_named, input_named}
 use Rattle.trlab_asm.specs.declared.fault.Why.{Why}
 use Rattle.trlab_asm.specs.declared.fault.Why.TheVariants.{Operand, Number}
 use Rattle.trlab_bounds.specs.declared.programs.TheConstants.{GREATEST_NUMBER, MOST_DIGITS}
 use Rattle.trlab_bounds.specs.declared.programs.TheConstants.{LONGEST_LABEL}
 
-infixl 10 ◌>>=◌
--- goes on with the value, and stops at the first fault
-abbrev pub ◌>>=◌ : {A B E : Type 0} → Result A E → (A → Result B E) → Result B E
-(Ok x) >>= f = f x
-(Err e) >>= f = Err e
-
--- an operand that must be there in this form
-abbrev pub wanted : {A : Type 0} → Option A → Result A Why
-wanted None = Err Operand
-wanted (Some x) = Ok x
-
 -- the one word of an operand
 abbrev pub word : List ℕ → Result (List ℕ) Why
-word text = wanted (only_word text)
+word text = ok_or (only_word text) Operand
 
 -- a register
 abbrev pub register : List ℕ → Result Register Why
-register text = word text >>= λ name. wanted (register_named name)
+register text = word text >>= λ name. ok_or (register_named name) Operand
 
 -- an input
 abbrev pub input : List ℕ → Result Input Why
-input text = word text >>= λ name. wanted (input_named name)
+input text = word text >>= λ name. ok_or (input_named name) Operand
 
 -- digits alone
 abbrev pub all_digits : List ℕ → Bool
@@ -53,15 +43,15 @@ abbrev pub numeral : List ℕ → Result (List ℕ) Why
 numeral text = word text >>= digits_of
 
 -- the number that ten digits or fewer stand for, where it is from low to high
-abbrev pub ranged : ℕ → ℕ → List ℕ → Result ℕ Why
-ranged low high digits =
+abbrev pub value_within : ℕ → ℕ → List ℕ → Result ℕ Why
+value_within low high digits =
     if nat_le (length digits) MOST_DIGITS
     && (nat_le low (digits_value 10 digits) && nat_le (digits_value 10 digits) high)
     then Ok (digits_value 10 digits) else Err Number
 
 -- a number from low to high
 abbrev pub number : ℕ → ℕ → List ℕ → Result ℕ Why
-number low high text = numeral text >>= ranged low high
+number low high text = numeral text >>= value_within low high
 
 -- where a jump goes: a pc; or the pc that a label names, which is not known yet and is written as 0
 pub record Target : Type 0 where
@@ -82,17 +72,12 @@ is_label text =
 abbrev pub at_pc : ℕ → Result Target Why
 at_pc pc = Ok (record { pc = pc; label = None })
 
--- what follows a front of a text
-abbrev pub behind : List ℕ → List ℕ → Option (List ℕ)
-behind front text =
-    if bytes_eq (take (length front) text) front then Some (drop (length front) text) else None
-
 -- the pc of `@` and digits
 abbrev pub pc_named : List ℕ → Result Target Why
 pc_named text = do
-  digits ← wanted (behind (codes "@") text)
+  digits ← ok_or (behind (codes "@") text) Operand
   digits ← digits_of digits
-  pc ← ranged 0 GREATEST_NUMBER digits
+  pc ← value_within 0 GREATEST_NUMBER digits
   at_pc pc
 
 -- a target that is a label, or a pc
@@ -108,7 +93,7 @@ infixr 15 ◌then◌
 abbrev pub ◌then◌ : {A B : Type 0} → (List ℕ → Result A Why) → (List ℕ → Result B Why)
     → List ℕ → Result (A × B) Why
 (first then rest) text = do
-  parts ← wanted (cut 44 text)
+  parts ← ok_or (cut 44 text) Operand
   x ← first parts.0
   y ← rest parts.1
   Ok (x, y)
@@ -143,8 +128,8 @@ two_registers_number low = register then register then number low GREATEST_NUMBE
 abbrev pub word_chance : List ℕ → Result (ℕ × ℕ) Why
 word_chance text = do
   digits ← (numeral then numeral) text
-  k ← ranged 0 (WORDS - 1) digits.0
-  t ← ranged 0 CERTAIN digits.1
+  k ← value_within 0 (WORDS - 1) digits.0
+  t ← value_within 0 CERTAIN digits.1
   Ok (k, t)
 
 -- a register, the number of a random word, and a chance
@@ -158,8 +143,3 @@ register_target = register then target
 -- two registers and a target
 abbrev pub two_registers_target : List ℕ → Result (Register × (Register × Target)) Why
 two_registers_target = register then register_target
-
--- a result with its value seen in another way
-abbrev pub seen : {A B E : Type 0} → (A → B) → Result A E → Result B E
-seen view (Ok x) = Ok (view x)
-seen view (Err e) = Err e

@@ -1,11 +1,12 @@
 -- What a line of a program's text says.
-use Rattle.std.specs.Prelude.{ℕ, ◌==◌, List, length, nat_lt, Option, None, Some, Result, Ok, Err, if◌then◌else◌}
+use Rattle.std.specs.Prelude.{ℕ, ◌==◌, List, length, nat_lt, Option, None, Some, ok_or, Result, Ok, Err, if◌then◌else◌}
 use Rattle.trlab_code.specs.declared.instruction.Instr.{Instr}
 use Rattle.trlab_code.specs.declared.instruction.Instr.TheVariants.{Num, Get, Side, Draw, Copy, Add, Sub, Mul, Div, Min, Max, Not, And, Or, Jump, JumpLess, JumpAtMost, JumpTrue, JumpFalse, Go, Cross, Stay}
 use Rattle.trlab_bounds.specs.declared.programs.TheConstants.{MOST_INSTRUCTIONS}
-use Rattle.trlab_asm.specs.Cutting.{uncommented, labelled, unindented, up_to_blank, only_word}
+use Rattle.trlab_asm.specs.Cutting.{without_comment, label_and_rest, without_indent, up_to_blank, only_word}
 use Rattle.trlab_asm.specs.Names.{mnemonic_named}
-use Rattle.trlab_asm.specs.Operands.{◌>>=◌, Target, is_label, no_operand, register, two_registers, three_registers, register_input, register_number, two_registers_number, register_word_chance, target, register_target, two_registers_target}
+use Rattle.trlab_asm.specs.Results.{◌>>=◌}
+use Rattle.trlab_asm.specs.Operands.{Target, is_label, no_operand, register, two_registers, three_registers, register_input, register_number, two_registers_number, register_word_chance, target, register_target, two_registers_target}
 use Rattle.trlab_asm.specs.declared.fault.Why.{Why}
 use Rattle.trlab_asm.specs.declared.fault.Why.TheVariants.{Word, LabelTwice, TooLong}
 use Rattle.trlab_asm.specs.declared.names.Mnemonic.{Mnemonic}
@@ -17,49 +18,44 @@ pub record Draft : Type 0 where
   pub label : Option (List ℕ)
 
 -- an instruction that has all its operands
-abbrev pub whole : Instr → Result Draft Why
-whole instr = Ok (record { instr = instr; label = None })
+abbrev pub whole_draft : Instr → Result Draft Why
+whole_draft instr = Ok (record { instr = instr; label = None })
 
 -- a jump to a target
-abbrev pub jumping : (ℕ → Instr) → Target → Result Draft Why
-jumping instr to = Ok (record { instr = instr to.pc; label = to.label })
+abbrev pub jump_draft : (ℕ → Instr) → Target → Result Draft Why
+jump_draft instr to = Ok (record { instr = instr to.pc; label = to.label })
 
 -- the instruction of a name and its operands
-abbrev pub drafted : Mnemonic → List ℕ → Result Draft Why
-drafted name.Num text = register_number text >>= λ x. whole (Num x.0 x.1)
-drafted name.Get text = register_input text >>= λ x. whole (Get x.0 x.1)
-drafted name.Side text = register text >>= λ d. whole (Side d)
-drafted name.Draw text = register_word_chance text >>= λ x. whole (Draw x.0 x.1.0 x.1.1)
-drafted name.Copy text = two_registers text >>= λ x. whole (Copy x.0 x.1)
-drafted name.Add text = three_registers text >>= λ x. whole (Add x.0 x.1.0 x.1.1)
-drafted name.Sub text = three_registers text >>= λ x. whole (Sub x.0 x.1.0 x.1.1)
-drafted name.Mul text = two_registers_number 0 text >>= λ x. whole (Mul x.0 x.1.0 x.1.1)
-drafted name.Div text = two_registers_number 1 text >>= λ x. whole (Div x.0 x.1.0 x.1.1)
-drafted name.Min text = three_registers text >>= λ x. whole (Min x.0 x.1.0 x.1.1)
-drafted name.Max text = three_registers text >>= λ x. whole (Max x.0 x.1.0 x.1.1)
-drafted name.Not text = two_registers text >>= λ x. whole (Not x.0 x.1)
-drafted name.And text = three_registers text >>= λ x. whole (And x.0 x.1.0 x.1.1)
-drafted name.Or text = three_registers text >>= λ x. whole (Or x.0 x.1.0 x.1.1)
-drafted name.Jump text = target text >>= jumping Jump
-drafted name.JumpLess text = two_registers_target text >>= λ x. jumping (JumpLess x.0 x.1.0) x.1.1
-drafted name.JumpAtMost text = two_registers_target text >>= λ x. jumping (JumpAtMost x.0 x.1.0) x.1.1
-drafted name.JumpTrue text = register_target text >>= λ x. jumping (JumpTrue x.0) x.1
-drafted name.JumpFalse text = register_target text >>= λ x. jumping (JumpFalse x.0) x.1
-drafted name.Go text = register text >>= λ a. whole (Go a)
-drafted name.Cross text = no_operand text >>= λ none. whole Cross
-drafted name.Stay text = no_operand text >>= λ none. whole Stay
-
--- a word that must be known here
-abbrev pub known : {A : Type 0} → Option A → Result A Why
-known None = Err Word
-known (Some x) = Ok x
+abbrev pub draft_of : Mnemonic → List ℕ → Result Draft Why
+draft_of name.Num text = register_number text >>= λ x. whole_draft (Num x.0 x.1)
+draft_of name.Get text = register_input text >>= λ x. whole_draft (Get x.0 x.1)
+draft_of name.Side text = register text >>= λ d. whole_draft (Side d)
+draft_of name.Draw text = register_word_chance text >>= λ x. whole_draft (Draw x.0 x.1.0 x.1.1)
+draft_of name.Copy text = two_registers text >>= λ x. whole_draft (Copy x.0 x.1)
+draft_of name.Add text = three_registers text >>= λ x. whole_draft (Add x.0 x.1.0 x.1.1)
+draft_of name.Sub text = three_registers text >>= λ x. whole_draft (Sub x.0 x.1.0 x.1.1)
+draft_of name.Mul text = two_registers_number 0 text >>= λ x. whole_draft (Mul x.0 x.1.0 x.1.1)
+draft_of name.Div text = two_registers_number 1 text >>= λ x. whole_draft (Div x.0 x.1.0 x.1.1)
+draft_of name.Min text = three_registers text >>= λ x. whole_draft (Min x.0 x.1.0 x.1.1)
+draft_of name.Max text = three_registers text >>= λ x. whole_draft (Max x.0 x.1.0 x.1.1)
+draft_of name.Not text = two_registers text >>= λ x. whole_draft (Not x.0 x.1)
+draft_of name.And text = three_registers text >>= λ x. whole_draft (And x.0 x.1.0 x.1.1)
+draft_of name.Or text = three_registers text >>= λ x. whole_draft (Or x.0 x.1.0 x.1.1)
+draft_of name.Jump text = target text >>= jump_draft Jump
+draft_of name.JumpLess text = two_registers_target text >>= λ x. jump_draft (JumpLess x.0 x.1.0) x.1.1
+draft_of name.JumpAtMost text = two_registers_target text >>= λ x. jump_draft (JumpAtMost x.0 x.1.0) x.1.1
+draft_of name.JumpTrue text = register_target text >>= λ x. jump_draft (JumpTrue x.0) x.1
+draft_of name.JumpFalse text = register_target text >>= λ x. jump_draft (JumpFalse x.0) x.1
+draft_of name.Go text = register text >>= λ a. whole_draft (Go a)
+draft_of name.Cross text = no_operand text >>= λ none. whole_draft Cross
+draft_of name.Stay text = no_operand text >>= λ none. whole_draft Stay
 
 -- the instruction at pc, from its name and what follows: first the name is judged, then whether a program has
 -- room for it, then its operands
 abbrev pub instruction : ℕ → List ℕ × List ℕ → Result (Option Draft) Why
 instruction pc parts = do
-  name ← known (mnemonic_named parts.0)
-  if nat_lt pc MOST_INSTRUCTIONS then (drafted name parts.1 >>= λ draft. Ok (Some draft)) else Err TooLong
+  name ← ok_or (mnemonic_named parts.0) Word
+  if nat_lt pc MOST_INSTRUCTIONS then (draft_of name parts.1 >>= λ draft. Ok (Some draft)) else Err TooLong
 
 -- the instruction of a text without blanks at its front, if it is not empty
 abbrev pub body : ℕ → List ℕ → Result (Option Draft) Why
@@ -81,7 +77,7 @@ new_label labels text = if is_label text then if_free text (labels text) else Er
 -- the label of a line, if it has one
 abbrev pub label_of : Labels → Option (List ℕ) → Result (Option (List ℕ)) Why
 label_of labels None = Ok None
-label_of labels (Some text) = known (only_word text) >>= new_label labels
+label_of labels (Some text) = ok_or (only_word text) Word >>= new_label labels
 
 -- what a line says: a label, an instruction, both or none
 pub record Line : Type 0 where
@@ -92,9 +88,9 @@ pub record Line : Type 0 where
 abbrev pub parts_say : Labels → ℕ → Option (List ℕ) × List ℕ → Result Line Why
 parts_say labels pc parts = do
   label ← label_of labels parts.0
-  draft ← body pc (unindented parts.1)
+  draft ← body pc (without_indent parts.1)
   Ok (record { label = label; draft = draft })
 
 -- what a line says behind these labels, where its instruction is that of this pc
 abbrev pub line_says : Labels → ℕ → List ℕ → Result Line Why
-line_says labels pc line = parts_say labels pc (labelled (uncommented line))
+line_says labels pc line = parts_say labels pc (label_and_rest (without_comment line))

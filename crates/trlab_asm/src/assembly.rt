@@ -1,24 +1,25 @@
-//! From the text of a program to the program.
+//! The assembler: a first pass over the lines finds labels and instructions, a second one gives jumps
+//! the pcs of their labels.
 
 ghost use Rattle.std.specs.Prelude.{◌≡◌, ◌≤◌, ◌⊎◌, vec_len, All, MatchResult, IfOk};
 ghost use Rattle.trlab_code.specs.Program.{InRange};
 ghost use Rattle.trlab_bounds.specs.declared.programs.TheConstants.{MOST_INSTRUCTIONS};
 ghost use Rattle.trlab_asm.specs.Lines.{lines_of};
-ghost use Rattle.trlab_asm.specs.Held.{pcs, parts_held};
-ghost use Rattle.trlab_asm.specs.Assembly.{nothing, first_pass, aimed, finished, instrs_of, code_of, OutOfMemory};
+ghost use Rattle.trlab_asm.specs.Stored.{pcs, stored_parts};
+ghost use Rattle.trlab_asm.specs.Assembly.{nothing, first_pass, with_target, resolve, instrs_of, code_of, IsOutOfMemory};
 
 use crate::fault::{AsmFault, Why};
 use crate::labels::Labels;
 use crate::lines::next_line;
-use crate::parts::{Parts, Read};
+use crate::parts::{LineDraft, Parts};
 use std::alloc::{AllocError, Global};
 use trlab_code::{Code, Instr, Kind};
 
 /// The first pass: the labels and the instructions that the lines say, or the first fault.
 fn read_parts(alloc: Global, text: &[u8]) -> Result<Parts<'_>, AsmFault>
     ensures { MatchResult result
-        (λ parts. first_pass nothing 1 (lines_of text.now) ≡ Ok (parts_held parts))
-        (λ fault. (first_pass nothing 1 (lines_of text.now) ≡ Err fault) ⊎ OutOfMemory fault) }
+        (λ parts. first_pass nothing 1 (lines_of text.now) ≡ Ok (stored_parts parts))
+        (λ fault. (first_pass nothing 1 (lines_of text.now) ≡ Err fault) ⊎ IsOutOfMemory fault) }
 {
     let mut parts = Parts::new(alloc);
     let mut left = text;
@@ -33,8 +34,8 @@ fn read_parts(alloc: Global, text: &[u8]) -> Result<Parts<'_>, AsmFault>
 }
 
 /// A jump with another target; other instructions have none.
-fn aimed(pc: u32, instr: Instr) -> Instr
-    ensures value { result ≡ aimed pc instr }
+fn with_target(pc: u32, instr: Instr) -> Instr
+    ensures value { result ≡ with_target pc instr }
     ensures in_range { InRange instr → InRange result }
 {
     match instr {
@@ -48,8 +49,8 @@ fn aimed(pc: u32, instr: Instr) -> Instr
 }
 
 /// An instruction that was read, with the pc of its label, if it names one.
-fn finished<'a>(labels: &Labels<'a>, read: &Read<'a>) -> Result<Instr, AsmFault>
-    ensures value { result ≡ finished (pcs labels.now) read.now }
+fn resolve<'a>(labels: &Labels<'a>, read: &LineDraft<'a>) -> Result<Instr, AsmFault>
+    ensures value { result ≡ resolve (pcs labels.now) read.now }
     ensures in_range { IfOk result InRange }
 {
     let draft = read.draft();
@@ -57,7 +58,7 @@ fn finished<'a>(labels: &Labels<'a>, read: &Read<'a>) -> Result<Instr, AsmFault>
         return Ok(draft.instr());
     };
     match labels.get(name) {
-        Some(pc) => Ok(aimed(pc, draft.instr())),
+        Some(pc) => Ok(with_target(pc, draft.instr())),
         None => Err(AsmFault {
             line: read.line(),
             why: Why::NoLabel,
@@ -68,8 +69,8 @@ fn finished<'a>(labels: &Labels<'a>, read: &Read<'a>) -> Result<Instr, AsmFault>
 /// The second pass: the instructions with their targets, or the first fault.
 fn instrs_of(alloc: Global, parts: &Parts<'_>) -> Result<Vec<Instr>, AsmFault>
     ensures told { MatchResult result
-        (λ instrs. instrs_of (parts_held parts.now) ≡ Ok instrs.items)
-        (λ fault. (instrs_of (parts_held parts.now) ≡ Err fault) ⊎ OutOfMemory fault) }
+        (λ instrs. instrs_of (stored_parts parts.now) ≡ Ok instrs.items)
+        (λ fault. (instrs_of (stored_parts parts.now) ≡ Err fault) ⊎ IsOutOfMemory fault) }
     ensures some { IfOk result (λ instrs. 1 ≤ vec_len instrs) }
     ensures few { IfOk result (λ instrs. vec_len instrs ≤ MOST_INSTRUCTIONS) }
     ensures in_range { IfOk result (λ instrs. All InRange instrs.items) }
@@ -84,7 +85,7 @@ fn instrs_of(alloc: Global, parts: &Parts<'_>) -> Result<Vec<Instr>, AsmFault>
     let labels = parts.labels();
     let mut instrs = Vec::with_capacity(alloc, reads.len())?;
     for read in reads {
-        let instr = finished(labels, read)?;
+        let instr = resolve(labels, read)?;
         instrs.push(instr).map_err(AllocError::from)?;
     }
     Ok(instrs)
@@ -94,10 +95,14 @@ fn instrs_of(alloc: Global, parts: &Parts<'_>) -> Result<Vec<Instr>, AsmFault>
 ///
 /// Each line has a label, an instruction, both or none; from `;` on it is a comment. Names may be
 /// used before the line that they label. Whether the kind allows an instruction is not judged here.
+///
+/// # Errors
+///
+/// The first fault of the text, as `Why` orders them; or want of memory.
 pub fn assemble(alloc: Global, kind: Kind, text: &[u8]) -> Result<Code, AsmFault>
     ensures told { MatchResult result
         (λ code. code_of kind (lines_of text.now) ≡ Ok code)
-        (λ fault. (code_of kind (lines_of text.now) ≡ Err fault) ⊎ OutOfMemory fault) }
+        (λ fault. (code_of kind (lines_of text.now) ≡ Err fault) ⊎ IsOutOfMemory fault) }
 {
     let parts = read_parts(alloc, text)?;
     let instrs = instrs_of(alloc, &parts)?;

@@ -1,4 +1,4 @@
-//! From a program to the one text that is printed for it.
+//! The disassembler: of the texts that say a program it writes one, the canonical text.
 
 ghost use Rattle.std.specs.Prelude.{◌≡◌, Ok, IfOk};
 ghost use Rattle.trlab_code.specs.Flow.{target};
@@ -31,6 +31,10 @@ fn is_target(instrs: &[Instr], pc: u32) -> bool
 ///
 /// Before an instruction that some jump goes to stands its label, `L` and the pc. The operands are
 /// separated by a comma and a space. A target behind the program is `@` and the pc.
+///
+/// # Errors
+///
+/// Want of memory.
 pub fn disassemble(alloc: Global, code: &Code) -> Result<Vec<u8>, AllocError>
     ensures canonical { IfOk result (λ text. text.items ≡ text_of code.now.instrs) }
 

@@ -1,8 +1,8 @@
-//! How a line is cut.
+//! Cuts of a line: at the first of a byte, and at blanks, which are spaces and tabs.
 
 ghost use Rattle.std.specs.Prelude.{◌≡◌, ◌<◌, ◌==◌, not, length, IfSome, option_map};
 ghost use Rattle.std.specs.List.{position};
-ghost use Rattle.trlab_asm.specs.Cutting.{cut, is_blank, unindented, up_to_blank, first_word, only_word, uncommented, labelled};
+ghost use Rattle.trlab_asm.specs.Cutting.{cut, is_blank, without_indent, up_to_blank, first_word, only_word, without_comment, label_and_rest};
 
 /// Whether a byte separates words.
 fn is_blank(byte: u8) -> bool
@@ -11,35 +11,35 @@ fn is_blank(byte: u8) -> bool
     byte == b' ' || byte == b'\t'
 }
 
-/// The place of the first such byte.
-fn place_of(text: &[u8], byte: u8) -> Option<usize>
-    ensures place { result ≡ position (λ b. b == byte) text.now }
+/// The position of the first such byte.
+fn position_of(text: &[u8], byte: u8) -> Option<usize>
+    ensures value { result ≡ position (λ b. b == byte) text.now }
     ensures inside { IfSome result (λ i. i < length text.now) }
 {
     text.iter().position(|b| *b == byte)
 }
 
-/// The place of the first blank.
+/// The position of the first blank.
 fn first_blank(text: &[u8]) -> Option<usize>
-    ensures place { result ≡ position (λ b. is_blank b) text.now }
+    ensures value { result ≡ position (λ b. is_blank b) text.now }
     ensures inside { IfSome result (λ i. i < length text.now) }
 {
     text.iter().position(|b| is_blank(*b))
 }
 
-/// The place of the first byte that is no blank.
+/// The position of the first byte that is no blank.
 fn first_of_word(text: &[u8]) -> Option<usize>
-    ensures place { result ≡ position (λ b. not (is_blank b)) text.now }
+    ensures value { result ≡ position (λ b. not (is_blank b)) text.now }
     ensures inside { IfSome result (λ i. i < length text.now) }
 {
     text.iter().position(|b| !is_blank(*b))
 }
 
 /// What stands before the first such byte of a text, and what stands behind it.
-pub(crate) fn cut(text: &[u8], byte: u8) -> Option<(&[u8], &[u8])>
+pub fn cut(text: &[u8], byte: u8) -> Option<(&[u8], &[u8])>
     ensures { option_map (λ parts. (parts.0.now, parts.1.now)) result ≡ cut byte text.now }
 {
-    match place_of(text, byte) {
+    match position_of(text, byte) {
         None => None,
         Some(i) => {
             let (front, _) = text.split_at(i);
@@ -50,8 +50,8 @@ pub(crate) fn cut(text: &[u8], byte: u8) -> Option<(&[u8], &[u8])>
 }
 
 /// A text without the blanks at its front.
-pub(crate) fn unindented(text: &[u8]) -> &[u8]
-    ensures { result.now ≡ unindented text.now }
+pub(crate) fn without_indent(text: &[u8]) -> &[u8]
+    ensures { result.now ≡ without_indent text.now }
 {
     match first_of_word(text) {
         None => &[],
@@ -76,7 +76,7 @@ pub(crate) fn up_to_blank(text: &[u8]) -> (&[u8], &[u8])
 fn first_word(text: &[u8]) -> (&[u8], &[u8])
     ensures { (result.0.now, result.1.now) ≡ first_word text.now }
 {
-    up_to_blank(unindented(text))
+    up_to_blank(without_indent(text))
 }
 
 /// The word of a text that has but blanks beside it; of blanks alone it is the empty word.
@@ -84,7 +84,7 @@ pub(crate) fn only_word(text: &[u8]) -> Option<&[u8]>
     ensures { option_map (λ word. word.now) result ≡ only_word text.now }
 {
     let (word, rest) = first_word(text);
-    if unindented(rest).is_empty() {
+    if without_indent(rest).is_empty() {
         Some(word)
     } else {
         None
@@ -92,8 +92,8 @@ pub(crate) fn only_word(text: &[u8]) -> Option<&[u8]>
 }
 
 /// A line without its comment.
-pub(crate) fn uncommented(line: &[u8]) -> &[u8]
-    ensures { result.now ≡ uncommented line.now }
+pub(crate) fn without_comment(line: &[u8]) -> &[u8]
+    ensures { result.now ≡ without_comment line.now }
 {
     match cut(line, b';') {
         None => line,
@@ -102,8 +102,8 @@ pub(crate) fn uncommented(line: &[u8]) -> &[u8]
 }
 
 /// What stands before the first colon, if there is one, and what stands behind.
-pub(crate) fn labelled(text: &[u8]) -> (Option<&[u8]>, &[u8])
-    ensures { (option_map (λ label. label.now) result.0, result.1.now) ≡ labelled text.now }
+pub(crate) fn label_and_rest(text: &[u8]) -> (Option<&[u8]>, &[u8])
+    ensures { (option_map (λ label. label.now) result.0, result.1.now) ≡ label_and_rest text.now }
 {
     match cut(text, b':') {
         None => (None, text),

@@ -1,4 +1,4 @@
-//! What is wrong in the text of a program.
+//! The faults of program texts, and which of several is the first.
 
 ghost use Rattle.std.specs.Prelude.{◌≡◌};
 ghost use Rattle.trlab_asm.specs.declared.fault.Why.TheVariants.{Memory};

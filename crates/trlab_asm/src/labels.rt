@@ -1,8 +1,8 @@
-//! The labels of a text.
+//! The labels of a text: each name stands for a pc, the number of the next instruction.
 
 ghost use Rattle.std.specs.Prelude.{◌≡◌, None, Some, bytes_eq, OnOk};
 ghost use Rattle.std.specs.Map.{update};
-ghost use Rattle.trlab_asm.specs.Held.{pcs};
+ghost use Rattle.trlab_asm.specs.Stored.{pcs};
 
 use std::alloc::{AllocError, Global};
 use std::collections::BTreeMap;

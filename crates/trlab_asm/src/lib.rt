@@ -19,5 +19,7 @@ mod target;
 
 pub use assembly::assemble;
 pub use canonical::disassemble;
+pub use cutting::cut;
 pub use fault::{AsmFault, Why};
 pub use lines::next_line;
+pub use numbers::{digits_value, is_numeral};

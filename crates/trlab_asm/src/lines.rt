@@ -1,8 +1,9 @@
-//! The lines of a text.
+//! Lines: LF ends each, and may be missing at the last.
 
-ghost use Rattle.std.specs.Prelude.{◌≡◌, ◌==◌, ◌<◌, [], ◌∷◌, length, MatchOption, IfSome};
-ghost use Rattle.std.specs.List.{position};
+ghost use Rattle.std.specs.Prelude.{◌≡◌, ◌<◌, [], ◌∷◌, length, MatchOption, IfSome};
 ghost use Rattle.trlab_asm.specs.Lines.{lines_of, BeginsWithLine, HasNoEnd};
+
+use crate::cutting::cut;
 
 /// The first line of a text, without its LF, and what stands behind that; where no byte is left, no
 /// line is.
@@ -18,19 +19,8 @@ pub fn next_line(text: &[u8]) -> Option<(&[u8], &[u8])>
     if text.is_empty() {
         return None;
     }
-    match end_of_line(text) {
+    match cut(text, b'\n') {
         None => Some((text, &[])),
-        Some(end) => {
-            let (line, _) = text.split_at(end);
-            let (_, rest) = text.split_at(end + 1);
-            Some((line, rest))
-        }
+        Some(found) => Some(found),
     }
-}
-
-/// The place of the first LF.
-fn end_of_line(text: &[u8]) -> Option<usize>
-    ensures { result ≡ position (λ byte. byte == 10) text.now }
-{
-    text.iter().position(|byte| *byte == b'\n')
 }

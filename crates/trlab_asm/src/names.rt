@@ -1,4 +1,4 @@
-//! The names of registers, inputs and instructions.
+//! The names of registers, inputs and instructions: one table each, by which they are read and printed.
 
 ghost use Rattle.std.specs.Prelude.{◌≡◌, bytes_eq};
 ghost use Rattle.std.specs.List.{find};

@@ -1,61 +1,50 @@
-//! The operands of an instruction, in each of the shapes that they have.
+//! Operands: commas separate them, and an instruction has one of eleven shapes of them.
 
-ghost use Rattle.std.specs.Prelude.{◌≡◌, ◌≤◌, ◌<◌, true, IfOk};
+ghost use Rattle.std.specs.Prelude.{◌≡◌, ◌≤◌, ◌<◌, true, IfOk, ok_or};
 ghost use Rattle.trlab_bounds.specs.declared.programs.TheConstants.{WORDS, CERTAIN};
 ghost use Rattle.trlab_asm.specs.Cutting.{cut};
-ghost use Rattle.trlab_asm.specs.Operands.{wanted, word, register, input, all_digits, numeral, number, target, no_operand, two_registers, three_registers, register_input, register_number, two_registers_number, word_chance, register_word_chance, register_target, two_registers_target, seen};
+ghost use Rattle.trlab_asm.specs.Operands.{word, register, input, all_digits, numeral, number, target, no_operand, two_registers, three_registers, register_input, register_number, two_registers_number, word_chance, register_word_chance, register_target, two_registers_target};
+ghost use Rattle.trlab_asm.specs.Results.{map_ok};
 
 use crate::cutting::{cut, only_word};
 use crate::fault::Why;
 use crate::names::{input_named, register_named};
-use crate::numbers::{digits_of, ranged};
+use crate::numbers::{digits_of, value_within};
 use crate::target::{Target, target_named};
 use trlab_bounds::programs::GREATEST_NUMBER;
 use trlab_code::{CERTAIN, Input, Register, WORDS};
 
 /// What stands before the first comma, and what stands behind it.
 fn comma(text: &[u8]) -> Result<(&[u8], &[u8]), Why>
-    ensures { seen (λ parts. (parts.0.now, parts.1.now)) result ≡ wanted (cut 44 text.now) }
+    ensures { map_ok (λ parts. (parts.0.now, parts.1.now)) result ≡ ok_or (cut 44 text.now) Why.Operand }
 {
-    match cut(text, b',') {
-        Some(parts) => Ok(parts),
-        None => Err(Why::Operand),
-    }
+    cut(text, b',').ok_or(Why::Operand)
 }
 
 /// The one word of an operand.
 fn word(text: &[u8]) -> Result<&[u8], Why>
-    ensures { seen (λ word. word.now) result ≡ word text.now }
+    ensures { map_ok (λ word. word.now) result ≡ word text.now }
 {
-    match only_word(text) {
-        Some(word) => Ok(word),
-        None => Err(Why::Operand),
-    }
+    only_word(text).ok_or(Why::Operand)
 }
 
 /// A register.
 pub(crate) fn register(text: &[u8]) -> Result<Register, Why>
     ensures { result ≡ register text.now }
 {
-    match register_named(word(text)?) {
-        Some(register) => Ok(register),
-        None => Err(Why::Operand),
-    }
+    register_named(word(text)?).ok_or(Why::Operand)
 }
 
 /// An input.
 fn input(text: &[u8]) -> Result<Input, Why>
     ensures { result ≡ input text.now }
 {
-    match input_named(word(text)?) {
-        Some(input) => Ok(input),
-        None => Err(Why::Operand),
-    }
+    input_named(word(text)?).ok_or(Why::Operand)
 }
 
 /// The digits of an operand that has the form of a number.
 fn numeral(text: &[u8]) -> Result<&[u8], Why>
-    ensures value { seen (λ digits. digits.now) result ≡ numeral text.now }
+    ensures value { map_ok (λ digits. digits.now) result ≡ numeral text.now }
     ensures digits { IfOk result (λ digits. all_digits digits.now ≡ true) }
 {
     digits_of(word(text)?)
@@ -67,7 +56,7 @@ fn number(low: u32, text: &[u8]) -> Result<u32, Why>
     ensures low { IfOk result (λ n. low ≤ n) }
 {
     let digits = numeral(text)?;
-    ranged(low, GREATEST_NUMBER, digits)
+    value_within(low, GREATEST_NUMBER, digits)
 }
 
 /// A jump's operand.
@@ -147,8 +136,8 @@ fn word_chance(text: &[u8]) -> Result<(u32, u32), Why>
     let (first, rest) = comma(text)?;
     let word = numeral(first)?;
     let chance = numeral(rest)?;
-    let word = ranged(0, WORDS as u32 - 1, word)?;
-    let chance = ranged(0, CERTAIN, chance)?;
+    let word = value_within(0, WORDS as u32 - 1, word)?;
+    let chance = value_within(0, CERTAIN, chance)?;
     Ok((word, chance))
 }
 

@@ -1,4 +1,4 @@
-//! What the first pass over a text has read.
+//! What the first pass has read so far: labels, and instructions with the numbers of their lines.
 
 ghost use Rattle.std.specs.Prelude.{◌≡◌, ◌≤◌, length};
 ghost use Rattle.trlab_bounds.specs.declared.programs.TheConstants.{MOST_INSTRUCTIONS};
@@ -12,20 +12,20 @@ use std::marker::Model;
 
 /// An instruction as it was read, and the number of its line.
 #[derive(Drop)]
-pub(crate) struct Read<'a> {
+pub(crate) struct LineDraft<'a> {
     line: usize,
     draft: Draft<'a>,
 }
 
-impl<'a> Model for Read<'a> {
-    ghost use Rattle.trlab_asm.specs.Assembly.{Read as Reading};
+impl<'a> Model for LineDraft<'a> {
+    ghost use Rattle.trlab_asm.specs.Assembly.{LineDraft as Reading};
 
     ghost Value = { Reading };
 
     ghost view = { λ read. record { line = read.line; draft = read.draft } };
 }
 
-impl<'a> Read<'a> {
+impl<'a> LineDraft<'a> {
     /// The number of its line.
     pub(crate) fn line(&self) -> usize
         ensures { result ≡ self.now.line }
@@ -45,7 +45,7 @@ impl<'a> Read<'a> {
 #[derive(Drop)]
 pub(crate) struct Parts<'a> {
     labels: Labels<'a>,
-    reads: Vec<Read<'a>>,
+    reads: Vec<LineDraft<'a>>,
     ghost few: { length reads.items ≤ MOST_INSTRUCTIONS },
 }
 
@@ -53,11 +53,11 @@ impl<'a> Parts<'a> {
     ghost use Rattle.std.specs.Prelude.{◌<◌, IfOk, OnOk, OnSome, length};
     ghost use Rattle.trlab_asm.specs.Reading.{line_says};
     ghost use Rattle.trlab_asm.specs.Assembly.{nothing, in_line, with_line};
-    ghost use Rattle.trlab_asm.specs.Held.{pcs, parts_held};
+    ghost use Rattle.trlab_asm.specs.Stored.{pcs, stored_parts};
 
     /// Of no line.
     pub(crate) fn new(alloc: Global) -> Parts<'a>
-        ensures { parts_held result ≡ nothing }
+        ensures { stored_parts result ≡ nothing }
     {
         Parts {
             labels: Labels::new(alloc),
@@ -67,14 +67,14 @@ impl<'a> Parts<'a> {
 
     /// The labels.
     pub(crate) fn labels(&self) -> &Labels<'a>
-        ensures { pcs result.now ≡ (parts_held self.now).labels }
+        ensures { pcs result.now ≡ (stored_parts self.now).labels }
     {
         &self.labels
     }
 
     /// The instructions.
-    pub(crate) fn reads(&self) -> &[Read<'a>]
-        ensures value { result.now ≡ (parts_held self.now).reads }
+    pub(crate) fn reads(&self) -> &[LineDraft<'a>]
+        ensures value { result.now ≡ (stored_parts self.now).reads }
         ensures few { length result.now ≤ MOST_INSTRUCTIONS }
     {
         &self.reads
@@ -83,8 +83,9 @@ impl<'a> Parts<'a> {
     /// What the line of a number says, or its fault.
     pub(crate) fn says(&self, number: usize, line: &'a [u8]) -> Result<Line<'a>, AsmFault>
         ensures value { result ≡ in_line number
-            (line_says (parts_held self.now).labels (length (parts_held self.now).reads) line.now) }
-        ensures room { IfOk result (λ said. OnSome said.draft (length (parts_held self.now).reads < MOST_INSTRUCTIONS)) }
+            (line_says (stored_parts self.now).labels (length (stored_parts self.now).reads) line.now) }
+        ensures room { IfOk result (λ said.
+            OnSome said.draft (length (stored_parts self.now).reads < MOST_INSTRUCTIONS)) }
     {
         read_line(&self.labels, self.reads.len(), line).map_err(|why| AsmFault {
             line: number,
@@ -94,14 +95,14 @@ impl<'a> Parts<'a> {
 
     /// The line of a number more: its label names the next instruction.
     pub(crate) fn add(&mut self, number: usize, line: Line<'a>) -> Result<(), AllocError>
-        requires { OnSome line.draft (length (parts_held self.old).reads < MOST_INSTRUCTIONS) }
-        ensures { OnOk result (parts_held self.new ≡ with_line (parts_held self.old) number line.entry) }
+        requires { OnSome line.draft (length (stored_parts self.old).reads < MOST_INSTRUCTIONS) }
+        ensures { OnOk result (stored_parts self.new ≡ with_line (stored_parts self.old) number line.entry) }
     {
         if let Some(name) = line.label {
             self.labels.add(name, self.reads.len() as u32)?;
         }
         if let Some(draft) = line.draft {
-            self.reads.push(Read {
+            self.reads.push(LineDraft {
                 line: number,
                 draft,
             })?;

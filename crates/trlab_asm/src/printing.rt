@@ -1,10 +1,10 @@
-//! The texts of instructions, as they are printed.
+//! Instructions as they are printed: a name, a space, and operands with a comma and a space between.
 
 ghost use Rattle.std.specs.Prelude.{◌≡◌, ◌++◌, decimal, OnOk};
 ghost use Rattle.trlab_code.specs.declared.instruction.Instr.TheVariants.{Get, Draw, Jump};
 ghost use Rattle.trlab_asm.specs.Names.{register_text};
 ghost use Rattle.trlab_code.specs.Laws.{HasWord};
-ghost use Rattle.trlab_asm.specs.Canonical.{target_text, ◌comma◌, named, instr_text, line_text};
+ghost use Rattle.trlab_asm.specs.Canonical.{target_text, ◌comma◌, row_text, instr_text, line_text};
 
 use crate::names::{Mnemonic, input_text, mnemonic_text, register_text};
 use std::alloc::{AllocError, Global};
@@ -28,7 +28,7 @@ fn push_target(alloc: Global, out: &mut Vec<u8>, count: usize, pc: u32) -> Resul
 
 /// A name and a register.
 fn push_one(out: &mut Vec<u8>, name: Mnemonic, register: Register) -> Result<(), AllocError>
-    ensures { OnOk result (out.new.items ≡ out.old.items ++ named name (register_text register)) }
+    ensures { OnOk result (out.new.items ≡ out.old.items ++ row_text name (register_text register)) }
 {
     out.extend_from_slice(mnemonic_text(name))?;
     out.extend_from_slice(b" ")?;
@@ -37,7 +37,7 @@ fn push_one(out: &mut Vec<u8>, name: Mnemonic, register: Register) -> Result<(),
 
 /// A name and two registers.
 fn push_two(out: &mut Vec<u8>, name: Mnemonic, d: Register, a: Register) -> Result<(), AllocError>
-    ensures { OnOk result (out.new.items ≡ out.old.items ++ named name (register_text d comma register_text a)) }
+    ensures { OnOk result (out.new.items ≡ out.old.items ++ row_text name (register_text d comma register_text a)) }
 {
     push_one(out, name, d)?;
     out.extend_from_slice(b", ")?;
@@ -53,7 +53,7 @@ fn push_three(
     b: Register,
 ) -> Result<(), AllocError>
     ensures { OnOk result (out.new.items
-        ≡ out.old.items ++ named name (register_text d comma register_text a comma register_text b)) }
+        ≡ out.old.items ++ row_text name (register_text d comma register_text a comma register_text b)) }
 {
     push_two(out, name, d, a)?;
     out.extend_from_slice(b", ")?;
@@ -77,7 +77,7 @@ fn push_one_number(
     d: Register,
     n: u32,
 ) -> Result<(), AllocError>
-    ensures { OnOk result (out.new.items ≡ out.old.items ++ named name (register_text d comma decimal n)) }
+    ensures { OnOk result (out.new.items ≡ out.old.items ++ row_text name (register_text d comma decimal n)) }
 {
     push_one(out, name, d)?;
     out.extend_from_slice(b", ")?;
@@ -94,7 +94,7 @@ fn push_two_number(
     n: u32,
 ) -> Result<(), AllocError>
     ensures { OnOk result (out.new.items
-        ≡ out.old.items ++ named name (register_text d comma register_text a comma decimal n)) }
+        ≡ out.old.items ++ row_text name (register_text d comma register_text a comma decimal n)) }
 {
     push_two(out, name, d, a)?;
     out.extend_from_slice(b", ")?;
@@ -128,7 +128,8 @@ fn push_one_target(
     a: Register,
     pc: u32,
 ) -> Result<(), AllocError>
-    ensures { OnOk result (out.new.items ≡ out.old.items ++ named name (register_text a comma target_text count pc)) }
+    ensures { OnOk result (out.new.items
+        ≡ out.old.items ++ row_text name (register_text a comma target_text count pc)) }
 {
     push_one(out, name, a)?;
     out.extend_from_slice(b", ")?;
@@ -146,7 +147,7 @@ fn push_two_target(
     pc: u32,
 ) -> Result<(), AllocError>
     ensures { OnOk result (out.new.items
-        ≡ out.old.items ++ named name (register_text a comma register_text b comma target_text count pc)) }
+        ≡ out.old.items ++ row_text name (register_text a comma register_text b comma target_text count pc)) }
 {
     push_two(out, name, a, b)?;
     out.extend_from_slice(b", ")?;

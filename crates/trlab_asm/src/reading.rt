@@ -1,12 +1,12 @@
-//! What a line of a program's text says.
+//! One line of a program's text: a label, an instruction, both or none.
 
 ghost use Rattle.std.specs.Prelude.{◌≡◌, ◌<◌, option_map, IfOk, OnOk, OnSome};
 ghost use Rattle.trlab_bounds.specs.declared.programs.TheConstants.{MOST_INSTRUCTIONS};
-ghost use Rattle.trlab_asm.specs.Operands.{seen};
 ghost use Rattle.trlab_asm.specs.Reading.{Line as Said, instruction, body, new_label, label_of, line_says};
-ghost use Rattle.trlab_asm.specs.Held.{pcs};
+ghost use Rattle.trlab_asm.specs.Stored.{pcs};
+ghost use Rattle.trlab_asm.specs.Results.{map_ok};
 
-use crate::cutting::{labelled, only_word, uncommented, unindented, up_to_blank};
+use crate::cutting::{label_and_rest, only_word, up_to_blank, without_comment, without_indent};
 use crate::draft::{Draft, read_draft};
 use crate::fault::Why;
 use crate::labels::Labels;
@@ -57,7 +57,7 @@ fn body(pc: usize, text: &[u8]) -> Result<Option<Draft<'_>>, Why>
 
 /// A label that has not been there.
 fn new_label<'a>(labels: &Labels<'a>, text: &'a [u8]) -> Result<Option<&'a [u8]>, Why>
-    ensures { seen (λ label. option_map (λ label. label.now) label) result ≡ new_label (pcs labels.now) text.now }
+    ensures { map_ok (λ label. option_map (λ label. label.now) label) result ≡ new_label (pcs labels.now) text.now }
 {
     if is_label(text) {
         match labels.get(text) {
@@ -71,7 +71,7 @@ fn new_label<'a>(labels: &Labels<'a>, text: &'a [u8]) -> Result<Option<&'a [u8]>
 
 /// The label of a line, if it has one.
 fn label_of<'a>(labels: &Labels<'a>, text: Option<&'a [u8]>) -> Result<Option<&'a [u8]>, Why>
-    ensures { seen (λ label. option_map (λ label. label.now) label) result
+    ensures { map_ok (λ label. option_map (λ label. label.now) label) result
         ≡ label_of (pcs labels.now) (option_map (λ text. text.now) text.entry) }
 {
     let Some(text) = text else {
@@ -88,8 +88,8 @@ pub(crate) fn read_line<'a>(labels: &Labels<'a>, pc: usize, line: &'a [u8]) -> R
     ensures value { result ≡ line_says (pcs labels.now) pc line.now }
     ensures room { IfOk result (λ said. OnSome said.draft (pc < MOST_INSTRUCTIONS)) }
 {
-    let (label, text) = labelled(uncommented(line));
+    let (label, text) = label_and_rest(without_comment(line));
     let label = label_of(labels, label)?;
-    let draft = body(pc, unindented(text))?;
+    let draft = body(pc, without_indent(text))?;
     Ok(Line { label, draft })
 }

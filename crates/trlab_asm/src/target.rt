@@ -1,10 +1,10 @@
-//! Where jumps go, as a text says it.
+//! Targets of jumps: a label, or `@` and a pc.
 
 ghost use Rattle.std.specs.Prelude.{◌≡◌, option_map};
 ghost use Rattle.trlab_asm.specs.Operands.{Target as Goal, is_label, all_label_bytes, pc_named, target_named};
 
 use crate::fault::Why;
-use crate::numbers::{digits_of, ranged};
+use crate::numbers::{digits_of, value_within};
 use std::marker::Model;
 use trlab_bounds::programs::{GREATEST_NUMBER, LONGEST_LABEL};
 
@@ -47,7 +47,7 @@ fn pc_named(text: &[u8]) -> Result<Target<'_>, Why>
         return Err(Why::Operand);
     };
     let digits = digits_of(digits)?;
-    let pc = ranged(0, GREATEST_NUMBER, digits)?;
+    let pc = value_within(0, GREATEST_NUMBER, digits)?;
     Ok(Target { pc, label: None })
 }
 

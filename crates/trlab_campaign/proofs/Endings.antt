@@ -1,20 +1,17 @@
 -- How runs end, by what was written.
 use Rattle.std.proofs.Common.{ℕ, ◌<◌, List, length, refl, subst, Bool, true, false, inr}
-use Rattle.std.proofs.lemmas.Bool.{lt-ltb}
 use Rattle.std.specs.Prelude.{Option, None, Some, IfSome, Ok, Err}
 use Rattle.std.specs.Io.KnownBytes.{Keeps}
 use Rattle.trlab_campaign.specs.declared.end.End.{End}
 use Rattle.trlab_campaign.specs.declared.end.End.TheVariants.{Done, Refused, Memory, DeviceFault}
-use Rattle.trlab_texts.specs.declared.fault.Cause.TheVariants.{TooBig}
 use Rattle.trlab_bounds.specs.declared.texts.TheConstants.{TEXT_LIMIT}
 use Rattle.trlab_texts.specs.Reading.{Fault}
 use Rattle.trlab_jobs.specs.Job.{Job, JobText}
-use Rattle.trlab_code.specs.Program.{Program}
-use Rattle.trlab_campaign.specs.Refusal.{fault_line}
+use Rattle.trlab_campaign.specs.Refusal.{Outputs, fault_line, too_big_line}
 use Rattle.trlab_campaign.specs.Output.{IsOutput}
-use Rattle.trlab_jobs.specs.Check.{CheckText}
+use Rattle.trlab_jobs.specs.Check.{Check, CheckText}
 use Rattle.trlab_campaign.specs.CheckOutput.{VerdictOutput, IsCheckOutput}
-use Rattle.trlab_campaign.specs.Ending.{Outputs, EndsSo, OutputEnds, WrotePictures, WroteSome, JobEnds}
+use Rattle.trlab_campaign.specs.Ending.{EndsSo, OutputEnds, WrotePictures, WroteSome, JobEnds}
 use Rattle.trlab_campaign.proofs.KnownBytes.{front_kept}
 
 -- all pictures were written, and the last call kept the bytes
@@ -36,11 +33,11 @@ job_ends Refused text job old new says ends = absurd ends
 job_ends Memory text job old new says ends = inr (false, (ends.0, ((Ok job, (says, (refl, (ends.1, ends.2)))), ends.3)))
 job_ends DeviceFault text job old new says ends = inr (false, (ends.0, ((Ok job, (says, (refl, (ends.1, ends.2)))), ends.3)))
 
--- the verdict on the program that a check text says
-pub verdict_ends : (e : End) (text : List ℕ) (program : Program) (refused : Bool) (out : List ℕ) (old new : Option (List ℕ)) → CheckText text (Ok program)
-    → VerdictOutput program refused out → OutputEnds refused out e old new → EndsSo (IsCheckOutput text) e old new
-verdict_ends e text program refused out old new says verdict ends =
-    output_ends (IsCheckOutput text) refused out e old new (Ok program, (says, verdict)) ends
+-- the verdict on the program of a check that a text says
+pub verdict_ends : (e : End) (text : List ℕ) (check : Check) (refused : Bool) (out : List ℕ) (old new : Option (List ℕ)) → CheckText text (Ok check)
+    → VerdictOutput check refused out → OutputEnds refused out e old new → EndsSo (IsCheckOutput text) e old new
+verdict_ends e text check refused out old new says verdict ends =
+    output_ends (IsCheckOutput text) refused out e old new (Ok check, (says, verdict)) ends
 
 -- the refusal of a text with a fault
 pub refusal_ends : (e : End) (text : List ℕ) (fault : Fault) (old new : Option (List ℕ)) → JobText text (Err fault)
@@ -51,16 +48,8 @@ pub check_refusal_ends : (e : End) (text : List ℕ) (fault : Fault) (old new : 
     → OutputEnds true (fault_line fault) e old new → EndsSo (IsCheckOutput text) e old new
 check_refusal_ends e text fault old new says ends = output_ends (IsCheckOutput text) true (fault_line fault) e old new (Err fault, (says, (refl, refl))) ends
 
-abbrev too_big : Fault
-too_big = record { line = 0; cause = TooBig }
-
--- the refusal of a text that is too long
-pub too_big_ends : (e : End) (left old new : Option (List ℕ)) → IfSome left (λ all. TEXT_LIMIT < length all)
-    → OutputEnds true (fault_line (record { line = 0; cause = TooBig })) e old new → IfSome left (λ text. EndsSo (IsOutput text) e old new)
-too_big_ends e None old new big ends = tt
-too_big_ends e (Some all) old new big ends = refusal_ends e all too_big old new (rw (lt-ltb TEXT_LIMIT (length all) big) refl) ends
-
-pub big_check_ends : (e : End) (left old new : Option (List ℕ)) → IfSome left (λ all. TEXT_LIMIT < length all)
-    → OutputEnds true (fault_line (record { line = 0; cause = TooBig })) e old new → IfSome left (λ text. EndsSo (IsCheckOutput text) e old new)
-big_check_ends e None old new big ends = tt
-big_check_ends e (Some all) old new big ends = check_refusal_ends e all too_big old new (rw (lt-ltb TEXT_LIMIT (length all) big) refl) ends
+-- the refusal of a text that is too long, where an engine refuses such texts
+pub too_big_ends : (IsWhole : List ℕ → Outputs) (e : End) (left old new : Option (List ℕ)) → ((text : List ℕ) → TEXT_LIMIT < length text → IsWhole text true too_big_line)
+    → IfSome left (λ all. TEXT_LIMIT < length all) → OutputEnds true too_big_line e old new → IfSome left (λ text. EndsSo (IsWhole text) e old new)
+too_big_ends IsWhole e None old new refuses big ends = tt
+too_big_ends IsWhole e (Some all) old new refuses big ends = output_ends (IsWhole all) true too_big_line e old new (refuses all big) ends

@@ -7,7 +7,8 @@ use Rattle.trlab_step.proofs.RunLaws.{road_at_is_one}
 use Rattle.trlab_texts.specs.Reading.{Fault}
 use Rattle.trlab_jobs.specs.Job.{Job, seed_of, sheet_of}
 use Rattle.trlab_jobs.proofs.OneText.{one_thing}
-use Rattle.trlab_campaign.specs.Output.{step_text, OutputFor}
+use Rattle.trlab_campaign.specs.Output.{JobOutput, step_text}
+use Rattle.trlab_campaign.specs.Refusal.{OutputFor}
 use Rattle.trlab_campaign.specs.Laws.{TextHasOneOutput}
 
 -- the texts of steps where two runs have the same roads
@@ -19,7 +20,7 @@ texts_agree roads others from (suc count) same =
     let rest = texts_agree roads others (from + 1) count (λ s below. same s (omega arith)) in
     ap (λ t. t ++ flat_map (λ s. step_text s (roads s)) (range_with_len (from + 1) count)) here ∙ ap (λ t. step_text from (others from) ++ t) rest
 
-output_one : (says : Result Job Fault) (refused also : Bool) (out other : List ℕ) → OutputFor says refused out → OutputFor says also other → (refused ≡ also) × (out ≡ other)
+output_one : (says : Result Job Fault) (refused also : Bool) (out other : List ℕ) → OutputFor JobOutput says refused out → OutputFor JobOutput says also other → (refused ≡ also) × (out ≡ other)
 output_one (Ok said) refused also out other p q =
     let a = p.1.1 in
     let b = q.1.1 in
@@ -31,4 +32,4 @@ output_one (Err fault) refused also out other p q = (p.0 ∙ sym q.0, p.1 ∙ sy
 pub one_output : TextHasOneOutput
 one_output text refused also out other p q =
     let same = one_thing text p.0 q.0 p.1.0 q.1.0 in
-    output_one q.0 refused also out other (subst (λ (says : Result Job Fault). OutputFor says refused out) same p.1.1) q.1.1
+    output_one q.0 refused also out other (subst (λ (says : Result Job Fault). OutputFor JobOutput says refused out) same p.1.1) q.1.1

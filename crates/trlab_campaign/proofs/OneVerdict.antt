@@ -1,30 +1,31 @@
 -- A check text has one output only.
 use Rattle.std.proofs.Common.{◌≡◌, ℕ, List, refl, sym, ◌∙◌, ap, subst, Bool, true, false}
 use Rattle.std.specs.Prelude.{Result, Ok, Err}
-use Rattle.trlab_code.specs.Program.{Program}
+use Rattle.trlab_jobs.specs.Check.{Check}
 use Rattle.trlab_texts.specs.Reading.{Fault}
 use Rattle.trlab_texts.proofs.OneProgram.{one_longest, not_refused, refused_at_one, refused_one}
 use Rattle.trlab_jobs.proofs.OneCheck.{one_thing}
-use Rattle.trlab_campaign.specs.CheckOutput.{accepted_text, refused_line, VerdictOutput, CheckOutputFor}
+use Rattle.trlab_campaign.specs.CheckOutput.{accepted_text, refused_line, VerdictOutput}
+use Rattle.trlab_campaign.specs.Refusal.{OutputFor}
 use Rattle.trlab_campaign.specs.Laws.{CheckHasOneOutput}
 
-verdict_one : (program : Program) (refused also : Bool) (out other : List ℕ) → VerdictOutput program refused out → VerdictOutput program also other
+verdict_one : (check : Check) (refused also : Bool) (out other : List ℕ) → VerdictOutput check refused out → VerdictOutput check also other
     → (refused ≡ also) × (out ≡ other)
-verdict_one program false false out other p q =
-    (refl, p.1.1.1 ∙ ap (λ budget. accepted_text budget program) (one_longest program.instrs p.1.0 q.1.0 p.1.1.0 q.1.1.0) ∙ sym q.1.1.1)
-verdict_one program false true out other p q = absurd (not_refused program.kind program q.0 q.1 p.0 q.2.0)
-verdict_one program true false out other p q = absurd (not_refused program.kind program p.0 p.1 q.0 p.2.0)
-verdict_one program true true out other p q =
-    let at = refused_at_one program.kind program p.0 p.1 q.0 q.1 p.2.0 q.2.0 in
-    let reason = refused_one program.kind program p.0 p.1 q.0 q.1 p.2.0 q.2.0 in
+verdict_one check false false out other p q =
+    (refl, p.1.1.1 ∙ ap (λ budget. accepted_text budget check.program) (one_longest check.program.instrs p.1.0 q.1.0 p.1.1.0 q.1.1.0) ∙ sym q.1.1.1)
+verdict_one check false true out other p q = absurd (not_refused check.program.kind check.program q.0 q.1 p.0 q.2.0)
+verdict_one check true false out other p q = absurd (not_refused check.program.kind check.program p.0 p.1 q.0 p.2.0)
+verdict_one check true true out other p q =
+    let at = refused_at_one check.program.kind check.program p.0 p.1 q.0 q.1 p.2.0 q.2.0 in
+    let reason = refused_one check.program.kind check.program p.0 p.1 q.0 q.1 p.2.0 q.2.0 in
     (refl, p.2.1 ∙ ap (λ n. refused_line n p.1) at ∙ ap (refused_line q.0) reason ∙ sym q.2.1)
 
-output_one : (says : Result Program Fault) (refused also : Bool) (out other : List ℕ) → CheckOutputFor says refused out → CheckOutputFor says also other
+output_one : (says : Result Check Fault) (refused also : Bool) (out other : List ℕ) → OutputFor VerdictOutput says refused out → OutputFor VerdictOutput says also other
     → (refused ≡ also) × (out ≡ other)
-output_one (Ok program) refused also out other p q = verdict_one program refused also out other p q
+output_one (Ok check) refused also out other p q = verdict_one check refused also out other p q
 output_one (Err fault) refused also out other p q = (p.0 ∙ sym q.0, p.1 ∙ sym q.1)
 
 pub one_output : CheckHasOneOutput
 one_output text refused also out other p q =
     let same = one_thing text p.0 q.0 p.1.0 q.1.0 in
-    output_one q.0 refused also out other (subst (λ (says : Result Program Fault). CheckOutputFor says refused out) same p.1.1) q.1.1
+    output_one q.0 refused also out other (subst (λ (says : Result Check Fault). OutputFor VerdictOutput says refused out) same p.1.1) q.1.1

@@ -4,11 +4,11 @@ use Rattle.std.specs.Prelude.{Option, Result, OnOk, OnErr, Ok, Err}
 use Rattle.std.specs.List.{range_with_len}
 use Rattle.std.specs.Io.KnownBytes.{Appends}
 use Rattle.trlab_road.specs.Cells.{Cells}
-use Rattle.trlab_step.specs.Run.{RoadAt}
+use Rattle.trlab_step.specs.Run.{IsRoadAt}
 use Rattle.trlab_step.proofs.RunLaws.{run_comes_to_road, road_at_is_one}
-use Rattle.trlab_run.specs.Reached.{Reached, OneStepOn, at_start}
+use Rattle.trlab_run.specs.Progress.{Progress, IsOneStepOn, at_start}
 use Rattle.trlab_jobs.specs.Job.{Job, seed_of, sheet_of}
-use Rattle.trlab_jobs.specs.Plain.{IsPlain}
+use Rattle.trlab_jobs.specs.Stored.{IsStored}
 use Rattle.trlab_campaign.specs.Device.{AppendsFront, Owes}
 use Rattle.trlab_campaign.specs.Output.{step_text, steps_text}
 use Rattle.trlab_campaign.specs.Ending.{WrotePictures, WroteSome}
@@ -21,7 +21,7 @@ text_from roads step count = flat_map (λ s. step_text s (roads s)) (range_with_
 
 -- at each step of a run its road
 abbrev pub Roads : Job → (ℕ → Cells) → Type 0
-Roads job roads = (s : ℕ) → RoadAt (seed_of job) (sheet_of job) s (roads s)
+Roads job roads = (s : ℕ) → IsRoadAt (seed_of job) (sheet_of job) s (roads s)
 
 -- before a step, of the whole output the text from this step on is owed
 pub record Underway (job : Job) (step left : ℕ) (old now : Option (List ℕ)) : Type 0 where
@@ -38,19 +38,19 @@ pub record Written (job : Job) (step left : ℕ) (old now : Option (List ℕ)) :
   pub owes : Owes (steps_text roads (job.steps + 1)) (text_from roads (step + 1) left) old now
 
 -- a run on its way is that of a job, at a step
-pub record Drives (job : Job) (step : ℕ) (run : Reached) : Type 0 where
+pub record Drives (job : Job) (step : ℕ) (run : Progress) : Type 0 where
   pub seed : run.seed ≡ seed_of job
   pub sheet : run.sheet ≡ sheet_of job
   pub step_is : run.step ≡ step
 
 -- a job that was read has a road at each step of its run
-pub roads_of : (job : Job) → IsPlain job → (roads : ℕ → Cells) × Roads job roads
+pub roads_of : (job : Job) → IsStored job → (roads : ℕ → Cells) × Roads job roads
 roads_of job plain =
     let at = λ (s : ℕ). run_comes_to_road (seed_of job) (sheet_of job) s plain.legal (plain_sheet job plain) in
     (λ s. (at s).0, λ s. ((at s).1, (at s).2))
 
 -- before the first step
-pub begin : (job : Job) (old : Option (List ℕ)) → IsPlain job → Underway job 0 job.steps old old
+pub begin : (job : Job) (old : Option (List ℕ)) → IsStored job → Underway job 0 job.steps old old
 begin job old plain =
     let found = roads_of job plain in
     record {
@@ -65,7 +65,7 @@ pub begin_run : (job : Job) → Drives job 0 (at_start (seed_of job) (sheet_of j
 begin_run job = record { seed = refl; sheet = refl; step_is = refl }
 
 -- and goes on
-pub drive_on : (job : Job) (step : ℕ) (old new : Reached) → Drives job step old → OneStepOn old new → Drives job (step + 1) new
+pub drive_on : (job : Job) (step : ℕ) (old new : Progress) → Drives job step old → IsOneStepOn old new → Drives job (step + 1) new
 drive_on job step old new drives on = record {
   seed = on.same_seed ∙ drives.seed;
   sheet = on.same_sheet ∙ drives.sheet;
@@ -73,20 +73,20 @@ drive_on job step old new drives on = record {
 }
 
 -- the road of the run is that of the job
-pub driven_road : (job : Job) (step : ℕ) (run : Reached) (road : Cells) → Drives job step run → RoadAt run.seed run.sheet run.step road
-    → RoadAt (seed_of job) (sheet_of job) step road
+pub driven_road : (job : Job) (step : ℕ) (run : Progress) (road : Cells) → Drives job step run → IsRoadAt run.seed run.sheet run.step road
+    → IsRoadAt (seed_of job) (sheet_of job) step road
 driven_road job step run road drives at = rw (← drives.seed, ← drives.sheet, ← drives.step_is) at
 
 next_text : (roads : ℕ → Cells) (step left : ℕ) → text_from roads step (left + 1) ≡ step_text step (roads step) ++ text_from roads (step + 1) left
 next_text roads step left = rw (add-one left) refl
 
 -- the road at a step is the one that is shown
-here : (job : Job) (roads : ℕ → Cells) (step : ℕ) (road : Cells) → Roads job roads → RoadAt (seed_of job) (sheet_of job) step road → roads step ≡ road
+here : (job : Job) (roads : ℕ → Cells) (step : ℕ) (road : Cells) → Roads job roads → IsRoadAt (seed_of job) (sheet_of job) step road → roads step ≡ road
 here job roads step road each at = road_at_is_one (seed_of job) (sheet_of job) step (roads step) road (each step) at
 
 -- the text of a step is written
 pub wrote : (job : Job) (step left : ℕ) (road : Cells) (old a b : Option (List ℕ)) → Underway job step left old a
-    → RoadAt (seed_of job) (sheet_of job) step road → Appends a b (step_text step road) → Written job step left old b
+    → IsRoadAt (seed_of job) (sheet_of job) step road → Appends a b (step_text step road) → Written job step left old b
 wrote job step left road old a b u at text = record {
   roads = u.roads;
   each = u.each;
@@ -101,7 +101,7 @@ went_on job step left old now w = record { roads = w.roads; each = w.each; ends 
 
 -- it stops within the text of a step
 pub stop_within : (job : Job) (step left : ℕ) (road : Cells) (old a b : Option (List ℕ)) → Underway job step left old a
-    → RoadAt (seed_of job) (sheet_of job) step road → AppendsFront a b (step_text step road) → WroteSome job old b
+    → IsRoadAt (seed_of job) (sheet_of job) step road → AppendsFront a b (step_text step road) → WroteSome job old b
 stop_within job step left road old a b u at text =
     let whole = steps_text u.roads (job.steps + 1) in (
       whole,
@@ -119,7 +119,7 @@ stop_behind job step left old now w =
 
 -- the text of the last step is written
 all_written : (job : Job) (step : ℕ) (road : Cells) (old a b : Option (List ℕ)) → Underway job step 0 old a
-    → RoadAt (seed_of job) (sheet_of job) step road → Appends a b (step_text step road) → WrotePictures job old b
+    → IsRoadAt (seed_of job) (sheet_of job) step road → Appends a b (step_text step road) → WrotePictures job old b
 all_written job step road old a b u at text =
     let w = wrote job step 0 road old a b u at text in
     let whole = steps_text w.roads (job.steps + 1) in
@@ -127,11 +127,11 @@ all_written job step road old a b u at text =
 
 -- what is known where the text of the last step was written or not
 pub last_whole : {E : Type 0} (r : Result (Unit {0}) E) (job : Job) (step : ℕ) (road : Cells) (old a b : Option (List ℕ)) → Underway job step 0 old a
-    → RoadAt (seed_of job) (sheet_of job) step road → OnOk r (Appends a b (step_text step road)) → OnOk r (WrotePictures job old b)
+    → IsRoadAt (seed_of job) (sheet_of job) step road → OnOk r (Appends a b (step_text step road)) → OnOk r (WrotePictures job old b)
 last_whole (Ok x) job step road old a b u at text = all_written job step road old a b u at text
 last_whole (Err e) job step road old a b u at text = tt
 
 pub last_front : {E : Type 0} (r : Result (Unit {0}) E) (job : Job) (step : ℕ) (road : Cells) (old a b : Option (List ℕ)) → Underway job step 0 old a
-    → RoadAt (seed_of job) (sheet_of job) step road → OnErr r (AppendsFront a b (step_text step road)) → OnErr r (WroteSome job old b)
+    → IsRoadAt (seed_of job) (sheet_of job) step road → OnErr r (AppendsFront a b (step_text step road)) → OnErr r (WroteSome job old b)
 last_front (Ok x) job step road old a b u at text = tt
 last_front (Err e) job step road old a b u at text = stop_within job step 0 road old a b u at text

@@ -3,14 +3,14 @@ use Rattle.std.proofs.Common.{ℕ, ◌+◌, List, refl, Bool, true, false}
 use Rattle.std.specs.Prelude.{Result, Ok, Err, IfOk}
 use Rattle.trlab_texts.specs.Reading.{Fault}
 use Rattle.trlab_jobs.specs.Job.{Job}
-use Rattle.trlab_jobs.specs.Plain.{IsPlain}
+use Rattle.trlab_jobs.specs.Stored.{IsStored}
 use Rattle.trlab_jobs.proofs.SomeText.{says_plain}
-use Rattle.trlab_campaign.specs.Refusal.{fault_line}
-use Rattle.trlab_campaign.specs.Output.{steps_text, OutputFor}
+use Rattle.trlab_campaign.specs.Refusal.{OutputFor, fault_line}
+use Rattle.trlab_campaign.specs.Output.{JobOutput, steps_text}
 use Rattle.trlab_campaign.specs.Laws.{TextHasSomeOutput}
 use Rattle.trlab_campaign.proofs.Running.{roads_of}
 
-output_some : (says : Result Job Fault) → IfOk says IsPlain → (refused : Bool) × (out : List ℕ) × OutputFor says refused out
+output_some : (says : Result Job Fault) → IfOk says IsStored → (refused : Bool) × (out : List ℕ) × OutputFor JobOutput says refused out
 output_some (Ok job) plain =
     let found = roads_of job plain in
     let out = steps_text found.0 (job.steps + 1) in

@@ -1,24 +1,24 @@
 -- A check text has an output.
 use Rattle.std.proofs.Common.{ℕ, List, refl, inl, inr, Bool, true, false}
 use Rattle.std.specs.Prelude.{Result, Ok, Err, IfOk}
-use Rattle.trlab_code.specs.Program.{Program, IsProgram}
+use Rattle.trlab_jobs.specs.Check.{Check}
 use Rattle.trlab_verify.proofs.Judged.{accepted_or_refused, some_budget}
 use Rattle.trlab_texts.specs.Reading.{Fault}
-use Rattle.trlab_jobs.proofs.SomeCheck.{says_program}
-use Rattle.trlab_campaign.specs.Refusal.{fault_line}
-use Rattle.trlab_campaign.specs.CheckOutput.{accepted_text, refused_line, VerdictOutput, CheckOutputFor}
+use Rattle.trlab_jobs.proofs.SomeCheck.{HasProgram, says_program}
+use Rattle.trlab_campaign.specs.Refusal.{OutputFor, fault_line}
+use Rattle.trlab_campaign.specs.CheckOutput.{accepted_text, refused_line, VerdictOutput}
 use Rattle.trlab_campaign.specs.Laws.{CheckHasSomeOutput}
 
-verdict_some : (program : Program) → IsProgram program → (refused : Bool) × (out : List ℕ) × VerdictOutput program refused out
-verdict_some program is = elim (accepted_or_refused program.kind program) [
+verdict_some : (check : Check) → HasProgram check → (refused : Bool) × (out : List ℕ) × VerdictOutput check refused out
+verdict_some check is = elim (accepted_or_refused check.program.kind check.program) [
   | inl accepted ↦
-      let found = some_budget program.kind program is accepted in
-      (false, accepted_text found.0 program, (accepted, (found.0, (found.1.longest, refl))))
+      let found = some_budget check.program.kind check.program is accepted in
+      (false, accepted_text found.0 check.program, (accepted, (found.0, (found.1.longest, refl))))
   | inr refused ↦ (true, refused_line refused.0 refused.1, (refused.0, refused.1, (refused.2, refl)))
 ]
 
-output_some : (says : Result Program Fault) → IfOk says IsProgram → (refused : Bool) × (out : List ℕ) × CheckOutputFor says refused out
-output_some (Ok program) is = verdict_some program is
+output_some : (says : Result Check Fault) → IfOk says HasProgram → (refused : Bool) × (out : List ℕ) × OutputFor VerdictOutput says refused out
+output_some (Ok check) is = verdict_some check is
 output_some (Err fault) is = (true, fault_line fault, (refl, refl))
 
 pub some_output : CheckHasSomeOutput

@@ -1,12 +1,12 @@
 -- What is written for a check text.
-use Rattle.std.specs.Prelude.{◌≡◌, ℕ, Bool, true, false, List, [], ◌∷◌, ◌++◌, decimal, codes, Result, Ok, Err}
+use Rattle.std.specs.Prelude.{◌≡◌, ℕ, true, false, List, [], ◌∷◌, ◌++◌, decimal, codes, Result}
 use Rattle.trlab_code.specs.Program.{Program}
 use Rattle.trlab_asm.specs.Canonical.{text_of}
 use Rattle.trlab_verify.specs.Longest.{IsLongest}
 use Rattle.trlab_verify.specs.Verdict.{IsAccepted, IsRefused}
 use Rattle.trlab_texts.specs.Reading.{Fault}
-use Rattle.trlab_jobs.specs.Check.{CheckText}
-use Rattle.trlab_campaign.specs.Refusal.{fault_line}
+use Rattle.trlab_jobs.specs.Check.{Check, CheckText}
+use Rattle.trlab_campaign.specs.Refusal.{Outputs, OutputFor}
 
 -- what is written for an accepted program: its budget, and its canonical text
 abbrev pub accepted_text : ℕ → Program → List ℕ
@@ -17,19 +17,14 @@ abbrev pub refused_line : ℕ → ℕ → List ℕ
 refused_line at reason =
     codes "refused at " ++ (decimal at ++ (codes " reason " ++ (decimal reason ++ (10 ∷ []))))
 
--- what is written for a program, by what the verifier says of it as one of its own kind
-abbrev pub VerdictOutput : Program → Bool → List ℕ → Type 0
-VerdictOutput program false out = IsAccepted program.kind program
-    × ((budget : ℕ) × (IsLongest program.instrs 0 budget × (out ≡ accepted_text budget program)))
-VerdictOutput program true out = (at reason : ℕ)
-    × (IsRefused program.kind program at reason × (out ≡ refused_line at reason))
-
--- what is written for what a check text says, and whether that is a refusal
-abbrev pub CheckOutputFor : Result Program Fault → Bool → List ℕ → Type 0
-CheckOutputFor (Ok program) refused out = VerdictOutput program refused out
-CheckOutputFor (Err fault) refused out = (refused ≡ true) × (out ≡ fault_line fault)
+-- what is written for a check, by what the verifier says of its program as one of its own kind
+abbrev pub VerdictOutput : Check → Outputs
+VerdictOutput check false out = IsAccepted check.program.kind check.program × ((budget : ℕ)
+    × (IsLongest check.program.instrs 0 budget × (out ≡ accepted_text budget check.program)))
+VerdictOutput check true out = (at reason : ℕ)
+    × (IsRefused check.program.kind check.program at reason × (out ≡ refused_line at reason))
 
 -- the whole output for a check text, and whether it is a refusal
-abbrev pub IsCheckOutput : List ℕ → Bool → List ℕ → Type 0
+abbrev pub IsCheckOutput : List ℕ → Outputs
 IsCheckOutput text refused out =
-    (says : Result Program Fault) × (CheckText text says × CheckOutputFor says refused out)
+    (says : Result Check Fault) × (CheckText text says × OutputFor VerdictOutput says refused out)

@@ -7,10 +7,7 @@ use Rattle.trlab_campaign.specs.declared.end.End.TheVariants.{Done, Refused, Mem
 use Rattle.trlab_campaign.specs.Device.{AppendsFront}
 use Rattle.trlab_jobs.specs.Job.{Job}
 use Rattle.trlab_campaign.specs.Output.{IsRunText}
-
--- the whole outputs that there may be, each with whether it is a refusal
-abbrev pub Outputs : Type 1
-Outputs = Bool → List ℕ → Type 0
+use Rattle.trlab_campaign.specs.Refusal.{Outputs}
 
 -- a whole output was written, which is a refusal or is none
 abbrev pub WroteAll : Outputs → Bool → Option (List ℕ) → Option (List ℕ) → Type 0

@@ -3,5 +3,6 @@ pub mod Watched
 pub mod Refusal
 pub mod Output
 pub mod CheckOutput
+pub mod TooBig
 pub mod Ending
 pub mod Laws

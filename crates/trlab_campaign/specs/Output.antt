@@ -1,11 +1,11 @@
 -- What is written for a job text.
-use Rattle.std.specs.Prelude.{◌≡◌, ℕ, ◌+◌, ◌≤◌, Bool, true, false, List, [], ◌∷◌, ◌++◌, flat_map, decimal, codes, Result, Ok, Err}
+use Rattle.std.specs.Prelude.{◌≡◌, ℕ, ◌+◌, ◌≤◌, false, List, [], ◌∷◌, ◌++◌, flat_map, decimal, codes, Result}
 use Rattle.std.specs.List.{range_with_len}
 use Rattle.trlab_road.specs.Cells.{Cells}
 use Rattle.trlab_road.specs.Pictures.{picture}
-use Rattle.trlab_step.specs.Run.{RoadAt}
+use Rattle.trlab_step.specs.Run.{IsRoadAt}
 use Rattle.trlab_texts.specs.Reading.{Fault}
-use Rattle.trlab_campaign.specs.Refusal.{fault_line}
+use Rattle.trlab_campaign.specs.Refusal.{Outputs, OutputFor}
 use Rattle.trlab_jobs.specs.Job.{Job, JobText, seed_of, sheet_of}
 
 -- a picture, and the LF that ends its line
@@ -23,16 +23,14 @@ steps_text roads count = flat_map (λ step. step_text step (roads step)) (range_
 
 -- the output of a job: the pictures of its road at each step, from the start to the last step
 pub record IsRunText (job : Job) (roads : ℕ → Cells) (out : List ℕ) : Type 0 where
-  pub road_at : (step : ℕ) → step ≤ job.steps → RoadAt (seed_of job) (sheet_of job) step (roads step)
+  pub road_at : (step : ℕ) → step ≤ job.steps → IsRoadAt (seed_of job) (sheet_of job) step (roads step)
   pub pictures : out ≡ steps_text roads (job.steps + 1)
 
--- what is written for what a text says, and whether that is a refusal
-abbrev pub OutputFor : Result Job Fault → Bool → List ℕ → Type 0
-OutputFor (Ok job) refused out =
-    (refused ≡ false) × ((roads : ℕ → Cells) × IsRunText job roads out)
-OutputFor (Err fault) refused out = (refused ≡ true) × (out ≡ fault_line fault)
+-- what is written for a job, which is no refusal
+abbrev pub JobOutput : Job → Outputs
+JobOutput job refused out = (refused ≡ false) × ((roads : ℕ → Cells) × IsRunText job roads out)
 
 -- the whole output for a text, and whether it is a refusal
-abbrev pub IsOutput : List ℕ → Bool → List ℕ → Type 0
+abbrev pub IsOutput : List ℕ → Outputs
 IsOutput text refused out =
-    (says : Result Job Fault) × (JobText text says × OutputFor says refused out)
+    (says : Result Job Fault) × (JobText text says × OutputFor JobOutput says refused out)

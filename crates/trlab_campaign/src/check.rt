@@ -1,38 +1,44 @@
-//! Checks of programs: what the verifier says of the one program of a text.
+//! The engine of check texts: what the verifier says of the one program of a text.
 
 ghost use Rattle.std.specs.Prelude.{◌≡◌, ◌+◌, ◌||◌, ◌↔◌, true, false, IfSome};
 ghost use Rattle.std.specs.Io.KnownBytes.{Keeps};
 ghost use Rattle.trlab_campaign.specs.CheckOutput.{IsCheckOutput};
+ghost use Rattle.trlab_campaign.specs.TooBig.{big_check};
 ghost use Rattle.trlab_campaign.specs.Device.{ConsumesUpTo};
 ghost use Rattle.trlab_campaign.specs.Ending.{EndsSo, OnWhole};
 ghost use Rattle.trlab_campaign.specs.declared.end.End.TheVariants.{DeviceFault};
 ghost use Rattle.trlab_bounds.specs.declared.texts.TheConstants.{TEXT_LIMIT};
 
-use crate::device::{ReadFault, Sink, Source, read_text};
+use crate::device::{Sink, Source};
 use crate::end::End;
+use crate::engine::{Engine, run_engine};
 use crate::refusal::{refuse, write_output};
 use crate::verdict::verdict;
 use std::alloc::{AllocGlobal, Global};
 use trlab_bounds::texts::TEXT_LIMIT;
-use trlab_jobs::read_program;
-use trlab_texts::{Cause, TextFault};
+use trlab_jobs::read_check;
+use trlab_texts::TextFault;
 
-/// Writes what the verifier says of the program of a text, or refuses the text.
-fn check_whole<K: Sink>(alloc: Global, text: &[u8], writer: &mut K) -> End
-    requires { K.failed writer.old ≡ false }
-    ensures answer { EndsSo (IsCheckOutput text.now) result (K.written writer.old) (K.written writer.new) }
-    ensures handed { OnWhole result (K.handed_on writer.new ≡ true) }
-    ensures device { (result ≡ DeviceFault) ↔ (K.failed writer.new ≡ true) }
-{
-    let code = match read_program(alloc, text) {
-        Ok(code) => code,
-        Err(TextFault::At { line, cause }) => return refuse(alloc, line, cause, writer),
-        Err(TextFault::Memory) => return End::Memory,
-    };
-    match verdict(alloc, code) {
-        Ok((refused, output)) => write_output(refused, &output, writer),
-        Err(_) => End::Memory,
+/// The engine of check texts, which writes what the verifier says.
+#[derive(Drop)]
+struct Judge;
+
+impl Engine for Judge {
+    ghost outputs = { λ _ text. IsCheckOutput text };
+
+    fn write<K: Sink>(self, alloc: Global, text: &[u8], writer: &mut K) -> End {
+        let check = match read_check(alloc, text) {
+            Ok(check) => check,
+            Err(TextFault::At { line, cause }) => return refuse(alloc, line, cause, writer),
+            Err(TextFault::Memory) => return End::Memory,
+        };
+        match verdict(alloc, check) {
+            Ok((refused, output)) => write_output(refused, &output, writer),
+            Err(_) => End::Memory,
+        }
     }
+
+    ghost too_big = { λ _. big_check };
 }
 
 /// Reads a check text, and writes what the verifier says of its program: the budget and the
@@ -53,11 +59,5 @@ pub fn check_text<R: AllocGlobal, S: Source, K: Sink>(rt: &R, reader: &mut S, wr
     ensures device { (result ≡ DeviceFault) ↔ ((S.failed reader.new || K.failed writer.new) ≡ true) }
     ensures read { ConsumesUpTo (TEXT_LIMIT + 1) (S.left reader.old) (S.left reader.new) }
 {
-    let alloc = rt.alloc();
-    match read_text(alloc, reader) {
-        Ok(text) => check_whole(alloc, &text, writer),
-        Err(ReadFault::TooBig) => refuse(alloc, 0, Cause::TooBig, writer),
-        Err(ReadFault::Memory) => End::Memory,
-        Err(ReadFault::Device) => End::DeviceFault,
-    }
+    run_engine(rt.alloc(), Judge, reader, writer)
 }

@@ -1,4 +1,4 @@
-//! What a text is read from, and what one is written to.
+//! Devices: what a text is read from, and what one is written to. Once a call has failed, it stays so.
 
 mod watched;
 mod whole;
@@ -23,6 +23,10 @@ pub trait Source {
     ghost failed: { Self → Bool };
 
     /// Reads into the front of the buffer, and answers how many bytes; none only at the end.
+    ///
+    /// # Errors
+    ///
+    /// `DeviceError` where the reader failed.
     fn take(&mut self, buffer: &mut [u8]) -> Result<usize, DeviceError>
         ensures count { IfOk result (λ n. n ≤ length buffer.new) }
         ensures bytes { ReadConsumes (left self.old) (left self.new) result buffer.new }
@@ -39,6 +43,10 @@ pub trait Sink {
     ghost failed: { Self → Bool };
 
     /// Writes a front of the bytes, and answers how many; at least one where there is one.
+    ///
+    /// # Errors
+    ///
+    /// `DeviceError` where the writer failed, or took none.
     fn put(&mut self, bytes: &[u8]) -> Result<usize, DeviceError>
         ensures count { IfOk result (λ n. n ≤ length bytes.now) }
         ensures some { IfOk result (λ n. 0 < length bytes.now → 0 < n) }
@@ -47,6 +55,10 @@ pub trait Sink {
         ensures fails { failed self.new ≡ (failed self.old || is_err result) };
 
     /// Hands on what was written.
+    ///
+    /// # Errors
+    ///
+    /// `DeviceError` where the writer failed.
     fn flush(&mut self) -> Result<(), DeviceError>
         ensures bytes { Keeps (written self.old) (written self.new) }
         ensures handed { OnOk result (handed_on self.new ≡ true) }

@@ -1,6 +1,6 @@
-//! How a run ends.
+//! Ends: how an engine has ended, by the number that is its exit status.
 
-/// How a run of a text ended.
+/// How an engine ended.
 #[derive(Clone, Copy, Debug, PartialEq, Eq)]
 pub enum End {
     /// The whole output was written.

@@ -4,6 +4,7 @@
 mod check;
 mod device;
 mod end;
+mod engine;
 pub mod laws;
 mod output;
 mod refusal;

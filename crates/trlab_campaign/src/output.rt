@@ -1,4 +1,4 @@
-//! The lines that are written.
+//! The lines of outputs: those of a step with its pictures, and that of a refused text.
 
 ghost use Rattle.std.specs.Prelude.{◌≡◌, ◌++◌, IfOk, OnOk};
 ghost use Rattle.std.specs.String.{string_bytes};
@@ -10,6 +10,10 @@ use trlab_road::Road;
 use trlab_texts::Cause;
 
 /// Adds the text of a step: its line, and the picture of each lane.
+///
+/// # Errors
+///
+/// Want of memory.
 pub fn push_step(alloc: Global, out: &mut Vec<u8>, step: u32, road: &Road) -> Result<(), AllocError>
     ensures { OnOk result (out.new.items ≡ out.old.items ++ step_text step road.now) }
 {
@@ -23,6 +27,10 @@ pub fn push_step(alloc: Global, out: &mut Vec<u8>, step: u32, road: &Road) -> Re
 }
 
 /// The line of a refused text: where its first fault is, and the number of the cause.
+///
+/// # Errors
+///
+/// Want of memory.
 pub fn fault_line(alloc: Global, line: u32, cause: Cause) -> Result<String, AllocError>
     ensures { IfOk result (λ text. string_bytes text ≡ fault_line (record { line = line; cause = cause })) }
 {

@@ -1,4 +1,4 @@
-//! Runs of job texts.
+//! The engine of job texts: the whole text is judged before the first picture is written.
 
 mod pictures;
 
@@ -7,30 +7,36 @@ ghost use Rattle.std.specs.Io.KnownBytes.{Keeps};
 ghost use Rattle.trlab_campaign.specs.Device.{ConsumesUpTo};
 ghost use Rattle.trlab_campaign.specs.Ending.{EndsSo, OnWhole};
 ghost use Rattle.trlab_campaign.specs.Output.{IsOutput};
+ghost use Rattle.trlab_campaign.specs.TooBig.{big_job};
 ghost use Rattle.trlab_campaign.specs.declared.end.End.TheVariants.{DeviceFault};
 
-use crate::device::{ReadFault, Sink, Source, read_text};
+use crate::device::{Sink, Source};
 use crate::end::End;
+use crate::engine::{Engine, run_engine};
 use crate::refusal::refuse;
 use crate::run::pictures::run_job;
 use std::alloc::{AllocGlobal, Global};
 use trlab_bounds::runs::MOST_WORKERS;
 use trlab_bounds::texts::TEXT_LIMIT;
 use trlab_jobs::read_job;
-use trlab_texts::{Cause, TextFault};
+use trlab_texts::TextFault;
 
-/// Runs the job that a text states, or refuses the text.
-fn run_text<K: Sink>(alloc: Global, text: &[u8], writer: &mut K) -> End
-    requires { K.failed writer.old ≡ false }
-    ensures answer { EndsSo (IsOutput text.now) result (K.written writer.old) (K.written writer.new) }
-    ensures handed { OnWhole result (K.handed_on writer.new ≡ true) }
-    ensures device { (result ≡ DeviceFault) ↔ (K.failed writer.new ≡ true) }
-{
-    match read_job(alloc, text) {
-        Ok(job) => run_job(alloc, job, writer),
-        Err(TextFault::At { line, cause }) => refuse(alloc, line, cause, writer),
-        Err(TextFault::Memory) => End::Memory,
+/// The engine of job texts, which writes the pictures of their runs.
+#[derive(Drop)]
+struct Driver;
+
+impl Engine for Driver {
+    ghost outputs = { λ _ text. IsOutput text };
+
+    fn write<K: Sink>(self, alloc: Global, text: &[u8], writer: &mut K) -> End {
+        match read_job(alloc, text) {
+            Ok(job) => run_job(alloc, job, writer),
+            Err(TextFault::At { line, cause }) => refuse(alloc, line, cause, writer),
+            Err(TextFault::Memory) => End::Memory,
+        }
     }
+
+    ghost too_big = { λ _. big_job };
 }
 
 /// Reads a job text, and writes the picture of its road at each step, or the line of the text's
@@ -58,11 +64,5 @@ pub fn run_job_text<R: AllocGlobal, S: Source, K: Sink>(
     ensures device { (result ≡ DeviceFault) ↔ ((S.failed reader.new || K.failed writer.new) ≡ true) }
     ensures read { ConsumesUpTo (TEXT_LIMIT + 1) (S.left reader.old) (S.left reader.new) }
 {
-    let alloc = rt.alloc();
-    match read_text(alloc, reader) {
-        Ok(text) => run_text(alloc, &text, writer),
-        Err(ReadFault::TooBig) => refuse(alloc, 0, Cause::TooBig, writer),
-        Err(ReadFault::Memory) => End::Memory,
-        Err(ReadFault::Device) => End::DeviceFault,
-    }
+    run_engine(rt.alloc(), Driver, reader, writer)
 }

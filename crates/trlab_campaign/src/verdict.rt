@@ -1,13 +1,15 @@
-//! What is written for a program.
+//! The verdict on a program, as it is written.
 
 ghost use Rattle.std.specs.Prelude.{◌≡◌, IfOk, false, true};
 ghost use Rattle.std.specs.String.{string_bytes};
-ghost use Rattle.trlab_code.specs.declared.kind.Kind.TheVariants.{Motion as OfMotion, Change as OfChange};
+ghost use Rattle.trlab_verify.specs.Faults.{Tells};
+ghost use Rattle.trlab_jobs.specs.Check.{Check as Request};
 ghost use Rattle.trlab_campaign.specs.CheckOutput.{VerdictOutput, accepted_text, refused_line};
 
 use std::alloc::{AllocError, Global};
 use trlab_asm::disassemble;
 use trlab_code::{Code, Kind};
+use trlab_jobs::Check;
 use trlab_verify::{VerifyFault, verify_change, verify_motion};
 
 /// What is written for an accepted program: its budget, and its canonical text.
@@ -30,36 +32,42 @@ fn refused_line(alloc: Global, at: u32, reason: u32) -> Result<Vec<u8>, AllocErr
     Ok(line.into_bytes())
 }
 
-/// The verdict on a motion program: whether it is refused, and what is written for it.
-fn motion_verdict(alloc: Global, code: Code) -> Result<(bool, Vec<u8>), AllocError>
-    requires { code.kind ≡ OfMotion }
-    ensures { IfOk result (λ answer. VerdictOutput code answer.0 answer.1.items) }
+/// The output for an accepted program, which is no refusal.
+fn accepted_output(alloc: Global, budget: u32, code: &Code) -> Result<(bool, Vec<u8>), AllocError>
+    ensures { IfOk result (λ answer.
+        (answer.0 ≡ false) × (answer.1.items ≡ accepted_text budget code.now)) }
 {
-    match verify_motion(alloc, code) {
-        Ok(motion) => Ok((false, accepted_text(alloc, motion.budget(), motion.code())?)),
-        Err((_, VerifyFault::Why { at, reason })) => Ok((true, refused_line(alloc, at, reason)?)),
-        Err((_, VerifyFault::Memory)) => Err(AllocError),
+    Ok((false, accepted_text(alloc, budget, code)?))
+}
+
+/// The output for a program that the verifier does not accept, which is a refusal.
+fn refused_output(alloc: Global, fault: VerifyFault) -> Result<(bool, Vec<u8>), AllocError>
+    ensures { (check : Request) → Tells check.program.kind check.program fault
+        → IfOk result (λ answer. VerdictOutput check answer.0 answer.1.items) }
+{
+    match fault {
+        VerifyFault::Why { at, reason } => Ok((true, refused_line(alloc, at, reason)?)),
+        VerifyFault::Memory => Err(AllocError),
     }
 }
 
-/// The verdict on a change program.
-fn change_verdict(alloc: Global, code: Code) -> Result<(bool, Vec<u8>), AllocError>
-    requires { code.kind ≡ OfChange }
-    ensures { IfOk result (λ answer. VerdictOutput code answer.0 answer.1.items) }
+/// The verdict on the program of a check: whether it is refused, and what is written for it.
+///
+/// # Errors
+///
+/// Want of memory.
+pub fn verdict(alloc: Global, check: Check) -> Result<(bool, Vec<u8>), AllocError>
+    ensures { IfOk result (λ answer. VerdictOutput check answer.0 answer.1.items) }
 {
-    match verify_change(alloc, code) {
-        Ok(change) => Ok((false, accepted_text(alloc, change.budget(), change.code())?)),
-        Err((_, VerifyFault::Why { at, reason })) => Ok((true, refused_line(alloc, at, reason)?)),
-        Err((_, VerifyFault::Memory)) => Err(AllocError),
-    }
-}
-
-/// The verdict on a program of either kind: whether it is refused, and what is written for it.
-pub fn verdict(alloc: Global, code: Code) -> Result<(bool, Vec<u8>), AllocError>
-    ensures { IfOk result (λ answer. VerdictOutput code answer.0 answer.1.items) }
-{
+    let Check { code } = check;
     match code.kind() {
-        Kind::Motion => motion_verdict(alloc, code),
-        Kind::Change => change_verdict(alloc, code),
+        Kind::Motion => match verify_motion(alloc, code) {
+            Ok(motion) => accepted_output(alloc, motion.budget(), motion.code()),
+            Err((_, fault)) => refused_output(alloc, fault),
+        },
+        Kind::Change => match verify_change(alloc, code) {
+            Ok(change) => accepted_output(alloc, change.budget(), change.code()),
+            Err((_, fault)) => refused_output(alloc, fault),
+        },
     }
 }

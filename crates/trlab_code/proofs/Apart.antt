@@ -3,7 +3,7 @@ use Rattle.std.proofs.Common.{◌≡◌, ◌≢◌, ℕ, ◌<◌, ◌⊎◌, Lis
 use Rattle.std.proofs.lemmas.Bool.{cases_order}
 use Rattle.trlab_code.specs.declared.fault.CodeFault.{CodeFault}
 use Rattle.trlab_code.specs.declared.fault.CodeFault.TheVariants as fault
-use Rattle.trlab_code.specs.Faults.{HasOpcode, FirstFault, bytes_at}
+use Rattle.trlab_code.specs.Faults.{HasOpcode, IsFirstFault, bytes_at}
 use Rattle.trlab_code.proofs.Spelt.{opcode_of_row}
 
 -- the order in which faults are met; those of rows are told apart by their rows
@@ -19,23 +19,23 @@ rank fault.Trailing = 7
 rank fault.Memory = 8
 
 -- an opcode of no instruction and a field out of range are not both first
-rows_apart : (bytes : List ℕ) (pc qc : ℕ) → FirstFault bytes (fault.Opcode pc) → FirstFault bytes (fault.Field qc) → ⊥
+rows_apart : (bytes : List ℕ) (pc qc : ℕ) → IsFirstFault bytes (fault.Opcode pc) → IsFirstFault bytes (fault.Field qc) → ⊥
 rows_apart bytes pc qc f g =
     elim (cases_order pc qc) [
-      | inl same ↦ f.2 (let P : ℕ → Type 0 = λ k. HasOpcode (bytes_at bytes k) in subst P (sym same) g.2)
+      | inl same ↦ f.2 (let P : ℕ → Type 0 = λ k. HasOpcode (bytes_at bytes k) in subst P (sym same) g.2.0)
       | inr other ↦ elim other [
         | inl below ↦ f.2 (opcode_of_row _ (g.1.rows pc below))
-        | inr above ↦ g.3 (f.1.rows qc above)
+        | inr above ↦ g.2.1 (f.1.rows qc above)
       ]
     ]
 
 -- two faults of different ranks are not both first
-not_both : (bytes : List ℕ) (f g : CodeFault) → rank f < rank g → FirstFault bytes f → FirstFault bytes g → g ≡ fault.Memory
+not_both : (bytes : List ℕ) (f g : CodeFault) → rank f < rank g → IsFirstFault bytes f → IsFirstFault bytes g → g ≡ fault.Memory
 unfolding rank
 not_both bytes fault.Short fault.Magic lt f g = elim f [ inl short ↦ absurd (short g.0) | inr short ↦ absurd (g.1 short.0.magic) ]
 not_both bytes fault.Short fault.Version lt f g = elim f [ inl short ↦ absurd (short g.0) | inr short ↦ absurd (g.2 short.0.version) ]
-not_both bytes fault.Short fault.Kind lt f g = elim f [ inl short ↦ absurd (short g.0) | inr short ↦ absurd (g.3 short.0.kind) ]
-not_both bytes fault.Short fault.Count lt f g = elim f [ inl short ↦ absurd (short g.0) | inr short ↦ absurd (g.4 short.0.count) ]
+not_both bytes fault.Short fault.Kind lt f g = elim f [ inl short ↦ absurd (short g.0) | inr short ↦ absurd (g.2.1 short.0.kind) ]
+not_both bytes fault.Short fault.Count lt f g = elim f [ inl short ↦ absurd (short g.0) | inr short ↦ absurd (g.2.2 short.0.count) ]
 not_both bytes fault.Short (fault.Opcode pc) lt f g = elim f [ inl short ↦ absurd (short g.1.header.whole) | inr short ↦ absurd (short.1 g.1.room) ]
 not_both bytes fault.Short (fault.Field pc) lt f g = elim f [ inl short ↦ absurd (short g.1.header.whole) | inr short ↦ absurd (short.1 g.1.room) ]
 not_both bytes fault.Short fault.Trailing lt f g = elim f [ inl short ↦ absurd (short g.0.header.whole) | inr short ↦ absurd (short.1 g.0.room) ]
@@ -45,26 +45,26 @@ not_both bytes fault.Magic fault.Count lt f g = absurd (f.1 g.1)
 not_both bytes fault.Magic (fault.Opcode pc) lt f g = absurd (f.1 g.1.header.magic)
 not_both bytes fault.Magic (fault.Field pc) lt f g = absurd (f.1 g.1.header.magic)
 not_both bytes fault.Magic fault.Trailing lt f g = absurd (f.1 g.0.header.magic)
-not_both bytes fault.Version fault.Kind lt f g = absurd (f.2 g.2)
-not_both bytes fault.Version fault.Count lt f g = absurd (f.2 g.2)
+not_both bytes fault.Version fault.Kind lt f g = absurd (f.2 g.2.0)
+not_both bytes fault.Version fault.Count lt f g = absurd (f.2 g.2.0)
 not_both bytes fault.Version (fault.Opcode pc) lt f g = absurd (f.2 g.1.header.version)
 not_both bytes fault.Version (fault.Field pc) lt f g = absurd (f.2 g.1.header.version)
 not_both bytes fault.Version fault.Trailing lt f g = absurd (f.2 g.0.header.version)
-not_both bytes fault.Kind fault.Count lt f g = absurd (f.3 g.3)
-not_both bytes fault.Kind (fault.Opcode pc) lt f g = absurd (f.3 g.1.header.kind)
-not_both bytes fault.Kind (fault.Field pc) lt f g = absurd (f.3 g.1.header.kind)
-not_both bytes fault.Kind fault.Trailing lt f g = absurd (f.3 g.0.header.kind)
-not_both bytes fault.Count (fault.Opcode pc) lt f g = absurd (f.4 g.1.header.count)
-not_both bytes fault.Count (fault.Field pc) lt f g = absurd (f.4 g.1.header.count)
-not_both bytes fault.Count fault.Trailing lt f g = absurd (f.4 g.0.header.count)
+not_both bytes fault.Kind fault.Count lt f g = absurd (f.2.1 g.2.1)
+not_both bytes fault.Kind (fault.Opcode pc) lt f g = absurd (f.2.1 g.1.header.kind)
+not_both bytes fault.Kind (fault.Field pc) lt f g = absurd (f.2.1 g.1.header.kind)
+not_both bytes fault.Kind fault.Trailing lt f g = absurd (f.2.1 g.0.header.kind)
+not_both bytes fault.Count (fault.Opcode pc) lt f g = absurd (f.2.2 g.1.header.count)
+not_both bytes fault.Count (fault.Field pc) lt f g = absurd (f.2.2 g.1.header.count)
+not_both bytes fault.Count fault.Trailing lt f g = absurd (f.2.2 g.0.header.count)
 not_both bytes (fault.Opcode pc) (fault.Field qc) lt f g = absurd (rows_apart bytes pc qc f g)
 not_both bytes (fault.Opcode pc) fault.Trailing lt f g = absurd (f.2 (opcode_of_row _ (g.0.rows pc f.0)))
-not_both bytes (fault.Field pc) fault.Trailing lt f g = absurd (f.3 (g.0.rows pc f.0))
+not_both bytes (fault.Field pc) fault.Trailing lt f g = absurd (f.2.1 (g.0.rows pc f.0))
 not_both bytes f fault.Memory lt _ _ = refl
 not_both _ _ _ lt _ _ = absurd (omega arith)
 
 -- the first fault of a row is in one row
-same_opcode : (bytes : List ℕ) (pc qc : ℕ) → FirstFault bytes (fault.Opcode pc) → FirstFault bytes (fault.Opcode qc) → pc ≡ qc
+same_opcode : (bytes : List ℕ) (pc qc : ℕ) → IsFirstFault bytes (fault.Opcode pc) → IsFirstFault bytes (fault.Opcode qc) → pc ≡ qc
 same_opcode bytes pc qc f g =
     elim (cases_order pc qc) [
       | inl same ↦ same
@@ -74,15 +74,15 @@ same_opcode bytes pc qc f g =
       ]
     ]
 
-same_field : (bytes : List ℕ) (pc qc : ℕ) → FirstFault bytes (fault.Field pc) → FirstFault bytes (fault.Field qc) → pc ≡ qc
+same_field : (bytes : List ℕ) (pc qc : ℕ) → IsFirstFault bytes (fault.Field pc) → IsFirstFault bytes (fault.Field qc) → pc ≡ qc
 same_field bytes pc qc f g =
     elim (cases_order pc qc) [
       | inl same ↦ same
-      | inr other ↦ elim other [ inl below ↦ absurd (f.3 (g.1.rows pc below)) | inr above ↦ absurd (g.3 (f.1.rows qc above)) ]
+      | inr other ↦ elim other [ inl below ↦ absurd (f.2.1 (g.1.rows pc below)) | inr above ↦ absurd (g.2.1 (f.1.rows qc above)) ]
     ]
 
 -- two first faults of one rank are equal
-same_rank : (bytes : List ℕ) (f g : CodeFault) → rank f ≡ rank g → FirstFault bytes f → FirstFault bytes g → f ≡ g
+same_rank : (bytes : List ℕ) (f g : CodeFault) → rank f ≡ rank g → IsFirstFault bytes f → IsFirstFault bytes g → f ≡ g
 unfolding rank
 same_rank bytes fault.Short fault.Short e f g = refl
 same_rank bytes fault.Magic fault.Magic e f g = refl
@@ -96,7 +96,7 @@ same_rank bytes fault.Memory fault.Memory e f g = refl
 same_rank _ _ _ e _ _ = absurd (omega arith)
 
 -- two first faults are equal, or memory runs out
-pub one_fault : (bytes : List ℕ) (f g : CodeFault) → FirstFault bytes f → FirstFault bytes g → f ≢ fault.Memory → g ≢ fault.Memory → f ≡ g
+pub one_fault : (bytes : List ℕ) (f g : CodeFault) → IsFirstFault bytes f → IsFirstFault bytes g → f ≢ fault.Memory → g ≢ fault.Memory → f ≡ g
 one_fault bytes f g first second p q =
     elim (cases_order (rank f) (rank g)) [
       | inl same ↦ same_rank bytes f g same first second

@@ -10,9 +10,10 @@ use Rattle.trlab_code.specs.declared.instruction.Input.{Input}
 use Rattle.trlab_code.specs.declared.instruction.Input.TheVariants.{Speed, Limit, Gap, SideGap, SideBack, Lane}
 use Rattle.trlab_code.specs.declared.instruction.Instr.{Instr}
 use Rattle.trlab_code.specs.declared.instruction.Instr.TheVariants.{Num, Get, Side, Draw, Copy, Add, Sub, Mul, Div, Min, Max, Not, And, Or, Jump, JumpLess, JumpAtMost, JumpTrue, JumpFalse, Go, Cross, Stay}
+use Rattle.trlab_bounds.specs.declared.programs.TheConstants.{VERSION}
 use Rattle.trlab_code.specs.Program.{Program, InRange}
-use Rattle.trlab_code.specs.Machine.{place}
-use Rattle.trlab_code.specs.Spelling.{kind_byte, input_byte, row, row_bytes, instr_bytes, header, spelling}
+use Rattle.trlab_code.specs.Machine.{register_number, input_number}
+use Rattle.trlab_code.specs.Spelling.{kind_byte, row, row_bytes, instr_bytes, header, spelling}
 use Rattle.trlab_code.specs.Laws.{AreBytes, HasWord, IsStored}
 
 byte : ℕ → Type 0
@@ -28,23 +29,23 @@ none = record { all = λ k d h. absurd (omega arith) }
 more : (n : ℕ) {ns : List ℕ} → n < 2 ^ 8 → Small ns → Small (n ∷ ns)
 more n {ns} h small = record { all = All-cons (λ b. b < 2 ^ 8) n ns h small.all }
 
-place_small : (r : Register) → place r < 2 ^ 8
-place_small R0 = omega arith
-place_small R1 = omega arith
-place_small R2 = omega arith
-place_small R3 = omega arith
-place_small R4 = omega arith
-place_small R5 = omega arith
-place_small R6 = omega arith
-place_small R7 = omega arith
+register_small : (r : Register) → register_number r < 2 ^ 8
+register_small R0 = omega arith
+register_small R1 = omega arith
+register_small R2 = omega arith
+register_small R3 = omega arith
+register_small R4 = omega arith
+register_small R5 = omega arith
+register_small R6 = omega arith
+register_small R7 = omega arith
 
-input_byte_small : (k : Input) → input_byte k < 2 ^ 8
-input_byte_small Speed = omega arith
-input_byte_small Limit = omega arith
-input_byte_small Gap = omega arith
-input_byte_small SideGap = omega arith
-input_byte_small SideBack = omega arith
-input_byte_small Lane = omega arith
+input_small : (k : Input) → input_number k < 2 ^ 8
+input_small Speed = omega arith
+input_small Limit = omega arith
+input_small Gap = omega arith
+input_small SideGap = omega arith
+input_small SideBack = omega arith
+input_small Lane = omega arith
 
 row_small : (opcode a b c n : ℕ) → opcode < 2 ^ 8 → a < 2 ^ 8 → b < 2 ^ 8 → c < 2 ^ 8 → n < 2 ^ 32 → Small (row_bytes (row opcode a b c n))
 row_small opcode a b c n f g h i small =
@@ -52,26 +53,26 @@ row_small opcode a b c n f g h i small =
     (more (n % 256) (omega arith) (more (n / 256 % 256) (omega arith) (more (n / 256 ^ 2 % 256) (omega arith) (more (n / 256 ^ 3) (omega arith) none)))))))
 
 instr_bytes_small : (i : Instr) → InRange i → HasWord i → Small (instr_bytes i)
-instr_bytes_small (Num d n) fits word = row_small _ _ _ _ _ (omega arith) (place_small d) (omega arith) (omega arith) word
-instr_bytes_small (Get d k) fits word = row_small _ _ _ _ _ (omega arith) (place_small d) (input_byte_small k) (omega arith) word
-instr_bytes_small (Side d) fits word = row_small _ _ _ _ _ (omega arith) (place_small d) (omega arith) (omega arith) word
-instr_bytes_small (Draw d k t) fits word = row_small _ _ _ _ _ (omega arith) (place_small d) (omega (arith, fits.0)) (omega arith) word
-instr_bytes_small (Copy d a) fits word = row_small _ _ _ _ _ (omega arith) (place_small d) (place_small a) (omega arith) word
-instr_bytes_small (Add d a b) fits word = row_small _ _ _ _ _ (omega arith) (place_small d) (place_small a) (place_small b) word
-instr_bytes_small (Sub d a b) fits word = row_small _ _ _ _ _ (omega arith) (place_small d) (place_small a) (place_small b) word
-instr_bytes_small (Mul d a n) fits word = row_small _ _ _ _ _ (omega arith) (place_small d) (place_small a) (omega arith) word
-instr_bytes_small (Div d a n) fits word = row_small _ _ _ _ _ (omega arith) (place_small d) (place_small a) (omega arith) word
-instr_bytes_small (Min d a b) fits word = row_small _ _ _ _ _ (omega arith) (place_small d) (place_small a) (place_small b) word
-instr_bytes_small (Max d a b) fits word = row_small _ _ _ _ _ (omega arith) (place_small d) (place_small a) (place_small b) word
-instr_bytes_small (Not d a) fits word = row_small _ _ _ _ _ (omega arith) (place_small d) (place_small a) (omega arith) word
-instr_bytes_small (And d a b) fits word = row_small _ _ _ _ _ (omega arith) (place_small d) (place_small a) (place_small b) word
-instr_bytes_small (Or d a b) fits word = row_small _ _ _ _ _ (omega arith) (place_small d) (place_small a) (place_small b) word
+instr_bytes_small (Num d n) fits word = row_small _ _ _ _ _ (omega arith) (register_small d) (omega arith) (omega arith) word
+instr_bytes_small (Get d k) fits word = row_small _ _ _ _ _ (omega arith) (register_small d) (input_small k) (omega arith) word
+instr_bytes_small (Side d) fits word = row_small _ _ _ _ _ (omega arith) (register_small d) (omega arith) (omega arith) word
+instr_bytes_small (Draw d k t) fits word = row_small _ _ _ _ _ (omega arith) (register_small d) (omega (arith, fits.0)) (omega arith) word
+instr_bytes_small (Copy d a) fits word = row_small _ _ _ _ _ (omega arith) (register_small d) (register_small a) (omega arith) word
+instr_bytes_small (Add d a b) fits word = row_small _ _ _ _ _ (omega arith) (register_small d) (register_small a) (register_small b) word
+instr_bytes_small (Sub d a b) fits word = row_small _ _ _ _ _ (omega arith) (register_small d) (register_small a) (register_small b) word
+instr_bytes_small (Mul d a n) fits word = row_small _ _ _ _ _ (omega arith) (register_small d) (register_small a) (omega arith) word
+instr_bytes_small (Div d a n) fits word = row_small _ _ _ _ _ (omega arith) (register_small d) (register_small a) (omega arith) word
+instr_bytes_small (Min d a b) fits word = row_small _ _ _ _ _ (omega arith) (register_small d) (register_small a) (register_small b) word
+instr_bytes_small (Max d a b) fits word = row_small _ _ _ _ _ (omega arith) (register_small d) (register_small a) (register_small b) word
+instr_bytes_small (Not d a) fits word = row_small _ _ _ _ _ (omega arith) (register_small d) (register_small a) (omega arith) word
+instr_bytes_small (And d a b) fits word = row_small _ _ _ _ _ (omega arith) (register_small d) (register_small a) (register_small b) word
+instr_bytes_small (Or d a b) fits word = row_small _ _ _ _ _ (omega arith) (register_small d) (register_small a) (register_small b) word
 instr_bytes_small (Jump t) fits word = row_small _ _ _ _ _ (omega arith) (omega arith) (omega arith) (omega arith) word
-instr_bytes_small (JumpLess a b t) fits word = row_small _ _ _ _ _ (omega arith) (place_small a) (place_small b) (omega arith) word
-instr_bytes_small (JumpAtMost a b t) fits word = row_small _ _ _ _ _ (omega arith) (place_small a) (place_small b) (omega arith) word
-instr_bytes_small (JumpTrue a t) fits word = row_small _ _ _ _ _ (omega arith) (place_small a) (omega arith) (omega arith) word
-instr_bytes_small (JumpFalse a t) fits word = row_small _ _ _ _ _ (omega arith) (place_small a) (omega arith) (omega arith) word
-instr_bytes_small (Go a) fits word = row_small _ _ _ _ _ (omega arith) (place_small a) (omega arith) (omega arith) word
+instr_bytes_small (JumpLess a b t) fits word = row_small _ _ _ _ _ (omega arith) (register_small a) (register_small b) (omega arith) word
+instr_bytes_small (JumpAtMost a b t) fits word = row_small _ _ _ _ _ (omega arith) (register_small a) (register_small b) (omega arith) word
+instr_bytes_small (JumpTrue a t) fits word = row_small _ _ _ _ _ (omega arith) (register_small a) (omega arith) (omega arith) word
+instr_bytes_small (JumpFalse a t) fits word = row_small _ _ _ _ _ (omega arith) (register_small a) (omega arith) (omega arith) word
+instr_bytes_small (Go a) fits word = row_small _ _ _ _ _ (omega arith) (register_small a) (omega arith) (omega arith) word
 instr_bytes_small Cross fits word = row_small _ _ _ _ _ (omega arith) (omega arith) (omega arith) (omega arith) word
 instr_bytes_small Stay fits word = row_small _ _ _ _ _ (omega arith) (omega arith) (omega arith) (omega arith) word
 
@@ -86,7 +87,7 @@ kind_byte_small : (kind : Kind) → kind_byte kind < 2 ^ 8
 kind_byte_small Motion = omega arith
 kind_byte_small Change = omega arith
 
-header_small : (kind : Kind) (count : ℕ) → count ≤ 128 → Small (header kind count)
+header_small : (kind : Kind) (count : ℕ) → count ≤ 128 → Small (header VERSION kind count)
 header_small kind count few =
     more 84 (omega arith) (more 82 (omega arith) (more 76 (omega arith) (more 66 (omega arith) (more 1 (omega arith)
     (more (kind_byte kind) (kind_byte_small kind) (more (count % 256) (omega arith) (more (count / 256) (omega arith) none)))))))
@@ -94,6 +95,6 @@ header_small kind count few =
 pub spelling_bytes : (program : Program) → IsStored program → AreBytes (spelling program)
 unfolding spelling
 spelling_bytes program stored =
-    All-append (λ b. b < 2 ^ 8) (header program.kind (length program.instrs)) (flat_map instr_bytes program.instrs)
+    All-append (λ b. b < 2 ^ 8) (header VERSION program.kind (length program.instrs)) (flat_map instr_bytes program.instrs)
     (header_small program.kind (length program.instrs) stored.is_program.few).all
     (rows_small program.instrs stored.is_program.in_range stored.has_words)

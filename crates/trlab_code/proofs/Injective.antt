@@ -10,8 +10,8 @@ use Rattle.trlab_code.specs.declared.instruction.Input.TheVariants.{Speed, Limit
 use Rattle.trlab_code.specs.declared.instruction.Instr.{Instr}
 use Rattle.trlab_code.specs.declared.instruction.Instr.TheVariants.{Num, Get, Side, Draw, Copy, Add, Sub, Mul, Div, Min, Max, Not, And, Or, Jump, JumpLess, JumpAtMost, JumpTrue, JumpFalse, Go, Cross, Stay}
 use Rattle.trlab_code.specs.Program.{Program}
-use Rattle.trlab_code.specs.Machine.{place}
-use Rattle.trlab_code.specs.Spelling.{kind_byte, input_byte, instr_bytes, spelling}
+use Rattle.trlab_code.specs.Machine.{register_number, input_number}
+use Rattle.trlab_code.specs.Spelling.{kind_byte, instr_bytes, spelling}
 
 same_kind : (k l : Kind) → kind_byte k ≡ kind_byte l → k ≡ l
 same_kind Motion Motion h = refl
@@ -22,7 +22,7 @@ same_kind _ _ h = cc
 abbrev register_of : ℕ → Register
 register_of n = get_or (R0 ∷ R1 ∷ R2 ∷ R3 ∷ R4 ∷ R5 ∷ R6 ∷ R7 ∷ []) n R0
 
-register_back : (r : Register) → register_of (place r) ≡ r
+register_back : (r : Register) → register_of (register_number r) ≡ r
 register_back R0 = refl
 register_back R1 = refl
 register_back R2 = refl
@@ -35,7 +35,7 @@ register_back R7 = refl
 abbrev input_of : ℕ → Input
 input_of n = get_or (Speed ∷ Limit ∷ Gap ∷ SideGap ∷ SideBack ∷ Lane ∷ []) n Speed
 
-input_back : (k : Input) → input_of (input_byte k) ≡ k
+input_back : (k : Input) → input_of (input_number k) ≡ k
 input_back Speed = refl
 input_back Limit = refl
 input_back Gap = refl

@@ -19,9 +19,9 @@ use Rattle.trlab_bounds.specs.declared.programs.TheConstants.{CERTAIN}
 use Rattle.trlab_code.specs.declared.fault.CodeFault.{CodeFault}
 use Rattle.trlab_code.specs.declared.fault.CodeFault.TheVariants as fault
 use Rattle.trlab_code.specs.Program.{Program, InRange, IsProgram}
-use Rattle.trlab_code.specs.Machine.{place}
-use Rattle.trlab_code.specs.Spelling.{kind_byte, input_byte, header, instr_bytes, spelling}
-use Rattle.trlab_code.specs.Faults.{HasRoom, SpellsInstr, GoodHeader, GoodBefore, FirstFault, stated_count, bytes_at}
+use Rattle.trlab_code.specs.Machine.{register_number, input_number}
+use Rattle.trlab_code.specs.Spelling.{kind_byte, header, instr_bytes, spelling}
+use Rattle.trlab_code.specs.Faults.{HasRoom, SpellsInstr, HasGoodHeader, IsGoodBefore, IsFirstFault, stated_count, bytes_at}
 use Rattle.trlab_code.specs.Laws.{Says}
 use Rattle.trlab_code.proofs.Opcodes.{opcode_or_not}
 use Rattle.trlab_code.proofs.Rows.{rows_more, good_more}
@@ -31,7 +31,7 @@ use Rattle.trlab_code.proofs.Whole.{spelling_of_parts}
 register_of : ℕ → Register
 register_of byte = get_or (R0 ∷ R1 ∷ R2 ∷ R3 ∷ R4 ∷ R5 ∷ R6 ∷ R7 ∷ []) byte R0
 
-register_back : (r : Register) → register_of (place r) ≡ r
+register_back : (r : Register) → register_of (register_number r) ≡ r
 unfolding register_of
 register_back R0 = refl
 register_back R1 = refl
@@ -46,7 +46,7 @@ register_back R7 = refl
 input_of : ℕ → Input
 input_of byte = get_or (Speed ∷ Limit ∷ Gap ∷ SideGap ∷ SideBack ∷ Lane ∷ []) byte Speed
 
-input_back : (k : Input) → input_of (input_byte k) ≡ k
+input_back : (k : Input) → input_of (input_number k) ≡ k
 unfolding input_of
 input_back Speed = refl
 input_back Limit = refl
@@ -138,17 +138,17 @@ spells_or_not row =
 
 -- some fault of bytes is the first, and it is not that memory runs out
 abbrev Faulty : List ℕ → Type 0
-Faulty bytes = (f : CodeFault) × (FirstFault bytes f × (f ≢ fault.Memory))
+Faulty bytes = (f : CodeFault) × (IsFirstFault bytes f × (f ≢ fault.Memory))
 
 -- the rows before pc spell instructions, or one of them is the first fault
-rows_or_fault : (bytes : List ℕ) → GoodHeader bytes → HasRoom bytes → (pc : ℕ) → pc ≤ stated_count bytes → GoodBefore bytes pc ⊎ Faulty bytes
+rows_or_fault : (bytes : List ℕ) → HasGoodHeader bytes → HasRoom bytes → (pc : ℕ) → pc ≤ stated_count bytes → IsGoodBefore bytes pc ⊎ Faulty bytes
 rows_or_fault bytes head room zero h = inl (record { header = head; room = room; rows = λ k below. absurd (omega arith) })
 rows_or_fault bytes head room (suc pc) h =
     elim (rows_or_fault bytes head room pc (omega arith)) [
       | inl good ↦ elim (spells_or_not (bytes_at bytes pc)) [
         | inl row ↦ let next : pc + 1 ≡ suc pc = omega arith in inl (rw (← next) (good_more bytes pc row.0 good row.1))
         | inr not ↦ elim (opcode_or_not (slice_index (bytes_at bytes pc) 0)) [
-          | inl opcode ↦ inr (fault.Field pc, ((omega arith, good, opcode, not), λ e. cc))
+          | inl opcode ↦ inr (fault.Field pc, ((omega arith, good, (opcode, not)), λ e. cc))
           | inr none ↦ inr (fault.Opcode pc, ((omega arith, good, none), λ e. cc))
         ]
       ]
@@ -162,7 +162,7 @@ record Rows (bytes : List ℕ) (pc : ℕ) : Type 0 where
   fit : All InRange instrs
   spelt : flat_map instr_bytes instrs ≡ take (8 * pc) (drop 8 bytes)
 
-rows_of : (bytes : List ℕ) (pc : ℕ) → GoodBefore bytes pc → Rows bytes pc
+rows_of : (bytes : List ℕ) (pc : ℕ) → IsGoodBefore bytes pc → Rows bytes pc
 rows_of bytes zero good = record { instrs = []; many = refl; fit = λ k d h. absurd (omega arith); spelt = refl }
 rows_of bytes (suc pc) good =
     let before = rows_of bytes pc (record { header = good.header; room = good.room; rows = λ k h. good.rows k (omega arith) }) in
@@ -176,7 +176,7 @@ rows_of bytes (suc pc) good =
     }
 
 -- the first eight bytes are a header
-header_of : (bytes : List ℕ) (kind : Kind) → All (λ byte. byte < 2 ^ 8) bytes → GoodHeader bytes → slice_index bytes 5 ≡ kind_byte kind → take 8 bytes ≡ header kind (stated_count bytes)
+header_of : (bytes : List ℕ) (kind : Kind) → All (λ byte. byte < 2 ^ 8) bytes → HasGoodHeader bytes → slice_index bytes 5 ≡ kind_byte kind → take 8 bytes ≡ header VERSION kind (stated_count bytes)
 header_of (t ∷ r ∷ l ∷ b ∷ v ∷ k ∷ low ∷ high ∷ rest) kind small good is =
     let byte : low < 256 = small 6 0 (omega arith) in
     let lower : low ≡ (low + 256 * high) % 256 = omega arith in
@@ -197,7 +197,7 @@ kind_or_not byte =
       | inr not ↦ elim (eqb_tells byte 1) [ inl is ↦ inl (Change, is.1) | inr more ↦ inr (no_kind byte not.1 more.1) ]
     ]
 
-header_or_fault : (bytes : List ℕ) → GoodHeader bytes ⊎ Faulty bytes
+header_or_fault : (bytes : List ℕ) → HasGoodHeader bytes ⊎ Faulty bytes
 header_or_fault bytes =
     elim (cases_lt (length bytes) 8) [
       | inl short ↦ inr (fault.Short, (inl (λ h. absurd (omega arith)), λ e. cc))
@@ -206,11 +206,11 @@ header_or_fault bytes =
         | inl same ↦ let magic = (bytes_eq-Decides (take 4 bytes) MAGIC).0 same in elim (eqb_tells (slice_index bytes 4) VERSION) [
           | inr other ↦ inr (fault.Version, ((whole, magic, other.1), λ e. cc))
           | inl version ↦ elim (kind_or_not (slice_index bytes 5)) [
-            | inr other ↦ inr (fault.Kind, ((whole, magic, version.1, other), λ e. cc))
+            | inr other ↦ inr (fault.Kind, ((whole, magic, (version.1, other)), λ e. cc))
             | inl kind ↦ elim (cases_lt (stated_count bytes) 1) [
-              | inl none ↦ inr (fault.Count, ((whole, magic, version.1, kind, λ h. let e = h.0 in absurd (omega arith)), λ e. cc))
+              | inl none ↦ inr (fault.Count, ((whole, magic, (version.1, kind, λ h. let e = h.0 in absurd (omega arith))), λ e. cc))
               | inr some ↦ elim (cases_lt 128 (stated_count bytes)) [
-                | inl many ↦ inr (fault.Count, ((whole, magic, version.1, kind, λ h. let e = h.1 in absurd (omega arith)), λ e. cc))
+                | inl many ↦ inr (fault.Count, ((whole, magic, (version.1, kind, λ h. let e = h.1 in absurd (omega arith))), λ e. cc))
                 | inr few ↦ inl (record { whole = whole; magic = magic; version = version.1; kind = kind; count = (some, few) })
               ]
             ]
@@ -220,7 +220,7 @@ header_or_fault bytes =
     ]
 
 -- the program that bytes with a good header and good rows spell
-spelt : (bytes : List ℕ) → All (λ byte. byte < 2 ^ 8) bytes → GoodBefore bytes (stated_count bytes) → length bytes ≤ 8 + 8 * stated_count bytes → (program : Program) × ((bytes ≡ spelling program) × IsProgram program)
+spelt : (bytes : List ℕ) → All (λ byte. byte < 2 ^ 8) bytes → IsGoodBefore bytes (stated_count bytes) → length bytes ≤ 8 + 8 * stated_count bytes → (program : Program) × ((bytes ≡ spelling program) × IsProgram program)
 spelt bytes small good short =
     let kind = good.header.kind in
     let rows = rows_of bytes (stated_count bytes) good in

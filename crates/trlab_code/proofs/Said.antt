@@ -3,7 +3,7 @@ use Rattle.std.proofs.Common.{◌≡◌, ◌↔◌, ℕ, List, Result, Ok, Err, 
 use Rattle.trlab_code.specs.declared.fault.CodeFault.{CodeFault}
 use Rattle.trlab_code.specs.Program.{Program, IsProgram}
 use Rattle.trlab_code.specs.Spelling.{spelling}
-use Rattle.trlab_code.specs.Faults.{FirstFault}
+use Rattle.trlab_code.specs.Faults.{IsFirstFault}
 use Rattle.trlab_code.specs.Laws.{Says}
 use Rattle.trlab_code.proofs.Injective.{same_program}
 use Rattle.trlab_code.proofs.Spelt.{no_fault}
@@ -12,7 +12,7 @@ use Rattle.trlab_code.proofs.Apart.{one_fault}
 -- bytes that spell a program have no first fault
 not_both : (bytes : List ℕ) (program : Program) (f : CodeFault) → Says bytes (Ok program) → Says bytes (Err f) → ⊥
 not_both bytes program f says faulty =
-    let P : List ℕ → Type 0 = λ b. FirstFault b f in
+    let P : List ℕ → Type 0 = λ b. IsFirstFault b f in
     faulty.1 (no_fault program f says.1 (subst P says.0 faulty.0))
 
 pub one_thing : (bytes : List ℕ) (said other : Result Program CodeFault) → Says bytes said → Says bytes other → said ≡ other

@@ -7,7 +7,7 @@ use Rattle.trlab_code.specs.declared.fault.CodeFault.{CodeFault}
 use Rattle.trlab_code.specs.declared.fault.CodeFault.TheVariants as fault
 use Rattle.trlab_code.specs.Program.{Program, IsProgram}
 use Rattle.trlab_code.specs.Spelling.{instr_bytes, spelling}
-use Rattle.trlab_code.specs.Faults.{GoodHeader, GoodBefore, SpellsInstr, HasOpcode, FirstFault, stated_count, bytes_at}
+use Rattle.trlab_code.specs.Faults.{HasGoodHeader, IsGoodBefore, SpellsInstr, HasOpcode, IsFirstFault, stated_count, bytes_at}
 
 -- the bytes of instructions, eight for each
 length_rows : (instrs : List Instr) → length (flat_map instr_bytes instrs) ≡ 8 * length instrs
@@ -28,7 +28,7 @@ length_is : (program : Program) → length (spelling program) ≡ 8 + 8 * length
 unfolding spelling
 length_is program = omega (arith, length_rows program.instrs)
 
-header_is : (program : Program) → IsProgram program → GoodHeader (spelling program)
+header_is : (program : Program) → IsProgram program → HasGoodHeader (spelling program)
 unfolding spelling
 header_is program is = record {
   whole = omega arith;
@@ -45,14 +45,14 @@ row_of_program program is k h =
     (get_or program.instrs k Stay, (rw more (row_is program.instrs k h), is.in_range k Stay h))
 
 -- all is well in the spelling of a program
-pub good_spelling : (program : Program) → IsProgram program → (k : ℕ) → k ≤ length program.instrs → GoodBefore (spelling program) k
+pub good_spelling : (program : Program) → IsProgram program → (k : ℕ) → k ≤ length program.instrs → IsGoodBefore (spelling program) k
 good_spelling program is k h = record {
   header = header_is program is;
   room = omega (arith, count_is program, length_is program);
   rows = λ j below. row_of_program program is j (omega arith);
 }
 
-good : (program : Program) → IsProgram program → GoodBefore (spelling program) (length program.instrs)
+good : (program : Program) → IsProgram program → IsGoodBefore (spelling program) (length program.instrs)
 good program is = good_spelling program is (length program.instrs) (omega arith)
 
 -- bytes that spell an instruction have its opcode
@@ -60,13 +60,13 @@ pub opcode_of_row : (row : List ℕ) → SpellsInstr row → HasOpcode row
 opcode_of_row row h = (h.0, ap (λ bytes. get_or bytes 0 0) h.1.0)
 
 -- bytes that spell a program have no fault but that memory runs out
-pub no_fault : (program : Program) (f : CodeFault) → IsProgram program → FirstFault (spelling program) f → f ≡ fault.Memory
+pub no_fault : (program : Program) (f : CodeFault) → IsProgram program → IsFirstFault (spelling program) f → f ≡ fault.Memory
 no_fault program fault.Short is h = elim h [ inl short ↦ absurd (short (good program is).header.whole) | inr short ↦ absurd (short.1 (good program is).room) ]
 no_fault program fault.Magic is h = absurd (h.1 (good program is).header.magic)
 no_fault program fault.Version is h = absurd (h.2 (good program is).header.version)
-no_fault program fault.Kind is h = absurd (h.3 (good program is).header.kind)
-no_fault program fault.Count is h = absurd (h.4 (good program is).header.count)
+no_fault program fault.Kind is h = absurd (h.2.1 (good program is).header.kind)
+no_fault program fault.Count is h = absurd (h.2.2 (good program is).header.count)
 no_fault program (fault.Opcode pc) is h = absurd (h.2 (opcode_of_row _ ((good program is).rows pc (omega (arith, count_is program, h.0)))))
-no_fault program (fault.Field pc) is h = absurd (h.3 ((good program is).rows pc (omega (arith, count_is program, h.0))))
+no_fault program (fault.Field pc) is h = absurd (h.2.1 ((good program is).rows pc (omega (arith, count_is program, h.0))))
 no_fault program fault.Trailing is h = absurd (omega (arith, count_is program, length_is program, h.1))
 no_fault program fault.Memory is h = refl

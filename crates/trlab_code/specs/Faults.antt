@@ -50,7 +50,7 @@ abbrev pub SpellsInstr : List ℕ → Type 0
 SpellsInstr row = (i : Instr) × Spells i row
 
 -- a header as it has to be
-pub record GoodHeader (bytes : List ℕ) : Type 0 where
+pub record HasGoodHeader (bytes : List ℕ) : Type 0 where
   pub whole : HasHeader bytes
   pub magic : HasMagic bytes
   pub version : HasVersion bytes
@@ -58,24 +58,40 @@ pub record GoodHeader (bytes : List ℕ) : Type 0 where
   pub count : HasCount bytes
 
 -- all is well before the instruction at pc
-pub record GoodBefore (bytes : List ℕ) (pc : ℕ) : Type 0 where
-  pub header : GoodHeader bytes
+pub record IsGoodBefore (bytes : List ℕ) (pc : ℕ) : Type 0 where
+  pub header : HasGoodHeader bytes
   pub room : HasRoom bytes
   pub rows : (k : ℕ) → k < pc → SpellsInstr (bytes_at bytes k)
 
+-- the bytes end before their header does, or before the instructions that a good header states
+abbrev pub EndsEarly : List ℕ → Type 0
+EndsEarly bytes = (¬ (HasHeader bytes)) ⊎ (HasGoodHeader bytes × ¬ (HasRoom bytes))
+
+-- the header is good up to the version, and then comes this
+abbrev pub AfterMagic : List ℕ → Type 0 → Type 0
+AfterMagic bytes rest = HasHeader bytes × HasMagic bytes × rest
+
+-- the header is good up to the count, and then comes this
+abbrev pub AfterKind : List ℕ → Type 0 → Type 0
+AfterKind bytes rest = AfterMagic bytes (HasVersion bytes × HasKind bytes × rest)
+
+-- all is well before one of the instructions that are stated, and it is so
+abbrev pub AtInstr : List ℕ → ℕ → (List ℕ → Type 0) → Type 0
+AtInstr bytes pc IsSo = (pc < stated_count bytes) × IsGoodBefore bytes pc × IsSo (bytes_at bytes pc)
+
+-- all is well, and more bytes follow
+abbrev pub HasMore : List ℕ → Type 0
+HasMore bytes =
+    IsGoodBefore bytes (stated_count bytes) × (HEADER_BYTES + INSTR_BYTES * stated_count bytes < length bytes)
+
 -- the first fault of bytes; memory may run out at any time
-abbrev pub FirstFault : List ℕ → CodeFault → Type 0
-FirstFault bytes fault.Short = (¬ (HasHeader bytes)) ⊎ (GoodHeader bytes × ¬ (HasRoom bytes))
-FirstFault bytes fault.Magic = HasHeader bytes × ¬ (HasMagic bytes)
-FirstFault bytes fault.Version = HasHeader bytes × HasMagic bytes × ¬ (HasVersion bytes)
-FirstFault bytes fault.Kind = HasHeader bytes × HasMagic bytes × HasVersion bytes × ¬ (HasKind bytes)
-FirstFault bytes fault.Count =
-    HasHeader bytes × HasMagic bytes × HasVersion bytes × HasKind bytes × ¬ (HasCount bytes)
-FirstFault bytes (fault.Opcode pc) =
-    (pc < stated_count bytes) × GoodBefore bytes pc × ¬ (HasOpcode (bytes_at bytes pc))
-FirstFault bytes (fault.Field pc) =
-    (pc < stated_count bytes) × GoodBefore bytes pc × HasOpcode (bytes_at bytes pc)
-    × ¬ (SpellsInstr (bytes_at bytes pc))
-FirstFault bytes fault.Trailing =
-    GoodBefore bytes (stated_count bytes) × (HEADER_BYTES + INSTR_BYTES * stated_count bytes < length bytes)
-FirstFault bytes fault.Memory = Unit {0}
+abbrev pub IsFirstFault : List ℕ → CodeFault → Type 0
+IsFirstFault bytes fault.Short = EndsEarly bytes
+IsFirstFault bytes fault.Magic = HasHeader bytes × ¬ (HasMagic bytes)
+IsFirstFault bytes fault.Version = AfterMagic bytes (¬ (HasVersion bytes))
+IsFirstFault bytes fault.Kind = AfterMagic bytes (HasVersion bytes × ¬ (HasKind bytes))
+IsFirstFault bytes fault.Count = AfterKind bytes (¬ (HasCount bytes))
+IsFirstFault bytes (fault.Opcode pc) = AtInstr bytes pc (λ row. ¬ (HasOpcode row))
+IsFirstFault bytes (fault.Field pc) = AtInstr bytes pc (λ row. HasOpcode row × ¬ (SpellsInstr row))
+IsFirstFault bytes fault.Trailing = HasMore bytes
+IsFirstFault bytes fault.Memory = Unit {0}

@@ -2,7 +2,7 @@
 use Rattle.std.specs.Prelude.{◌≡◌, ◌≢◌, ◌↔◌, ℕ, ◌<◌, ◌^◌, List, All, Result, Ok, Err}
 use Rattle.trlab_code.specs.Program.{Program, IsProgram}
 use Rattle.trlab_code.specs.Spelling.{row_of, spelling}
-use Rattle.trlab_code.specs.Faults.{FirstFault}
+use Rattle.trlab_code.specs.Faults.{IsFirstFault}
 use Rattle.trlab_code.specs.declared.instruction.Instr.{Instr}
 use Rattle.trlab_code.specs.declared.fault.CodeFault.{CodeFault}
 use Rattle.trlab_code.specs.declared.fault.CodeFault.TheVariants.{Memory}
@@ -23,7 +23,7 @@ pub record IsStored (program : Program) : Type 0 where
 -- what bytes say: the program that they spell, or their first fault
 abbrev pub Says : List ℕ → Result Program CodeFault → Type 0
 Says bytes (Ok program) = (bytes ≡ spelling program) × IsProgram program
-Says bytes (Err fault) = FirstFault bytes fault × (fault ≢ Memory)
+Says bytes (Err fault) = IsFirstFault bytes fault × (fault ≢ Memory)
 
 -- any bytes say something
 abbrev pub BytesSaySomething : Type 0

@@ -3,55 +3,44 @@ use Rattle.std.specs.Prelude.{◌≡◌, ℕ, ◌/◌, ◌%◌, ◌^◌, List, [
 use Rattle.std.specs.List.{flat_map}
 use Rattle.trlab_code.specs.declared.kind.Kind.{Kind}
 use Rattle.trlab_code.specs.declared.kind.Kind.TheVariants.{Motion, Change}
-use Rattle.trlab_code.specs.declared.instruction.Input.{Input}
-use Rattle.trlab_code.specs.declared.instruction.Input.TheVariants.{Speed, Limit, Gap, SideGap, SideBack, Lane}
 use Rattle.trlab_code.specs.declared.instruction.Instr.{Instr}
 use Rattle.trlab_code.specs.declared.instruction.Instr.TheVariants.{Num, Get, Side, Draw, Copy, Add, Sub, Mul, Div, Min, Max, Not, And, Or, Jump, JumpLess, JumpAtMost, JumpTrue, JumpFalse, Go, Cross, Stay}
 use Rattle.trlab_code.specs.declared.row.Row.{Row}
-use Rattle.trlab_bounds.specs.declared.programs.TheConstants.{MAGIC, VERSION}
-use Rattle.trlab_code.specs.Program.{Program, InRange}
-use Rattle.trlab_code.specs.Machine.{place}
+use Rattle.trlab_bounds.specs.declared.programs.TheConstants.{MAGIC}
+use Rattle.trlab_code.specs.Program.{Program, InRange, version_of}
+use Rattle.trlab_code.specs.Machine.{register_number, input_number}
 
 -- the byte of a kind
 abbrev pub kind_byte : Kind → ℕ
 kind_byte Motion = 0
 kind_byte Change = 1
 
--- the byte of an input; that of a register is its place
-abbrev pub input_byte : Input → ℕ
-input_byte Speed = 0
-input_byte Limit = 1
-input_byte Gap = 2
-input_byte SideGap = 3
-input_byte SideBack = 4
-input_byte Lane = 5
-
 -- an opcode, three fields of a byte, and a number
 abbrev pub row : ℕ → ℕ → ℕ → ℕ → ℕ → Row
 row opcode a b c number = record { opcode = opcode; a = a; b = b; c = c; number = number }
 
--- the row of each instruction, with 0 where it has no such field
+-- the row of each instruction, with 0 where it has no such field; a register or an input is its number
 abbrev pub row_of : Instr → Row
-row_of (Num d n) = row 0x01 (place d) 0 0 n
-row_of (Get d k) = row 0x02 (place d) (input_byte k) 0 0
-row_of (Side d) = row 0x03 (place d) 0 0 0
-row_of (Draw d k t) = row 0x04 (place d) k 0 t
-row_of (Copy d a) = row 0x05 (place d) (place a) 0 0
-row_of (Add d a b) = row 0x06 (place d) (place a) (place b) 0
-row_of (Sub d a b) = row 0x07 (place d) (place a) (place b) 0
-row_of (Mul d a n) = row 0x08 (place d) (place a) 0 n
-row_of (Div d a n) = row 0x09 (place d) (place a) 0 n
-row_of (Min d a b) = row 0x0a (place d) (place a) (place b) 0
-row_of (Max d a b) = row 0x0b (place d) (place a) (place b) 0
-row_of (Not d a) = row 0x0c (place d) (place a) 0 0
-row_of (And d a b) = row 0x0d (place d) (place a) (place b) 0
-row_of (Or d a b) = row 0x0e (place d) (place a) (place b) 0
+row_of (Num d n) = row 0x01 (register_number d) 0 0 n
+row_of (Get d k) = row 0x02 (register_number d) (input_number k) 0 0
+row_of (Side d) = row 0x03 (register_number d) 0 0 0
+row_of (Draw d k t) = row 0x04 (register_number d) k 0 t
+row_of (Copy d a) = row 0x05 (register_number d) (register_number a) 0 0
+row_of (Add d a b) = row 0x06 (register_number d) (register_number a) (register_number b) 0
+row_of (Sub d a b) = row 0x07 (register_number d) (register_number a) (register_number b) 0
+row_of (Mul d a n) = row 0x08 (register_number d) (register_number a) 0 n
+row_of (Div d a n) = row 0x09 (register_number d) (register_number a) 0 n
+row_of (Min d a b) = row 0x0a (register_number d) (register_number a) (register_number b) 0
+row_of (Max d a b) = row 0x0b (register_number d) (register_number a) (register_number b) 0
+row_of (Not d a) = row 0x0c (register_number d) (register_number a) 0 0
+row_of (And d a b) = row 0x0d (register_number d) (register_number a) (register_number b) 0
+row_of (Or d a b) = row 0x0e (register_number d) (register_number a) (register_number b) 0
 row_of (Jump t) = row 0x0f 0 0 0 t
-row_of (JumpLess a b t) = row 0x10 (place a) (place b) 0 t
-row_of (JumpAtMost a b t) = row 0x11 (place a) (place b) 0 t
-row_of (JumpTrue a t) = row 0x12 (place a) 0 0 t
-row_of (JumpFalse a t) = row 0x13 (place a) 0 0 t
-row_of (Go a) = row 0x14 (place a) 0 0 0
+row_of (JumpLess a b t) = row 0x10 (register_number a) (register_number b) 0 t
+row_of (JumpAtMost a b t) = row 0x11 (register_number a) (register_number b) 0 t
+row_of (JumpTrue a t) = row 0x12 (register_number a) 0 0 t
+row_of (JumpFalse a t) = row 0x13 (register_number a) 0 0 t
+row_of (Go a) = row 0x14 (register_number a) 0 0 0
 row_of Cross = row 0x15 0 0 0 0
 row_of Stay = row 0x16 0 0 0 0
 
@@ -72,12 +61,13 @@ abbrev pub instr_bytes : Instr → List ℕ
 instr_bytes i = row_bytes (row_of i)
 
 -- the eight bytes of a header: `TRLB`, the version, the kind and the count of instructions
-abbrev pub header : Kind → ℕ → List ℕ
-header kind count = MAGIC ++ VERSION ∷ kind_byte kind ∷ count_bytes count
+abbrev pub header : ℕ → Kind → ℕ → List ℕ
+header version kind count = MAGIC ++ version ∷ kind_byte kind ∷ count_bytes count
 
 -- the spelling of a program
 unfoldable pub spelling : Program → List ℕ
-spelling program = header program.kind (length program.instrs) ++ flat_map instr_bytes program.instrs
+spelling program =
+    header (version_of program) program.kind (length program.instrs) ++ flat_map instr_bytes program.instrs
 
 -- bytes that spell an instruction with fields in range
 abbrev pub Spells : Instr → List ℕ → Type 0

@@ -4,7 +4,7 @@ ghost use Rattle.std.specs.Prelude.{◌≡◌, ◌≢◌, ◌*◌, ◌<◌, ◌�
 ghost use Rattle.std.specs.List.{flat_map};
 ghost use Rattle.trlab_code.specs.Program.{Program, InRange, IsProgram};
 ghost use Rattle.trlab_code.specs.Spelling.{spelling, instr_bytes, Spells};
-ghost use Rattle.trlab_code.specs.Faults.{GoodHeader, GoodBefore, HasRoom, SpellsInstr, FirstFault, stated_count, bytes_at};
+ghost use Rattle.trlab_code.specs.Faults.{HasGoodHeader, IsGoodBefore, HasRoom, SpellsInstr, IsFirstFault, stated_count, bytes_at};
 ghost use Rattle.trlab_code.specs.declared.fault.CodeFault.{CodeFault};
 
 use crate::fault::CodeFault;
@@ -18,8 +18,8 @@ use trlab_bounds::programs::{HEADER_BYTES, INSTR_BYTES};
 /// The instruction at pc, where all is well before it.
 fn instr_at(bytes: &[u8], pc: u32) -> Result<Instr, CodeFault>
     requires inside { pc < stated_count bytes.now }
-    requires before { GoodBefore bytes.now pc }
-    ensures { MatchResult result (λ i. Spells i (bytes_at bytes.now pc)) (FirstFault bytes.now) }
+    requires before { IsGoodBefore bytes.now pc }
+    ensures { MatchResult result (λ i. Spells i (bytes_at bytes.now pc)) (IsFirstFault bytes.now) }
 {
     let row = Row::read(bytes, HEADER_BYTES + INSTR_BYTES * pc as usize);
     match row::instruction_of(row) {
@@ -31,15 +31,15 @@ fn instr_at(bytes: &[u8], pc: u32) -> Result<Instr, CodeFault>
 
 /// The instructions that follow a good header.
 fn instrs(alloc: Global, bytes: &[u8], count: u32) -> Result<Vec<Instr>, CodeFault>
-    requires header { GoodHeader bytes.now }
+    requires header { HasGoodHeader bytes.now }
     requires room { HasRoom bytes.now }
     requires count { count ≡ stated_count bytes.now }
     ensures length { IfOk result (λ instrs. vec_len instrs ≡ count) }
     ensures in_range { IfOk result (λ instrs. All InRange instrs.items) }
     ensures spelt { IfOk result (λ instrs.
         flat_map instr_bytes instrs.items ≡ take (INSTR_BYTES * count) (drop HEADER_BYTES bytes.now)) }
-    ensures rows { IfOk result (λ _. GoodBefore bytes.now count) }
-    ensures fault { IfErr result (FirstFault bytes.now) }
+    ensures rows { IfOk result (λ _. IsGoodBefore bytes.now count) }
+    ensures fault { IfErr result (IsFirstFault bytes.now) }
 {
     let mut instrs = Vec::with_capacity(alloc, count as usize)?;
     for pc in 0..count {
@@ -55,8 +55,12 @@ fn instrs(alloc: Global, bytes: &[u8], count: u32) -> Result<Vec<Instr>, CodeFau
 /// lower first. An instruction is its opcode, three fields of a byte, and a number in four bytes,
 /// the lowest first; what an instruction does not use is 0. Other bytes are refused by their first
 /// fault, in the order of `CodeFault`; where the bytes end early, the header is judged before.
+///
+/// # Errors
+///
+/// The first fault of the bytes, or that memory runs out.
 pub fn decode(alloc: Global, bytes: &[u8]) -> Result<Code, CodeFault>
-    ensures exact { MatchResult result (λ code. bytes.now ≡ spelling code) (FirstFault bytes.now) }
+    ensures exact { MatchResult result (λ code. bytes.now ≡ spelling code) (IsFirstFault bytes.now) }
     ensures program { IfOk result IsProgram }
 
     // Each program is found, but where memory runs out.
@@ -64,7 +68,7 @@ pub fn decode(alloc: Global, bytes: &[u8]) -> Result<Code, CodeFault>
         → (result ≡ Ok program) ⊎ (result ≡ Err CodeFault.Memory) }
 
     // Each fault is told, but where memory runs out.
-    ensures told { (fault : CodeFault) → FirstFault bytes.now fault → fault ≢ CodeFault.Memory
+    ensures told { (fault : CodeFault) → IsFirstFault bytes.now fault → fault ≢ CodeFault.Memory
         → (result ≡ Err fault) ⊎ (result ≡ Err CodeFault.Memory) }
 {
     let header = Header::read(bytes)?;

@@ -9,7 +9,11 @@ use crate::row;
 use std::alloc::{AllocError, Global};
 use trlab_bounds::programs::{HEADER_BYTES, INSTR_BYTES};
 
-/// The bytes that spell a program.
+/// The bytes that spell a program: 8 for the header and 8 for each instruction.
+///
+/// # Errors
+///
+/// Where memory runs out.
 pub fn encode(alloc: Global, code: &Code) -> Result<Vec<u8>, AllocError>
     ensures { IfOk result (λ bytes. bytes.items ≡ spelling code.now) }
 {
@@ -19,7 +23,7 @@ pub fn encode(alloc: Global, code: &Code) -> Result<Vec<u8>, AllocError>
         count: instrs.len() as u32,
     };
     let mut bytes = Vec::with_capacity(alloc, HEADER_BYTES + INSTR_BYTES * instrs.len())?;
-    bytes.extend_from_slice(&header.bytes())?;
+    bytes.extend_from_slice(&header.bytes(code.version()))?;
     for instr in instrs {
         bytes.extend_from_slice(&row::row_of(*instr).bytes())?;
     }

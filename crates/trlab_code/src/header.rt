@@ -1,8 +1,9 @@
 //! The header of a program's bytes.
 
 ghost use Rattle.std.specs.Prelude.{◌≡◌, ◌≤◌, length, take, IfOk, IfErr};
+ghost use Rattle.trlab_bounds.specs.declared.programs.TheConstants.{VERSION};
 ghost use Rattle.trlab_code.specs.Spelling.{kind_byte, header};
-ghost use Rattle.trlab_code.specs.Faults.{GoodHeader, HasRoom, FirstFault, stated_count};
+ghost use Rattle.trlab_code.specs.Faults.{HasGoodHeader, HasRoom, IsFirstFault, stated_count};
 
 use crate::fault::CodeFault;
 use crate::kind::Kind;
@@ -28,11 +29,11 @@ fn kind_byte(kind: Kind) -> u8
 impl Header {
     /// The header that bytes begin with, where they have room for the instructions that it states.
     pub(crate) fn read(bytes: &[u8]) -> Result<Header, CodeFault>
-        ensures good { IfOk result (λ h. GoodHeader bytes.now) }
+        ensures good { IfOk result (λ h. HasGoodHeader bytes.now) }
         ensures room { IfOk result (λ h. HasRoom bytes.now) }
         ensures count { IfOk result (λ h. stated_count bytes.now ≡ h.count) }
-        ensures spelt { IfOk result (λ h. take HEADER_BYTES bytes.now ≡ header h.kind h.count) }
-        ensures fault { IfErr result (FirstFault bytes.now) }
+        ensures spelt { IfOk result (λ h. take HEADER_BYTES bytes.now ≡ header VERSION h.kind h.count) }
+        ensures fault { IfErr result (IsFirstFault bytes.now) }
     {
         if bytes.len() < HEADER_BYTES {
             return Err(CodeFault::Short);
@@ -58,13 +59,13 @@ impl Header {
         Ok(Header { kind, count })
     }
 
-    /// The bytes of the header, the count's lower byte first.
-    pub(crate) fn bytes(self) -> [u8; HEADER_BYTES]
+    /// The bytes of the header of a spelling of this version, the count's lower byte first.
+    pub(crate) fn bytes(self, version: u8) -> [u8; HEADER_BYTES]
         requires { self.count ≤ MOST_INSTRUCTIONS }
-        ensures { result ≡ header self.kind self.count }
+        ensures { result ≡ header version self.kind self.count }
     {
         let [t, r, l, b] = MAGIC;
         let [low, high] = (self.count as u16).to_le_bytes();
-        [t, r, l, b, VERSION, kind_byte(self.kind), low, high]
+        [t, r, l, b, version, kind_byte(self.kind), low, high]
     }
 }

@@ -18,12 +18,12 @@ pub enum Register {
 }
 
 impl Register {
-    ghost use Rattle.trlab_code.specs.Machine.{place};
+    ghost use Rattle.trlab_code.specs.Machine.{register_number};
 
-    /// The place of the register: 0 to 7.
-    pub fn place(self) -> usize
-        ensures value { result ≡ place self }
-        ensures in_range { result < PLACES }
+    /// The number of the register: 0 to 7.
+    pub fn number(self) -> usize
+        ensures value { result ≡ register_number self }
+        ensures in_range { result < 8 }
     {
         self as usize
     }
@@ -47,14 +47,36 @@ pub enum Input {
 }
 
 impl Input {
-    ghost use Rattle.trlab_code.specs.Machine.{input_place};
+    ghost use Rattle.trlab_code.specs.Machine.{input_number};
 
-    /// The place of the input: 8 to 13.
-    pub fn place(self) -> usize
-        ensures value { result ≡ input_place self }
+    /// The number of the input: 0 to 5.
+    pub fn number(self) -> usize
+        ensures value { result ≡ input_number self }
+        ensures in_range { result < 6 }
+    {
+        self as usize
+    }
+}
+
+/// Where a program finds a value: a register, which it writes and reads, or an input, which it reads.
+#[derive(Clone, Copy, Debug, PartialEq, Eq)]
+pub enum Place {
+    Register(Register),
+    Input(Input),
+}
+
+impl Place {
+    ghost use Rattle.trlab_code.specs.Machine.{place_number};
+
+    /// The number of the place: registers are 0 to 7, inputs 8 to 13.
+    pub fn number(self) -> usize
+        ensures value { result ≡ place_number self }
         ensures in_range { result < PLACES }
     {
-        8 + self as usize
+        match self {
+            Place::Register(register) => register.number(),
+            Place::Input(input) => 8 + input.number(),
+        }
     }
 }
 
@@ -110,7 +132,30 @@ pub enum Instr {
 }
 
 impl Instr {
-    ghost use Rattle.trlab_code.specs.Flow.{falls, target};
+    ghost use Rattle.trlab_code.specs.Flow.{destination, falls, target};
+
+    /// The register that the instruction writes, if it writes one.
+    pub fn destination(self) -> Option<Register>
+        ensures { result ≡ destination self }
+    {
+        match self {
+            Instr::Num(dest, _)
+            | Instr::Get(dest, _)
+            | Instr::Side(dest)
+            | Instr::Draw(dest, _, _)
+            | Instr::Copy(dest, _)
+            | Instr::Add(dest, _, _)
+            | Instr::Sub(dest, _, _)
+            | Instr::Mul(dest, _, _)
+            | Instr::Div(dest, _, _)
+            | Instr::Min(dest, _, _)
+            | Instr::Max(dest, _, _)
+            | Instr::Not(dest, _)
+            | Instr::And(dest, _, _)
+            | Instr::Or(dest, _, _) => Some(dest),
+            _ => None,
+        }
+    }
 
     /// The instruction to which a jump can go.
     pub fn target(self) -> Option<u32>

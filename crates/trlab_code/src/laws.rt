@@ -5,7 +5,7 @@
 ghost use Rattle.std.specs.Prelude.{◌≡◌, ◌≢◌, ℕ, List};
 ghost use Rattle.trlab_code.specs.Program.{Program, IsProgram};
 ghost use Rattle.trlab_code.specs.Spelling.{spelling};
-ghost use Rattle.trlab_code.specs.Faults.{FirstFault};
+ghost use Rattle.trlab_code.specs.Faults.{IsFirstFault};
 ghost use Rattle.trlab_code.specs.Laws.{BytesSayOneThing, BytesSaySomething, SpellingIsBytes, SpellingSaysTheProgram};
 ghost use Rattle.trlab_code.specs.declared.fault.CodeFault.{CodeFault};
 
@@ -19,13 +19,13 @@ pub fn one_spelling()
 #[tactic(auto, using(crate::proofs::Spelt::no_fault))]
 pub fn no_fault()
     ensures { (program : Program) (fault : CodeFault) → IsProgram program
-        → FirstFault (spelling program) fault → fault ≡ CodeFault.Memory }
+        → IsFirstFault (spelling program) fault → fault ≡ CodeFault.Memory }
 {}
 
 /// Bytes have one first fault, but that memory may run out.
 #[tactic(auto, using(crate::proofs::Apart::one_fault))]
 pub fn one_fault()
-    ensures { (bytes : List ℕ) (first second : CodeFault) → FirstFault bytes first → FirstFault bytes second
+    ensures { (bytes : List ℕ) (first second : CodeFault) → IsFirstFault bytes first → IsFirstFault bytes second
         → first ≢ CodeFault.Memory → second ≢ CodeFault.Memory → first ≡ second }
 {}
 

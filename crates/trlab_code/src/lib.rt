@@ -15,7 +15,7 @@ mod view;
 pub use decoding::decode;
 pub use encoding::encode;
 pub use fault::CodeFault;
-pub use instruction::{Input, Instr, Register};
+pub use instruction::{Input, Instr, Place, Register};
 pub use kind::Kind;
 pub use program::Code;
 pub use trlab_bounds::programs::{

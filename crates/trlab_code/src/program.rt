@@ -1,12 +1,12 @@
 //! Programs whose fields are in range.
 
 ghost use Rattle.std.specs.Prelude.{◌≡◌, ◌↔◌, ◌≤◌, IsTrue, MatchOption, IfSome};
-ghost use Rattle.trlab_code.specs.Program.{Program, InRange, IsProgram, Draws};
+ghost use Rattle.trlab_code.specs.Program.{Program, InRange, IsProgram, Draws, version_of};
 
 use crate::instruction::Instr;
 use crate::kind::Kind;
 use std::marker::Model;
-use trlab_bounds::programs::{CERTAIN, MOST_INSTRUCTIONS, WORDS};
+use trlab_bounds::programs::{CERTAIN, MOST_INSTRUCTIONS, VERSION, WORDS};
 
 /// A program of 1 to 128 instructions whose fields are in range.
 #[derive(Debug, Drop)]
@@ -74,6 +74,13 @@ impl Code {
         ensures program { IsProgram self.now }
     {
         &self.instrs
+    }
+
+    /// The version of the program's spelling.
+    pub fn version(&self) -> u8
+        ensures { result ≡ version_of self.now }
+    {
+        VERSION
     }
 
     /// Whether the program draws on random words.

@@ -1,9 +1,9 @@
 //! The rows of bytes that spell instructions.
 
 ghost use Rattle.std.specs.Prelude.{◌≡◌, ◌+◌, ◌≤◌, ◌↔◌, length, take, drop, IsTrue, IsNone, IfSome, ℕ};
-ghost use Rattle.trlab_code.specs.Machine.{place};
+ghost use Rattle.trlab_code.specs.Machine.{register_number, input_number};
 ghost use Rattle.trlab_code.specs.Program.{InRange};
-ghost use Rattle.trlab_code.specs.Spelling.{input_byte, row_of, row_bytes, IsOpcode};
+ghost use Rattle.trlab_code.specs.Spelling.{row_of, row_bytes, IsOpcode};
 
 use crate::instruction::{Input, Instr, Register};
 use crate::program::is_in_range;
@@ -53,16 +53,9 @@ impl Row {
     }
 }
 
-/// The byte of an input.
-fn input_byte(input: Input) -> u8
-    ensures { result ≡ input_byte input }
-{
-    input as u8
-}
-
 /// The register of a byte; any register for a byte of none.
 fn register_of(byte: u8) -> Register
-    ensures { (register : Register) → byte ≡ place register → result ≡ register }
+    ensures { (register : Register) → byte ≡ register_number register → result ≡ register }
 {
     match byte {
         0 => Register::R0,
@@ -78,7 +71,7 @@ fn register_of(byte: u8) -> Register
 
 /// The input of a byte; any input for a byte of none.
 fn input_of(byte: u8) -> Input
-    ensures { (input : Input) → byte ≡ input_byte input → result ≡ input }
+    ensures { (input : Input) → byte ≡ input_number input → result ≡ input }
 {
     match byte {
         0 => Input::Speed,
@@ -101,10 +94,10 @@ pub(crate) fn row_of(instr: Instr) -> Row
         c,
         number,
     };
-    let byte = |register: Register| register.place() as u8;
+    let byte = |register: Register| register.number() as u8;
     match instr {
         Instr::Num(d, n) => row(0x01, byte(d), 0, 0, n),
-        Instr::Get(d, k) => row(0x02, byte(d), input_byte(k), 0, 0),
+        Instr::Get(d, k) => row(0x02, byte(d), k.number() as u8, 0, 0),
         Instr::Side(d) => row(0x03, byte(d), 0, 0, 0),
         Instr::Draw(d, k, t) => row(0x04, byte(d), k, 0, t),
         Instr::Copy(d, a) => row(0x05, byte(d), byte(a), 0, 0),

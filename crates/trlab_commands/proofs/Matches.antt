@@ -18,7 +18,7 @@ use Rattle.clap.proofs.OnLiterals.{clap_on_literals}
 use Rattle.clap.proofs.CallerReads.{signed_reads}
 use Rattle.clap.proofs.ValueTestLemmas.{accepts-Accepts}
 use Rattle.trlab_bounds.specs.declared.runs.TheConstants.{MOST_WORKERS}
-use Rattle.trlab_commands.specs.Asked.{GivesNumber}
+use Rattle.trlab_commands.specs.Requests.{GivesNumber}
 use Rattle.trlab_commands.specs.CommandLine.{command_line}
 use Rattle.trlab_commands.proofs.CommandLine.{Taken, check, check_level, run_level, enters_check, enters_run, run, taken, workers_value}
 

@@ -1,4 +1,4 @@
-//! What is done for the words of the command line.
+//! What is done for the words of the command line: an engine runs from a reader to a writer.
 
 ghost use Rattle.std.specs.Prelude.{◌≡◌, ◌+◌, ◌||◌, ◌↔◌, true, false, IfSome};
 ghost use Rattle.std.specs.Io.KnownBytes.{Keeps};
@@ -6,7 +6,7 @@ ghost use Rattle.trlab_campaign.specs.Device.{ConsumesUpTo};
 ghost use Rattle.trlab_campaign.specs.Ending.{EndsSo, OnWhole};
 ghost use Rattle.trlab_campaign.specs.declared.end.End.TheVariants.{DeviceFault};
 ghost use Rattle.trlab_bounds.specs.declared.texts.TheConstants.{TEXT_LIMIT};
-ghost use Rattle.trlab_commands.specs.Asked.{HasCounts};
+ghost use Rattle.trlab_commands.specs.Requests.{HasCounts};
 ghost use Rattle.trlab_commands.specs.Commands.{output_of};
 
 use crate::words::Wanted;

@@ -1,4 +1,4 @@
-//! What the help of `trlab` says beside the usage.
+//! Texts of help, which `clap` prints beside the usage.
 
 /// What `trlab` is for.
 pub const ABOUT: &str =

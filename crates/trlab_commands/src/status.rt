@@ -1,4 +1,4 @@
-//! Exit statuses.
+//! Exit statuses: 0 done, 1 refused, 2 words refused, 3 want of memory, 4 a failed device.
 
 ghost use Rattle.std.specs.Prelude.{◌≡◌, is_err};
 ghost use Rattle.clap.specs.Words.{kind_of};

@@ -1,9 +1,9 @@
-//! The words of the command line.
+//! The words of the command line, as `clap` reads them.
 
 ghost use Rattle.std.specs.Prelude.{◌≡◌, ◌∷◌, [], IfOk, MatchResult, map, codes, false, string_bytes};
 ghost use Rattle.clap.specs.Words.{FailsBy, app_of, fault_of, rule_of, subcommand_of};
 ghost use Rattle.clap.specs.declared.builder.command.Command.TheViews.{out-Command as fields_of};
-ghost use Rattle.trlab_commands.specs.Asked.{Asks, HasCounts, IsNamedFirst};
+ghost use Rattle.trlab_commands.specs.Requests.{Asks, HasCounts, IsNamedFirst};
 ghost use Rattle.trlab_commands.specs.CommandLine.{check_command, command_line, run_command, workers_option};
 
 use crate::help::{ABOUT, AFTER, CHECK_ABOUT, CHECK_AFTER, RUN_ABOUT, RUN_AFTER, WORKERS_HELP};

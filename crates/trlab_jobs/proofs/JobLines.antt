@@ -6,8 +6,8 @@ use Rattle.trlab_rules.specs.Rules.{Programs}
 use Rattle.trlab_step.specs.Run.{Sheet}
 use Rattle.trlab_texts.specs.declared.fault.TextFault.{TextFault}
 use Rattle.trlab_texts.specs.declared.fault.TextFault.TheVariants.{At, Memory}
-use Rattle.trlab_texts.specs.Lines.{Place, start}
-use Rattle.trlab_texts.specs.Reading.{Reading, ◌>>=◌, ◌>>◌, said, line, exactly, Told}
+use Rattle.trlab_texts.specs.Lines.{Rest, start}
+use Rattle.trlab_texts.specs.Reading.{Reading, ◌>>=◌, ◌>>◌, say, line, exactly, Reports}
 use Rattle.trlab_jobs.specs.Lanes.{lanes}
 use Rattle.trlab_jobs.specs.RuleParts.{rule}
 use Rattle.trlab_jobs.specs.Later.{later_rules}
@@ -16,7 +16,7 @@ use Rattle.trlab_texts.proofs.Readings.{goes_on}
 
 -- what is read behind each line
 abbrev pub after_all : List ℕ → Cells → Programs → ℕ → Sheet → Reading Job
-after_all key road first steps later = said (record { key = key; road = road; first = first; later = later; steps = steps })
+after_all key road first steps later = say (record { key = key; road = road; first = first; later = later; steps = steps })
 
 abbrev pub after_steps : List ℕ → Cells → Programs → ℕ → Reading Job
 after_steps key road first steps = later_rules (length road.lanes) steps >>= after_all key road first steps
@@ -40,35 +40,35 @@ abbrev pub whole : Reading Job
 whole = line (exactly road_line) >> after_road
 
 -- behind each line that was read
-pub behind_road : (at after : Place) (out : Result (Job × Place) TextFault) → line (exactly road_line) at (Ok (tt, after)) → Told (after_road after) out → Told (whole at) out
+pub behind_road : (at after : Rest) (out : Result (Job × Rest) TextFault) → line (exactly road_line) at (Ok (tt, after)) → Reports (after_road after) out → Reports (whole at) out
 behind_road at after out says rest = goes_on (line (exactly road_line)) (λ _. after_road) at after tt out says rest
 
-pub behind_key : (key : List ℕ) (at after : Place) (out : Result (Job × Place) TextFault) → line (exactly key_line) at (Ok (key, after)) → Told (after_key key after) out → Told (after_road at) out
+pub behind_key : (key : List ℕ) (at after : Rest) (out : Result (Job × Rest) TextFault) → line (exactly key_line) at (Ok (key, after)) → Reports (after_key key after) out → Reports (after_road at) out
 behind_key key at after out says rest = goes_on (line (exactly key_line)) after_key at after key out says rest
 
-pub behind_limit : (key : List ℕ) (limit : ℕ) (at after : Place) (out : Result (Job × Place) TextFault) → line (exactly limit_line) at (Ok (limit, after)) → Told (after_limit key limit after) out → Told (after_key key at) out
+pub behind_limit : (key : List ℕ) (limit : ℕ) (at after : Rest) (out : Result (Job × Rest) TextFault) → line (exactly limit_line) at (Ok (limit, after)) → Reports (after_limit key limit after) out → Reports (after_key key at) out
 behind_limit key limit at after out says rest = goes_on (line (exactly limit_line)) (after_limit key) at after limit out says rest
 
-pub behind_lanes : (key : List ℕ) (limit : ℕ) (road : Cells) (at after : Place) (out : Result (Job × Place) TextFault) → lanes limit at (Ok (road, after)) → Told (after_lanes key road after) out → Told (after_limit key limit at) out
+pub behind_lanes : (key : List ℕ) (limit : ℕ) (road : Cells) (at after : Rest) (out : Result (Job × Rest) TextFault) → lanes limit at (Ok (road, after)) → Reports (after_lanes key road after) out → Reports (after_limit key limit at) out
 behind_lanes key limit road at after out says rest = goes_on (lanes limit) (after_lanes key) at after road out says rest
 
-pub behind_rule : (key : List ℕ) (road : Cells) (first : Programs) (at after : Place) (out : Result (Job × Place) TextFault) → rule (length road.lanes) at (Ok (first, after)) → Told (after_rule key road first after) out → Told (after_lanes key road at) out
+pub behind_rule : (key : List ℕ) (road : Cells) (first : Programs) (at after : Rest) (out : Result (Job × Rest) TextFault) → rule (length road.lanes) at (Ok (first, after)) → Reports (after_rule key road first after) out → Reports (after_lanes key road at) out
 behind_rule key road first at after out says rest = goes_on (rule (length road.lanes)) (after_rule key road) at after first out says rest
 
-pub behind_steps : (key : List ℕ) (road : Cells) (first : Programs) (steps : ℕ) (at after : Place) (out : Result (Job × Place) TextFault) → line (exactly steps_line) at (Ok (steps, after)) → Told (after_steps key road first steps after) out → Told (after_rule key road first at) out
+pub behind_steps : (key : List ℕ) (road : Cells) (first : Programs) (steps : ℕ) (at after : Rest) (out : Result (Job × Rest) TextFault) → line (exactly steps_line) at (Ok (steps, after)) → Reports (after_steps key road first steps after) out → Reports (after_rule key road first at) out
 behind_steps key road first steps at after out says rest = goes_on (line (exactly steps_line)) (after_steps key road first) at after steps out says rest
 
-pub behind_all : (key : List ℕ) (road : Cells) (first : Programs) (steps : ℕ) (later : Sheet) (at after : Place) → later_rules (length road.lanes) steps at (Ok (later, after))
+pub behind_all : (key : List ℕ) (road : Cells) (first : Programs) (steps : ℕ) (later : Sheet) (at after : Rest) → later_rules (length road.lanes) steps at (Ok (later, after))
     → after_steps key road first steps at (Ok (record { key = key; road = road; first = first; later = later; steps = steps }, after))
 behind_all key road first steps later at after says = (Ok (later, after), (says, refl))
 
 -- what the lines of a text say, from the place before the first of them on
-pub lines_say : (text : List ℕ) (begin after : Place) (x : Job) → begin ≡ start text → whole begin (Ok (x, after)) → LinesSay text (Ok x)
+pub lines_say : (text : List ℕ) (begin after : Rest) (x : Job) → begin ≡ start text → whole begin (Ok (x, after)) → LinesSay text (Ok x)
 unfolding job
-lines_say text begin after x e says = (after, subst (λ (p : Place). whole p (Ok (x, after))) e says)
+lines_say text begin after x e says = (after, subst (λ (p : Rest). whole p (Ok (x, after))) e says)
 
-pub lines_fail : (text : List ℕ) (begin : Place) (fault : TextFault) → begin ≡ start text
-    → Told {A = Job × Place} (whole begin) (Err fault) → Told {A = Job} (LinesSay text) (Err fault)
+pub lines_fail : (text : List ℕ) (begin : Rest) (fault : TextFault) → begin ≡ start text
+    → Reports {A = Job × Rest} (whole begin) (Err fault) → Reports {A = Job} (LinesSay text) (Err fault)
 unfolding job
-lines_fail text begin (At line cause) e says = subst (λ (p : Place). whole p (Err (record { line = line; cause = cause }))) e says
+lines_fail text begin (At line cause) e says = subst (λ (p : Rest). whole p (Err (record { line = line; cause = cause }))) e says
 lines_fail text begin Memory e says = tt

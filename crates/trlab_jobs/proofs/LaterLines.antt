@@ -7,122 +7,122 @@ use Rattle.trlab_step.specs.Run.{Sheet}
 use Rattle.trlab_texts.specs.declared.fault.TextFault.{TextFault}
 use Rattle.trlab_texts.specs.declared.fault.TextFault.TheVariants.{At, Memory}
 use Rattle.trlab_bounds.specs.declared.runs.TheConstants.{MOST_LATER}
-use Rattle.trlab_texts.specs.Lines.{Place}
-use Rattle.trlab_texts.specs.Reading.{Reading, said, ◌>>=◌, Told}
+use Rattle.trlab_texts.specs.Lines.{Rest}
+use Rattle.trlab_texts.specs.Reading.{Reading, say, ◌>>=◌, Reports}
 use Rattle.trlab_jobs.specs.Later.{later_rule, to_the_end, later_from, later_rules}
-use Rattle.trlab_jobs.specs.Plain.{LaterRules}
+use Rattle.trlab_jobs.specs.Stored.{AreLaterRules}
 use Rattle.trlab_texts.proofs.Readings.{goes_on, stops}
 
 -- later rules behind others
-abbrev pub behind : Sheet → Result (Sheet × Place) TextFault → Result (Sheet × Place) TextFault
+abbrev pub behind : Sheet → Result (Sheet × Rest) TextFault → Result (Sheet × Rest) TextFault
 behind first (Ok found) = Ok (first ++ found.0, found.1)
 behind first (Err fault) = Err fault
 
 -- what the lines that are left say, behind the later rules that were read, is what all lines say
-pub record ReadSoFar (lanes steps : ℕ) (start : Place) (later : Sheet) (room least : ℕ) (place : Place) : Type 0 where
-  pub goes_on : (out : Result (Sheet × Place) TextFault) → Told (later_from room lanes steps least place) out
-      → Told (later_rules lanes steps start) (behind later out)
-  pub kept : (rest : Sheet) → LaterRules lanes steps least rest → LaterRules lanes steps 0 (later ++ rest)
+pub record ReadSoFar (lanes steps : ℕ) (start : Rest) (later : Sheet) (room least : ℕ) (place : Rest) : Type 0 where
+  pub goes_on : (out : Result (Sheet × Rest) TextFault) → Reports (later_from room lanes steps least place) out
+      → Reports (later_rules lanes steps start) (behind later out)
+  pub kept : (rest : Sheet) → AreLaterRules lanes steps least rest → AreLaterRules lanes steps 0 (later ++ rest)
 
-behind_none : (out : Result (Sheet × Place) TextFault) → out ≡ behind [] out
+behind_none : (out : Result (Sheet × Rest) TextFault) → out ≡ behind [] out
 behind_none (Ok found) = refl
 behind_none (Err fault) = refl
 
 -- before the first line
-pub none_read : (lanes steps : ℕ) (start : Place) → ReadSoFar lanes steps start [] MOST_LATER 0 start
+pub none_read : (lanes steps : ℕ) (start : Rest) → ReadSoFar lanes steps start [] MOST_LATER 0 start
 none_read lanes steps start = record {
-  goes_on = λ out told. subst (λ o. Told (later_rules lanes steps start) o) (behind_none out) told;
+  goes_on = λ out told. subst (λ o. Reports (later_rules lanes steps start) o) (behind_none out) told;
   kept = λ rest later. later;
 }
 
-behind_more : (later : Sheet) (entry : ℕ × Programs) (out : Result (Sheet × Place) TextFault) → behind later (behind (entry ∷ []) out) ≡ behind (later ++ (entry ∷ [])) out
+behind_more : (later : Sheet) (entry : ℕ × Programs) (out : Result (Sheet × Rest) TextFault) → behind later (behind (entry ∷ []) out) ≡ behind (later ++ (entry ∷ [])) out
 behind_more later entry (Ok found) = ap (λ t. Ok (t, found.1)) (sym (append_assoc later (entry ∷ []) found.0))
 behind_more later entry (Err fault) = refl
 
 -- a reading and what is said before what follows
-said_before : (reading : Reading Sheet) (entry : ℕ × Programs) (place : Place) (out : Result (Sheet × Place) TextFault)
-    → Told (reading place) out → Told ((reading >>= λ later. said (entry ∷ later)) place) (behind (entry ∷ []) out)
+said_before : (reading : Reading Sheet) (entry : ℕ × Programs) (place : Rest) (out : Result (Sheet × Rest) TextFault)
+    → Reports (reading place) out → Reports ((reading >>= λ later. say (entry ∷ later)) place) (behind (entry ∷ []) out)
 said_before reading entry place (Ok found) told = (Ok found, (told, refl))
 said_before reading entry place (Err (At line cause)) told = (Err (record { line = line; cause = cause }), (told, refl))
 said_before reading entry place (Err Memory) told = tt
 
 -- where a line is left it is read
-open_line : (reading : Reading Sheet) (place : Place) (left : List (List ℕ)) (out : Result (Sheet × Place) TextFault) → left ≢ []
-    → Told (reading place) out → Told (to_the_end left reading place) out
+open_line : (reading : Reading Sheet) (place : Rest) (left : List (List ℕ)) (out : Result (Sheet × Rest) TextFault) → left ≢ []
+    → Reports (reading place) out → Reports (to_the_end left reading place) out
 open_line reading place [] out some told = absurd (some refl)
 open_line reading place (text ∷ left) out some told = told
 
 -- what is read of a later rule and of those behind it
 abbrev one_and_more : ℕ → ℕ → ℕ → ℕ → Reading Sheet
 one_and_more room lanes steps least = later_rule (suc room) lanes steps least >>= λ entry.
-    later_from room lanes steps (entry.0 + 1) >>= λ later. said (entry ∷ later)
+    later_from room lanes steps (entry.0 + 1) >>= λ later. say (entry ∷ later)
 
 -- a later rule was read, and others may follow
-line_more : (lanes steps room least : ℕ) (place after : Place) (entry : ℕ × Programs) (out : Result (Sheet × Place) TextFault) → place.left ≢ []
-    → later_rule (suc room) lanes steps least place (Ok (entry, after)) → Told (later_from room lanes steps (entry.0 + 1) after) out
-    → Told (later_from (suc room) lanes steps least place) (behind (entry ∷ []) out)
+line_more : (lanes steps room least : ℕ) (place after : Rest) (entry : ℕ × Programs) (out : Result (Sheet × Rest) TextFault) → place.left ≢ []
+    → later_rule (suc room) lanes steps least place (Ok (entry, after)) → Reports (later_from room lanes steps (entry.0 + 1) after) out
+    → Reports (later_from (suc room) lanes steps least place) (behind (entry ∷ []) out)
 unfolding later_from
 line_more lanes steps room least place after entry out some one told =
     open_line (one_and_more room lanes steps least) place place.left (behind (entry ∷ []) out) some
-    (goes_on (later_rule (suc room) lanes steps least) (λ entry. later_from room lanes steps (entry.0 + 1) >>= λ later. said (entry ∷ later)) place after entry (behind (entry ∷ []) out) one
+    (goes_on (later_rule (suc room) lanes steps least) (λ entry. later_from room lanes steps (entry.0 + 1) >>= λ later. say (entry ∷ later)) place after entry (behind (entry ∷ []) out) one
     (said_before (later_from room lanes steps (entry.0 + 1)) entry after out told))
 
 -- a later rule has a fault
-line_fault : (lanes steps room least : ℕ) (place : Place) (fault : TextFault) → place.left ≢ []
-    → Told {A = (ℕ × Programs) × Place} (later_rule room lanes steps least place) (Err fault)
-    → Told {A = Sheet × Place} (later_from room lanes steps least place) (Err fault)
+line_fault : (lanes steps room least : ℕ) (place : Rest) (fault : TextFault) → place.left ≢ []
+    → Reports {A = (ℕ × Programs) × Rest} (later_rule room lanes steps least place) (Err fault)
+    → Reports {A = Sheet × Rest} (later_from room lanes steps least place) (Err fault)
 unfolding later_from
 line_fault lanes steps zero least place fault some told =
-    open_line (later_rule 0 lanes steps least >>= λ entry. said (entry ∷ [])) place place.left (Err fault) some
-    (stops (later_rule 0 lanes steps least) (λ entry. said (entry ∷ [])) place fault told)
+    open_line (later_rule 0 lanes steps least >>= λ entry. say (entry ∷ [])) place place.left (Err fault) some
+    (stops (later_rule 0 lanes steps least) (λ entry. say (entry ∷ [])) place fault told)
 line_fault lanes steps (suc room) least place fault some told =
     open_line (one_and_more room lanes steps least) place place.left (Err fault) some
-    (stops (later_rule (suc room) lanes steps least) (λ entry. later_from room lanes steps (entry.0 + 1) >>= λ later. said (entry ∷ later)) place fault told)
+    (stops (later_rule (suc room) lanes steps least) (λ entry. later_from room lanes steps (entry.0 + 1) >>= λ later. say (entry ∷ later)) place fault told)
 
-no_line : (reading : Reading Sheet) (place : Place) (left : List (List ℕ)) → left ≡ [] → to_the_end left reading place (Ok ([], place))
+no_line : (reading : Reading Sheet) (place : Rest) (left : List (List ℕ)) → left ≡ [] → to_the_end left reading place (Ok ([], place))
 no_line reading place [] none = refl
 no_line reading place (text ∷ left) none = absurd (cc none)
 
 -- no line is left
-line_none : (lanes steps room least : ℕ) (place : Place) → place.left ≡ [] → later_from room lanes steps least place (Ok ([], place))
+line_none : (lanes steps room least : ℕ) (place : Rest) → place.left ≡ [] → later_from room lanes steps least place (Ok ([], place))
 unfolding later_from
-line_none lanes steps zero least place none = no_line (later_rule 0 lanes steps least >>= λ entry. said (entry ∷ [])) place place.left none
+line_none lanes steps zero least place none = no_line (later_rule 0 lanes steps least >>= λ entry. say (entry ∷ [])) place place.left none
 line_none lanes steps (suc room) least place none = no_line (one_and_more room lanes steps least) place place.left none
 
 -- one more was read
-pub one_more : (lanes steps : ℕ) (start : Place) (later : Sheet) (room left least : ℕ) (place after : Place) (from : ℕ) (rule : Programs)
+pub one_more : (lanes steps : ℕ) (start : Rest) (later : Sheet) (room left least : ℕ) (place after : Rest) (from : ℕ) (rule : Programs)
     → ReadSoFar lanes steps start later room least place → place.left ≢ [] → room ≡ suc left
     → later_rule room lanes steps least place (Ok ((from, rule), after)) → least ≤ from → from < steps → IsRuleFor lanes rule
     → ReadSoFar lanes steps start (later ++ ((from, rule) ∷ [])) left (from + 1) after
 one_more lanes steps start later room left least place after from rule s some e one rises within suits =
     let entry : ℕ × Programs = (from, rule) in
     record {
-      goes_on = λ out told. subst (λ o. Told (later_rules lanes steps start) o) (behind_more later entry out)
-          (s.goes_on (behind (entry ∷ []) out) (subst (λ n. Told (later_from n lanes steps least place) (behind (entry ∷ []) out)) (sym e)
+      goes_on = λ out told. subst (λ o. Reports (later_rules lanes steps start) o) (behind_more later entry out)
+          (s.goes_on (behind (entry ∷ []) out) (subst (λ n. Reports (later_from n lanes steps least place) (behind (entry ∷ []) out)) (sym e)
           (line_more lanes steps left least place after entry out some (rw e at one) told)));
-      kept = λ rest more. subst (λ sheet. LaterRules lanes steps 0 sheet) (sym (append_assoc later (entry ∷ []) rest))
+      kept = λ rest more. subst (λ sheet. AreLaterRules lanes steps 0 sheet) (sym (append_assoc later (entry ∷ []) rest))
           (s.kept (entry ∷ rest) (rises, (within, (suits, more))));
     }
 
 -- the reading stops at a fault
-pub stopped : (lanes steps : ℕ) (start : Place) (later : Sheet) (room least : ℕ) (place : Place) (fault : TextFault)
+pub stopped : (lanes steps : ℕ) (start : Rest) (later : Sheet) (room least : ℕ) (place : Rest) (fault : TextFault)
     → ReadSoFar lanes steps start later room least place → place.left ≢ []
-    → Told {A = (ℕ × Programs) × Place} (later_rule room lanes steps least place) (Err fault)
-    → Told {A = Sheet × Place} (later_rules lanes steps start) (Err fault)
+    → Reports {A = (ℕ × Programs) × Rest} (later_rule room lanes steps least place) (Err fault)
+    → Reports {A = Sheet × Rest} (later_rules lanes steps start) (Err fault)
 stopped lanes steps start later room least place fault s some told = s.goes_on (Err fault) (line_fault lanes steps room least place fault some told)
 
 -- all were read
-pub all_read : (lanes steps : ℕ) (start : Place) (later : Sheet) (room least : ℕ) (place : Place) → ReadSoFar lanes steps start later room least place
+pub all_read : (lanes steps : ℕ) (start : Rest) (later : Sheet) (room least : ℕ) (place : Rest) → ReadSoFar lanes steps start later room least place
     → place.left ≡ [] → later_rules lanes steps start (Ok (later, place))
 all_read lanes steps start later room least place s none =
     subst (λ sheet. later_rules lanes steps start (Ok (sheet, place))) (append-nil later)
     (s.goes_on (Ok ([], place)) (line_none lanes steps room least place none))
 
 -- and are kept
-pub all_kept : (lanes steps : ℕ) (start : Place) (later : Sheet) (room least : ℕ) (place : Place) → ReadSoFar lanes steps start later room least place
-    → LaterRules lanes steps 0 later
-all_kept lanes steps start later room least place s = subst (λ sheet. LaterRules lanes steps 0 sheet) (append-nil later) (s.kept [] tt)
+pub all_kept : (lanes steps : ℕ) (start : Rest) (later : Sheet) (room least : ℕ) (place : Rest) → ReadSoFar lanes steps start later room least place
+    → AreLaterRules lanes steps 0 later
+all_kept lanes steps start later room least place s = subst (λ sheet. AreLaterRules lanes steps 0 sheet) (append-nil later) (s.kept [] tt)
 
 -- a place that is not at the end has a line
-pub some_left : (place : Place) (end : Bool) → end ≡ false → IsTrue end ↔ (place.left ≡ []) → place.left ≢ []
+pub some_left : (place : Rest) (end : Bool) → end ≡ false → IsTrue end ↔ (place.left ≡ []) → place.left ≢ []
 some_left place end going tells none = let at : end ≡ true = tells.1 none in cc

@@ -4,16 +4,16 @@ use Rattle.std.specs.Prelude.{Option, None, Some, MatchOption, Result, Ok, Err, 
 use Rattle.trlab_code.specs.declared.kind.Kind.{Kind}
 use Rattle.trlab_code.specs.declared.kind.Kind.TheVariants.{Motion, Change}
 use Rattle.trlab_code.specs.Program.{Program}
-use Rattle.trlab_verify.specs.Checked.{Checked}
+use Rattle.trlab_verify.specs.CheckedProgram.{CheckedProgram}
 use Rattle.trlab_rules.specs.Rules.{Programs}
-use Rattle.trlab_rules.specs.Given.{Refuses}
+use Rattle.trlab_rules.specs.StandardRules.{Refuses}
 use Rattle.trlab_rules.specs.Standard.{nasch_program, vdr_program, rickert_program}
 use Rattle.trlab_step.specs.Run.{Sheet}
 use Rattle.trlab_texts.specs.declared.fault.Cause.{Cause}
 use Rattle.trlab_bounds.specs.declared.runs.TheConstants.{MOST_LATER}
 use Rattle.trlab_jobs.specs.declared.rule_line.RuleLine.{RuleLine}
 use Rattle.trlab_jobs.specs.declared.rule_line.RuleLine.TheVariants.{Nasch, Vdr, Rickert, Own}
-use Rattle.trlab_texts.specs.Reading.{Reading, line, exactly, said, ◌>>=◌, before, at_line, of_line}
+use Rattle.trlab_texts.specs.Reading.{Reading, line, exactly, say, ◌>>=◌, before, at_line, of_line}
 use Rattle.trlab_texts.specs.Programs.{part}
 use Rattle.trlab_jobs.specs.RuleLines.{rule_line, later_line}
 use Rattle.trlab_jobs.specs.RuleParts.{Accepts, MotionSays, BothSay, ExchangeSays, change_by, next_is_change, change_part, own_rule, rule_from, rule}
@@ -31,13 +31,13 @@ of_line_one number Says one place a b p q = p.1.1 ∙ ap (λ s. before place (at
 -- rules of the same programs are one
 programs_are : (rule other : Programs) → rule.motion ≡ other.motion → rule.change ≡ other.change → rule ≡ other
 programs_are rule other motion change =
-    let make : Checked → Option Checked → Programs = λ m c. record { motion = m; change = c } in
+    let make : CheckedProgram → Option CheckedProgram → Programs = λ m c. record { motion = m; change = c } in
     ap (λ m. make m rule.change) motion ∙ ap (make other.motion) change
 
-accepts_one : (kind : Kind) (program : Program) (checked other : Checked) → Accepts kind program checked → Accepts kind program other → checked ≡ other
+accepts_one : (kind : Kind) (program : Program) (checked other : CheckedProgram) → Accepts kind program checked → Accepts kind program other → checked ≡ other
 accepts_one kind program checked other p q = checked_one checked other (p.0 ∙ sym q.0) kind p.1.1 q.1.1
 
-not_both : (kind : Kind) (program : Program) (checked : Checked) → Accepts kind program checked → Refuses kind program → ⊥
+not_both : (kind : Kind) (program : Program) (checked : CheckedProgram) → Accepts kind program checked → Refuses kind program → ⊥
 not_both kind program checked p q = not_refused kind program q.0 q.1 p.1.0 q.2
 
 motion_says_one : (motion : Program) → SaysOne (MotionSays motion)
@@ -47,12 +47,12 @@ motion_says_one motion (Err cause) (Ok rule) p q = absurd (not_both Motion motio
 motion_says_one motion (Err cause) (Err other) p q = ap Err (p.1 ∙ sym q.1)
 
 -- a change program that must be there
-change_is : (change : Program) (found other : Option Checked) → MatchOption found ⊥ (Accepts Change change) → MatchOption other ⊥ (Accepts Change change) → found ≡ other
+change_is : (change : Program) (found other : Option CheckedProgram) → MatchOption found ⊥ (Accepts Change change) → MatchOption other ⊥ (Accepts Change change) → found ≡ other
 change_is change None other p q = absurd p
 change_is change (Some checked) None p q = absurd q
 change_is change (Some checked) (Some other) p q = ap Some (accepts_one Change change checked other p q)
 
-change_not_both : (change : Program) (found : Option Checked) → MatchOption found ⊥ (Accepts Change change) → Refuses Change change → ⊥
+change_not_both : (change : Program) (found : Option CheckedProgram) → MatchOption found ⊥ (Accepts Change change) → Refuses Change change → ⊥
 change_not_both change None p q = p
 change_not_both change (Some checked) p q = not_both Change change checked p q
 
@@ -106,12 +106,12 @@ to_the_end_one (text ∷ left) reading one = one
 later_from_one : (room lanes steps least : ℕ) → OneReading (later_from room lanes steps least)
 unfolding later_from
 later_from_one zero lanes steps least place =
-    to_the_end_one place.left (later_rule 0 lanes steps least >>= λ entry. said (entry ∷ []))
-    (then_one (later_rule 0 lanes steps least) (λ entry. said (entry ∷ [])) (later_rule_one 0 lanes steps least) (λ entry. said_one _)) place
+    to_the_end_one place.left (later_rule 0 lanes steps least >>= λ entry. say (entry ∷ []))
+    (then_one (later_rule 0 lanes steps least) (λ entry. say (entry ∷ [])) (later_rule_one 0 lanes steps least) (λ entry. said_one _)) place
 later_from_one (suc room) lanes steps least place =
-    to_the_end_one place.left (later_rule (suc room) lanes steps least >>= λ entry. later_from room lanes steps (entry.0 + 1) >>= λ later. said (entry ∷ later))
-    (then_one (later_rule (suc room) lanes steps least) (λ entry. later_from room lanes steps (entry.0 + 1) >>= λ later. said (entry ∷ later)) (later_rule_one (suc room) lanes steps least)
-    (λ entry. then_one (later_from room lanes steps (entry.0 + 1)) (λ later. said (entry ∷ later)) (later_from_one room lanes steps (entry.0 + 1)) (λ later. said_one _))) place
+    to_the_end_one place.left (later_rule (suc room) lanes steps least >>= λ entry. later_from room lanes steps (entry.0 + 1) >>= λ later. say (entry ∷ later))
+    (then_one (later_rule (suc room) lanes steps least) (λ entry. later_from room lanes steps (entry.0 + 1) >>= λ later. say (entry ∷ later)) (later_rule_one (suc room) lanes steps least)
+    (λ entry. then_one (later_from room lanes steps (entry.0 + 1)) (λ later. say (entry ∷ later)) (later_from_one room lanes steps (entry.0 + 1)) (λ later. said_one _))) place
 
 pub later_rules_one : (lanes steps : ℕ) → OneReading (later_rules lanes steps)
 later_rules_one lanes steps = later_from_one MOST_LATER lanes steps 0

@@ -1,7 +1,7 @@
 -- A job text says one thing only.
 use Rattle.std.proofs.Common.{◌≡◌, ℕ, List, length, ap}
 use Rattle.std.specs.Prelude.{Result, Ok, Err}
-use Rattle.trlab_texts.specs.Lines.{Place, start}
+use Rattle.trlab_texts.specs.Lines.{Rest, start}
 use Rattle.trlab_texts.specs.Reading.{Fault, line, exactly}
 use Rattle.trlab_jobs.specs.Lanes.{lanes}
 use Rattle.trlab_jobs.specs.RuleParts.{rule}
@@ -24,7 +24,7 @@ job_one = then_one (line (exactly road_line)) (λ _. after_road) (line_one (exac
     (λ steps. then_one (later_rules (length road.lanes) steps) (after_all key road first steps) (later_rules_one (length road.lanes) steps) (λ later. said_one _)))))))
 
 -- what was said, or another job
-abbrev said_or : Job → Result (Job × Place) Fault → Job
+abbrev said_or : Job → Result (Job × Rest) Fault → Job
 said_or other (Ok found) = found.0
 said_or other (Err fault) = other
 

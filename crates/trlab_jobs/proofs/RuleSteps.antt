@@ -7,43 +7,55 @@ use Rattle.trlab_texts.specs.declared.fault.LineFault.{LineFault}
 use Rattle.trlab_texts.specs.declared.fault.LineFault.TheVariants.{Wrong, Memory as NoMemory}
 use Rattle.trlab_texts.specs.declared.fault.TextFault.{TextFault}
 use Rattle.trlab_jobs.specs.declared.rule_line.RuleLine.{RuleLine}
-use Rattle.trlab_texts.specs.Lines.{Place}
-use Rattle.trlab_texts.specs.Reading.{Reading, line, exactly, said, ◌>>=◌, of_line, fault_at, Told, ToldOfLine}
-use Rattle.trlab_jobs.specs.RuleLines.{later_line}
-use Rattle.trlab_jobs.specs.RuleParts.{rule_from}
+use Rattle.trlab_texts.specs.Lines.{Rest}
+use Rattle.trlab_texts.specs.Reading.{Reading, line, exactly, say, ◌>>=◌, of_line, fault_at, Reports, ReportsLine}
+use Rattle.trlab_jobs.specs.RuleLines.{later_line, rule_line}
+use Rattle.trlab_jobs.specs.RuleParts.{rule, rule_from}
 use Rattle.trlab_jobs.specs.Later.{later_rule}
 use Rattle.trlab_texts.proofs.Readings.{goes_on, stops}
 
 -- what a line says is told, of the line before a place
-pub line_told : (Says : Result Programs Cause → Type 0) (number : ℕ) (place : Place) (found : Result Programs LineFault) (out : Result (Programs × Place) TextFault)
-    → ToldOfLine Says found → MatchResult found (λ rule. out ≡ Ok (rule, place)) (λ fault. out ≡ Err (fault_at number fault)) → Told (of_line number Says place) out
+pub line_told : (Says : Result Programs Cause → Type 0) (number : ℕ) (place : Rest) (found : Result Programs LineFault) (out : Result (Programs × Rest) TextFault)
+    → ReportsLine Says found → MatchResult found (λ rule. out ≡ Ok (rule, place)) (λ fault. out ≡ Err (fault_at number fault)) → Reports (of_line number Says place) out
 line_told Says number place (Ok rule) out told is = rw is (Ok rule, (told, refl))
 line_told Says number place (Err (Wrong cause)) out told is = rw is (Err cause, (told, refl))
 line_told Says number place (Err NoMemory) out told is = rw is tt
 
+-- the line of a rule has a fault
+pub rule_line_fails : (lanes : ℕ) (place : Rest) (fault : TextFault) → Reports {A = RuleLine ℕ × Rest} (line (exactly rule_line) place) (Err fault)
+    → Reports {A = Programs × Rest} (rule lanes place) (Err fault)
+rule_line_fails lanes place fault told = stops (line (exactly rule_line)) (rule_from lanes place.number) place fault told
+
+-- it was read, and its programs stand behind it
+pub behind_rule_line : (lanes number : ℕ) (place after : Rest) (at : RuleLine ℕ) (out : Result (Programs × Rest) TextFault) → number ≡ place.number
+    → line (exactly rule_line) place (Ok (at, after)) → Reports (rule_from lanes number at after) out → Reports (rule lanes place) out
+behind_rule_line lanes number place after at out here one told =
+    goes_on (line (exactly rule_line)) (rule_from lanes place.number) place after at out one
+    (subst (λ n. Reports (rule_from lanes n at after) out) here told)
+
 -- what is read behind the line of a later rule
 abbrev behind_line : ℕ → ℕ → ℕ × RuleLine ℕ → Reading (ℕ × Programs)
-behind_line lanes number at = rule_from lanes number at.1 >>= λ rule. said (at.0, rule)
+behind_line lanes number at = rule_from lanes number at.1 >>= λ rule. say (at.0, rule)
 
 -- the line of a later rule has a fault
-pub later_line_fails : (room lanes steps least : ℕ) (place : Place) (fault : TextFault)
-    → Told {A = (ℕ × RuleLine ℕ) × Place} (line (exactly (later_line room steps least)) place) (Err fault)
-    → Told {A = (ℕ × Programs) × Place} (later_rule room lanes steps least place) (Err fault)
+pub later_line_fails : (room lanes steps least : ℕ) (place : Rest) (fault : TextFault)
+    → Reports {A = (ℕ × RuleLine ℕ) × Rest} (line (exactly (later_line room steps least)) place) (Err fault)
+    → Reports {A = (ℕ × Programs) × Rest} (later_rule room lanes steps least place) (Err fault)
 later_line_fails room lanes steps least place fault told =
     stops (line (exactly (later_line room steps least))) (behind_line lanes place.number) place fault told
 
 -- its programs have one
-pub later_programs_fail : (room lanes steps least number : ℕ) (place after : Place) (at : ℕ × RuleLine ℕ) (fault : TextFault) → number ≡ place.number
+pub later_programs_fail : (room lanes steps least number : ℕ) (place after : Rest) (at : ℕ × RuleLine ℕ) (fault : TextFault) → number ≡ place.number
     → line (exactly (later_line room steps least)) place (Ok (at, after))
-    → Told {A = Programs × Place} (rule_from lanes number at.1 after) (Err fault)
-    → Told {A = (ℕ × Programs) × Place} (later_rule room lanes steps least place) (Err fault)
+    → Reports {A = Programs × Rest} (rule_from lanes number at.1 after) (Err fault)
+    → Reports {A = (ℕ × Programs) × Rest} (later_rule room lanes steps least place) (Err fault)
 later_programs_fail room lanes steps least number place after at fault here one told =
     goes_on (line (exactly (later_line room steps least))) (behind_line lanes place.number) place after at (Err fault) one
-    (stops (rule_from lanes place.number at.1) (λ rule. said (at.0, rule)) after fault
-    (subst (λ n. Told {A = Programs × Place} (rule_from lanes n at.1 after) (Err fault)) here told))
+    (stops (rule_from lanes place.number at.1) (λ rule. say (at.0, rule)) after fault
+    (subst (λ n. Reports {A = Programs × Rest} (rule_from lanes n at.1 after) (Err fault)) here told))
 
 -- a later rule was read
-pub later_says : (room lanes steps least number : ℕ) (place after behind : Place) (at : ℕ × RuleLine ℕ) (rule : Programs) → number ≡ place.number
+pub later_says : (room lanes steps least number : ℕ) (place after behind : Rest) (at : ℕ × RuleLine ℕ) (rule : Programs) → number ≡ place.number
     → line (exactly (later_line room steps least)) place (Ok (at, after)) → rule_from lanes number at.1 after (Ok (rule, behind))
     → later_rule room lanes steps least place (Ok ((at.0, rule), behind))
 later_says room lanes steps least number place after behind at rule here one two =

@@ -4,11 +4,12 @@ use Rattle.std.specs.Prelude.{Option, None, Some, Result, Ok, Err, IfOk}
 use Rattle.trlab_code.specs.declared.kind.Kind.{Kind}
 use Rattle.trlab_code.specs.Program.{Program, IsProgram}
 use Rattle.trlab_asm.specs.Lines.{lines_of}
+use Rattle.trlab_asm.specs.Results.{map_ok}
 use Rattle.trlab_texts.specs.declared.fault.Cause.{Cause}
 use Rattle.trlab_texts.specs.declared.fault.Cause.TheVariants.{Line}
 use Rattle.trlab_texts.specs.Reading.{Fault}
 use Rattle.trlab_texts.specs.Programs.{program_behind}
-use Rattle.trlab_jobs.specs.Check.{no_more_behind, alone, kind_headed, CheckBehind, CheckLines, CheckText}
+use Rattle.trlab_jobs.specs.Check.{check_of, no_more_behind, lone_program, heading_kind, Check, CheckLinesSay, CheckText, HeadedLinesSay, ProgramLinesSay}
 use Rattle.trlab_jobs.specs.Laws.{CheckSaysSomething}
 use Rattle.trlab_texts.proofs.SomeProgram.{code_some, behind_keeps}
 use Rattle.trlab_texts.proofs.SomeReading.{whole_some}
@@ -17,24 +18,37 @@ no_more_keeps : (left : List (List ℕ)) (program : Program) → IsProgram progr
 no_more_keeps [] program is = is
 no_more_keeps (text ∷ left) program is = tt
 
-alone_keeps : (left : List (List ℕ)) (any : Result Program Cause) → IfOk any IsProgram → IfOk (alone left any) IsProgram
+alone_keeps : (left : List (List ℕ)) (any : Result Program Cause) → IfOk any IsProgram → IfOk (lone_program left any) IsProgram
 alone_keeps left (Ok program) is = no_more_keeps left program is
 alone_keeps left (Err cause) is = tt
 
 behind_some : (headed : Option Kind) (text : List ℕ) (left : List (List ℕ))
-    → (says : Result Program Fault) × (CheckBehind headed text left says × IfOk says IsProgram)
+    → (says : Result Program Fault) × (HeadedLinesSay headed text left says × IfOk says IsProgram)
 behind_some (Some kind) text left = (program_behind kind 1 left, (refl, behind_keeps kind 1 left))
 behind_some None text left =
     let any = code_some text in
-    (alone left any.0, ((any.0, (any.1.0, refl)), alone_keeps left any.0 any.1.1))
+    (lone_program left any.0, ((any.0, (any.1.0, refl)), alone_keeps left any.0 any.1.1))
 
-lines_some : (lines : List (List ℕ)) → (says : Result Program Fault) × (CheckLines lines says × IfOk says IsProgram)
-lines_some [] = (Err (record { line = 1; cause = Line }), (refl, tt))
-lines_some (text ∷ left) = behind_some (kind_headed text) text left
+program_some : (lines : List (List ℕ)) → (says : Result Program Fault) × (ProgramLinesSay lines says × IfOk says IsProgram)
+program_some [] = (Err (record { line = 1; cause = Line }), (refl, tt))
+program_some (text ∷ left) = behind_some (heading_kind text) text left
+
+-- the program of a check is one
+abbrev pub HasProgram : Check → Type 0
+HasProgram check = IsProgram check.program
+
+check_keeps : (says : Result Program Fault) → IfOk says IsProgram → IfOk (map_ok check_of says) HasProgram
+check_keeps (Ok program) is = is
+check_keeps (Err fault) is = tt
+
+lines_some : (lines : List (List ℕ)) → (says : Result Check Fault) × (CheckLinesSay lines says × IfOk says HasProgram)
+lines_some lines =
+    let found = program_some lines in
+    (map_ok check_of found.0, ((found.0, (found.1.0, refl)), check_keeps found.0 found.1.1))
 
 -- it says something, and what it says is a program
-pub says_program : (text : List ℕ) → (says : Result Program Fault) × (CheckText text says × IfOk says IsProgram)
-says_program text = whole_some IsProgram (λ t. CheckLines (lines_of t)) text (lines_some (lines_of text))
+pub says_program : (text : List ℕ) → (says : Result Check Fault) × (CheckText text says × IfOk says HasProgram)
+says_program text = whole_some HasProgram (λ t. CheckLinesSay (lines_of t)) text (lines_some (lines_of text))
 
 pub something : CheckSaysSomething
 something text = let found = says_program text in (found.0, found.1.0)

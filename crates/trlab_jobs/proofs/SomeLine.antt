@@ -1,13 +1,14 @@
 -- What the lines of rules keep, where they are at no fault: chances that a program may have, and steps in order.
 use Rattle.std.proofs.Common.{◌≡◌, ℕ, ◌<◌, ◌≤◌, Bool, true, false, List, refl, leb-true, ltb-true}
-use Rattle.std.specs.Prelude.{◌==◌, ◌&&◌, Option, None, Some, Result, Ok, Err, IfOk, nat_le, nat_lt, if◌then◌else◌}
+use Rattle.std.specs.Prelude.{◌==◌, ◌&&◌, Option, None, Some, ok_or, Result, Ok, Err, IfOk, nat_le, nat_lt, if◌then◌else◌}
 use Rattle.trlab_bounds.specs.declared.programs.TheConstants.{CERTAIN}
 use Rattle.trlab_texts.specs.declared.fault.Cause.{Cause}
-use Rattle.trlab_texts.specs.declared.fault.Cause.TheVariants.{Number, Order, TooMany}
+use Rattle.trlab_texts.specs.declared.fault.Cause.TheVariants.{Line, Number, Order, TooMany}
 use Rattle.trlab_texts.specs.Words.{number_of, within}
 use Rattle.trlab_jobs.specs.declared.rule_line.RuleLine.{RuleLine}
 use Rattle.trlab_jobs.specs.declared.rule_line.RuleLine.TheVariants.{Nasch, Vdr, Rickert, Own}
-use Rattle.trlab_jobs.specs.RuleLines.{◌>>=◌, wanted, rule_words, chance_of, rule_numbers, rule_line, later_words, step_of, placed, later_line}
+use Rattle.trlab_asm.specs.Results.{◌>>=◌}
+use Rattle.trlab_jobs.specs.RuleLines.{rule_words, chance_of, rule_numbers, rule_line, later_words, step_of, admit, later_line}
 use Rattle.trlab_texts.proofs.SomeReading.{Anything, anything}
 
 -- the chances of a rule are such as a program may have
@@ -28,8 +29,8 @@ then_keeps : {A B : Type 0} (P : A → Type 0) (Q : B → Type 0) (r : Result A 
 then_keeps P Q (Ok x) next keeps more = more x keeps
 then_keeps P Q (Err cause) next keeps more = tt
 
-wanted_keeps : {A : Type 0} (o : Option A) → IfOk (wanted o) Anything
-wanted_keeps o = anything (wanted o)
+wanted_keeps : {A : Type 0} (o : Option A) → IfOk (ok_or o Line) Anything
+wanted_keeps o = anything (ok_or o Line)
 
 within_if : (above below : Bool) (high n : ℕ) → (below ≡ true → n ≤ high)
     → IfOk (if above && below then Ok n else Err Number) (λ m. m ≤ high)
@@ -61,29 +62,29 @@ numbers_fit Own = tt
 
 pub rule_line_keeps : (text : List ℕ) → IfOk (rule_line text) Chances
 rule_line_keeps text =
-    then_keeps Anything Chances (wanted (rule_words text)) rule_numbers (wanted_keeps (rule_words text)) (λ words any. numbers_fit words)
+    then_keeps Anything Chances (ok_or (rule_words text) Line) rule_numbers (wanted_keeps (rule_words text)) (λ words any. numbers_fit words)
 
-abbrev Placed : ℕ → ℕ → ℕ → Type 0
-Placed steps least step = (least ≤ step) × (step < steps)
+abbrev Admits : ℕ → ℕ → ℕ → Type 0
+Admits steps least step = (least ≤ step) × (step < steps)
 
 order_if : (above below : Bool) (steps least step : ℕ) → (above ≡ true → least ≤ step) → (below ≡ true → step < steps)
-    → IfOk (if above && below then Ok step else Err Order) (Placed steps least)
+    → IfOk (if above && below then Ok step else Err Order) (Admits steps least)
 order_if true true steps least step h k = (h refl, k refl)
 order_if true false steps least step h k = tt
 order_if false below steps least step h k = tt
 
-placed_if : (full : Bool) (steps least step : ℕ)
-    → IfOk (if full then Err TooMany else if nat_le least step && nat_lt step steps then Ok step else Err Order) (Placed steps least)
-placed_if true steps least step = tt
-placed_if false steps least step = order_if (nat_le least step) (nat_lt step steps) steps least step (leb-true least step) (ltb-true step steps)
+admit_if : (full : Bool) (steps least step : ℕ)
+    → IfOk (if full then Err TooMany else if nat_le least step && nat_lt step steps then Ok step else Err Order) (Admits steps least)
+admit_if true steps least step = tt
+admit_if false steps least step = order_if (nat_le least step) (nat_lt step steps) steps least step (leb-true least step) (ltb-true step steps)
 
-placed_keeps : (room steps least step : ℕ) → IfOk (placed room steps least step) (Placed steps least)
-placed_keeps room steps least step = placed_if (room == 0) steps least step
+admit_keeps : (room steps least step : ℕ) → IfOk (admit room steps least step) (Admits steps least)
+admit_keeps room steps least step = admit_if (room == 0) steps least step
 
 pub later_line_keeps : (room steps least : ℕ) (text : List ℕ) → IfOk (later_line room steps least text) (InOrder steps least)
 later_line_keeps room steps least text =
-    then_keeps Anything (InOrder steps least) (wanted (later_words text)) _ (wanted_keeps (later_words text)) (λ words any.
+    then_keeps Anything (InOrder steps least) (ok_or (later_words text) Line) _ (wanted_keeps (later_words text)) (λ words any.
     then_keeps Anything (InOrder steps least) (step_of words.0) _ (anything (step_of words.0)) (λ step any.
     then_keeps Chances (InOrder steps least) (rule_numbers words.1) _ (numbers_fit words.1) (λ rule fit.
-    then_keeps (Placed steps least) (InOrder steps least) (placed room steps least step) _ (placed_keeps room steps least step) (λ from in_order.
+    then_keeps (Admits steps least) (InOrder steps least) (admit room steps least step) _ (admit_keeps room steps least step) (λ from in_order.
     record { rises = in_order.0; below = in_order.1; chances = fit }))))

@@ -5,10 +5,10 @@ use Rattle.std.specs.Prelude.{◌⊎◌, Option, None, Some, IfSome, Result, Ok,
 use Rattle.trlab_code.specs.declared.kind.Kind.{Kind}
 use Rattle.trlab_code.specs.declared.kind.Kind.TheVariants.{Motion, Change}
 use Rattle.trlab_code.specs.Program.{Program, IsProgram}
-use Rattle.trlab_verify.specs.Checked.{Checked, IsChecked}
+use Rattle.trlab_verify.specs.CheckedProgram.{CheckedProgram, IsChecked}
 use Rattle.trlab_verify.proofs.Judged.{accepted_or_refused, some_budget}
 use Rattle.trlab_rules.specs.Rules.{Programs}
-use Rattle.trlab_rules.specs.Given.{Refuses}
+use Rattle.trlab_rules.specs.StandardRules.{Refuses}
 use Rattle.trlab_rules.specs.Standard.{nasch_program, vdr_program, rickert_program}
 use Rattle.trlab_rules.proofs.StandardPrograms.{nasch_is_program, vdr_is_program, rickert_is_program}
 use Rattle.trlab_step.specs.Laws.{IsRuleFor}
@@ -18,19 +18,19 @@ use Rattle.trlab_texts.specs.declared.fault.Cause.TheVariants.{OneLane, Standard
 use Rattle.trlab_bounds.specs.declared.runs.TheConstants.{MOST_LATER}
 use Rattle.trlab_jobs.specs.declared.rule_line.RuleLine.{RuleLine}
 use Rattle.trlab_jobs.specs.declared.rule_line.RuleLine.TheVariants.{Nasch, Vdr, Rickert, Own}
-use Rattle.trlab_texts.specs.Lines.{Place}
-use Rattle.trlab_texts.specs.Reading.{Fault, Reading, line, exactly, said, ◌>>=◌}
+use Rattle.trlab_texts.specs.Lines.{Rest}
+use Rattle.trlab_texts.specs.Reading.{Fault, Reading, line, exactly, say, ◌>>=◌}
 use Rattle.trlab_texts.specs.Programs.{part}
 use Rattle.trlab_jobs.specs.RuleLines.{rule_line, later_line}
-use Rattle.trlab_jobs.specs.RuleParts.{Accepts, MotionSays, BothSay, ExchangeSays, misplaced_from, change_by, next_is_change, change_part, own_rule, rule_from, rule}
+use Rattle.trlab_jobs.specs.RuleParts.{Accepts, MotionSays, BothSay, ExchangeSays, misplacement, change_by, next_is_change, change_part, own_rule, rule_from, rule}
 use Rattle.trlab_jobs.specs.Later.{later_rule, to_the_end, later_from, later_rules}
-use Rattle.trlab_jobs.specs.Plain.{LaterRules}
+use Rattle.trlab_jobs.specs.Stored.{AreLaterRules}
 use Rattle.trlab_texts.proofs.SomeReading.{SomeReading, exactly_some, line_some, then_some, said_some, perhaps_some, of_line_some}
 use Rattle.trlab_texts.proofs.SomeProgram.{part_some}
 use Rattle.trlab_jobs.proofs.SomeLine.{Chances, InOrder, rule_line_keeps, later_line_keeps}
 
 -- the verifier accepts a program, or refuses it
-judged : (kind : Kind) (program : Program) → IsProgram program → ((checked : Checked) × Accepts kind program checked) ⊎ Refuses kind program
+judged : (kind : Kind) (program : Program) → IsProgram program → ((checked : CheckedProgram) × Accepts kind program checked) ⊎ Refuses kind program
 judged kind program is = elim (accepted_or_refused kind program) [
   | inl accepted ↦
       let found = some_budget kind program is accepted in
@@ -39,11 +39,11 @@ judged kind program is = elim (accepted_or_refused kind program) [
 ]
 
 -- a rule without a change program is one for any road
-motion_alone : (lanes : ℕ) (motion : Checked) → IsChecked Motion motion → IsRuleFor lanes (record { motion = motion; change = None })
+motion_alone : (lanes : ℕ) (motion : CheckedProgram) → IsChecked Motion motion → IsRuleFor lanes (record { motion = motion; change = None })
 motion_alone lanes motion is = record { motion = is; change = tt; two_lanes = λ some. absurd (cc some) }
 
 -- and one with a change program for a road of two lanes
-with_change : (lanes : ℕ) (motion change : Checked) → IsChecked Motion motion → IsChecked Change change → lanes ≡ 2
+with_change : (lanes : ℕ) (motion change : CheckedProgram) → IsChecked Motion motion → IsChecked Change change → lanes ≡ 2
     → IsRuleFor lanes (record { motion = motion; change = Some change })
 with_change lanes motion change is changes two = record { motion = is; change = changes; two_lanes = λ some. two }
 
@@ -71,7 +71,7 @@ exchange_says_some true lanes motion change is changes two = (Err OneLane, (refl
 exchange_says_some false lanes motion change is changes two = both_say_some lanes motion change is changes (two refl)
 
 -- a change program for a road of so many lanes
-abbrev Changes : ℕ → Checked → Type 0
+abbrev Changes : ℕ → CheckedProgram → Type 0
 Changes lanes change = IsChecked Change change × (lanes ≡ 2)
 
 -- a road has one lane or two
@@ -84,20 +84,20 @@ not_one : (lanes : ℕ) → FewLanes lanes → nat_eq lanes 1 ≡ false → lane
 not_one lanes few other = let apart : lanes ≢ 1 = eqb-false lanes 1 other in omega arith
 
 change_by_some : (one_lane : Bool) (lanes : ℕ) → (one_lane ≡ false → lanes ≡ 2) → SomeReading (Changes lanes) (change_by one_lane)
-change_by_some true lanes two place = (Err (misplaced_from place.number place.left), (refl, tt))
+change_by_some true lanes two place = (Err (misplacement place.number place.left), (refl, tt))
 change_by_some false lanes two place =
     let found = part_some Change place in
     (found.0, (found.1.0, on_two found.0 found.1.1))
   where
-    on_two : (out : Result (Checked × Place) Fault) → IfOk out (λ x. IsChecked Change x.0) → IfOk out (λ x. Changes lanes x.0)
+    on_two : (out : Result (CheckedProgram × Rest) Fault) → IfOk out (λ x. IsChecked Change x.0) → IfOk out (λ x. Changes lanes x.0)
     on_two (Ok x) is = (is, two refl)
     on_two (Err fault) is = tt
 
-change_part_some : (lanes : ℕ) → FewLanes lanes → SomeReading (λ (o : Option Checked). IfSome o (Changes lanes)) (change_part lanes)
+change_part_some : (lanes : ℕ) → FewLanes lanes → SomeReading (λ (o : Option CheckedProgram). IfSome o (Changes lanes)) (change_part lanes)
 change_part_some lanes few place =
     perhaps_some (Changes lanes) (next_is_change place.left) (change_by (nat_eq lanes 1)) (change_by_some (nat_eq lanes 1) lanes (not_one lanes few)) place
 
-own_suits : (lanes : ℕ) (motion : Checked) (change : Option Checked) → IsChecked Motion motion → IfSome change (Changes lanes)
+own_suits : (lanes : ℕ) (motion : CheckedProgram) (change : Option CheckedProgram) → IsChecked Motion motion → IfSome change (Changes lanes)
     → IsRuleFor lanes (record { motion = motion; change = change })
 own_suits lanes motion None is changes = motion_alone lanes motion is
 own_suits lanes motion (Some change) is changes = with_change lanes motion change is changes.0 changes.1
@@ -105,7 +105,7 @@ own_suits lanes motion (Some change) is changes = with_change lanes motion chang
 own_rule_some : (lanes : ℕ) → FewLanes lanes → SomeReading (IsRuleFor lanes) (own_rule lanes)
 own_rule_some lanes few =
     then_some (IsChecked Motion) (IsRuleFor lanes) (part Motion) _ (part_some Motion) (λ motion is.
-    then_some (λ (o : Option Checked). IfSome o (Changes lanes)) (IsRuleFor lanes) (change_part lanes) _ (change_part_some lanes few) (λ change changes.
+    then_some (λ (o : Option CheckedProgram). IfSome o (Changes lanes)) (IsRuleFor lanes) (change_part lanes) _ (change_part_some lanes few) (λ change changes.
     said_some (IsRuleFor lanes) _ (own_suits lanes motion change is changes)))
 
 rule_from_some : (lanes number : ℕ) (words : RuleLine ℕ) → FewLanes lanes → Chances words → SomeReading (IsRuleFor lanes) (rule_from lanes number words)
@@ -140,19 +140,19 @@ to_the_end_some : (Keeps : Sheet → Type 0) (left : List (List ℕ)) (reading :
 to_the_end_some Keeps [] reading none some = said_some Keeps [] none
 to_the_end_some Keeps (text ∷ left) reading none some = some
 
-later_from_some : (room lanes steps least : ℕ) → FewLanes lanes → SomeReading (LaterRules lanes steps least) (later_from room lanes steps least)
+later_from_some : (room lanes steps least : ℕ) → FewLanes lanes → SomeReading (AreLaterRules lanes steps least) (later_from room lanes steps least)
 unfolding later_from
 later_from_some zero lanes steps least few place =
-    let Keeps : Sheet → Type 0 = LaterRules lanes steps least in
-    to_the_end_some Keeps place.left (later_rule 0 lanes steps least >>= λ entry. said (entry ∷ [])) tt
-    (then_some (Later lanes steps least) Keeps (later_rule 0 lanes steps least) (λ entry. said (entry ∷ [])) (later_rule_some 0 lanes steps least few)
+    let Keeps : Sheet → Type 0 = AreLaterRules lanes steps least in
+    to_the_end_some Keeps place.left (later_rule 0 lanes steps least >>= λ entry. say (entry ∷ [])) tt
+    (then_some (Later lanes steps least) Keeps (later_rule 0 lanes steps least) (λ entry. say (entry ∷ [])) (later_rule_some 0 lanes steps least few)
     (λ entry is. said_some Keeps (entry ∷ []) (is.0, (is.1.0, (is.1.1, tt))))) place
 later_from_some (suc room) lanes steps least few place =
-    let Keeps : Sheet → Type 0 = LaterRules lanes steps least in
-    to_the_end_some Keeps place.left (later_rule (suc room) lanes steps least >>= λ entry. later_from room lanes steps (entry.0 + 1) >>= λ later. said (entry ∷ later)) tt
-    (then_some (Later lanes steps least) Keeps (later_rule (suc room) lanes steps least) (λ entry. later_from room lanes steps (entry.0 + 1) >>= λ later. said (entry ∷ later)) (later_rule_some (suc room) lanes steps least few)
-    (λ entry is. then_some (LaterRules lanes steps (entry.0 + 1)) Keeps (later_from room lanes steps (entry.0 + 1)) (λ later. said (entry ∷ later)) (later_from_some room lanes steps (entry.0 + 1) few)
+    let Keeps : Sheet → Type 0 = AreLaterRules lanes steps least in
+    to_the_end_some Keeps place.left (later_rule (suc room) lanes steps least >>= λ entry. later_from room lanes steps (entry.0 + 1) >>= λ later. say (entry ∷ later)) tt
+    (then_some (Later lanes steps least) Keeps (later_rule (suc room) lanes steps least) (λ entry. later_from room lanes steps (entry.0 + 1) >>= λ later. say (entry ∷ later)) (later_rule_some (suc room) lanes steps least few)
+    (λ entry is. then_some (AreLaterRules lanes steps (entry.0 + 1)) Keeps (later_from room lanes steps (entry.0 + 1)) (λ later. say (entry ∷ later)) (later_from_some room lanes steps (entry.0 + 1) few)
     (λ later more. said_some Keeps (entry ∷ later) (is.0, (is.1.0, (is.1.1, more)))))) place
 
-pub later_rules_some : (lanes steps : ℕ) → FewLanes lanes → SomeReading (LaterRules lanes steps 0) (later_rules lanes steps)
+pub later_rules_some : (lanes steps : ℕ) → FewLanes lanes → SomeReading (AreLaterRules lanes steps 0) (later_rules lanes steps)
 later_rules_some lanes steps few = later_from_some MOST_LATER lanes steps 0 few

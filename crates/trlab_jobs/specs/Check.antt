@@ -1,18 +1,19 @@
--- Check texts: one program.
+-- Check texts: a program, on which a verdict is asked for.
 use Rattle.std.specs.Prelude.{◌≡◌, ℕ, List, [], ◌∷◌, Option, None, Some, Result, Ok, Err, if◌then◌else◌}
 use Rattle.std.specs.Str.{bytes_eq}
 use Rattle.trlab_code.specs.declared.kind.Kind.{Kind}
 use Rattle.trlab_code.specs.declared.kind.Kind.TheVariants.{Motion, Change}
 use Rattle.trlab_code.specs.Program.{Program}
 use Rattle.trlab_asm.specs.Lines.{lines_of}
+use Rattle.trlab_asm.specs.Results.{map_ok}
 use Rattle.trlab_texts.specs.declared.fault.Cause.{Cause}
 use Rattle.trlab_texts.specs.declared.fault.Cause.TheVariants.{Line}
-use Rattle.trlab_texts.specs.Reading.{Fault, WholeText}
+use Rattle.trlab_texts.specs.Reading.{Fault, TextSays}
 use Rattle.trlab_texts.specs.Programs.{heading, program_behind, code_line}
 
 -- the kind of program that a line heads, if it heads one
-abbrev pub kind_headed : List ℕ → Option Kind
-kind_headed text =
+abbrev pub heading_kind : List ℕ → Option Kind
+heading_kind text =
     if bytes_eq text (heading Motion) then Some Motion
     else if bytes_eq text (heading Change) then Some Change
     else None
@@ -23,26 +24,40 @@ no_more_behind [] program = Ok program
 no_more_behind (text ∷ left) program = Err (record { line = 2; cause = Line })
 
 -- what is said of a program on the first line of a text; its own faults come first
-abbrev pub alone : List (List ℕ) → Result Program Cause → Result Program Fault
-alone left (Err cause) = Err (record { line = 1; cause = cause })
-alone left (Ok program) = no_more_behind left program
+abbrev pub lone_program : List (List ℕ) → Result Program Cause → Result Program Fault
+lone_program left (Err cause) = Err (record { line = 1; cause = cause })
+lone_program left (Ok program) = no_more_behind left program
 
 -- the line `code X` and nothing more
-abbrev pub CodeAlone : List ℕ → List (List ℕ) → Result Program Fault → Type 0
-CodeAlone text left says = (any : Result Program Cause) × (code_line text any × (says ≡ alone left any))
+abbrev pub LoneCodeSays : List ℕ → List (List ℕ) → Result Program Fault → Type 0
+LoneCodeSays text left says =
+    (any : Result Program Cause) × (code_line text any × (says ≡ lone_program left any))
 
--- a check text by its first line, and the lines behind it: all of them are the program's where it
--- heads one
-abbrev pub CheckBehind : Option Kind → List ℕ → List (List ℕ) → Result Program Fault → Type 0
-CheckBehind (Some kind) text left says = says ≡ program_behind kind 1 left
-CheckBehind None text left says = CodeAlone text left says
+-- the program of a text by its first line, and the lines behind it: all of them are the program's where
+-- it heads one
+abbrev pub HeadedLinesSay : Option Kind → List ℕ → List (List ℕ) → Result Program Fault → Type 0
+HeadedLinesSay (Some kind) text left says = says ≡ program_behind kind 1 left
+HeadedLinesSay None text left says = LoneCodeSays text left says
+
+-- the program that the lines of a text are
+abbrev pub ProgramLinesSay : List (List ℕ) → Result Program Fault → Type 0
+ProgramLinesSay [] says = says ≡ Err (record { line = 1; cause = Line })
+ProgramLinesSay (text ∷ left) says = HeadedLinesSay (heading_kind text) text left says
+
+-- what a check text asks for: the verdict on a program
+pub record Check : Type 0 where
+  pub program : Program
+
+-- the check of a program
+abbrev pub check_of : Program → Check
+check_of program = record { program = program }
 
 -- what the lines of a check text say
-abbrev pub CheckLines : List (List ℕ) → Result Program Fault → Type 0
-CheckLines [] says = says ≡ Err (record { line = 1; cause = Line })
-CheckLines (text ∷ left) says = CheckBehind (kind_headed text) text left says
+abbrev pub CheckLinesSay : List (List ℕ) → Result Check Fault → Type 0
+CheckLinesSay lines says =
+    (program : Result Program Fault) × (ProgramLinesSay lines program × (says ≡ map_ok check_of program))
 
--- what a check text says: a program of either kind, or its first fault; a text that is too long
--- has that fault alone
-abbrev pub CheckText : List ℕ → Result Program Fault → Type 0
-CheckText text says = WholeText (λ lines. CheckLines (lines_of lines)) text says
+-- what a check text says: what it asks for, or its first fault; a text that is too long has that
+-- fault alone
+abbrev pub CheckText : List ℕ → Result Check Fault → Type 0
+CheckText text says = TextSays (λ lines. CheckLinesSay (lines_of lines)) text says

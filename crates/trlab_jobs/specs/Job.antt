@@ -10,9 +10,9 @@ use Rattle.trlab_step.specs.Run.{Seed, Sheet, sheet_with}
 use Rattle.trlab_texts.specs.declared.fault.Cause.{Cause}
 use Rattle.trlab_texts.specs.declared.fault.Cause.TheVariants.{Line, Key}
 use Rattle.trlab_bounds.specs.declared.runs.TheConstants.{MOST_STEPS}
-use Rattle.trlab_texts.specs.Lines.{start, Place}
+use Rattle.trlab_texts.specs.Lines.{start, Rest}
 use Rattle.trlab_texts.specs.Words.{word_behind, number_within}
-use Rattle.trlab_texts.specs.Reading.{Fault, Reading, said, ◌>>=◌, ◌>>◌, line, exactly, WholeText}
+use Rattle.trlab_texts.specs.Reading.{Fault, Reading, say, ◌>>=◌, ◌>>◌, line, exactly, TextSays}
 use Rattle.trlab_jobs.specs.Lanes.{lanes}
 use Rattle.trlab_jobs.specs.RuleParts.{rule}
 use Rattle.trlab_jobs.specs.Later.{later_rules}
@@ -61,16 +61,16 @@ job = do
   first ← rule (length road.lanes)
   steps ← line (exactly steps_line)
   later ← later_rules (length road.lanes) steps
-  said (record { key = key; road = road; first = first; later = later; steps = steps })
+  say (record { key = key; road = road; first = first; later = later; steps = steps })
 
 -- what the lines of a text say
 abbrev pub LinesSay : List ℕ → Result Job Fault → Type 0
-LinesSay text (Ok said) = (place : Place) × job (start text) (Ok (said, place))
+LinesSay text (Ok say) = (rest : Rest) × job (start text) (Ok (say, rest))
 LinesSay text (Err fault) = job (start text) (Err fault)
 
 -- what a text says: a job, or its first fault; a text that is too long has that fault alone
 abbrev pub JobText : List ℕ → Result Job Fault → Type 0
-JobText text says = WholeText LinesSay text says
+JobText text says = TextSays LinesSay text says
 
 -- where the run of a job starts
 abbrev pub seed_of : Job → Seed

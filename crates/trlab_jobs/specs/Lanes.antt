@@ -1,8 +1,8 @@
 -- The lanes of a road: the pictures of one line or two, which are judged together.
 use Rattle.std.specs.Prelude.{◌≡◌, ◌≢◌, ℕ, ◌+◌, ◌==◌, List, ◌∷◌, codes, Option, None, Some, Result, Ok, Err, option_to_list, if◌then◌else◌}
 use Rattle.trlab_road.specs.Cells.{Cells}
-use Rattle.trlab_road.specs.Legal.{Legal}
-use Rattle.trlab_road.specs.Pictures.{Shows, FirstFault}
+use Rattle.trlab_road.specs.Legal.{IsLegal}
+use Rattle.trlab_road.specs.Pictures.{Shows, IsFirstFault}
 use Rattle.trlab_road.specs.declared.fault.RoadFault.{RoadFault}
 use Rattle.trlab_road.specs.declared.fault.RoadFault.TheVariants.{Lanes, Length, Limit, Character, SpeedAboveLimit, Memory, TooManyCars}
 use Rattle.trlab_texts.specs.declared.fault.Cause.{Cause}
@@ -16,7 +16,7 @@ lane_word text = word_behind (codes "lane ") text
 
 -- the picture of a second lane, where the next line states a lane: where its first word is `lane`
 abbrev pub second_lane : Reading (Option (List ℕ))
-second_lane place out = perhaps (next_word_is (codes "lane") place.left) (line (exactly lane_word)) place out
+second_lane rest out = perhaps (next_word_is (codes "lane") rest.left) (line (exactly lane_word)) rest out
 
 -- the line of the last lane, where the first stands on the line `first`
 abbrev pub last_line : ℕ → Option (List ℕ) → ℕ
@@ -40,9 +40,9 @@ line_of_fault first last TooManyCars = last
 -- what the pictures of lanes say under a limit, from the line `first` to the line `last`: the legal
 -- road that they show, or their first fault
 abbrev pub LanesSay : ℕ → ℕ → ℕ → List (List ℕ) → Result Cells Fault → Type 0
-LanesSay first last limit pictures (Ok road) = Legal road × Shows limit pictures road
+LanesSay first last limit pictures (Ok road) = IsLegal road × Shows limit pictures road
 LanesSay first last limit pictures (Err fault) =
-    (wrong : RoadFault) × (FirstFault limit pictures wrong × ((wrong ≢ Memory)
+    (wrong : RoadFault) × (IsFirstFault limit pictures wrong × ((wrong ≢ Memory)
     × (fault ≡ record { line = line_of_fault first last wrong; cause = Road wrong })))
 
 -- what one picture or two say, of which the first stands on the line `first`
@@ -51,11 +51,11 @@ PicturesSay first limit picture second says =
     LanesSay first (last_line first second) limit (picture ∷ option_to_list second) says
 
 -- the road, once its pictures were read
-abbrev pub shown : ℕ → ℕ → List ℕ → Option (List ℕ) → Reading Cells
-shown first limit picture second place out =
-    (says : Result Cells Fault) × (PicturesSay first limit picture second says × (out ≡ before place says))
+abbrev pub road_of : ℕ → ℕ → List ℕ → Option (List ℕ) → Reading Cells
+road_of first limit picture second rest out =
+    (says : Result Cells Fault) × (PicturesSay first limit picture second says × (out ≡ before rest says))
 
 -- the lanes of a road: the line `lane P`, and the next line where it states a lane
 abbrev pub lanes : ℕ → Reading Cells
-lanes limit place out =
-    (line (exactly lane_word) >>= λ picture. second_lane >>= shown place.number limit picture) place out
+lanes limit rest out =
+    (line (exactly lane_word) >>= λ picture. second_lane >>= road_of rest.number limit picture) rest out

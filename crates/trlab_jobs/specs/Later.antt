@@ -3,28 +3,29 @@ use Rattle.std.specs.Prelude.{ℕ, zero, suc, ◌+◌, List, [], ◌∷◌}
 use Rattle.trlab_rules.specs.Rules.{Programs}
 use Rattle.trlab_step.specs.Run.{Sheet}
 use Rattle.trlab_bounds.specs.declared.runs.TheConstants.{MOST_LATER}
-use Rattle.trlab_texts.specs.Reading.{Reading, said, ◌>>=◌, line, exactly}
+use Rattle.trlab_texts.specs.Reading.{Reading, say, ◌>>=◌, line, exactly}
 use Rattle.trlab_jobs.specs.RuleLines.{later_line}
 use Rattle.trlab_jobs.specs.RuleParts.{rule_from}
 
 -- a rule of a later step, with the step from which it is in force
 abbrev pub later_rule : ℕ → ℕ → ℕ → ℕ → Reading (ℕ × Programs)
-later_rule room lanes steps least place out =
-    (line (exactly (later_line room steps least)) >>= λ at. rule_from lanes place.number at.1 >>= λ rule. said (at.0, rule)) place out
+later_rule room lanes steps least rest out =
+    (line (exactly (later_line room steps least)) >>= λ at.
+    rule_from lanes rest.number at.1 >>= λ rule. say (at.0, rule)) rest out
 
 -- a reading of all lines that are left: where none is, there is nothing to read
 abbrev pub to_the_end : List (List ℕ) → Reading Sheet → Reading Sheet
-to_the_end [] reading = said []
+to_the_end [] reading = say []
 to_the_end (text ∷ left) reading = reading
 
 -- the later rules up to the end of a text, by the room for them; each step is above the one before,
 -- and the first is not before `least`
 unfoldable pub later_from : ℕ → ℕ → ℕ → ℕ → Reading Sheet
-later_from zero lanes steps least = λ place out.
-    to_the_end place.left (later_rule 0 lanes steps least >>= λ entry. said (entry ∷ [])) place out
-later_from (suc room) lanes steps least = λ place out.
-    to_the_end place.left (later_rule (suc room) lanes steps least >>= λ entry.
-    later_from room lanes steps (entry.0 + 1) >>= λ later. said (entry ∷ later)) place out
+later_from zero lanes steps least = λ rest out.
+    to_the_end rest.left (later_rule 0 lanes steps least >>= λ entry. say (entry ∷ [])) rest out
+later_from (suc room) lanes steps least = λ rest out.
+    to_the_end rest.left (later_rule (suc room) lanes steps least >>= λ entry.
+    later_from room lanes steps (entry.0 + 1) >>= λ later. say (entry ∷ later)) rest out
 
 -- the later rules of a run of so many steps, on a road of so many lanes
 abbrev pub later_rules : ℕ → ℕ → Reading Sheet

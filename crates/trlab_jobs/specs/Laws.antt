@@ -1,9 +1,8 @@
 -- Laws of job texts and of check texts.
 use Rattle.std.specs.Prelude.{◌≡◌, ℕ, List, Result}
-use Rattle.trlab_code.specs.Program.{Program}
 use Rattle.trlab_texts.specs.Reading.{Fault}
 use Rattle.trlab_jobs.specs.Job.{Job, JobText}
-use Rattle.trlab_jobs.specs.Check.{CheckText}
+use Rattle.trlab_jobs.specs.Check.{Check, CheckText}
 
 -- any text says something: a job, or a first fault
 abbrev pub TextSaysSomething : Type 0
@@ -14,11 +13,11 @@ abbrev pub TextSaysOneThing : Type 0
 TextSaysOneThing = (text : List ℕ) (says other : Result Job Fault)
     → JobText text says → JobText text other → says ≡ other
 
--- any check text says something: a program, or a first fault
+-- any check text says something: what it asks for, or a first fault
 abbrev pub CheckSaysSomething : Type 0
-CheckSaysSomething = (text : List ℕ) → (says : Result Program Fault) × CheckText text says
+CheckSaysSomething = (text : List ℕ) → (says : Result Check Fault) × CheckText text says
 
--- a check text says one thing only: one program, or one first fault
+-- a check text says one thing only: one check, or one first fault
 abbrev pub CheckSaysOneThing : Type 0
-CheckSaysOneThing = (text : List ℕ) (says other : Result Program Fault)
+CheckSaysOneThing = (text : List ℕ) (says other : Result Check Fault)
     → CheckText text says → CheckText text other → says ≡ other

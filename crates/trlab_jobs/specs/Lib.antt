@@ -3,6 +3,6 @@ pub mod RuleLines
 pub mod RuleParts
 pub mod Later
 pub mod Job
-pub mod Plain
+pub mod Stored
 pub mod Check
 pub mod Laws

@@ -1,5 +1,5 @@
 -- The lines that state rules: their words, and then their numbers.
-use Rattle.std.specs.Prelude.{ℕ, ◌==◌, ◌&&◌, List, codes, nat_le, nat_lt, Option, None, Some, Result, Ok, Err, option_map, option_and_then, if◌then◌else◌}
+use Rattle.std.specs.Prelude.{ℕ, ◌==◌, ◌&&◌, List, codes, nat_le, nat_lt, Option, None, Some, ok_or, Result, Ok, Err, option_map, option_and_then, if◌then◌else◌}
 use Rattle.std.specs.Borrow.{Bor}
 use Rattle.std.specs.Str.{bytes_eq}
 use Rattle.trlab_bounds.specs.declared.programs.TheConstants.{CERTAIN}
@@ -8,18 +8,9 @@ use Rattle.trlab_texts.specs.declared.fault.Cause.TheVariants.{Line, Order, TooM
 use Rattle.trlab_jobs.specs.declared.rule_line.RuleLine.{RuleLine}
 use Rattle.trlab_jobs.specs.declared.rule_line.RuleLine.TheVariants.{Nasch, Vdr, Rickert, Own}
 use Rattle.trlab_bounds.specs.declared.texts.TheConstants.{LONGEST_NUMBER}
-use Rattle.trlab_texts.specs.Words.{after, is_word, only_word, at_space, two_words, number_of, within}
-
--- one thing after another, up to the first cause
-infixl 10 ◌>>=◌
-abbrev pub ◌>>=◌ : {A B : Type 0} → Result A Cause → (A → Result B Cause) → Result B Cause
-◌>>=◌ (Ok x) next = next x
-◌>>=◌ (Err cause) next = Err cause
-
--- what must be found in a line
-abbrev pub wanted : {A : Type 0} → Option A → Result A Cause
-wanted None = Err Line
-wanted (Some x) = Ok x
+use Rattle.trlab_texts.specs.Words.{is_word, as_word, two_words, number_of, within}
+use Rattle.trlab_asm.specs.Cutting.{behind, cut}
+use Rattle.trlab_asm.specs.Results.{◌>>=◌}
 
 -- the words of the line `rule own`
 abbrev pub own_words : List ℕ → Option (RuleLine (List ℕ))
@@ -38,14 +29,14 @@ vdr_words (Some words) others = option_map (λ two. Vdr two.0 two.1) (two_words 
 -- the words of `rule nasch t`, by what stands behind its name, or else others
 abbrev pub nasch_words : Option (List ℕ) → Option (RuleLine (List ℕ)) → Option (RuleLine (List ℕ))
 nasch_words None others = others
-nasch_words (Some words) others = option_map Nasch (only_word words)
+nasch_words (Some words) others = option_map Nasch (as_word words)
 
 -- the words of a rule line, where it is one of the four
 abbrev pub rule_words : List ℕ → Option (RuleLine (List ℕ))
 rule_words text =
-    nasch_words (after (codes "rule nasch ") text)
-    (vdr_words (after (codes "rule vdr ") text)
-    (rickert_words (after (codes "rule rickert ") text) (own_words text)))
+    nasch_words (behind (codes "rule nasch ") text)
+    (vdr_words (behind (codes "rule vdr ") text)
+    (rickert_words (behind (codes "rule rickert ") text) (own_words text)))
 
 -- the chance that a word writes, in parts of 2 ^ 31
 abbrev pub chance_of : List ℕ → Result ℕ Cause
@@ -60,23 +51,24 @@ rule_numbers Own = Ok Own
 
 -- a rule line: words before numbers
 abbrev pub rule_line : List ℕ → Result (RuleLine ℕ) Cause
-rule_line text = wanted (rule_words text) >>= rule_numbers
+rule_line text = ok_or (rule_words text) Line >>= rule_numbers
 
 -- the word of a step, and the words of the rule behind it
 abbrev pub step_and_rule : List ℕ × List ℕ → Option (List ℕ × RuleLine (List ℕ))
-step_and_rule parts = if is_word parts.0 then option_map (λ rule. (parts.0, rule)) (rule_words parts.1) else None
+step_and_rule parts =
+    if is_word parts.0 then option_map (λ rule. (parts.0, rule)) (rule_words parts.1) else None
 
 -- the words of the line `at s` with a rule behind it
 abbrev pub later_words : List ℕ → Option (List ℕ × RuleLine (List ℕ))
-later_words text = option_and_then step_and_rule (option_and_then at_space (after (codes "at ") text))
+later_words text = option_and_then step_and_rule (option_and_then (cut 32) (behind (codes "at ") text))
 
 -- the number of the step from which a later rule is in force: here it may be any number of ten digits
 abbrev pub step_of : List ℕ → Result ℕ Cause
 step_of word = within 0 LONGEST_NUMBER (number_of word)
 
 -- a step where there is room for one more, and which is not before `least` and is below `steps`
-abbrev pub placed : ℕ → ℕ → ℕ → ℕ → Result ℕ Cause
-placed room steps least step =
+abbrev pub admit : ℕ → ℕ → ℕ → ℕ → Result ℕ Cause
+admit room steps least step =
     if room == 0 then Err TooMany
     else if nat_le least step && nat_lt step steps then Ok step
     else Err Order
@@ -85,19 +77,19 @@ placed room steps least step =
 -- right, then the room that is left, then the order of the steps
 abbrev pub later_line : ℕ → ℕ → ℕ → List ℕ → Result (ℕ × RuleLine ℕ) Cause
 later_line room steps least text =
-    wanted (later_words text) >>= λ words.
+    ok_or (later_words text) Line >>= λ words.
     step_of words.0 >>= λ step.
     rule_numbers words.1 >>= λ rule.
-    placed room steps least step >>= λ from.
+    admit room steps least step >>= λ from.
     Ok (from, rule)
 
--- the words that references hold
-abbrev pub words_held : RuleLine (Bor (List ℕ)) → RuleLine (List ℕ)
-words_held (Nasch p) = Nasch p.now
-words_held (Vdr p p0) = Vdr p.now p0.now
-words_held (Rickert p c) = Rickert p.now c.now
-words_held Own = Own
+-- the words of a rule line, as the code keeps them by references
+abbrev pub stored_words : RuleLine (Bor (List ℕ)) → RuleLine (List ℕ)
+stored_words (Nasch p) = Nasch p.now
+stored_words (Vdr p p0) = Vdr p.now p0.now
+stored_words (Rickert p c) = Rickert p.now c.now
+stored_words Own = Own
 
--- the words of a later line that references hold
-abbrev pub later_held : Bor (List ℕ) × RuleLine (Bor (List ℕ)) → List ℕ × RuleLine (List ℕ)
-later_held parts = (parts.0.now, words_held parts.1)
+-- the same of a later line
+abbrev pub stored_later : Bor (List ℕ) × RuleLine (Bor (List ℕ)) → List ℕ × RuleLine (List ℕ)
+stored_later parts = (parts.0.now, stored_words parts.1)

@@ -6,23 +6,24 @@ use Rattle.hex.specs.declared.error.FromHexError.{FromHexError}
 use Rattle.trlab_code.specs.declared.kind.Kind.{Kind}
 use Rattle.trlab_code.specs.declared.kind.Kind.TheVariants.{Motion, Change}
 use Rattle.trlab_code.specs.Program.{Program}
-use Rattle.trlab_verify.specs.Checked.{Checked, IsChecked}
+use Rattle.trlab_verify.specs.CheckedProgram.{CheckedProgram, IsChecked}
 use Rattle.trlab_verify.specs.Verdict.{IsAccepted}
 use Rattle.trlab_rules.specs.Rules.{Programs}
 use Rattle.trlab_rules.specs.Standard.{nasch_program, vdr_program, rickert_program}
-use Rattle.trlab_rules.specs.Given.{Refuses}
+use Rattle.trlab_rules.specs.StandardRules.{Refuses}
 use Rattle.trlab_texts.specs.declared.fault.Cause.{Cause}
 use Rattle.trlab_texts.specs.declared.fault.Cause.TheVariants.{Line, Hex, OneLane, StandardRefused}
 use Rattle.trlab_jobs.specs.declared.rule_line.RuleLine.{RuleLine}
 use Rattle.trlab_jobs.specs.declared.rule_line.RuleLine.TheVariants.{Nasch, Vdr, Rickert, Own}
 use Rattle.trlab_texts.specs.Words.{word_behind, next_word_is}
-use Rattle.trlab_texts.specs.Reading.{Fault, Reading, said, ◌>>=◌, line, exactly, perhaps, of_line}
-use Rattle.trlab_texts.specs.Programs.{part, part_of, heading}
+use Rattle.trlab_texts.specs.Reading.{Fault, Reading, say, ◌>>=◌, line, exactly, perhaps, of_line}
+use Rattle.trlab_texts.specs.Programs.{Part, part, part_of, heading}
 use Rattle.trlab_jobs.specs.RuleLines.{rule_line}
 
 -- the verifier accepts this program of a kind, with its budget
-abbrev pub Accepts : Kind → Program → Checked → Type 0
-Accepts kind program checked = (checked.program ≡ program) × (IsAccepted kind program × IsChecked kind checked)
+abbrev pub Accepts : Kind → Program → CheckedProgram → Type 0
+Accepts kind program checked =
+    (checked.program ≡ program) × (IsAccepted kind program × IsChecked kind checked)
 
 -- what a standard rule of a motion program says: the rule, or that the program is refused
 abbrev pub MotionSays : Program → Result Programs Cause → Type 0
@@ -33,7 +34,8 @@ MotionSays motion (Err cause) = Refuses Motion motion × (cause ≡ StandardRefu
 abbrev pub BothSay : Program → Program → Result Programs Cause → Type 0
 BothSay motion change (Ok rule) =
     Accepts Motion motion rule.motion × MatchOption rule.change ⊥ (Accepts Change change)
-BothSay motion change (Err cause) = (Refuses Motion motion ⊎ Refuses Change change) × (cause ≡ StandardRefused)
+BothSay motion change (Err cause) =
+    (Refuses Motion motion ⊎ Refuses Change change) × (cause ≡ StandardRefused)
 
 -- what it says on a road that has one lane alone, or that has two
 abbrev pub ExchangeSays : Bool → Program → Program → Result Programs Cause → Type 0
@@ -41,59 +43,60 @@ ExchangeSays true motion change says = says ≡ Err OneLane
 ExchangeSays false motion change says = BothSay motion change says
 
 -- what is wrong with the digits of a change program on a road of one lane
-abbrev pub digits_misplaced : Result (List ℕ) FromHexError → Cause
-digits_misplaced (Ok bytes) = OneLane
-digits_misplaced (Err fault) = Hex
+abbrev pub digits_misplacement : Result (List ℕ) FromHexError → Cause
+digits_misplacement (Ok bytes) = OneLane
+digits_misplacement (Err fault) = Hex
 
 -- what is wrong with the line `code X` of one
-abbrev pub code_misplaced : Result (List ℕ) Cause → Cause
-code_misplaced (Ok digits) = digits_misplaced (decode_of digits)
-code_misplaced (Err cause) = cause
+abbrev pub code_misplacement : Result (List ℕ) Cause → Cause
+code_misplacement (Ok digits) = digits_misplacement (decode_of digits)
+code_misplacement (Err cause) = cause
 
 -- what is wrong with a block of one, whose heading is the line `first`, by where its line `end` is
-abbrev pub block_misplaced : ℕ → List (List ℕ) → Option (List (List ℕ) × List (List ℕ)) → Fault
-block_misplaced first left None = record { line = first + 1 + length left; cause = Line }
-block_misplaced first left (Some parts) = record { line = first; cause = OneLane }
+abbrev pub block_misplacement : ℕ → List (List ℕ) → Option Part → Fault
+block_misplacement first left None = record { line = first + 1 + length left; cause = Line }
+block_misplacement first left (Some parts) = record { line = first; cause = OneLane }
 
 -- what is wrong with a part of one, which has the heading of a block or has not
-abbrev pub part_misplaced : Bool → ℕ → List ℕ → List (List ℕ) → Fault
-part_misplaced true first text left = block_misplaced first left (part_of left)
-part_misplaced false first text left =
-    record { line = first; cause = code_misplaced (word_behind (codes "code ") text) }
+abbrev pub part_misplacement : Bool → ℕ → List ℕ → List (List ℕ) → Fault
+part_misplacement true first text left = block_misplacement first left (part_of left)
+part_misplacement false first text left =
+    record { line = first; cause = code_misplacement (word_behind (codes "code ") text) }
 
 -- what is wrong with a change part on a road of one lane, from a line on: its words or the lack of
 -- its `end`, else that its digits are not hexadecimal, and else the one lane
-abbrev pub misplaced_from : ℕ → List (List ℕ) → Fault
-misplaced_from first [] = record { line = first; cause = Line }
-misplaced_from first (text ∷ left) = part_misplaced (bytes_eq text (heading Change)) first text left
+abbrev pub misplacement : ℕ → List (List ℕ) → Fault
+misplacement first [] = record { line = first; cause = Line }
+misplacement first (text ∷ left) = part_misplacement (bytes_eq text (heading Change)) first text left
 
 -- a change part on a road that has one lane alone, where it is at fault, or that has two
-abbrev pub change_by : Bool → Reading Checked
-change_by true place out = out ≡ Err (misplaced_from place.number place.left)
-change_by false place out = part Change place out
+abbrev pub change_by : Bool → Reading CheckedProgram
+change_by true rest out = out ≡ Err (misplacement rest.number rest.left)
+change_by false rest out = part Change rest out
 
 -- a change part begins on the next line: its first word is `change` or `code`
 abbrev pub next_is_change : List (List ℕ) → Bool
 next_is_change left = next_word_is (codes "change") left || next_word_is (codes "code") left
 
 -- a change part, if there is one, on a road of so many lanes
-abbrev pub change_part : ℕ → Reading (Option Checked)
-change_part lanes place out = perhaps (next_is_change place.left) (change_by (nat_eq lanes 1)) place out
+abbrev pub change_part : ℕ → Reading (Option CheckedProgram)
+change_part lanes rest out = perhaps (next_is_change rest.left) (change_by (nat_eq lanes 1)) rest out
 
 -- own programs: a motion part, and perhaps a change part
 abbrev pub own_rule : ℕ → Reading Programs
 own_rule lanes = do
   motion ← part Motion
   change ← change_part lanes
-  said (record { motion = motion; change = change })
+  say (record { motion = motion; change = change })
 
 -- a rule for a road of so many lanes, whose line of this number was read
 abbrev pub rule_from : ℕ → ℕ → RuleLine ℕ → Reading Programs
 rule_from lanes number (Nasch p) = of_line number (MotionSays (nasch_program p))
 rule_from lanes number (Vdr p p0) = of_line number (MotionSays (vdr_program p p0))
-rule_from lanes number (Rickert p c) = of_line number (ExchangeSays (nat_eq lanes 1) (nasch_program p) (rickert_program c))
+rule_from lanes number (Rickert p c) =
+    of_line number (ExchangeSays (nat_eq lanes 1) (nasch_program p) (rickert_program c))
 rule_from lanes number Own = own_rule lanes
 
 -- a rule for a road of so many lanes
 abbrev pub rule : ℕ → Reading Programs
-rule lanes place out = (line (exactly rule_line) >>= rule_from lanes place.number) place out
+rule lanes rest out = (line (exactly rule_line) >>= rule_from lanes rest.number) rest out

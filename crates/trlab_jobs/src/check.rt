@@ -1,21 +1,37 @@
-//! Check texts.
+//! Check texts: a program each, on which a verdict is asked for.
 
 ghost use Rattle.std.specs.Prelude.{◌≡◌, ◌≤◌, length};
 ghost use Rattle.trlab_asm.specs.Lines.{lines_of};
-ghost use Rattle.trlab_jobs.specs.Check.{CheckLines, CheckText, CodeAlone, kind_headed};
-ghost use Rattle.trlab_texts.specs.Reading.{Told};
+ghost use Rattle.trlab_jobs.specs.Check.{CheckLinesSay, CheckText, LoneCodeSays, ProgramLinesSay, heading_kind};
+ghost use Rattle.trlab_texts.specs.Reading.{Reports};
 ghost use Rattle.trlab_bounds.specs.declared.texts.TheConstants.{TEXT_LIMIT};
 
 use std::alloc::Global;
+use std::marker::Model;
 use trlab_asm::next_line;
 use trlab_bounds::texts::TEXT_LIMIT;
 use trlab_code::{Code, Kind};
 use trlab_texts::program::{code_line, heads, program_behind};
 use trlab_texts::{Cause, TextFault};
 
+/// What a check text asks for: the verdict on a program.
+#[derive(Drop)]
+pub struct Check {
+    /// The program, of either kind.
+    pub code: Code,
+}
+
+impl Model for Check {
+    ghost use Rattle.trlab_jobs.specs.Check.{Check as Request, check_of};
+
+    ghost Value = { Request };
+
+    ghost view = { λ check. check_of check.code };
+}
+
 /// The kind of program that a line heads, if it heads one.
-fn kind_headed(line: &[u8]) -> Option<Kind>
-    ensures { result ≡ kind_headed line.now }
+fn heading_kind(line: &[u8]) -> Option<Kind>
+    ensures { result ≡ heading_kind line.now }
 {
     if heads(Kind::Motion, line) {
         Some(Kind::Motion)
@@ -28,7 +44,7 @@ fn kind_headed(line: &[u8]) -> Option<Kind>
 
 /// The program of the line `code X`, behind which no more may stand.
 fn code_alone(alloc: Global, line: &[u8], rest: &[u8]) -> Result<Code, TextFault>
-    ensures { Told (CodeAlone line.now (lines_of rest.now)) result }
+    ensures { Reports (LoneCodeSays line.now (lines_of rest.now)) result }
 {
     match code_line(alloc, line) {
         Ok(code) => {
@@ -45,10 +61,10 @@ fn code_alone(alloc: Global, line: &[u8], rest: &[u8]) -> Result<Code, TextFault
     }
 }
 
-/// The program of the lines of a text that is not too long.
-fn read_lines(alloc: Global, text: &[u8]) -> Result<Code, TextFault>
+/// The program that the lines of a text are, which is not too long.
+fn read_program(alloc: Global, text: &[u8]) -> Result<Code, TextFault>
     requires { length text.now ≤ TEXT_LIMIT }
-    ensures { Told (CheckLines (lines_of text.now)) result }
+    ensures { Reports (ProgramLinesSay (lines_of text.now)) result }
 {
     let Some((line, rest)) = next_line(text) else {
         return Err(TextFault::At {
@@ -56,15 +72,31 @@ fn read_lines(alloc: Global, text: &[u8]) -> Result<Code, TextFault>
             cause: Cause::Line,
         });
     };
-    match kind_headed(line) {
+    match heading_kind(line) {
         Some(kind) => program_behind(alloc, kind, 1, rest),
         None => code_alone(alloc, line, rest),
     }
 }
 
-/// What a check text says: a program of either kind, or its first fault.
-pub fn read_program(alloc: Global, text: &[u8]) -> Result<Code, TextFault>
-    ensures { Told (CheckText text.now) result }
+/// What the lines of a text ask for, which is not too long.
+fn read_lines(alloc: Global, text: &[u8]) -> Result<Check, TextFault>
+    requires { length text.now ≤ TEXT_LIMIT }
+    ensures { Reports (CheckLinesSay (lines_of text.now)) result }
+{
+    match read_program(alloc, text) {
+        Ok(code) => Ok(Check { code }),
+        Err(fault) => Err(fault),
+    }
+}
+
+/// Reads a check text: a program of either kind, on which a verdict is asked for.
+///
+/// # Errors
+///
+/// The first fault of the text, at its line, which is 0 where the text is too long; or want of
+/// memory.
+pub fn read_check(alloc: Global, text: &[u8]) -> Result<Check, TextFault>
+    ensures { Reports (CheckText text.now) result }
 {
     if text.len() > TEXT_LIMIT {
         return Err(TextFault::At {

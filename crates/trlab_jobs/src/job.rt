@@ -1,18 +1,18 @@
-//! Job texts.
+//! Job texts: a key, a road, a rule, how many steps to go, and rules of later steps.
 
 ghost use Rattle.std.specs.Prelude.{◌≤◌, IfOk, length};
-ghost use Rattle.trlab_texts.specs.Reading.{Told};
+ghost use Rattle.trlab_texts.specs.Reading.{Reports};
 ghost use Rattle.trlab_jobs.specs.Job.{JobText, LinesSay};
-ghost use Rattle.trlab_jobs.specs.Plain.{IsPlain};
+ghost use Rattle.trlab_jobs.specs.Stored.{IsStored};
 ghost use Rattle.trlab_bounds.specs.declared.texts.TheConstants.{TEXT_LIMIT};
 
-use crate::{lane, later, reading, rule};
+use crate::{lane, later, line, rule};
 use std::alloc::Global;
 use std::marker::Model;
 use trlab_bounds::texts::TEXT_LIMIT;
 use trlab_road::Road;
 use trlab_rules::Rule;
-use trlab_texts::{Cause, Place, TextFault};
+use trlab_texts::{Cause, Rest, TextFault};
 use trlab_words::Key;
 
 /// What a job text says, which can be run: the road is legal, and the rules are for its lanes.
@@ -24,15 +24,16 @@ pub struct Job {
     pub road: Road,
     /// The rule from step 0 on.
     pub first: Rule,
-    /// The rules of later steps, each with the step from which on it is in force.
+    /// The rules of later steps, each with the step from which on it is in force: these rise, and
+    /// are below `steps`.
     pub later: Vec<(u32, Rule)>,
-    /// How many steps are run.
+    /// How many steps are run, 0 to `MOST_STEPS`.
     pub steps: u32,
 }
 
 impl Model for Job {
     ghost use Rattle.trlab_jobs.specs.Job.{Job as Said};
-    ghost use Rattle.trlab_jobs.specs.Plain.{IsPlain};
+    ghost use Rattle.trlab_jobs.specs.Stored.{IsStored};
 
     ghost Value = { Said };
 
@@ -44,7 +45,7 @@ impl Model for Job {
       steps = job.steps;
     } };
 
-    ghost invariant = { λ job. IsPlain (record {
+    ghost invariant = { λ job. IsStored (record {
       key = job.key.0;
       road = job.road;
       first = job.first;
@@ -56,17 +57,17 @@ impl Model for Job {
 /// Reads the lines of a text that is not too long.
 fn read_lines(alloc: Global, text: &[u8]) -> Result<Job, TextFault>
     requires { length text.now ≤ TEXT_LIMIT }
-    ensures told { Told (LinesSay text.now) result }
-    ensures plain { IfOk result IsPlain }
+    ensures told { Reports (LinesSay text.now) result }
+    ensures stored { IfOk result IsStored }
 {
-    let ((), place) = reading::road(Place::start(text))?;
-    let (key, place) = reading::key(place)?;
-    let (limit, place) = reading::limit(place)?;
-    let (road, place) = lane::lanes(alloc, limit, place)?;
+    let ((), rest) = Rest::start(text).read_line(line::road_line)?;
+    let (key, rest) = rest.read_line(line::key_line)?;
+    let (limit, rest) = rest.read_line(line::limit_line)?;
+    let (road, rest) = lane::lanes(alloc, limit, rest)?;
     let count = road.lanes();
-    let (first, place) = rule::rule(alloc, count, place)?;
-    let (steps, place) = reading::steps(place)?;
-    let (later, _) = later::later_rules(alloc, count, steps, place)?;
+    let (first, rest) = rule::rule(alloc, count, rest)?;
+    let (steps, rest) = rest.read_line(line::steps_line)?;
+    let (later, _) = later::later_rules(alloc, count, steps, rest)?;
     Ok(Job {
         key: Key(key),
         road,
@@ -76,10 +77,15 @@ fn read_lines(alloc: Global, text: &[u8]) -> Result<Job, TextFault>
     })
 }
 
-/// What a text says: a job, or its first fault.
+/// Reads a job text.
+///
+/// # Errors
+///
+/// The first fault of the text, at its line, which is 0 where the text is too long; or want of
+/// memory.
 pub fn read_job(alloc: Global, text: &[u8]) -> Result<Job, TextFault>
-    ensures told { Told (JobText text.now) result }
-    ensures plain { IfOk result IsPlain }
+    ensures told { Reports (JobText text.now) result }
+    ensures stored { IfOk result IsStored }
 {
     if text.len() > TEXT_LIMIT {
         return Err(TextFault::At {

@@ -1,15 +1,15 @@
-//! The lanes of a job's road.
+//! The lanes of a job's road: one line `lane P` or two, whose pictures are judged together.
 
 ghost use Rattle.std.specs.Prelude.{◌≡◌, ◌+◌, ◌∷◌, IfOk, option_map, option_to_list};
 ghost use Rattle.std.specs.Result.{result_map_both};
-ghost use Rattle.trlab_road.specs.Legal.{Legal};
-ghost use Rattle.trlab_texts.specs.Reading.{Told, line, exactly};
+ghost use Rattle.trlab_road.specs.Legal.{IsLegal};
+ghost use Rattle.trlab_texts.specs.Reading.{Reports, line, exactly};
 ghost use Rattle.trlab_jobs.specs.Lanes.{lane_word, second_lane, line_of_fault, LanesSay, PicturesSay, lanes};
 
 use std::alloc::Global;
 use trlab_road::{Road, RoadFault};
 use trlab_texts::word::word_behind;
-use trlab_texts::{Cause, Place, TextFault};
+use trlab_texts::{Cause, Rest, TextFault};
 
 /// The picture of the line `lane P`.
 fn lane_word(line: &[u8]) -> Result<&[u8], Cause>
@@ -19,32 +19,24 @@ fn lane_word(line: &[u8]) -> Result<&[u8], Cause>
 }
 
 /// The picture of a lane that must stand here.
-fn lane(place: Place<'_>) -> Result<(&[u8], Place<'_>), TextFault>
-    ensures told { Told (line (exactly lane_word) place.entry)
+fn lane(rest: Rest<'_>) -> Result<(&[u8], Rest<'_>), TextFault>
+    ensures told { Reports (line (exactly lane_word) rest.entry)
         (result_map_both (λ found. (found.0.now, found.1)) (λ fault. fault) result) }
-    ensures next { IfOk result (λ found. found.1.number ≡ place.entry.number + 1) }
+    ensures next { IfOk result (λ found. found.1.number ≡ rest.entry.number + 1) }
 {
-    let number = place.number();
-    let (text, after) = place.next_line()?;
-    match lane_word(text) {
-        Ok(picture) => Ok((picture, after)),
-        Err(cause) => Err(TextFault::At {
-            line: number,
-            cause,
-        }),
-    }
+    rest.read_line(lane_word)
 }
 
 /// The picture of a second lane, where the next line states a lane.
-fn second_lane(place: Place<'_>) -> Result<(Option<&[u8]>, Place<'_>), TextFault>
-    ensures { Told (second_lane place.entry)
+fn second_lane(rest: Rest<'_>) -> Result<(Option<&[u8]>, Rest<'_>), TextFault>
+    ensures { Reports (second_lane rest.entry)
         (result_map_both (λ found. (option_map (λ picture. picture.now) found.0, found.1)) (λ fault. fault) result) }
 {
-    if place.next_word_is(b"lane") {
-        let (picture, place) = lane(place)?;
-        Ok((Some(picture), place))
+    if rest.next_word_is(b"lane") {
+        let (picture, rest) = lane(rest)?;
+        Ok((Some(picture), rest))
     } else {
-        Ok((None, place))
+        Ok((None, rest))
     }
 }
 
@@ -66,7 +58,7 @@ fn line_of_fault(first: u32, last: u32, fault: RoadFault) -> u32
 
 /// The road that one picture or two show, of which the first stands on the line `first`, before the
 /// line `behind`.
-fn shown(
+fn road_of(
     alloc: Global,
     first: u32,
     behind: u32,
@@ -75,8 +67,9 @@ fn shown(
     second: Option<&[u8]>,
 ) -> Result<Road, TextFault>
     requires { behind ≡ first + 1 }
-    ensures told { Told (PicturesSay first limit picture.now (option_map (λ picture. picture.now) second.entry)) result }
-    ensures legal { IfOk result (λ road. Legal road) }
+    ensures told { Reports
+        (PicturesSay first limit picture.now (option_map (λ picture. picture.now) second.entry)) result }
+    ensures legal { IfOk result (λ road. IsLegal road) }
 {
     let (road, last) = match second {
         None => (Road::parse(alloc, limit, &[picture]), first),
@@ -93,14 +86,14 @@ fn shown(
 }
 
 /// The lanes of a road: the line `lane P`, and the next line where it states a lane.
-pub fn lanes(alloc: Global, limit: u32, place: Place<'_>) -> Result<(Road, Place<'_>), TextFault>
-    ensures told { Told (lanes limit place.entry) result }
-    ensures legal { IfOk result (λ found. Legal found.0) }
+pub fn lanes(alloc: Global, limit: u32, rest: Rest<'_>) -> Result<(Road, Rest<'_>), TextFault>
+    ensures told { Reports (lanes limit rest.entry) result }
+    ensures legal { IfOk result (λ found. IsLegal found.0) }
 {
-    let first = place.number();
-    let (picture, place) = lane(place)?;
-    let behind = place.number();
-    let (second, place) = second_lane(place)?;
-    let road = shown(alloc, first, behind, limit, picture, second)?;
-    Ok((road, place))
+    let first = rest.number();
+    let (picture, rest) = lane(rest)?;
+    let behind = rest.number();
+    let (second, rest) = second_lane(rest)?;
+    let road = road_of(alloc, first, behind, limit, picture, second)?;
+    Ok((road, rest))
 }

@@ -1,36 +1,34 @@
-//! The rules of later steps of a job text.
+//! Rules of later steps: each line `at s rule ..` puts a rule in force from step s on.
 
 ghost use Rattle.std.specs.Prelude.{◌≡◌, ◌+◌, ◌<◌, ◌≤◌, IfOk, OnOk};
 ghost use Rattle.std.specs.Result.{result_map_both};
 ghost use Rattle.trlab_step.specs.Laws.{IsRuleFor};
-ghost use Rattle.trlab_texts.specs.Reading.{Told, line, exactly};
+ghost use Rattle.trlab_texts.specs.Reading.{Reports, line, exactly};
 ghost use Rattle.trlab_jobs.specs.RuleLines.{later_line};
 ghost use Rattle.trlab_jobs.specs.Later.{later_rule, later_rules};
-ghost use Rattle.trlab_jobs.specs.Plain.{LaterRules};
+ghost use Rattle.trlab_jobs.specs.Stored.{AreLaterRules};
 
 use crate::rule::rule_from;
 use crate::rule_line::{RuleLine, later_line};
 use std::alloc::Global;
 use trlab_bounds::runs::MOST_LATER;
 use trlab_rules::Rule;
-use trlab_texts::{Place, TextFault, in_place};
+use trlab_texts::{Rest, TextFault};
 use trlab_words::Chance;
 
-/// The line of a later rule, in its place.
-fn later_line_here(
+/// The line of a later rule.
+fn read_later_line(
     room: u32,
     steps: u32,
     least: u32,
-    place: Place<'_>,
-) -> Result<((u32, RuleLine<Chance>), Place<'_>), TextFault>
-    ensures told { Told (line (exactly (later_line room steps least)) place.entry) result }
+    rest: Rest<'_>,
+) -> Result<((u32, RuleLine<Chance>), Rest<'_>), TextFault>
+    ensures told { Reports (line (exactly (later_line room steps least)) rest.entry) result }
     ensures room { OnOk result (0 < room) }
     ensures rises { IfOk result (λ found. least ≤ found.0.0) }
     ensures within { IfOk result (λ found. found.0.0 < steps) }
 {
-    let number = place.number();
-    let (text, after) = place.next_line()?;
-    in_place(number, later_line(room, steps, least, text), after)
+    rest.read_line(|text| later_line(room, steps, least, text))
 }
 
 /// A rule of a later step, with the step from which it is in force.
@@ -40,20 +38,20 @@ fn later_rule(
     lanes: u32,
     steps: u32,
     least: u32,
-    place: Place<'_>,
-) -> Result<((u32, Rule), Place<'_>), TextFault>
+    rest: Rest<'_>,
+) -> Result<((u32, Rule), Rest<'_>), TextFault>
     requires some { 1 ≤ lanes }
     requires few { lanes ≤ 2 }
-    ensures told { Told (later_rule room lanes steps least place.entry) result }
+    ensures told { Reports (later_rule room lanes steps least rest.entry) result }
     ensures room { OnOk result (0 < room) }
     ensures rises { IfOk result (λ found. least ≤ found.0.0) }
     ensures within { IfOk result (λ found. found.0.0 < steps) }
     ensures suits { IfOk result (λ found. IsRuleFor lanes found.0.1) }
 {
-    let number = place.number();
-    let ((from, line), place) = later_line_here(room, steps, least, place)?;
-    let (rule, place) = rule_from(alloc, lanes, number, line, place)?;
-    Ok(((from, rule), place))
+    let number = rest.number();
+    let ((from, line), rest) = read_later_line(room, steps, least, rest)?;
+    let (rule, rest) = rule_from(alloc, lanes, number, line, rest)?;
+    Ok(((from, rule), rest))
 }
 
 /// The rules of later steps, up to the end of the text.
@@ -61,25 +59,25 @@ pub fn later_rules(
     alloc: Global,
     lanes: u32,
     steps: u32,
-    mut place: Place<'_>,
-) -> Result<(Vec<(u32, Rule)>, Place<'_>), TextFault>
+    mut rest: Rest<'_>,
+) -> Result<(Vec<(u32, Rule)>, Rest<'_>), TextFault>
     requires some { 1 ≤ lanes }
     requires few { lanes ≤ 2 }
-    ensures told { Told (later_rules lanes steps place.entry)
+    ensures told { Reports (later_rules lanes steps rest.entry)
         (result_map_both (λ found. (found.0.items, found.1)) (λ fault. fault) result) }
-    ensures later { IfOk result (λ found. LaterRules lanes steps 0 found.0.items) }
+    ensures later { IfOk result (λ found. AreLaterRules lanes steps 0 found.0.items) }
 {
     let mut later = Vec::new(alloc);
     let mut room = MOST_LATER;
     let mut least = 0;
-    while !place.is_end() {
-        let ((from, rule), behind) = later_rule(alloc, room, lanes, steps, least, place)?;
+    while !rest.is_end() {
+        let ((from, rule), behind) = later_rule(alloc, room, lanes, steps, least, rest)?;
         if later.push((from, rule)).is_err() {
             return Err(TextFault::Memory);
         }
         room -= 1;
         least = from + 1;
-        place = behind;
+        rest = behind;
     }
-    Ok((later, place))
+    Ok((later, rest))
 }

@@ -7,9 +7,8 @@ mod lane;
 mod later;
 pub mod laws;
 mod line;
-mod reading;
 mod rule;
 mod rule_line;
 
-pub use check::read_program;
+pub use check::{Check, read_check};
 pub use job::{Job, read_job};

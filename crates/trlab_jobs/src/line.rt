@@ -1,4 +1,4 @@
-//! The lines of a job text, each by itself.
+//! Rules by which the single lines of a job text are read: `road`, `key`, `limit` and `steps`.
 
 ghost use Rattle.std.specs.Prelude.{◌≡◌};
 ghost use Rattle.trlab_jobs.specs.Job.{road_line, key_line, limit_line, steps_line};
@@ -31,14 +31,14 @@ pub fn key_line(line: &[u8]) -> Result<[u8; 32], Cause>
     }
 }
 
-/// The line `limit n`, the speed limit of the road.
+/// The line `limit n`, the speed limit of the road: 1 to `GREATEST_LIMIT` cells a step.
 pub fn limit_line(line: &[u8]) -> Result<u32, Cause>
     ensures { result ≡ limit_line line.now }
 {
     number_behind(b"limit ", 1, GREATEST_LIMIT, line)
 }
 
-/// The line `steps n`, how many steps are run.
+/// The line `steps n`, how many steps are run: 0 to `MOST_STEPS`.
 pub fn steps_line(line: &[u8]) -> Result<u32, Cause>
     ensures { result ≡ steps_line line.now }
 {

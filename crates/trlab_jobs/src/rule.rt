@@ -1,14 +1,14 @@
-//! The rules of a job text.
+//! Rules: a standard rule on one line, or own programs in the parts behind the line `rule own`.
 
 ghost use Rattle.std.specs.Prelude.{◌≡◌, ◌≢◌, ◌≤◌, ℕ, IfOk, IfSome, IsSome, MatchResult, nat_eq, codes};
 ghost use Rattle.trlab_code.specs.declared.kind.Kind.TheVariants.{Motion as OfMotion, Change as OfChange};
 ghost use Rattle.trlab_rules.specs.Standard.{nasch_program, vdr_program, rickert_program};
 ghost use Rattle.trlab_step.specs.Laws.{IsRuleFor};
-ghost use Rattle.trlab_verify.specs.Checked.{IsChecked};
-ghost use Rattle.trlab_texts.specs.Reading.{Told, ToldOfLine, CauseTold, FaultTold, line, exactly, fault_at};
+ghost use Rattle.trlab_verify.specs.CheckedProgram.{IsChecked};
+ghost use Rattle.trlab_texts.specs.Reading.{Reports, ReportsLine, ReportsCause, ReportsFault, line, exactly, fault_at};
 ghost use Rattle.trlab_texts.specs.Words.{word_behind};
 ghost use Rattle.trlab_jobs.specs.RuleLines.{rule_line};
-ghost use Rattle.trlab_jobs.specs.RuleParts.{MotionSays, ExchangeSays, code_misplaced, misplaced_from, next_is_change, change_by, change_part, own_rule, rule_from, rule};
+ghost use Rattle.trlab_jobs.specs.RuleParts.{MotionSays, ExchangeSays, code_misplacement, misplacement, next_is_change, change_by, change_part, own_rule, rule_from, rule};
 
 use crate::rule_line::{RuleLine, rule_line};
 use hex::FromHexError;
@@ -16,13 +16,13 @@ use std::alloc::Global;
 use trlab_code::Kind;
 use trlab_rules::{Rule, StandardFault, nasch, rickert, vdr};
 use trlab_texts::word::word_behind;
-use trlab_texts::{Cause, LineFault, Place, TextFault, in_place, program};
+use trlab_texts::{Cause, LineFault, Rest, TextFault, program};
 use trlab_verify::Change;
 use trlab_words::Chance;
 
 /// The rule of a line `rule nasch t`.
 fn nasch_rule(alloc: Global, brake: Chance) -> Result<Rule, LineFault>
-    ensures told { ToldOfLine (MotionSays (nasch_program brake)) result }
+    ensures told { ReportsLine (MotionSays (nasch_program brake)) result }
     ensures suits { IfOk result (λ rule. (lanes : ℕ) → IsRuleFor lanes rule) }
 {
     match nasch(alloc, brake) {
@@ -33,11 +33,11 @@ fn nasch_rule(alloc: Global, brake: Chance) -> Result<Rule, LineFault>
 }
 
 /// The rule of a line `rule vdr t t0`.
-fn vdr_rule(alloc: Global, moving: Chance, standing: Chance) -> Result<Rule, LineFault>
-    ensures told { ToldOfLine (MotionSays (vdr_program moving standing)) result }
+fn vdr_rule(alloc: Global, moving: Chance, stopped: Chance) -> Result<Rule, LineFault>
+    ensures told { ReportsLine (MotionSays (vdr_program moving stopped)) result }
     ensures suits { IfOk result (λ rule. (lanes : ℕ) → IsRuleFor lanes rule) }
 {
-    match vdr(alloc, moving, standing) {
+    match vdr(alloc, moving, stopped) {
         Ok(rule) => Ok(rule),
         Err(StandardFault::Memory) => Err(LineFault::Memory),
         Err(StandardFault::Refused) => Err(LineFault::Wrong(Cause::StandardRefused)),
@@ -53,7 +53,7 @@ fn rickert_rule(
 ) -> Result<Rule, LineFault>
     requires some { 1 ≤ lanes }
     requires few { lanes ≤ 2 }
-    ensures told { ToldOfLine
+    ensures told { ReportsLine
         (ExchangeSays (nat_eq lanes 1) (nasch_program brake) (rickert_program crossing)) result }
     ensures suits { IfOk result (λ rule. IsRuleFor lanes rule) }
 {
@@ -68,8 +68,8 @@ fn rickert_rule(
 }
 
 /// What is wrong with the line `code X` of a change program on a road of one lane.
-fn code_misplaced(alloc: Global, line: &[u8]) -> LineFault
-    ensures { CauseTold (code_misplaced (word_behind (codes "code ") line.now)) result }
+fn code_misplacement(alloc: Global, line: &[u8]) -> LineFault
+    ensures { ReportsCause (code_misplacement (word_behind (codes "code ") line.now)) result }
 {
     let digits = match word_behind(b"code ", line) {
         Ok(digits) => digits,
@@ -83,11 +83,11 @@ fn code_misplaced(alloc: Global, line: &[u8]) -> LineFault
 }
 
 /// What is wrong with a change part on a road of one lane.
-fn misplaced(alloc: Global, place: Place<'_>) -> TextFault
-    ensures { FaultTold (misplaced_from place.entry.number place.entry.left) result }
+fn misplacement(alloc: Global, rest: Rest<'_>) -> TextFault
+    ensures { ReportsFault (misplacement rest.entry.number rest.entry.left) result }
 {
-    let first = place.number();
-    let (line, after) = match place.next_line() {
+    let first = rest.number();
+    let (line, after) = match rest.next_line() {
         Ok(found) => found,
         Err(fault) => return fault,
     };
@@ -100,72 +100,68 @@ fn misplaced(alloc: Global, place: Place<'_>) -> TextFault
             Err(fault) => fault,
         }
     } else {
-        code_misplaced(alloc, line).at(first)
+        code_misplacement(alloc, line).at(first)
     }
 }
 
 /// A change part on a road that has one lane alone, where it is at fault, or that has two.
-fn change_by(
-    alloc: Global,
-    one_lane: bool,
-    place: Place<'_>,
-) -> Result<(Change, Place<'_>), TextFault>
-    ensures { Told (change_by one_lane place.entry) result }
+fn change_by(alloc: Global, one_lane: bool, rest: Rest<'_>) -> Result<(Change, Rest<'_>), TextFault>
+    ensures { Reports (change_by one_lane rest.entry) result }
 {
     if one_lane {
-        Err(misplaced(alloc, place))
+        Err(misplacement(alloc, rest))
     } else {
-        program::change(alloc, place)
+        program::change(alloc, rest)
     }
 }
 
 /// Whether a change part begins on the next line.
-fn next_is_change(place: &Place<'_>) -> bool
-    ensures { result ≡ next_is_change place.now.left }
+fn next_is_change(rest: &Rest<'_>) -> bool
+    ensures { result ≡ next_is_change rest.now.left }
 {
-    place.next_word_is(b"change") || place.next_word_is(b"code")
+    rest.next_word_is(b"change") || rest.next_word_is(b"code")
 }
 
 /// A change part, if there is one.
 fn change_part(
     alloc: Global,
     lanes: u32,
-    place: Place<'_>,
-) -> Result<(Option<Change>, Place<'_>), TextFault>
-    ensures { Told (change_part lanes place.entry) result }
+    rest: Rest<'_>,
+) -> Result<(Option<Change>, Rest<'_>), TextFault>
+    ensures { Reports (change_part lanes rest.entry) result }
 {
-    if next_is_change(&place) {
-        let (change, place) = change_by(alloc, lanes == 1, place)?;
-        Ok((Some(change), place))
+    if next_is_change(&rest) {
+        let (change, rest) = change_by(alloc, lanes == 1, rest)?;
+        Ok((Some(change), rest))
     } else {
-        Ok((None, place))
+        Ok((None, rest))
     }
 }
 
 /// Own programs: a motion part, and perhaps a change part.
-fn own_rule(alloc: Global, lanes: u32, place: Place<'_>) -> Result<(Rule, Place<'_>), TextFault>
+fn own_rule(alloc: Global, lanes: u32, rest: Rest<'_>) -> Result<(Rule, Rest<'_>), TextFault>
     requires some { 1 ≤ lanes }
     requires few { lanes ≤ 2 }
-    ensures told { Told (own_rule lanes place.entry) result }
+    ensures told { Reports (own_rule lanes rest.entry) result }
     ensures suits { IfOk result (λ found. IsRuleFor lanes found.0) }
 {
-    let (motion, place) = program::motion(alloc, place)?;
-    let (change, place) = change_part(alloc, lanes, place)?;
-    Ok((Rule::new(motion, change), place))
+    let (motion, rest) = program::motion(alloc, rest)?;
+    let (change, rest) = change_part(alloc, lanes, rest)?;
+    Ok((Rule::new(motion, change), rest))
 }
 
-/// What the line before a place says.
+/// What the line before a rest says.
 fn of_line(
     number: u32,
-    said: Result<Rule, LineFault>,
-    place: Place<'_>,
-) -> Result<(Rule, Place<'_>), TextFault>
-    ensures { MatchResult said
-        (λ rule. result ≡ Ok (rule, place.entry))
+    say: Result<Rule, LineFault>,
+    rest: Rest<'_>,
+) -> Result<(Rule, Rest<'_>), TextFault>
+    ensures { MatchResult say
+        (λ rule. result ≡ Ok (rule, rest.entry))
         (λ fault. result ≡ Err (fault_at number fault)) }
 {
-    match said {
-        Ok(rule) => Ok((rule, place)),
+    match say {
+        Ok(rule) => Ok((rule, rest)),
         Err(fault) => Err(fault.at(number)),
     }
 }
@@ -176,42 +172,33 @@ pub fn rule_from(
     lanes: u32,
     number: u32,
     line: RuleLine<Chance>,
-    place: Place<'_>,
-) -> Result<(Rule, Place<'_>), TextFault>
+    rest: Rest<'_>,
+) -> Result<(Rule, Rest<'_>), TextFault>
     requires some { 1 ≤ lanes }
     requires few { lanes ≤ 2 }
-    ensures told { Told (rule_from lanes number line place.entry) result }
+    ensures told { Reports (rule_from lanes number line rest.entry) result }
     ensures suits { IfOk result (λ found. IsRuleFor lanes found.0) }
 {
     match line {
-        RuleLine::Nasch { brake } => of_line(number, nasch_rule(alloc, brake), place),
-        RuleLine::Vdr { moving, standing } => {
-            of_line(number, vdr_rule(alloc, moving, standing), place)
+        RuleLine::Nasch { brake } => of_line(number, nasch_rule(alloc, brake), rest),
+        RuleLine::Vdr { moving, stopped } => {
+            of_line(number, vdr_rule(alloc, moving, stopped), rest)
         }
         RuleLine::Rickert { brake, crossing } => {
-            of_line(number, rickert_rule(alloc, lanes, brake, crossing), place)
+            of_line(number, rickert_rule(alloc, lanes, brake, crossing), rest)
         }
-        RuleLine::Own => own_rule(alloc, lanes, place),
+        RuleLine::Own => own_rule(alloc, lanes, rest),
     }
 }
 
-/// The line of a rule, in its place.
-fn rule_line_here(place: Place<'_>) -> Result<(RuleLine<Chance>, Place<'_>), TextFault>
-    ensures { Told (line (exactly rule_line) place.entry) result }
-{
-    let number = place.number();
-    let (text, after) = place.next_line()?;
-    in_place(number, rule_line(text), after)
-}
-
 /// A rule for a road of so many lanes: a line `rule ..`, and own programs behind it.
-pub fn rule(alloc: Global, lanes: u32, place: Place<'_>) -> Result<(Rule, Place<'_>), TextFault>
+pub fn rule(alloc: Global, lanes: u32, rest: Rest<'_>) -> Result<(Rule, Rest<'_>), TextFault>
     requires some { 1 ≤ lanes }
     requires few { lanes ≤ 2 }
-    ensures told { Told (rule lanes place.entry) result }
+    ensures told { Reports (rule lanes rest.entry) result }
     ensures suits { IfOk result (λ found. IsRuleFor lanes found.0) }
 {
-    let number = place.number();
-    let (line, place) = rule_line_here(place)?;
-    rule_from(alloc, lanes, number, line, place)
+    let number = rest.number();
+    let (line, rest) = rest.read_line(rule_line)?;
+    rule_from(alloc, lanes, number, line, rest)
 }

@@ -1,10 +1,11 @@
-//! The lines that state rules, each by itself.
+//! Lines that state rules: words come before numbers, and these are read from left to right.
 
 ghost use Rattle.std.specs.Prelude.{◌≡◌, ◌<◌, ◌≤◌, IfOk, OnOk, option_map};
-ghost use Rattle.trlab_jobs.specs.RuleLines.{rule_words, chance_of, rule_numbers, rule_line, later_words, step_of, placed, later_line, words_held, later_held};
+ghost use Rattle.trlab_jobs.specs.RuleLines.{rule_words, chance_of, rule_numbers, rule_line, later_words, step_of, admit, later_line, stored_words, stored_later};
 
+use trlab_asm::cut;
 use trlab_texts::Cause;
-use trlab_texts::word::{after, at_space, is_word, long_number, number_from, only_word, two_words};
+use trlab_texts::word::{as_word, behind, is_word, long_number, number_from, two_words};
 use trlab_words::{CERTAIN, Chance};
 
 /// A rule as a line states it, by words or by the chances that they write.
@@ -12,8 +13,8 @@ use trlab_words::{CERTAIN, Chance};
 pub enum RuleLine<T> {
     /// `rule nasch t`.
     Nasch { brake: T },
-    /// `rule vdr t t0`, the first for cars that move, the second for cars that stand.
-    Vdr { moving: T, standing: T },
+    /// `rule vdr t t0`, the first for cars that move, the second for cars that have stopped.
+    Vdr { moving: T, stopped: T },
     /// `rule rickert t c`, the second for crossing.
     Rickert { brake: T, crossing: T },
     /// `rule own`, whose programs stand on the lines behind.
@@ -22,18 +23,18 @@ pub enum RuleLine<T> {
 
 /// The words of a rule line, where they are those of a rule.
 fn rule_words(line: &[u8]) -> Option<RuleLine<&[u8]>>
-    ensures { option_map words_held result ≡ rule_words line.now }
+    ensures { option_map stored_words result ≡ rule_words line.now }
 {
-    if let Some(words) = after(b"rule nasch ", line) {
-        return only_word(words).map(|brake| RuleLine::Nasch { brake });
+    if let Some(words) = behind(b"rule nasch ", line) {
+        return as_word(words).map(|brake| RuleLine::Nasch { brake });
     }
-    if let Some(words) = after(b"rule vdr ", line) {
+    if let Some(words) = behind(b"rule vdr ", line) {
         return match two_words(words) {
-            Some((moving, standing)) => Some(RuleLine::Vdr { moving, standing }),
+            Some((moving, stopped)) => Some(RuleLine::Vdr { moving, stopped }),
             None => None,
         };
     }
-    if let Some(words) = after(b"rule rickert ", line) {
+    if let Some(words) = behind(b"rule rickert ", line) {
         return match two_words(words) {
             Some((brake, crossing)) => Some(RuleLine::Rickert { brake, crossing }),
             None => None,
@@ -58,16 +59,16 @@ fn chance_of(word: &[u8]) -> Result<Chance, Cause>
 
 /// The numbers of a rule line, from left to right.
 fn rule_numbers(words: RuleLine<&[u8]>) -> Result<RuleLine<Chance>, Cause>
-    ensures { result ≡ rule_numbers (words_held words.entry) }
+    ensures { result ≡ rule_numbers (stored_words words.entry) }
 {
     match words {
         RuleLine::Nasch { brake } => Ok(RuleLine::Nasch {
             brake: chance_of(brake)?,
         }),
-        RuleLine::Vdr { moving, standing } => {
+        RuleLine::Vdr { moving, stopped } => {
             let moving = chance_of(moving)?;
-            let standing = chance_of(standing)?;
-            Ok(RuleLine::Vdr { moving, standing })
+            let stopped = chance_of(stopped)?;
+            Ok(RuleLine::Vdr { moving, stopped })
         }
         RuleLine::Rickert { brake, crossing } => {
             let brake = chance_of(brake)?;
@@ -90,9 +91,9 @@ pub fn rule_line(line: &[u8]) -> Result<RuleLine<Chance>, Cause>
 
 /// The words of a line `at s rule ..`: that of the step, and those of the rule.
 fn later_words(line: &[u8]) -> Option<(&[u8], RuleLine<&[u8]>)>
-    ensures { option_map later_held result ≡ later_words line.now }
+    ensures { option_map stored_later result ≡ later_words line.now }
 {
-    let (step, rule) = at_space(after(b"at ", line)?)?;
+    let (step, rule) = cut(behind(b"at ", line)?, b' ')?;
     if !is_word(step) {
         return None;
     }
@@ -108,8 +109,8 @@ fn step_of(word: &[u8]) -> Result<u64, Cause>
 }
 
 /// A step where there is room for one more, and which is not before `least` and below `steps`.
-fn placed(room: u32, steps: u32, least: u32, step: u64) -> Result<u32, Cause>
-    ensures value { result ≡ placed room steps least step }
+fn admit(room: u32, steps: u32, least: u32, step: u64) -> Result<u32, Cause>
+    ensures value { result ≡ admit room steps least step }
     ensures room { OnOk result (0 < room) }
     ensures rises { IfOk result (λ from. least ≤ from) }
     ensures within { IfOk result (λ from. from < steps) }
@@ -141,6 +142,6 @@ pub fn later_line(
     };
     let step = step_of(step)?;
     let rule = rule_numbers(rule)?;
-    let from = placed(room, steps, least, step)?;
+    let from = admit(room, steps, least, step)?;
     Ok((from, rule))
 }

@@ -9,5 +9,5 @@ pub mod Stores
 pub mod Answers
 pub mod Ends
 pub mod Speeds
-pub mod Choices
+pub mod Crossings
 pub mod Words

@@ -1,4 +1,4 @@
-pub mod Plain
+pub mod Stored
 pub mod Moves
-pub mod Choices
+pub mod Crossings
 pub mod Blocks

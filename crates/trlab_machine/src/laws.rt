@@ -1,4 +1,5 @@
-//! Laws of the machine: what follows for each program and each view from what a run is.
+//! Laws of the machine, for each program and each view: a run has one answer, no word is read without a draw,
+//! and accepted programs answer what the road allows.
 
 ghost use Rattle.std.specs.Prelude.{◌≡◌, ℕ, Bool, IsTrue, List, length};
 ghost use Rattle.trlab_code.specs.declared.kind.Kind.{Kind};
@@ -9,9 +10,9 @@ ghost use Rattle.trlab_code.specs.declared.view.View.{View};
 ghost use Rattle.trlab_code.specs.Program.{Draws};
 ghost use Rattle.trlab_code.specs.Machine.{Answer, Goes, EndsWith};
 ghost use Rattle.trlab_code.specs.Views.{IsView};
-ghost use Rattle.trlab_verify.specs.Checked.{Checked, IsChecked};
+ghost use Rattle.trlab_verify.specs.CheckedProgram.{CheckedProgram, IsChecked};
 ghost use Rattle.trlab_machine.specs.Moves.{IsAllowed, MovesWithin};
-ghost use Rattle.trlab_machine.specs.Choices.{crossing_answer, ChoosesWithin};
+ghost use Rattle.trlab_machine.specs.Crossings.{crossing_answer, CrossesWithin};
 
 /// A program has at most one answer to a view and words, and one number of steps to it.
 pub fn one_answer()
@@ -35,9 +36,9 @@ pub fn motion_answers()
         (v : ℕ) × (answer ≡ Goes v) × IsAllowed view v }
 {}
 
-/// A checked motion program moves a car, whatever the car sees and whatever the words are.
+/// An accepted motion program moves a car, whatever the car sees and whatever the words are.
 pub fn checked_motions_move()
-    ensures { (motion : Checked) (view : View) (words : List ℕ) →
+    ensures { (motion : CheckedProgram) (view : View) (words : List ℕ) →
         IsChecked Motion motion → IsView view → length words ≡ WORDS →
         MovesWithin motion.program.instrs view words motion.budget }
 {}
@@ -50,9 +51,9 @@ pub fn change_answers()
         × (IsTrue crosses → IsTrue view.side) }
 {}
 
-/// A checked change program answers whether a car crosses, whatever the car sees and whatever the words are.
-pub fn checked_changes_choose()
-    ensures { (change : Checked) (view : View) (words : List ℕ) →
+/// An accepted change program answers whether a car crosses, whatever the car sees and whatever the words are.
+pub fn checked_changes_answer()
+    ensures { (change : CheckedProgram) (view : View) (words : List ℕ) →
         IsChecked Change change → IsView view → length words ≡ WORDS →
-        ChoosesWithin change.program.instrs view words change.budget }
+        CrossesWithin change.program.instrs view words change.budget }
 {}

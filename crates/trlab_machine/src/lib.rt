@@ -1,17 +1,19 @@
-//! The machine that runs driver programs, and the laws of its runs.
+//! The machine that runs accepted driver programs, for one car and for a block of cars at once, and the laws
+//! of its runs.
 #![tactic(auto)]
 
-mod action;
 mod block;
 mod change;
 mod changes;
 mod columns;
 mod dice;
+mod inputs;
 pub mod laws;
-mod made;
 mod motion;
 mod motions;
 mod registers;
+mod result_columns;
+mod results;
 mod role;
 mod run;
 mod views;

@@ -1,18 +1,19 @@
-//! Runs of programs that are safe.
+//! A run of a safe program for one car: instruction by instruction, until one ends it.
 
 ghost use Rattle.std.specs.Prelude.{◌≡◌, ◌≤◌, All, length};
 ghost use Rattle.trlab_code.specs.Machine.{IsSafe, EndsWith};
 ghost use Rattle.trlab_code.specs.Program.{InRange};
 ghost use Rattle.trlab_code.specs.Views.{IsView};
-ghost use Rattle.trlab_machine.specs.Plain.{answer_of};
+ghost use Rattle.trlab_machine.specs.Stored.{answer_of};
 
-use crate::action::{Action, act};
-use crate::registers::{REGISTERS, index};
+use crate::registers::REGISTERS;
+use crate::results::result_number;
+use crate::role::{Role, role_of};
 use trlab_code::{Instr, Kind, MOST_INSTRUCTIONS, View, WORDS};
 
 /// How a program ended, and after how many instructions.
 #[derive(Clone, Copy)]
-pub struct Ended {
+pub struct Outcome {
     /// The speed of a motion; 1 where a change crosses, and 0 where it stays.
     pub answer: u32,
     /// The instructions of the run, the end counted.
@@ -20,7 +21,7 @@ pub struct Ended {
 }
 
 /// Runs a program of a kind that is safe within a budget of steps; only the proof reads these two.
-pub fn run(kind: Kind, instrs: &[Instr], budget: u32, view: &View, words: &[u32; WORDS]) -> Ended
+pub fn run(kind: Kind, instrs: &[Instr], budget: u32, view: &View, words: &[u32; WORDS]) -> Outcome
     requires safe { IsSafe kind instrs.now budget }
     requires few { length instrs.now ≤ MOST_INSTRUCTIONS }
     requires in_range { All InRange instrs.now }
@@ -34,14 +35,20 @@ pub fn run(kind: Kind, instrs: &[Instr], budget: u32, view: &View, words: &[u32;
     let mut steps = 0;
     'run: loop {
         steps += 1;
-        match act(instrs[pc], &registers, view, words) {
-            Action::Write(register, number) => {
-                registers[index(register)] = number;
+        let instr = instrs[pc];
+        let number = result_number(instr, &registers, view, words);
+        match role_of(instr) {
+            Role::Writes(register) => {
+                registers[register.number()] = number;
                 pc += 1;
             }
-            Action::Fall => pc += 1,
-            Action::Jump(target) => pc = target as usize,
-            Action::End(answer) => return Ended { answer, steps },
+            Role::Jumps(target) => pc = if number == 1 { target as usize } else { pc + 1 },
+            Role::Ends => {
+                return Outcome {
+                    answer: number,
+                    steps,
+                };
+            }
         }
     }
 }

@@ -1,3 +1,4 @@
+pub mod Places
 pub mod Bits
 pub mod Filling
 pub mod Tables
@@ -5,4 +6,4 @@ pub mod Fits
 pub mod Steps
 pub mod Order
 pub mod Monotone
-pub mod Settled
+pub mod Closure

@@ -1,26 +1,30 @@
 -- What follows from a note follows from each note that says at least as much.
-use Rattle.std.proofs.Common.{◌≡◌, ℕ, zero, suc, ◌/◌, ◌<◌, ◌≤◌, ◌&&◌, ◌||◌, not, max, refl, arith, List, [], ◌∷◌, Bool, true, false, IsTrue, Option, Some, None, nat_eq, cond}
-use Rattle.std.proofs.lemmas.Bool.{or_parts, lt-ltb}
+use Rattle.std.proofs.Common.{◌≡◌, ℕ, zero, suc, ◌/◌, ◌≤◌, ◌&&◌, ◌||◌, not, max, refl, arith, List, [], ◌∷◌, Bool, true, false, IsTrue, Option, Some, None, nat_eq, cond}
+use Rattle.std.proofs.lemmas.Bool.{or_parts}
 use Rattle.std.proofs.Math.Nat.{mul-le-mul_right, div-mul-le_self}
 use Rattle.std.proofs.lemmas.Nat.{le-div}
 use Rattle.trlab_code.specs.declared.kind.Kind.{Kind}
 use Rattle.trlab_code.specs.declared.instruction.Input.{Input}
-use Rattle.trlab_code.specs.declared.instruction.Input.TheVariants.{Speed, Limit, Gap, SideGap, SideBack, Lane}
+use Rattle.trlab_code.specs.declared.instruction.Input.TheVariants.{Limit, Gap}
 use Rattle.trlab_code.specs.declared.instruction.Instr.{Instr}
 use Rattle.trlab_code.specs.declared.instruction.Instr.TheVariants.{Num, Get, Side, Draw, Copy, Add, Sub, Mul, Div, Min, Max, Not, And, Or, JumpLess, JumpAtMost, JumpTrue, JumpFalse, Go, Cross}
 use Rattle.trlab_code.specs.declared.instruction.Register.{Register}
-use Rattle.trlab_bounds.specs.declared.programs.TheConstants.{PLACES}
-use Rattle.trlab_code.specs.Machine.{place, input_place, update}
+use Rattle.trlab_code.specs.declared.instruction.Place.{Place}
+use Rattle.trlab_code.specs.declared.instruction.Place.TheVariants as place
+use Rattle.trlab_code.specs.Machine.{update}
+use Rattle.trlab_code.specs.Flow.{destination}
 use Rattle.trlab_notes.specs.declared.note.Said.{Said}
 use Rattle.trlab_notes.specs.declared.note.Said.TheVariants.{Nothing, Between, Implies}
-use Rattle.trlab_notes.specs.Notes.{Note, with_side, told, low, high, implies, known_of, known, sharper, just_below, least_gap, written, after, result_said, result_to, to_result, chained, learnt, trusted, fall, jump}
-use Rattle.trlab_notes.specs.Reasons.{among, is_nothing, is_range, is_flag, numbers, some_unset, some_of_other_kind, too_large, below_zero, may_pass, may_bump, flags, copied, tests, first_true}
-use Rattle.trlab_notes.specs.Order.{NoMore, NoStronger, BothNoStronger}
-use Rattle.trlab_notes.proofs.Steps.{place_below, IsClear}
+use Rattle.trlab_notes.specs.Notes.{Note, same_place, with_side, said_with_side, low, high, implies, level_between, known_level}
+use Rattle.trlab_notes.specs.Transfer.{assign_any, sharpen, slacken, least_difference, assign, assign_result, result_said, result_to, to_result, chain, refine_order, refine_flag, next_note, jump_note}
+use Rattle.trlab_notes.specs.Order.{SaysNoMore, IsNoStronger, AreNoStronger}
+use Rattle.trlab_notes.specs.Reasons.{among, is_nothing, is_range, is_flag, number_operands, some_unset, some_of_other_kind, may_be_too_large, may_be_below_zero, may_be_above, may_be_occupied, flag_operands, other_operands, reason_against}
+use Rattle.trlab_notes.specs.declared.reason.Reason.{Reason}
+use Rattle.trlab_notes.proofs.Steps.{IsClear}
 use Rattle.trlab_notes.proofs.Order.{Wider, wider, known_up, Closed, On}
 
 -- levels
-sharper_up : (j k l h : ℕ) → j ≤ k → l ≤ h → sharper j l ≤ sharper k h
+sharper_up : (j k l h : ℕ) → j ≤ k → l ≤ h → sharpen j l ≤ sharpen k h
 sharper_up zero k l h p q = omega arith
 sharper_up (suc j) (suc k) zero zero p q = omega arith
 sharper_up (suc j) (suc k) zero (suc h) p q = omega arith
@@ -28,13 +32,13 @@ sharper_up (suc j) (suc k) (suc l) (suc h) p q = omega arith
 sharper_up (suc j) zero l h p q = absurd (omega arith)
 sharper_up (suc j) (suc k) (suc l) zero p q = absurd (omega arith)
 
-just_below_up : (j k l h : ℕ) → j ≤ k → h ≤ l → just_below j l ≤ just_below k h
+just_below_up : (j k l h : ℕ) → j ≤ k → h ≤ l → slacken j l ≤ slacken k h
 just_below_up j k l h p q = grind arith
 
-least_gap_up : (j k : ℕ) → j ≤ k → least_gap j ≤ least_gap k
+least_gap_up : (j k : ℕ) → j ≤ k → least_difference j ≤ least_difference k
 least_gap_up j k p = grind arith
 
-chained_up : (h i k l m : ℕ) → h ≤ i → l ≤ m → chained h k l ≤ chained i k m
+chained_up : (h i k l m : ℕ) → h ≤ i → l ≤ m → chain h k l ≤ chain i k m
 chained_up zero i k l m p q = omega arith
 chained_up (suc h) i k zero m p q = omega arith
 chained_up (suc h) (suc i) k (suc l) (suc m) p q = omega arith
@@ -56,8 +60,8 @@ high_down (Between a b) (Implies i) p q w = absurd w
 high_down Nothing t p q w = absurd (cc p)
 high_down (Implies i) t p q w = absurd (cc q)
 
-told_twice : (p q : Bool) (s t : Said) → NoMore (with_side p s) (with_side q t) →
-    NoMore (with_side p (with_side p s)) (with_side q (with_side q t))
+told_twice : (p q : Bool) (s t : Said) → SaysNoMore (with_side p s) (with_side q t) →
+    SaysNoMore (with_side p (with_side p s)) (with_side q (with_side q t))
 told_twice p q Nothing t h = tt
 told_twice p q (Between a b) (Between c d) h = h
 told_twice p q (Between a b) Nothing h = h
@@ -82,35 +86,35 @@ told_twice false q (Implies true) (Implies j) h = λ e. or_left (j || q) q (h re
     or_left false b e = absurd (cc e)
 told_twice false q (Implies false) (Implies j) h = λ e. absurd (cc e)
 
-module _ (V : ℕ → Type 0) (closed : Closed V) where
+module _ (V : Place → Type 0) (closed : Closed V) where
   -- a write: what is said and the levels say no more, and so does the note
-  written_up : (m n : Note) (d : ℕ) (s t : Said) (to to' from from' : ℕ → ℕ) → On V m n →
-      NoMore (with_side m.side s) (with_side n.side t) → ((y : ℕ) → V y → to y ≤ to' y) → ((x : ℕ) → V x → from x ≤ from' x) →
-      On V (written m d s to from) (written n d t to' from')
-  unfolding written update told known
+  written_up : (m n : Note) (d : Register) (s t : Said) (to to' from from' : Place → ℕ) → On V m n →
+      SaysNoMore (with_side m.side s) (with_side n.side t) → ((y : Place) → V y → to y ≤ to' y) → ((x : Place) → V x → from x ≤ from' x) →
+      On V (assign m d s to from) (assign n d t to' from')
+  unfolding assign update said_with_side known_level
   written_up m n d s t to to' from from' f h below above = record {
-    said = λ x lx. said_at x lx (nat_eq x d);
-    order = λ x y lx ly. rw (lt-ltb x PLACES (closed.inside x lx), lt-ltb y PLACES (closed.inside y ly)) (level_at x y lx ly (nat_eq x d) (nat_eq y d));
+    said = λ x lx. said_at x lx (same_place x (place.Register d));
+    order = λ x y lx ly. (level_at x y lx ly (same_place x (place.Register d)) (same_place y (place.Register d)));
     beside = f.beside;
   }
     where
-      said_at : (x : ℕ) → V x → (b : Bool) → NoMore (with_side m.side (cond b s (m.said x))) (with_side n.side (cond b t (n.said x)))
+      said_at : (x : Place) → V x → (b : Bool) → SaysNoMore (with_side m.side (cond b s (m.said x))) (with_side n.side (cond b t (n.said x)))
       said_at x lx true = h
       said_at x lx false = f.said x lx
 
-      wide : (x : ℕ) → V x → (b : Bool) → Wider (cond b s (m.said x)) (cond b t (n.said x))
+      wide : (x : Place) → V x → (b : Bool) → Wider (cond b s (m.said x)) (cond b t (n.said x))
       wide x lx b = wider m.side n.side _ _ (said_at x lx b)
 
-      level_at : (x y : ℕ) → V x → V y → (b c : Bool) →
-          known_of (cond b s (m.said x)) (cond c s (m.said y)) (nat_eq x y) (cond b (to y) (cond c (from x) (m.level x y)))
-          ≤ known_of (cond b t (n.said x)) (cond c t (n.said y)) (nat_eq x y) (cond b (to' y) (cond c (from' x) (n.level x y)))
-      level_at x y lx ly true c = known_up _ _ _ _ (nat_eq x y) _ _ (wide x lx true) (wide y ly c) (below y ly)
-      level_at x y lx ly false true = known_up _ _ _ _ (nat_eq x y) _ _ (wide x lx false) (wide y ly true) (above x lx)
+      level_at : (x y : Place) → V x → V y → (b c : Bool) →
+          level_between (cond b s (m.said x)) (cond c s (m.said y)) (same_place x y) (cond b (to y) (cond c (from x) (m.level x y)))
+          ≤ level_between (cond b t (n.said x)) (cond c t (n.said y)) (same_place x y) (cond b (to' y) (cond c (from' x) (n.level x y)))
+      level_at x y lx ly true c = known_up _ _ _ _ (same_place x y) _ _ (wide x lx true) (wide y ly c) (below y ly)
+      level_at x y lx ly false true = known_up _ _ _ _ (same_place x y) _ _ (wide x lx false) (wide y ly true) (above x lx)
       level_at x y lx ly false false = f.order x y lx ly
 
   -- what is learnt
   learnt_level : (sx sy tx ty : Said) (same : Bool) (j k c d : ℕ) → Wider sx tx → Wider sy ty →
-      known_of sx sy same j ≤ known_of tx ty same k → c ≤ d → known_of sx sy same (max j c) ≤ known_of tx ty same (max k d)
+      level_between sx sy same j ≤ level_between tx ty same k → c ≤ d → level_between sx sy same (max j c) ≤ level_between tx ty same (max k d)
   learnt_level (Between a b) (Between c d) (Between e f) (Between g h) true j k v w p q l r = omega arith
   learnt_level (Between a b) (Between c d) (Between e f) (Between g h) false j k v w p q l r = grind arith
   learnt_level (Between a b) (Between c d) Nothing ty same j k v w p q l r = absurd p
@@ -122,25 +126,25 @@ module _ (V : ℕ → Type 0) (closed : Closed V) where
   learnt_level Nothing sy tx ty same j k v w p q l r = omega arith
   learnt_level (Implies i) sy tx ty same j k v w p q l r = omega arith
 
-  pub learnt_up : (m n : Note) (p q k : ℕ) → V p → V q → On V m n → On V (learnt m p q k) (learnt n p q k)
-  unfolding learnt told known
+  pub learnt_up : (m n : Note) (p q : Place) (k : ℕ) → V p → V q → On V m n → On V (refine_order m p q k) (refine_order n p q k)
+  unfolding refine_order said_with_side known_level
   learnt_up m n p q k lp lq f = record {
     said = f.said;
-    order = λ x y lx ly. rw (lt-ltb x PLACES (closed.inside x lx), lt-ltb y PLACES (closed.inside y ly)) (learnt_level (m.said x) (m.said y) (n.said x) (n.said y) (nat_eq x y) (m.level x y) (n.level x y) _ _
+    order = λ x y lx ly. (learnt_level (m.said x) (m.said y) (n.said x) (n.said y) (same_place x y) (m.level x y) (n.level x y) _ _
         (wider m.side n.side _ _ (f.said x lx)) (wider m.side n.side _ _ (f.said y ly)) (f.order x y lx ly)
         (chained_up _ _ k _ _ (f.order x p lx lp) (f.order q y lq ly)));
     beside = f.beside;
   }
 
   -- what a flag implies
-  implies_up : (p q : Bool) (s t : Said) → NoMore (with_side p s) (with_side q t) → IsTrue (implies (with_side p s)) → IsTrue (implies (with_side q t))
+  implies_up : (p q : Bool) (s t : Said) → SaysNoMore (with_side p s) (with_side q t) → IsTrue (implies (with_side p s)) → IsTrue (implies (with_side q t))
   implies_up p q (Implies i) (Implies j) h e = h e
   implies_up p q (Implies i) Nothing h e = absurd h
   implies_up p q (Implies i) (Between a b) h e = absurd h
   implies_up p q Nothing t h e = absurd (cc e)
   implies_up p q (Between a b) t h e = absurd (cc e)
 
-  trust_side : (p q : Bool) (s t : Said) → (IsTrue p → IsTrue q) → NoMore (with_side p s) (with_side q t) →
+  trust_side : (p q : Bool) (s t : Said) → (IsTrue p → IsTrue q) → SaysNoMore (with_side p s) (with_side q t) →
       IsTrue (p || implies s) → IsTrue (q || implies t)
   trust_side p true s t f h e = refl
   trust_side true false s t f h e = absurd (cc (f refl))
@@ -159,8 +163,8 @@ module _ (V : ℕ → Type 0) (closed : Closed V) where
   trust_side false false (Between a b) t f h e = absurd (cc e)
 
   -- a greater side on both
-  more_side : (p q p' q' : Bool) (s t : Said) → (IsTrue p' → IsTrue q') → (IsTrue q → IsTrue q') → NoMore (with_side p s) (with_side q t) →
-      NoMore (with_side p' s) (with_side q' t)
+  more_side : (p q p' q' : Bool) (s t : Said) → (IsTrue p' → IsTrue q') → (IsTrue q → IsTrue q') → SaysNoMore (with_side p s) (with_side q t) →
+      SaysNoMore (with_side p' s) (with_side q' t)
   more_side p q p' q' Nothing t f g h = tt
   more_side p q p' q' (Between a b) (Between c d) f g h = h
   more_side p q p' q' (Between a b) Nothing f g h = h
@@ -171,10 +175,13 @@ module _ (V : ℕ → Type 0) (closed : Closed V) where
   more_side p q p' q' (Implies true) (Implies false) f g h = λ e. g (h refl)
   more_side p q p' q' (Implies false) (Implies false) f g h = f
 
-  pub trusted_up : (m n : Note) (a : ℕ) → V a → On V m n → On V (trusted m a) (trusted n a)
-  unfolding trusted told known
-  trusted_up m n a la f = record {
-    said = λ x lx. more_side m.side n.side _ _ (m.said x) (n.said x) grows (or_left n.side (implies (n.said a))) (f.said x lx);
+  at_reg : (r : Register) → V (place.Register r)
+  at_reg = closed.regs
+
+  pub trusted_up : (m n : Note) (a : Register) → On V m n → On V (refine_flag m a) (refine_flag n a)
+  unfolding refine_flag said_with_side known_level
+  trusted_up m n a f = record {
+    said = λ x lx. more_side m.side n.side _ _ (m.said x) (n.said x) grows (or_left n.side (implies (n.said (place.Register a)))) (f.said x lx);
     order = f.order;
     beside = grows;
   }
@@ -183,20 +190,17 @@ module _ (V : ℕ → Type 0) (closed : Closed V) where
       or_left true q e = refl
       or_left false q e = absurd (cc e)
 
-      grows : IsTrue (m.side || implies (m.said a)) → IsTrue (n.side || implies (n.said a))
-      grows = trust_side m.side n.side (m.said a) (n.said a) f.beside (f.said a la)
+      grows : IsTrue (m.side || implies (m.said (place.Register a))) → IsTrue (n.side || implies (n.said (place.Register a)))
+      grows = trust_side m.side n.side (m.said (place.Register a)) (n.said (place.Register a)) f.beside (f.said (place.Register a) (at_reg a))
 
   -- also at 0, where a quotient is 0
   div_mono : (a b n : ℕ) → a ≤ b → a / n ≤ b / n
   div_mono a b zero h = omega arith
   div_mono a b (suc n) h = le-div (a / suc n) b (suc n) (omega arith) (omega (arith, div-mul-le_self a (suc n)))
 
-  at_reg : (r : Register) → V (place r)
-  at_reg = closed.regs
-
   -- the inputs that an instruction reads
   abbrev pub Reaches : Instr → Type 0
-  Reaches (Get d j) = V (input_place j)
+  Reaches (Get d j) = V (place.Input j)
   Reaches i = Unit {0}
 
   abbrev pub BothOn : Option Note → Option Note → Type 0
@@ -214,60 +218,32 @@ module _ (V : ℕ → Type 0) (closed : Closed V) where
   and_up true q false s f g h = absurd (cc (f refl))
   and_up false q r s f g h = absurd (cc h)
 
-  none_true : (k : ℕ) (b : Bool) (bs : List Bool) → b ≡ false → first_true (suc k) bs ≡ None → first_true k (b ∷ bs) ≡ None
-  none_true k true bs e h = absurd (cc e)
-  none_true k false bs e h = h
+  none_true : (b : Bool) (r : Reason) (rest : Option Reason) → b ≡ false → rest ≡ None → cond b (Some r) rest ≡ None
+  none_true true r rest e h = absurd (cc e)
+  none_true false r rest e h = h
 
   -- what passes each test has no fault
   pub passes : (kind own : Kind) (len pc : ℕ) (m : Note) (i : Instr) → IsClear kind own len pc m i →
-      first_true 2 (tests kind own len pc m i) ≡ None
+      reason_against kind own len pc m i ≡ None
   passes kind own len pc m i c =
-      none_true 2 _ _ c.allowed (none_true 3 _ _ c.set (none_true 4 _ _ c.kinds (none_true 5 _ _ c.forward (none_true 6 _ _ c.within (none_true 7 _ _ c.follows (none_true 8 _ _ c.fits (none_true 9 _ _ c.positive (none_true 10 _ _ c.gap (none_true 11 _ _ c.limit (none_true 12 _ _ c.beside refl))))))))))
-
-  abbrev Inside : List ℕ → Type 0
-  Inside [] = Unit {0}
-  Inside (x ∷ xs) = (V x) × Inside xs
-
-  numbers_inside : (i : Instr) → Inside (numbers i)
-  numbers_inside (Add d a b) = (at_reg a, (at_reg b, tt))
-  numbers_inside (Sub d a b) = (at_reg a, (at_reg b, tt))
-  numbers_inside (Mul d a v) = (at_reg a, tt)
-  numbers_inside (Div d a v) = (at_reg a, tt)
-  numbers_inside (Min d a b) = (at_reg a, (at_reg b, tt))
-  numbers_inside (Max d a b) = (at_reg a, (at_reg b, tt))
-  numbers_inside (JumpLess a b t) = (at_reg a, (at_reg b, tt))
-  numbers_inside (JumpAtMost a b t) = (at_reg a, (at_reg b, tt))
-  numbers_inside (Go a) = (at_reg a, tt)
-  numbers_inside i = tt
-
-  flags_inside : (i : Instr) → Inside (flags i)
-  flags_inside (Not d a) = (at_reg a, tt)
-  flags_inside (And d a b) = (at_reg a, (at_reg b, tt))
-  flags_inside (Or d a b) = (at_reg a, (at_reg b, tt))
-  flags_inside (JumpTrue a t) = (at_reg a, tt)
-  flags_inside (JumpFalse a t) = (at_reg a, tt)
-  flags_inside i = tt
-
-  copied_inside : (i : Instr) → Inside (copied i)
-  copied_inside (Copy d a) = (at_reg a, tt)
-  copied_inside i = tt
+      none_true _ _ _ c.allowed (none_true _ _ _ c.set (none_true _ _ _ c.kinds (none_true _ _ _ c.forward (none_true _ _ _ c.within (none_true _ _ _ c.follows (none_true _ _ _ c.fits (none_true _ _ _ c.positive (none_true _ _ _ c.gap (none_true _ _ _ c.limit (none_true _ _ _ c.beside refl))))))))))
 
   -- what is said is of one kind
-  still_set : (p q : Bool) (s t : Said) → NoMore (with_side p s) (with_side q t) → is_nothing s ≡ false → is_nothing t ≡ false
+  still_set : (p q : Bool) (s t : Said) → SaysNoMore (with_side p s) (with_side q t) → is_nothing s ≡ false → is_nothing t ≡ false
   still_set p q Nothing t h e = absurd (cc e)
   still_set p q s (Between a b) h e = refl
   still_set p q s (Implies i) h e = refl
   still_set p q (Between a b) Nothing h e = absurd h
   still_set p q (Implies i) Nothing h e = absurd h
 
-  still_range : (p q : Bool) (s t : Said) → NoMore (with_side p s) (with_side q t) → is_nothing s ≡ false → is_flag s ≡ false → is_flag t ≡ false
+  still_range : (p q : Bool) (s t : Said) → SaysNoMore (with_side p s) (with_side q t) → is_nothing s ≡ false → is_flag s ≡ false → is_flag t ≡ false
   still_range p q Nothing t h e g = absurd (cc e)
   still_range p q (Implies i) t h e g = absurd (cc g)
   still_range p q (Between a b) (Between c d) h e g = refl
   still_range p q (Between a b) Nothing h e g = absurd h
   still_range p q (Between a b) (Implies i) h e g = absurd h
 
-  still_flag : (p q : Bool) (s t : Said) → NoMore (with_side p s) (with_side q t) → is_nothing s ≡ false → is_range s ≡ false → is_range t ≡ false
+  still_flag : (p q : Bool) (s t : Said) → SaysNoMore (with_side p s) (with_side q t) → is_nothing s ≡ false → is_range s ≡ false → is_range t ≡ false
   still_flag p q Nothing t h e g = absurd (cc e)
   still_flag p q (Between a b) t h e g = absurd (cc g)
   still_flag p q (Implies i) (Implies j) h e g = refl
@@ -281,46 +257,46 @@ module _ (V : ℕ → Type 0) (closed : Closed V) where
   still_positive j k h e = grind (arith, e)
 
   module _ (m n : Note) (f : On V m n) where
-    wide_at : (x : ℕ) → V x → Wider (m.said x) (n.said x)
-    unfolding told
+    wide_at : (x : Place) → V x → Wider (m.said x) (n.said x)
+    unfolding said_with_side
     wide_at x h = wider m.side n.side (m.said x) (n.said x) (f.said x h)
 
     -- a number that an instruction reads
-    record Reads (a : ℕ) : Type 0 where
-      lo : low (m.said a) ≤ low (n.said a)
-      hi : high (n.said a) ≤ high (m.said a)
+    record Reads (a : Register) : Type 0 where
+      lo : low (m.said (place.Register a)) ≤ low (n.said (place.Register a))
+      hi : high (n.said (place.Register a)) ≤ high (m.said (place.Register a))
 
-    reads : (r : Register) → is_nothing (m.said (place r)) ≡ false → is_flag (m.said (place r)) ≡ false → Reads (place r)
-    reads r p q = record { lo = low_up _ _ (wide_at (place r) (at_reg r)); hi = high_down _ _ p q (wide_at (place r) (at_reg r)) }
+    reads : (r : Register) → is_nothing (m.said (place.Register r)) ≡ false → is_flag (m.said (place.Register r)) ≡ false → Reads r
+    reads r p q = record { lo = low_up _ _ (wide_at (place.Register r) (at_reg r)); hi = high_down _ _ p q (wide_at (place.Register r) (at_reg r)) }
 
-    two_numbers : (a b : Register) (rest : Bool) → (among is_nothing m (place a ∷ place b ∷ []) || rest) ≡ false →
-        (among is_flag m (place a ∷ place b ∷ []) || false) ≡ false → Reads (place a) × Reads (place b)
+    two_numbers : (a b : Register) (rest : Bool) → (among is_nothing m (a ∷ b ∷ []) || rest) ≡ false →
+        (among is_flag m (a ∷ b ∷ []) || false) ≡ false → Reads a × Reads b
     two_numbers a b rest h k =
         let h1 = or_parts _ _ (or_parts _ _ h).0 in
         let k1 = or_parts _ _ (or_parts _ _ k).0 in
         (reads a h1.0 k1.0, reads b (or_parts _ _ h1.1).0 (or_parts _ _ k1.1).0)
 
-    one_number : (a : Register) (rest : Bool) → (among is_nothing m (place a ∷ []) || rest) ≡ false →
-        (among is_flag m (place a ∷ []) || false) ≡ false → Reads (place a)
+    one_number : (a : Register) (rest : Bool) → (among is_nothing m (a ∷ []) || rest) ≡ false →
+        (among is_flag m (a ∷ []) || false) ≡ false → Reads a
     one_number a rest h k = reads a (or_parts _ _ (or_parts _ _ h).0).0 (or_parts _ _ (or_parts _ _ k).0).0
 
-    flag_up : (a : Register) → IsTrue (implies (told m (place a))) → IsTrue (implies (told n (place a)))
-    unfolding told
-    flag_up a = implies_up m.side n.side (m.said (place a)) (n.said (place a)) (f.said (place a) (at_reg a))
+    flag_up : (a : Register) → IsTrue (implies (said_with_side m (place.Register a))) → IsTrue (implies (said_with_side n (place.Register a)))
+    unfolding said_with_side
+    flag_up a = implies_up m.side n.side (m.said (place.Register a)) (n.said (place.Register a)) (f.said (place.Register a) (at_reg a))
 
     -- what is said of a result
     said_up : (i : Instr) → Reaches i → some_unset m i ≡ false → some_of_other_kind m i ≡ false →
-        NoMore (with_side m.side (result_said m i)) (with_side n.side (result_said n i))
-    unfolding told
+        SaysNoMore (with_side m.side (result_said m i)) (with_side n.side (result_said n i))
+    unfolding said_with_side
     said_up (Num d v) w h k = (omega arith, omega arith)
-    said_up (Get d j) w h k = told_twice m.side n.side _ _ (f.said (input_place j) w)
+    said_up (Get d j) w h k = told_twice m.side n.side _ _ (f.said (place.Input j) w)
     said_up (Side d) w h k = λ e. refl
     said_up (Draw d j t) w h k = f.beside
-    said_up (Copy d a) w h k = told_twice m.side n.side _ _ (f.said (place a) (at_reg a))
+    said_up (Copy d a) w h k = told_twice m.side n.side _ _ (f.said (place.Register a) (at_reg a))
     said_up (Add d a b) w h k = let o = two_numbers a b _ h k in (omega (arith, o.0.lo, o.1.lo), omega (arith, o.0.hi, o.1.hi))
     said_up (Sub d a b) w h k =
         let o = two_numbers a b _ h k in
-        let g = least_gap_up _ _ (f.order (place b) (place a) (at_reg b) (at_reg a)) in
+        let g = least_gap_up _ _ (f.order (place.Register b) (place.Register a) (at_reg b) (at_reg a)) in
         (omega (arith, g, o.0.lo, o.1.hi), omega (arith, o.0.hi, o.1.lo))
     said_up (Mul d a v) w h k = let o = one_number a _ h k in (omega (arith, mul-le-mul_right v o.lo), mul-le-mul_right v o.hi)
     said_up (Div d a v) w h k = let o = one_number a _ h k in (div_mono _ _ v o.lo, div_mono _ _ v o.hi)
@@ -331,114 +307,105 @@ module _ (V : ℕ → Type 0) (closed : Closed V) where
     said_up (Or d a b) w h k = or_up _ _ _ _ (and_up _ _ _ _ (flag_up a) (flag_up b)) f.beside
     said_up i w h k = tt
 
-    to_up : (i : Instr) → Reaches i → some_unset m i ≡ false → some_of_other_kind m i ≡ false → (y : ℕ) → V y →
+    to_up : (i : Instr) → Reaches i → some_unset m i ≡ false → some_of_other_kind m i ≡ false → (y : Place) → V y →
         result_to m i y ≤ result_to n i y
-    to_up (Get d j) w h k y l = f.order (input_place j) y w l
-    to_up (Copy d a) w h k y l = f.order (place a) y (at_reg a) l
-    to_up (Div d a v) w h k y l = f.order (place a) y (at_reg a) l
+    to_up (Get d j) w h k y l = f.order (place.Input j) y w l
+    to_up (Copy d a) w h k y l = f.order (place.Register a) y (at_reg a) l
+    to_up (Div d a v) w h k y l = f.order (place.Register a) y (at_reg a) l
     to_up (Add d a b) w h k y l =
         let o = two_numbers a b _ h k in
-        let p = just_below_up _ _ _ _ (f.order (place a) y (at_reg a) l) o.1.hi in
-        let q = just_below_up _ _ _ _ (f.order (place b) y (at_reg b) l) o.0.hi in
+        let p = just_below_up _ _ _ _ (f.order (place.Register a) y (at_reg a) l) o.1.hi in
+        let q = just_below_up _ _ _ _ (f.order (place.Register b) y (at_reg b) l) o.0.hi in
         omega (arith, p, q)
-    to_up (Sub d a b) w h k y l = let o = two_numbers a b _ h k in sharper_up _ _ _ _ (f.order (place a) y (at_reg a) l) o.1.lo
-    to_up (Min d a b) w h k y l = omega (arith, f.order (place a) y (at_reg a) l, f.order (place b) y (at_reg b) l)
-    to_up (Max d a b) w h k y l = omega (arith, f.order (place a) y (at_reg a) l, f.order (place b) y (at_reg b) l)
+    to_up (Sub d a b) w h k y l = let o = two_numbers a b _ h k in sharper_up _ _ _ _ (f.order (place.Register a) y (at_reg a) l) o.1.lo
+    to_up (Min d a b) w h k y l = omega (arith, f.order (place.Register a) y (at_reg a) l, f.order (place.Register b) y (at_reg b) l)
+    to_up (Max d a b) w h k y l = omega (arith, f.order (place.Register a) y (at_reg a) l, f.order (place.Register b) y (at_reg b) l)
     to_up i w h k y l = omega arith
 
-    from_up : (i : Instr) → Reaches i → some_unset m i ≡ false → some_of_other_kind m i ≡ false → (y : ℕ) → V y →
+    from_up : (i : Instr) → Reaches i → some_unset m i ≡ false → some_of_other_kind m i ≡ false → (y : Place) → V y →
         to_result m i y ≤ to_result n i y
-    from_up (Get d j) w h k y l = f.order y (input_place j) l w
-    from_up (Copy d a) w h k y l = f.order y (place a) l (at_reg a)
+    from_up (Get d j) w h k y l = f.order y (place.Input j) l w
+    from_up (Copy d a) w h k y l = f.order y (place.Register a) l (at_reg a)
     from_up (Add d a b) w h k y l =
         let o = two_numbers a b _ h k in
-        let p = sharper_up _ _ _ _ (f.order y (place a) l (at_reg a)) o.1.lo in
-        let q = sharper_up _ _ _ _ (f.order y (place b) l (at_reg b)) o.0.lo in
+        let p = sharper_up _ _ _ _ (f.order y (place.Register a) l (at_reg a)) o.1.lo in
+        let q = sharper_up _ _ _ _ (f.order y (place.Register b) l (at_reg b)) o.0.lo in
         omega (arith, p, q)
-    from_up (Min d a b) w h k y l = omega (arith, f.order y (place a) l (at_reg a), f.order y (place b) l (at_reg b))
-    from_up (Max d a b) w h k y l = omega (arith, f.order y (place a) l (at_reg a), f.order y (place b) l (at_reg b))
+    from_up (Min d a b) w h k y l = omega (arith, f.order y (place.Register a) l (at_reg a), f.order y (place.Register b) l (at_reg b))
+    from_up (Max d a b) w h k y l = omega (arith, f.order y (place.Register a) l (at_reg a), f.order y (place.Register b) l (at_reg b))
     from_up i w h k y l = omega arith
 
-    after_up : (d : ℕ) (i : Instr) → Reaches i → some_unset m i ≡ false → some_of_other_kind m i ≡ false →
-        On V (after m d i) (after n d i)
+    after_up : (d : Register) (i : Instr) → Reaches i → some_unset m i ≡ false → some_of_other_kind m i ≡ false →
+        On V (assign_result m d i) (assign_result n d i)
     after_up d i w h k = written_up m n d (result_said m i) (result_said n i) (result_to m i) (result_to n i) (to_result m i) (to_result n i) f (said_up i w h k) (to_up i w h k) (from_up i w h k)
 
-    -- the notes on the ways from an instruction without a fault
-    pub fall_up : (i : Instr) → Reaches i → some_unset m i ≡ false → some_of_other_kind m i ≡ false → BothOn (fall m i) (fall n i)
-    fall_up (Num d v) w h k = after_up (place d) (Num d v) w h k
-    fall_up (Get d j) w h k = after_up (place d) (Get d j) w h k
-    fall_up (Side d) w h k = after_up (place d) (Side d) w h k
-    fall_up (Draw d j t) w h k = after_up (place d) (Draw d j t) w h k
-    fall_up (Copy d a) w h k = after_up (place d) (Copy d a) w h k
-    fall_up (Add d a b) w h k = after_up (place d) (Add d a b) w h k
-    fall_up (Sub d a b) w h k = after_up (place d) (Sub d a b) w h k
-    fall_up (Mul d a v) w h k = after_up (place d) (Mul d a v) w h k
-    fall_up (Div d a v) w h k = after_up (place d) (Div d a v) w h k
-    fall_up (Min d a b) w h k = after_up (place d) (Min d a b) w h k
-    fall_up (Max d a b) w h k = after_up (place d) (Max d a b) w h k
-    fall_up (Not d a) w h k = after_up (place d) (Not d a) w h k
-    fall_up (And d a b) w h k = after_up (place d) (And d a b) w h k
-    fall_up (Or d a b) w h k = after_up (place d) (Or d a b) w h k
-    fall_up (JumpLess a b t) w h k = learnt_up m n (place b) (place a) 1 (at_reg b) (at_reg a) f
-    fall_up (JumpAtMost a b t) w h k = learnt_up m n (place b) (place a) 2 (at_reg b) (at_reg a) f
-    fall_up (JumpTrue a t) w h k = f
-    fall_up (JumpFalse a t) w h k = trusted_up m n (place a) (at_reg a) f
-    fall_up i w h k = tt
+    any_up : (o : Option Register) (i : Instr) → Reaches i → some_unset m i ≡ false → some_of_other_kind m i ≡ false →
+        BothOn (assign_any m i o) (assign_any n i o)
+    any_up None i w h k = tt
+    any_up (Some d) i w h k = after_up d i w h k
 
-    pub jump_up : (i : Instr) → On V (jump m i) (jump n i)
-    jump_up (JumpLess a b t) = learnt_up m n (place a) (place b) 2 (at_reg a) (at_reg b) f
-    jump_up (JumpAtMost a b t) = learnt_up m n (place a) (place b) 1 (at_reg a) (at_reg b) f
-    jump_up (JumpTrue a t) = trusted_up m n (place a) (at_reg a) f
+    -- the notes on the ways from an instruction without a fault
+    pub fall_up : (i : Instr) → Reaches i → some_unset m i ≡ false → some_of_other_kind m i ≡ false → BothOn (next_note m i) (next_note n i)
+    fall_up (JumpLess a b t) w h k = learnt_up m n (place.Register b) (place.Register a) 1 (at_reg b) (at_reg a) f
+    fall_up (JumpAtMost a b t) w h k = learnt_up m n (place.Register b) (place.Register a) 2 (at_reg b) (at_reg a) f
+    fall_up (JumpTrue a t) w h k = f
+    fall_up (JumpFalse a t) w h k = trusted_up m n a f
+    fall_up i w h k = any_up (destination i) i w h k
+
+    pub jump_up : (i : Instr) → On V (jump_note m i) (jump_note n i)
+    jump_up (JumpLess a b t) = learnt_up m n (place.Register a) (place.Register b) 2 (at_reg a) (at_reg b) f
+    jump_up (JumpAtMost a b t) = learnt_up m n (place.Register a) (place.Register b) 1 (at_reg a) (at_reg b) f
+    jump_up (JumpTrue a t) = trusted_up m n a f
     jump_up i = f
 
-    sets : (xs : List ℕ) → Inside xs → among is_nothing m xs ≡ false → among is_nothing n xs ≡ false
-    unfolding told
-    sets [] l h = refl
-    sets (x ∷ xs) l h = let e = or_parts _ _ h in both_false _ _ (still_set m.side n.side _ _ (f.said x l.0) e.0) (sets xs l.1 e.1)
+    sets : (xs : List Register) → among is_nothing m xs ≡ false → among is_nothing n xs ≡ false
+    unfolding said_with_side
+    sets [] h = refl
+    sets (x ∷ xs) h = let e = or_parts _ _ h in both_false _ _ (still_set m.side n.side _ _ (f.said (place.Register x) (at_reg x)) e.0) (sets xs e.1)
 
-    ranges_stay : (xs : List ℕ) → Inside xs → among is_nothing m xs ≡ false → among is_flag m xs ≡ false → among is_flag n xs ≡ false
-    unfolding told
-    ranges_stay [] l h g = refl
-    ranges_stay (x ∷ xs) l h g =
+    ranges_stay : (xs : List Register) → among is_nothing m xs ≡ false → among is_flag m xs ≡ false → among is_flag n xs ≡ false
+    unfolding said_with_side
+    ranges_stay [] h g = refl
+    ranges_stay (x ∷ xs) h g =
         let e = or_parts _ _ h in
         let d = or_parts _ _ g in
-        both_false _ _ (still_range m.side n.side _ _ (f.said x l.0) e.0 d.0) (ranges_stay xs l.1 e.1 d.1)
+        both_false _ _ (still_range m.side n.side _ _ (f.said (place.Register x) (at_reg x)) e.0 d.0) (ranges_stay xs e.1 d.1)
 
-    flags_stay : (xs : List ℕ) → Inside xs → among is_nothing m xs ≡ false → among is_range m xs ≡ false → among is_range n xs ≡ false
-    unfolding told
-    flags_stay [] l h g = refl
-    flags_stay (x ∷ xs) l h g =
+    flags_stay : (xs : List Register) → among is_nothing m xs ≡ false → among is_range m xs ≡ false → among is_range n xs ≡ false
+    unfolding said_with_side
+    flags_stay [] h g = refl
+    flags_stay (x ∷ xs) h g =
         let e = or_parts _ _ h in
         let d = or_parts _ _ g in
-        both_false _ _ (still_flag m.side n.side _ _ (f.said x l.0) e.0 d.0) (flags_stay xs l.1 e.1 d.1)
+        both_false _ _ (still_flag m.side n.side _ _ (f.said (place.Register x) (at_reg x)) e.0 d.0) (flags_stay xs e.1 d.1)
 
     set_up : (i : Instr) → some_unset m i ≡ false → some_unset n i ≡ false
     set_up i h =
         let a = or_parts _ _ h in
         let b = or_parts _ _ a.1 in
-        both_false _ _ (sets (numbers i) (numbers_inside i) a.0) (both_false _ _ (sets (flags i) (flags_inside i) b.0) (sets (copied i) (copied_inside i) b.1))
+        both_false _ _ (sets (number_operands i) a.0) (both_false _ _ (sets (flag_operands i) b.0) (sets (other_operands i) b.1))
 
     kinds_up : (i : Instr) → some_unset m i ≡ false → some_of_other_kind m i ≡ false → some_of_other_kind n i ≡ false
     kinds_up i h g =
         let a = or_parts _ _ h in
         let b = or_parts _ _ a.1 in
         let c = or_parts _ _ g in
-        both_false _ _ (ranges_stay (numbers i) (numbers_inside i) a.0 c.0) (flags_stay (flags i) (flags_inside i) b.0 c.1)
+        both_false _ _ (ranges_stay (number_operands i) a.0 c.0) (flags_stay (flag_operands i) b.0 c.1)
 
-    size_up : (i : Instr) → some_unset m i ≡ false → some_of_other_kind m i ≡ false → too_large m i ≡ false → too_large n i ≡ false
+    size_up : (i : Instr) → some_unset m i ≡ false → some_of_other_kind m i ≡ false → may_be_too_large m i ≡ false → may_be_too_large n i ≡ false
     size_up (Add d a b) h k e = let o = two_numbers a b _ h k in grind (arith, e, o.0.hi, o.1.hi)
     size_up (Mul d a v) h k e = let o = one_number a _ h k in grind (arith, e, mul-le-mul_right v o.hi)
     size_up i h k e = refl
 
-    positive_up : (i : Instr) → below_zero m i ≡ false → below_zero n i ≡ false
-    positive_up (Sub d a b) e = still_positive _ _ (f.order (place b) (place a) (at_reg b) (at_reg a)) e
+    positive_up : (i : Instr) → may_be_below_zero m i ≡ false → may_be_below_zero n i ≡ false
+    positive_up (Sub d a b) e = still_positive _ _ (f.order (place.Register b) (place.Register a) (at_reg b) (at_reg a)) e
     positive_up i e = refl
 
-    pass_up : (x : ℕ) → V x → (i : Instr) → may_pass x m i ≡ false → may_pass x n i ≡ false
-    pass_up x l (Go a) e = still_positive _ _ (f.order (place a) x (at_reg a) l) e
-    pass_up x l i e = refl
+    pass_up : (k : Input) → V (place.Input k) → (i : Instr) → may_be_above k m i ≡ false → may_be_above k n i ≡ false
+    pass_up k l (Go a) e = still_positive _ _ (f.order (place.Register a) (place.Input k) (at_reg a) l) e
+    pass_up k l i e = refl
 
-    beside_up : (i : Instr) → may_bump m i ≡ false → may_bump n i ≡ false
+    beside_up : (i : Instr) → may_be_occupied m i ≡ false → may_be_occupied n i ≡ false
     beside_up Cross e = not_up m.side n.side f.beside e
       where
         not_up : (p q : Bool) → (IsTrue p → IsTrue q) → not p ≡ false → not q ≡ false
@@ -458,40 +425,29 @@ module _ (V : ℕ → Type 0) (closed : Closed V) where
       follows = c.follows;
       fits = size_up i c.set c.kinds c.fits;
       positive = positive_up i c.positive;
-      gap = pass_up 10 closed.gap i c.gap;
-      limit = pass_up 9 closed.limit i c.limit;
+      gap = pass_up Gap closed.gap i c.gap;
+      limit = pass_up Limit closed.limit i c.limit;
       beside = beside_up i c.beside;
     }
 
 -- all places
-abbrev pub All_places : ℕ → Type 0
-All_places x = x < PLACES
-
-pub here : (r : Register) → place r < PLACES
-here r = let l : place r < 8 = place_below r in omega arith
-
-pub seen : (k : Input) → input_place k < PLACES
-seen Speed = omega arith
-seen Limit = omega arith
-seen Gap = omega arith
-seen SideGap = omega arith
-seen SideBack = omega arith
-seen Lane = omega arith
+abbrev pub All_places : Place → Type 0
+All_places x = Unit {0}
 
 pub all_closed : Closed All_places
-all_closed = record { inside = λ x h. h; regs = here; limit = omega arith; gap = omega arith }
+all_closed = record { regs = λ r. tt; limit = tt; gap = tt }
 
 pub reaches_all : (i : Instr) → Reaches All_places all_closed i
-reaches_all (Get d j) = seen j
+reaches_all (Get d j) = tt
 reaches_all i = tt
 
-pub on_all : (m n : Note) → NoStronger m n → On All_places m n
-on_all m n f = record { said = f.said; order = f.order; beside = f.beside }
+pub on_all : (m n : Note) → IsNoStronger m n → On All_places m n
+on_all m n f = record { said = λ x h. f.said x; order = λ x y h k. f.order x y; beside = f.beside }
 
-pub all_on : (m n : Note) → On All_places m n → NoStronger m n
-all_on m n f = record { said = f.said; order = f.order; beside = f.beside }
+pub all_on : (m n : Note) → On All_places m n → IsNoStronger m n
+all_on m n f = record { said = λ x. f.said x tt; order = λ x y. f.order x y tt tt; beside = f.beside }
 
-pub both_all : (o p : Option Note) → BothOn All_places all_closed o p → BothNoStronger o p
+pub both_all : (o p : Option Note) → BothOn All_places all_closed o p → AreNoStronger o p
 both_all None None h = tt
 both_all (Some m) (Some n) h = all_on m n h
 both_all None (Some n) h = absurd h

@@ -1,13 +1,13 @@
 -- The order of notes is reflexive and transitive, and a join is the strongest note that is no stronger than two.
-use Rattle.std.proofs.Common.{◌≡◌, rules, ℕ, ◌<◌, ◌≤◌, ◌&&◌, ◌||◌, refl, arith, Bool, true, false, IsTrue, nat_eq}
-use Rattle.std.proofs.lemmas.Bool.{lt-ltb}
-use Rattle.trlab_bounds.specs.declared.programs.TheConstants.{PLACES}
+use Rattle.std.proofs.Common.{rules, ℕ, ◌≤◌, ◌&&◌, ◌||◌, refl, arith, Bool, true, false, IsTrue}
 use Rattle.trlab_code.specs.declared.instruction.Register.{Register}
-use Rattle.trlab_code.specs.Machine.{place}
+use Rattle.trlab_code.specs.declared.instruction.Input.TheVariants.{Limit, Gap}
+use Rattle.trlab_code.specs.declared.instruction.Place.{Place}
+use Rattle.trlab_code.specs.declared.instruction.Place.TheVariants as place
 use Rattle.trlab_notes.specs.declared.note.Said.{Said}
 use Rattle.trlab_notes.specs.declared.note.Said.TheVariants.{Nothing, Between, Implies}
-use Rattle.trlab_notes.specs.Notes.{Note, table, with_side, told, known_of, known, said_by_both, joined}
-use Rattle.trlab_notes.specs.Order.{NoMore, NoStronger}
+use Rattle.trlab_notes.specs.Notes.{Note, same_place, with_side, said_with_side, level_between, known_level}
+use Rattle.trlab_notes.specs.Order.{join_said, join, SaysNoMore, IsNoStronger}
 
 -- where one says a range, so does the other, and within it
 abbrev pub Wider : Said → Said → Type 0
@@ -15,19 +15,16 @@ Wider (Between lo hi) (Between least most) = (lo ≤ least) × (most ≤ hi)
 Wider (Between lo hi) _ = ⊥
 Wider _ _ = Unit {0}
 
-pub wider : (p q : Bool) (s t : Said) → NoMore (with_side p s) (with_side q t) → Wider s t
+pub wider : (p q : Bool) (s t : Said) → SaysNoMore (with_side p s) (with_side q t) → Wider s t
 wider p q Nothing t h = tt
 wider p q (Implies i) t h = tt
 wider p q (Between a b) (Between c d) h = h
 wider p q (Between a b) Nothing h = h
 wider p q (Between a b) (Implies i) h = h
 
-pub table_in : (f : ℕ → ℕ → ℕ) (x y : ℕ) → x < PLACES → y < PLACES → table f x y ≡ f x y
-table_in f x y h k = rw (lt-ltb x PLACES h, lt-ltb y PLACES k) refl
-
 -- wider ranges and a lesser level know less
 pub known_up : (sx sy tx ty : Said) (same : Bool) (j k : ℕ) → Wider sx tx → Wider sy ty → j ≤ k →
-    known_of sx sy same j ≤ known_of tx ty same k
+    level_between sx sy same j ≤ level_between tx ty same k
 known_up (Between a b) (Between c d) (Between e f) (Between g h) true j k p q l = omega arith
 known_up (Between a b) (Between c d) (Between e f) (Between g h) false j k p q l = grind arith
 known_up (Between a b) (Between c d) Nothing ty same j k p q l = absurd p
@@ -40,8 +37,8 @@ known_up Nothing sy tx ty same j k p q l = omega arith
 known_up (Implies i) sy tx ty same j k p q l = omega arith
 
 -- the same where the level is no more than what is known
-pub known_from : (sx sy tx ty : Said) (same : Bool) (j k : ℕ) → Wider sx tx → Wider sy ty → j ≤ known_of tx ty same k →
-    known_of sx sy same j ≤ known_of tx ty same k
+pub known_from : (sx sy tx ty : Said) (same : Bool) (j k : ℕ) → Wider sx tx → Wider sy ty → j ≤ level_between tx ty same k →
+    level_between sx sy same j ≤ level_between tx ty same k
 known_from (Between a b) (Between c d) (Between e f) (Between g h) true j k p q l = omega arith
 known_from (Between a b) (Between c d) (Between e f) (Between g h) false j k p q l = grind arith
 known_from (Between a b) (Between c d) Nothing ty same j k p q l = absurd p
@@ -53,12 +50,12 @@ known_from (Between a b) (Implies i) tx ty same j k p q l = omega arith
 known_from Nothing sy tx ty same j k p q l = omega arith
 known_from (Implies i) sy tx ty same j k p q l = omega arith
 
-no_more_same : (s : Said) → NoMore s s
+no_more_same : (s : Said) → SaysNoMore s s
 no_more_same Nothing = tt
 no_more_same (Between a b) = (omega arith, omega arith)
 no_more_same (Implies i) = λ h. h
 
-no_more_twice : (r s t : Said) → NoMore r s → NoMore s t → NoMore r t
+no_more_twice : (r s t : Said) → SaysNoMore r s → SaysNoMore s t → SaysNoMore r t
 no_more_twice Nothing s t p q = tt
 no_more_twice (Between a b) (Between c d) (Between e f) p q = (omega arith, omega arith)
 no_more_twice (Between a b) (Between c d) Nothing p q = q
@@ -71,18 +68,18 @@ no_more_twice (Implies i) (Implies j) (Between c d) p q = q
 no_more_twice (Implies i) Nothing t p q = absurd p
 no_more_twice (Implies i) (Between c d) t p q = absurd p
 
-pub same_note : (m : Note) → NoStronger m m
-same_note m = record { said = λ x h. no_more_same (told m x); order = λ x y h k. omega arith; beside = λ h. h }
+pub same_note : (m : Note) → IsNoStronger m m
+same_note m = record { said = λ x. no_more_same (said_with_side m x); order = λ x y. omega arith; beside = λ h. h }
 
-pub through : (l m n : Note) → NoStronger l m → NoStronger m n → NoStronger l n
+pub through : (l m n : Note) → IsNoStronger l m → IsNoStronger m n → IsNoStronger l n
 through l m n f g = record {
-  said = λ x h. no_more_twice (told l x) (told m x) (told n x) (f.said x h) (g.said x h);
-  order = λ x y h k. omega (arith, f.order x y h k, g.order x y h k);
+  said = λ x. no_more_twice (said_with_side l x) (said_with_side m x) (said_with_side n x) (f.said x) (g.said x);
+  order = λ x y. omega (arith, f.order x y, g.order x y);
   beside = λ h. g.beside (f.beside h);
 }
 
 -- a join says no more than each of the two
-both_first : (p q : Bool) (s t : Said) → NoMore (with_side (p && q) (said_by_both (with_side p s) (with_side q t))) (with_side p s)
+both_first : (p q : Bool) (s t : Said) → SaysNoMore (with_side (p && q) (join_said (with_side p s) (with_side q t))) (with_side p s)
 both_first p q Nothing t = tt
 both_first p q (Between a b) (Between c d) = (omega arith, omega arith)
 both_first p q (Between a b) Nothing = tt
@@ -93,7 +90,7 @@ both_first p q (Implies true) (Implies j) = λ h. refl
 both_first true q (Implies false) (Implies j) = λ h. refl
 both_first false q (Implies false) (Implies j) = λ h. h
 
-both_second : (p q : Bool) (s t : Said) → NoMore (with_side (p && q) (said_by_both (with_side p s) (with_side q t))) (with_side q t)
+both_second : (p q : Bool) (s t : Said) → SaysNoMore (with_side (p && q) (join_said (with_side p s) (with_side q t))) (with_side q t)
 both_second p q Nothing t = tt
 both_second p q (Between a b) (Between c d) = (omega arith, omega arith)
 both_second p q (Between a b) Nothing = tt
@@ -105,8 +102,8 @@ both_second true true (Implies i) (Implies false) = λ h. refl
 both_second p q (Implies i) (Implies false) = λ h. search (rules, h)
 
 -- and as much as each note that says no more than the two
-both_most : (r p q : Bool) (u s t : Said) → (IsTrue r → IsTrue p) → (IsTrue r → IsTrue q) → NoMore (with_side r u) (with_side p s) →
-    NoMore (with_side r u) (with_side q t) → NoMore (with_side r u) (with_side (p && q) (said_by_both (with_side p s) (with_side q t)))
+both_most : (r p q : Bool) (u s t : Said) → (IsTrue r → IsTrue p) → (IsTrue r → IsTrue q) → SaysNoMore (with_side r u) (with_side p s) →
+    SaysNoMore (with_side r u) (with_side q t) → SaysNoMore (with_side r u) (with_side (p && q) (join_said (with_side p s) (with_side q t)))
 both_most r p q Nothing s t f g h k = tt
 both_most r p q (Between a b) (Between c d) (Between e f) _ _ h k = (omega arith, omega arith)
 both_most r p q (Between a b) Nothing t f g h k = absurd h
@@ -136,22 +133,22 @@ and_both : (p q : Bool) → IsTrue p → IsTrue q → IsTrue (p && q)
 and_both true q h k = k
 and_both false q h k = h
 
-pub join_first : (m n : Note) → NoStronger (joined m n) m
-unfolding joined told known
+pub join_first : (m n : Note) → IsNoStronger (join m n) m
+unfolding join said_with_side known_level
 join_first m n = record {
-  said = λ x h. both_first m.side n.side (m.said x) (n.said x);
-  order = λ x y h k. rw (lt-ltb x PLACES h, lt-ltb y PLACES k) (known_from (said_by_both (with_side m.side (m.said x)) (with_side n.side (n.said x))) (said_by_both (with_side m.side (m.said y)) (with_side n.side (n.said y))) (m.said x) (m.said y) (nat_eq x y) _ (m.level x y)
+  said = λ x. both_first m.side n.side (m.said x) (n.said x);
+  order = λ x y. (known_from (join_said (with_side m.side (m.said x)) (with_side n.side (n.said x))) (join_said (with_side m.side (m.said y)) (with_side n.side (n.said y))) (m.said x) (m.said y) (same_place x y) _ (m.level x y)
       (wider (m.side && n.side) m.side _ (m.said x) (both_first m.side n.side (m.said x) (n.said x)))
       (wider (m.side && n.side) m.side _ (m.said y) (both_first m.side n.side (m.said y) (n.said y)))
       (omega arith));
   beside = λ h. and_first m.side n.side h;
 }
 
-pub join_second : (m n : Note) → NoStronger (joined m n) n
-unfolding joined told known
+pub join_second : (m n : Note) → IsNoStronger (join m n) n
+unfolding join said_with_side known_level
 join_second m n = record {
-  said = λ x h. both_second m.side n.side (m.said x) (n.said x);
-  order = λ x y h k. rw (lt-ltb x PLACES h, lt-ltb y PLACES k) (known_from (said_by_both (with_side m.side (m.said x)) (with_side n.side (n.said x))) (said_by_both (with_side m.side (m.said y)) (with_side n.side (n.said y))) (n.said x) (n.said y) (nat_eq x y) _ (n.level x y)
+  said = λ x. both_second m.side n.side (m.said x) (n.said x);
+  order = λ x y. (known_from (join_said (with_side m.side (m.said x)) (with_side n.side (n.said x))) (join_said (with_side m.side (m.said y)) (with_side n.side (n.said y))) (n.said x) (n.said y) (same_place x y) _ (n.level x y)
       (wider (m.side && n.side) n.side _ (n.said x) (both_second m.side n.side (m.said x) (n.said x)))
       (wider (m.side && n.side) n.side _ (n.said y) (both_second m.side n.side (m.said y) (n.said y)))
       (omega arith));
@@ -159,8 +156,8 @@ join_second m n = record {
 }
 
 -- what is known by a level, where both places hold numbers wherever something is known
-level_known : (sx sy tx ty : Said) (same : Bool) (j k : ℕ) → Wider sx tx → Wider sy ty → known_of sx sy same j ≤ k →
-    known_of sx sy same j ≤ known_of tx ty same k
+level_known : (sx sy tx ty : Said) (same : Bool) (j k : ℕ) → Wider sx tx → Wider sy ty → level_between sx sy same j ≤ k →
+    level_between sx sy same j ≤ level_between tx ty same k
 level_known (Between a b) (Between c d) (Between e f) (Between g h) true j k p q l = omega arith
 level_known (Between a b) (Between c d) (Between e f) (Between g h) false j k p q l = grind arith
 level_known (Between a b) (Between c d) Nothing ty same j k p q l = absurd p
@@ -172,43 +169,42 @@ level_known (Between a b) (Implies i) tx ty same j k p q l = omega arith
 level_known Nothing sy tx ty same j k p q l = omega arith
 level_known (Implies i) sy tx ty same j k p q l = omega arith
 
-pub join_most : (l m n : Note) → NoStronger l m → NoStronger l n → NoStronger l (joined m n)
-unfolding joined told known
+pub join_most : (l m n : Note) → IsNoStronger l m → IsNoStronger l n → IsNoStronger l (join m n)
+unfolding join said_with_side known_level
 join_most l m n f g = record {
-  said = λ x h. both_most l.side m.side n.side (l.said x) (m.said x) (n.said x) f.beside g.beside (f.said x h) (g.said x h);
-  order = λ x y h k. rw (lt-ltb x PLACES h, lt-ltb y PLACES k) (level_known (l.said x) (l.said y) (said_by_both (with_side m.side (m.said x)) (with_side n.side (n.said x))) (said_by_both (with_side m.side (m.said y)) (with_side n.side (n.said y))) (nat_eq x y) (l.level x y) _
-      (wider l.side (m.side && n.side) (l.said x) _ (both_most l.side m.side n.side (l.said x) (m.said x) (n.said x) f.beside g.beside (f.said x h) (g.said x h)))
-      (wider l.side (m.side && n.side) (l.said y) _ (both_most l.side m.side n.side (l.said y) (m.said y) (n.said y) f.beside g.beside (f.said y k) (g.said y k)))
-      (omega (arith, f.order x y h k, g.order x y h k)));
+  said = λ x. both_most l.side m.side n.side (l.said x) (m.said x) (n.said x) f.beside g.beside (f.said x) (g.said x);
+  order = λ x y. (level_known (l.said x) (l.said y) (join_said (with_side m.side (m.said x)) (with_side n.side (n.said x))) (join_said (with_side m.side (m.said y)) (with_side n.side (n.said y))) (same_place x y) (l.level x y) _
+      (wider l.side (m.side && n.side) (l.said x) _ (both_most l.side m.side n.side (l.said x) (m.said x) (n.said x) f.beside g.beside (f.said x) (g.said x)))
+      (wider l.side (m.side && n.side) (l.said y) _ (both_most l.side m.side n.side (l.said y) (m.said y) (n.said y) f.beside g.beside (f.said y) (g.said y)))
+      (omega (arith, f.order x y, g.order x y)));
   beside = λ h. and_both m.side n.side (f.beside h) (g.beside h);
 }
 
--- the places that are looked at: they are places, and each register, the limit and the gap are among them
-pub record Closed (V : ℕ → Type 0) : Type 0 where
-  pub inside : (x : ℕ) → V x → x < PLACES
-  pub regs : (r : Register) → V (place r)
-  pub limit : V 9
-  pub gap : V 10
+-- the places that are looked at: each register, the limit and the gap are among them
+pub record Closed (V : Place → Type 0) : Type 0 where
+  pub regs : (r : Register) → V (place.Register r)
+  pub limit : V (place.Input Limit)
+  pub gap : V (place.Input Gap)
 
 -- no stronger, as far as these places go
-pub record On (V : ℕ → Type 0) (m n : Note) : Type 0 where
-  pub said : (x : ℕ) → V x → NoMore (told m x) (told n x)
-  pub order : (x y : ℕ) → V x → V y → known m x y ≤ known n x y
+pub record On (V : Place → Type 0) (m n : Note) : Type 0 where
+  pub said : (x : Place) → V x → SaysNoMore (said_with_side m x) (said_with_side n x)
+  pub order : (x y : Place) → V x → V y → known_level m x y ≤ known_level n x y
   pub beside : IsTrue m.side → IsTrue n.side
 
-module _ (V : ℕ → Type 0) (closed : Closed V) where
+module _ (V : Place → Type 0) (closed : Closed V) where
   pub through_on : (l m n : Note) → On V l m → On V m n → On V l n
   through_on l m n f g = record {
-    said = λ x h. no_more_twice (told l x) (told m x) (told n x) (f.said x h) (g.said x h);
+    said = λ x h. no_more_twice (said_with_side l x) (said_with_side m x) (said_with_side n x) (f.said x h) (g.said x h);
     order = λ x y h k. omega (arith, f.order x y h k, g.order x y h k);
     beside = λ h. g.beside (f.beside h);
   }
 
-  pub join_most_on : (l m n : Note) → On V l m → On V l n → On V l (joined m n)
-  unfolding joined told known
+  pub join_most_on : (l m n : Note) → On V l m → On V l n → On V l (join m n)
+  unfolding join said_with_side known_level
   join_most_on l m n f g = record {
     said = λ x h. both_most l.side m.side n.side (l.said x) (m.said x) (n.said x) f.beside g.beside (f.said x h) (g.said x h);
-    order = λ x y h k. rw (lt-ltb x PLACES (closed.inside x h), lt-ltb y PLACES (closed.inside y k)) (level_known (l.said x) (l.said y) (said_by_both (with_side m.side (m.said x)) (with_side n.side (n.said x))) (said_by_both (with_side m.side (m.said y)) (with_side n.side (n.said y))) (nat_eq x y) (l.level x y) _
+    order = λ x y h k. (level_known (l.said x) (l.said y) (join_said (with_side m.side (m.said x)) (with_side n.side (n.said x))) (join_said (with_side m.side (m.said y)) (with_side n.side (n.said y))) (same_place x y) (l.level x y) _
         (wider l.side (m.side && n.side) (l.said x) _ (both_most l.side m.side n.side (l.said x) (m.said x) (n.said x) f.beside g.beside (f.said x h) (g.said x h)))
         (wider l.side (m.side && n.side) (l.said y) _ (both_most l.side m.side n.side (l.said y) (m.said y) (n.said y) f.beside g.beside (f.said y k) (g.said y k)))
         (omega (arith, f.order x y h k, g.order x y h k)));
@@ -216,6 +212,6 @@ module _ (V : ℕ → Type 0) (closed : Closed V) where
   }
 
 -- a note that says nothing is no stronger than any
-pub blank_least : (n : Note) → NoStronger (record { said = λ x. Nothing; level = λ x y. 0; side = false }) n
-unfolding told known
-blank_least n = record { said = λ x l. tt; order = λ x y l k. omega arith; beside = λ h. absurd (cc h) }
+pub blank_least : (n : Note) → IsNoStronger (record { said = λ x. Nothing; level = λ x y. 0; side = false }) n
+unfolding said_with_side known_level
+blank_least n = record { said = λ x. tt; order = λ x y. omega arith; beside = λ h. absurd (cc h) }

@@ -1,6 +1,6 @@
 pub mod Notes
-pub mod Rows
-pub mod Kept
-pub mod Reasons
-pub mod Noted
 pub mod Order
+pub mod Transfer
+pub mod Reasons
+pub mod Rows
+pub mod Stored

@@ -1,46 +1,68 @@
--- The reasons to refuse an instruction, by what its note tells.
-use Rattle.std.specs.Prelude.{◌≡◌, ℕ, suc, ◌+◌, ◌*◌, ◌<◌, ◌&&◌, ◌||◌, not, List, [], ◌∷◌, length, Bool, true, false, Option, Some, None, nat_eq, nat_lt, nat_le, slice_get}
+-- The reasons to refuse an instruction, by the note before it.
+use Rattle.std.specs.Prelude.{ℕ, suc, ◌+◌, ◌*◌, ◌&&◌, ◌||◌, not, List, [], ◌∷◌, ◌++◌, Bool, true, false, Option, Some, None, nat_eq, nat_lt, nat_le, if◌then◌else◌}
 use Rattle.std.specs.List.{list_any}
 use Rattle.trlab_code.specs.declared.kind.Kind.{Kind}
+use Rattle.trlab_code.specs.declared.instruction.Register.{Register}
+use Rattle.trlab_code.specs.declared.instruction.Input.{Input}
 use Rattle.trlab_code.specs.declared.instruction.Input.TheVariants.{Limit, Gap}
+use Rattle.trlab_code.specs.declared.instruction.Place.TheVariants as place
 use Rattle.trlab_code.specs.declared.instruction.Instr.{Instr}
-use Rattle.trlab_code.specs.declared.instruction.Instr.TheVariants.{Num, Get, Side, Draw, Copy, Add, Sub, Mul, Div, Min, Max, Not, And, Or, Jump, JumpLess, JumpAtMost, JumpTrue, JumpFalse, Go, Cross, Stay}
-use Rattle.trlab_code.specs.Machine.{place, input_place, allows}
+use Rattle.trlab_code.specs.declared.instruction.Instr.TheVariants.{Add, Sub, Mul, Div, Min, Max, Not, And, Or, Copy, JumpLess, JumpAtMost, JumpTrue, JumpFalse, Go, Cross}
+use Rattle.trlab_bounds.specs.declared.programs.TheConstants.{GREATEST_NUMBER}
+use Rattle.trlab_code.specs.Machine.{allows}
 use Rattle.trlab_code.specs.Flow.{target, falls}
 use Rattle.trlab_notes.specs.declared.note.Said.{Said}
 use Rattle.trlab_notes.specs.declared.note.Said.TheVariants.{Nothing, Between, Implies}
-use Rattle.trlab_notes.specs.Notes.{Note, high, known, greatest_number}
+use Rattle.trlab_notes.specs.declared.reason.Reason.{Reason}
+use Rattle.trlab_notes.specs.declared.reason.Reason.TheVariants as why
+use Rattle.trlab_notes.specs.Notes.{Note, known_level}
+use Rattle.trlab_notes.specs.Transfer.{register_said, most, register_level}
+
+-- the number of a reason: 1 to 12, in the order in which they are looked for
+abbrev pub reason_number : Reason → ℕ
+reason_number why.Unreachable = 1
+reason_number why.WrongProgram = 2
+reason_number why.MaybeUnset = 3
+reason_number why.WrongValue = 4
+reason_number why.JumpsBack = 5
+reason_number why.JumpsOut = 6
+reason_number why.FallsOut = 7
+reason_number why.MaybeTooLarge = 8
+reason_number why.MaybeBelowZero = 9
+reason_number why.MaybeAboveGap = 10
+reason_number why.MaybeAboveLimit = 11
+reason_number why.MaybeOccupied = 12
 
 -- an instruction that both the called kind and the program's own kind allow
 abbrev pub may_stand : Kind → Kind → Instr → Bool
 may_stand kind own i = allows kind i && allows own i
 
 -- the operands that have to be numbers
-abbrev pub numbers : Instr → List ℕ
-numbers (Add d a b) = place a ∷ place b ∷ []
-numbers (Sub d a b) = place a ∷ place b ∷ []
-numbers (Mul d a n) = place a ∷ []
-numbers (Div d a n) = place a ∷ []
-numbers (Min d a b) = place a ∷ place b ∷ []
-numbers (Max d a b) = place a ∷ place b ∷ []
-numbers (JumpLess a b t) = place a ∷ place b ∷ []
-numbers (JumpAtMost a b t) = place a ∷ place b ∷ []
-numbers (Go a) = place a ∷ []
-numbers _ = []
+abbrev pub number_operands : Instr → List Register
+number_operands (Add d a b) = a ∷ b ∷ []
+number_operands (Sub d a b) = a ∷ b ∷ []
+number_operands (Mul d a n) = a ∷ []
+number_operands (Div d a n) = a ∷ []
+number_operands (Min d a b) = a ∷ b ∷ []
+number_operands (Max d a b) = a ∷ b ∷ []
+number_operands (JumpLess a b t) = a ∷ b ∷ []
+number_operands (JumpAtMost a b t) = a ∷ b ∷ []
+number_operands (Go a) = a ∷ []
+number_operands _ = []
 
 -- the operands that have to be flags
-abbrev pub flags : Instr → List ℕ
-flags (Not d a) = place a ∷ []
-flags (And d a b) = place a ∷ place b ∷ []
-flags (Or d a b) = place a ∷ place b ∷ []
-flags (JumpTrue a t) = place a ∷ []
-flags (JumpFalse a t) = place a ∷ []
-flags _ = []
+abbrev pub flag_operands : Instr → List Register
+flag_operands (Not d a) = a ∷ []
+flag_operands (And d a b) = a ∷ b ∷ []
+flag_operands (Or d a b) = a ∷ b ∷ []
+flag_operands (JumpTrue a t) = a ∷ []
+flag_operands (JumpFalse a t) = a ∷ []
+flag_operands _ = []
 
 -- the operands that may be numbers or flags
-abbrev pub copied : Instr → List ℕ
-copied (Copy d a) = place a ∷ []
-copied _ = []
+abbrev pub other_operands : Instr → List Register
+other_operands (Copy d a) = a ∷ []
+other_operands _ = []
 
 -- nothing is said: the place may be unset
 abbrev pub is_nothing : Said → Bool
@@ -57,74 +79,81 @@ abbrev pub is_flag : Said → Bool
 is_flag (Implies imp) = true
 is_flag _ = false
 
--- what is said of one of the places passes a test
-abbrev pub among : (Said → Bool) → Note → List ℕ → Bool
-among test m places = list_any (λ x. test (m.said x)) places
+-- what is said of one of the registers passes a test
+abbrev pub among : (Said → Bool) → Note → List Register → Bool
+among test m registers = list_any (λ a. test (register_said m a)) registers
 
 -- an operand may be unset
 abbrev pub some_unset : Note → Instr → Bool
 some_unset m i =
-    among is_nothing m (numbers i) || (among is_nothing m (flags i) || among is_nothing m (copied i))
+    among is_nothing m (number_operands i)
+    || (among is_nothing m (flag_operands i) || among is_nothing m (other_operands i))
 
 -- a flag stands where a number has to be, or a number where a flag has to be
 abbrev pub some_of_other_kind : Note → Instr → Bool
-some_of_other_kind m i = among is_flag m (numbers i) || among is_range m (flags i)
-
--- a sum or a product that may be too large for a register
-abbrev pub too_large : Note → Instr → Bool
-too_large m (Add d a b) = nat_lt greatest_number (high (m.said (place a)) + high (m.said (place b)))
-too_large m (Mul d a n) = nat_lt greatest_number (high (m.said (place a)) * n)
-too_large m _ = false
-
--- a difference that may be below zero
-abbrev pub below_zero : Note → Instr → Bool
-below_zero m (Sub d a b) = nat_eq (known m (place b) (place a)) 0
-below_zero m _ = false
-
--- a `go` whose speed is not known to be at most an input
-abbrev pub may_pass : ℕ → Note → Instr → Bool
-may_pass input m (Go a) = nat_eq (known m (place a) input) 0
-may_pass input m _ = false
-
--- a `cross` where the side cell is not known to be empty
-abbrev pub may_bump : Note → Instr → Bool
-may_bump m Cross = not m.side
-may_bump m _ = false
+some_of_other_kind m i = among is_flag m (number_operands i) || among is_range m (flag_operands i)
 
 -- whether a jump's target passes a test
 abbrev pub on_target : (ℕ → Bool) → Option ℕ → Bool
 on_target test None = false
 on_target test (Some t) = test t
 
--- The reasons 2 to 12 to refuse an instruction, in order:
--- 2: it is not for this kind of program
--- 3: an operand may be unset
--- 4: an operand is of the other kind
--- 5: it jumps, and not forward
--- 6: it jumps out of the program
--- 7: the next instruction is out of the program
--- 8: the result may be too large
--- 9: the result may be below zero
--- 10: the new speed may be above the gap
--- 11: the new speed may be above the limit
--- 12: the side cell may be occupied
-abbrev pub tests : Kind → Kind → ℕ → ℕ → Note → Instr → List Bool
-tests kind own len pc m i =
-    not (may_stand kind own i)
-    ∷ some_unset m i
-    ∷ some_of_other_kind m i
-    ∷ on_target (λ t. nat_le t pc) (target i)
-    ∷ on_target (λ t. nat_le len t) (target i)
-    ∷ (falls i && nat_le len (suc pc))
-    ∷ too_large m i
-    ∷ below_zero m i
-    ∷ may_pass (input_place Gap) m i
-    ∷ may_pass (input_place Limit) m i
-    ∷ may_bump m i
+-- whether an instruction may go on behind the last of len instructions
+abbrev pub falls_out : ℕ → ℕ → Instr → Bool
+falls_out len pc i = falls i && nat_le len (suc pc)
+
+-- a sum or a product that may be too large for a register
+abbrev pub may_be_too_large : Note → Instr → Bool
+may_be_too_large m (Add d a b) = nat_lt GREATEST_NUMBER (most m a + most m b)
+may_be_too_large m (Mul d a n) = nat_lt GREATEST_NUMBER (most m a * n)
+may_be_too_large m _ = false
+
+-- a difference that may be below zero
+abbrev pub may_be_below_zero : Note → Instr → Bool
+may_be_below_zero m (Sub d a b) = nat_eq (register_level m b a) 0
+may_be_below_zero m _ = false
+
+-- a `go` whose speed is not known to be at most an input
+abbrev pub may_be_above : Input → Note → Instr → Bool
+may_be_above k m (Go a) = nat_eq (known_level m (place.Register a) (place.Input k)) 0
+may_be_above k m _ = false
+
+-- a `cross` where the side cell is not known to be empty
+abbrev pub may_be_occupied : Note → Instr → Bool
+may_be_occupied m Cross = not m.side
+may_be_occupied m _ = false
+
+-- a reason, and whether it holds
+pub record Check : Type 0 where
+  pub reason : Reason
+  pub holds : Bool
+
+-- reasons 2 to 7: what the instruction at pc of len ones is, reads and leads to
+abbrev pub form_checks : Kind → Kind → ℕ → ℕ → Note → Instr → List Check
+form_checks kind own len pc m i =
+    record { reason = why.WrongProgram; holds = not (may_stand kind own i) }
+    ∷ record { reason = why.MaybeUnset; holds = some_unset m i }
+    ∷ record { reason = why.WrongValue; holds = some_of_other_kind m i }
+    ∷ record { reason = why.JumpsBack; holds = on_target (λ t. nat_le t pc) (target i) }
+    ∷ record { reason = why.JumpsOut; holds = on_target (λ t. nat_le len t) (target i) }
+    ∷ record { reason = why.FallsOut; holds = falls_out len pc i }
     ∷ []
 
--- the place of the first that holds, counted from k
-abbrev pub first_true : ℕ → List Bool → Option ℕ
-first_true k [] = None
-first_true k (true ∷ tests) = Some k
-first_true k (false ∷ tests) = first_true (suc k) tests
+-- reasons 8 to 12: the number or the answer that the instruction makes
+abbrev pub range_checks : Note → Instr → List Check
+range_checks m i =
+    record { reason = why.MaybeTooLarge; holds = may_be_too_large m i }
+    ∷ record { reason = why.MaybeBelowZero; holds = may_be_below_zero m i }
+    ∷ record { reason = why.MaybeAboveGap; holds = may_be_above Gap m i }
+    ∷ record { reason = why.MaybeAboveLimit; holds = may_be_above Limit m i }
+    ∷ record { reason = why.MaybeOccupied; holds = may_be_occupied m i }
+    ∷ []
+
+-- the first reason that holds, if one does
+abbrev pub first_reason : List Check → Option Reason
+first_reason [] = None
+first_reason (check ∷ checks) = if check.holds then Some check.reason else first_reason checks
+
+-- the least reason from the second on to refuse the instruction, if there is one
+abbrev pub reason_against : Kind → Kind → ℕ → ℕ → Note → Instr → Option Reason
+reason_against kind own len pc m i = first_reason (form_checks kind own len pc m i ++ range_checks m i)

@@ -1,21 +1,26 @@
-//! What the verifier notes of a program's values, and what instructions do to it.
+//! The verifier's notes: an abstract interpretation of driver programs (Cousot and Cousot 1977), one instruction
+//! at a time. A note says what is known of the values before an instruction; here are the order of notes and their
+//! joins, what each instruction makes of a note, and the reasons to refuse it. docs/PROGRAMS.md says all this in
+//! words.
 #![tactic(auto)]
 
-mod joining;
-mod kept;
+mod joins;
 pub mod laws;
-mod learn;
+mod levels;
 mod note;
-mod noting;
+mod reason;
 mod reasons;
+mod refine;
 mod result;
 mod rows;
+mod stored;
 mod strength;
-mod ways;
+mod transfer;
 
-pub use joining::{join, settle};
-pub use kept::Noted;
-pub use note::{Said, entry_levels, entry_said, known_level};
+pub use joins::{join, join_itself};
+pub use note::{Said, entry_levels, entry_said, level_between};
+pub use reason::Reason;
 pub use reasons::reason_against;
+pub use stored::Stored;
 pub use strength::is_no_stronger;
-pub use ways::{fall_note, jump_note};
+pub use transfer::{jump_note, next_note};

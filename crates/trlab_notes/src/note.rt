@@ -1,9 +1,11 @@
-//! What is said of values.
+//! What is said of one place, and how two of them are ordered: the abstract values.
 
-ghost use Rattle.std.specs.Prelude.{◌≡◌, ℕ, ◌<◌, [], slice_index, slice_index_or};
-ghost use Rattle.trlab_notes.specs.Notes.{low, high, implies, known_of, range_level, ranges, entry_level};
+ghost use Rattle.std.specs.Prelude.{◌≡◌};
+ghost use Rattle.trlab_code.specs.declared.instruction.Place.{Place as APlace};
+ghost use Rattle.trlab_notes.specs.Notes.{low, high, implies, level_between, range_level, entry_said, entry_level};
+ghost use Rattle.trlab_notes.specs.Rows.{levels_in, said_in};
 
-use trlab_code::{GREATEST_GAP, GREATEST_LIMIT, Input, Kind, PLACES};
+use trlab_code::{GREATEST_GAP, GREATEST_LIMIT, Input, Kind, PLACES, Place};
 
 /// The level of a place that is known to be at most another.
 pub const AT_MOST: u8 = 1;
@@ -11,12 +13,14 @@ pub const AT_MOST: u8 = 1;
 /// The level of a place that is known to be below another.
 pub const BELOW: u8 = 2;
 
-/// What is said of a value: nothing, the range of a number, or whether a flag implies that the
-/// side cell is empty.
+/// What is said of a value.
 #[derive(Clone, Copy)]
 pub enum Said {
+    /// Nothing: it may be unset, or a number on one way and a flag on another.
     Nothing,
+    /// It is a number from the first to the second, both included.
     Between(u32, u32),
+    /// It is a flag. `true`: where the flag is true, the side cell is empty.
     Implies(bool),
 }
 
@@ -52,8 +56,8 @@ impl Said {
     }
 }
 
-/// The level of a place up to `high` to another from `low` on.
-fn level_of_ranges(high: u32, low: u32) -> u8
+/// The level of a number of at most `high` to one of at least `low`.
+fn range_level(high: u32, low: u32) -> u8
     ensures { result ≡ range_level high low }
 {
     if high < low {
@@ -65,63 +69,40 @@ fn level_of_ranges(high: u32, low: u32) -> u8
     }
 }
 
-/// What is said of the places at the start of a program.
-pub fn entry_said(kind: Kind) -> [Said; PLACES]
-    ensures { result ≡ ranges kind }
-{
-    let mut said = [Said::Nothing; PLACES];
-    said[Input::Speed.place()] = Said::Between(0, GREATEST_LIMIT);
-    said[Input::Limit.place()] = Said::Between(1, GREATEST_LIMIT);
-    said[Input::Gap.place()] = Said::Between(0, GREATEST_GAP);
-    if kind == Kind::Change {
-        said[Input::SideGap.place()] = Said::Between(0, GREATEST_GAP);
-        said[Input::SideBack.place()] = Said::Between(0, GREATEST_GAP);
-        said[Input::Lane.place()] = Said::Between(0, 1);
-    }
-    said
-}
-
-/// What is known of the order of two places of which this is said, where they have a level.
-pub fn known_level(s: Said, t: Said, is_same: bool, level: u8) -> u8
-    ensures { result ≡ known_of s t is_same level }
+/// The known level of one place to another of which this is said, where they have a level.
+pub fn level_between(s: Said, t: Said, is_same: bool, level: u8) -> u8
+    ensures { result ≡ level_between s t is_same level }
 {
     match (s, t) {
         (Said::Between(..), Said::Between(..)) if is_same => AT_MOST,
-        (Said::Between(_, high), Said::Between(low, _)) => level.max(level_of_ranges(high, low)),
+        (Said::Between(_, high), Said::Between(low, _)) => level.max(range_level(high, low)),
         _ => 0,
     }
 }
 
-/// The level of two places at the start of a program: the speed is at most the limit.
-fn entry_level(x: usize, y: usize) -> u8
-    ensures { result ≡ entry_level x y }
+/// What is said of the places at the start of a program.
+pub fn entry_said(kind: Kind) -> [Said; PLACES]
+    ensures { (x : APlace) → said_in result x ≡ entry_said kind x }
 {
-    if x == Input::Speed.place() && y == Input::Limit.place() {
-        AT_MOST
-    } else {
-        0
+    let mut said = [Said::Nothing; PLACES];
+    said[Place::Input(Input::Speed).number()] = Said::Between(0, GREATEST_LIMIT);
+    said[Place::Input(Input::Limit).number()] = Said::Between(1, GREATEST_LIMIT);
+    said[Place::Input(Input::Gap).number()] = Said::Between(0, GREATEST_GAP);
+    if kind == Kind::Change {
+        said[Place::Input(Input::SideGap).number()] = Said::Between(0, GREATEST_GAP);
+        said[Place::Input(Input::SideBack).number()] = Said::Between(0, GREATEST_GAP);
+        said[Place::Input(Input::Lane).number()] = Said::Between(0, 1);
     }
+    said
 }
 
-/// The levels of a place at the start of a program.
-fn entry_row(x: usize) -> [u8; PLACES]
-    ensures { (y : ℕ) → y < PLACES → slice_index result y ≡ entry_level x y }
-{
-    let mut row = [0; PLACES];
-    for y in 0..PLACES {
-        row[y] = entry_level(x, y);
-    }
-    row
-}
-
-/// The levels at the start of a program.
+/// The levels at the start of a program: the speed is at most the limit.
 pub fn entry_levels() -> [[u8; PLACES]; PLACES]
-    ensures { (x y : ℕ) → x < PLACES → y < PLACES →
-        slice_index (slice_index_or result x []) y ≡ entry_level x y }
+    ensures { (x y : APlace) → levels_in result x y ≡ entry_level x y }
 {
+    let mut speed = [0; PLACES];
+    speed[Place::Input(Input::Limit).number()] = AT_MOST;
     let mut levels = [[0; PLACES]; PLACES];
-    for x in 0..PLACES {
-        levels[x] = entry_row(x);
-    }
+    levels[Place::Input(Input::Speed).number()] = speed;
     levels
 }

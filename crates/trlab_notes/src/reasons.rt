@@ -1,23 +1,33 @@
-//! The reasons to refuse an instruction.
+//! The reasons to refuse an instruction, by the note before it.
 
 ghost use Rattle.std.specs.Prelude.{◌≡◌, ◌<◌};
-ghost use Rattle.trlab_code.specs.Machine.{allows, input_place, place};
-ghost use Rattle.trlab_notes.specs.Noted.{note_of};
-ghost use Rattle.trlab_notes.specs.Reasons.{is_nothing, is_range, is_flag, may_stand, some_unset, some_of_other_kind, too_large, below_zero, may_pass, may_bump, tests, first_true};
+ghost use Rattle.trlab_code.specs.Machine.{allows, allows_input};
+ghost use Rattle.trlab_notes.specs.Reasons.{is_nothing, is_range, is_flag, may_stand, some_unset, some_of_other_kind, may_be_too_large, may_be_below_zero, may_be_above, may_be_occupied, reason_against};
+ghost use Rattle.trlab_notes.specs.Stored.{note_of};
+ghost use Rattle.trlab_notes.specs.Transfer.{register_said};
 
-use crate::kept::Noted;
 use crate::note::Said;
-use trlab_code::{Input, Instr, Kind, Register};
+use crate::reason::Reason;
+use crate::stored::Stored;
+use trlab_bounds::programs::GREATEST_NUMBER;
+use trlab_code::{Input, Instr, Kind, Place, Register};
+
+/// Whether a program of this kind may read the input.
+fn is_allowed_input(kind: Kind, input: Input) -> bool
+    ensures { result ≡ allows_input kind input }
+{
+    match input {
+        Input::Speed | Input::Limit | Input::Gap => true,
+        _ => matches!(kind, Kind::Change),
+    }
+}
 
 /// Whether a program of this kind may have the instruction.
 fn is_allowed(kind: Kind, instr: Instr) -> bool
     ensures { result ≡ allows kind instr }
 {
     match instr {
-        Instr::Get(_, Input::SideGap | Input::SideBack | Input::Lane) => matches!(
-            kind,
-            Kind::Change
-        ),
+        Instr::Get(_, input) => is_allowed_input(kind, input),
         Instr::Side(_) | Instr::Cross | Instr::Stay => matches!(kind, Kind::Change),
         Instr::Go(_) => matches!(kind, Kind::Motion),
         _ => true,
@@ -32,28 +42,28 @@ fn is_of_kind(kind: Kind, own: Kind, instr: Instr) -> bool
 }
 
 /// Whether a register may be unset.
-fn is_unset(note: &Noted, register: Register) -> bool
-    ensures { result ≡ is_nothing ((note_of note.now).said (place register)) }
+fn is_unset(note: &Stored, register: Register) -> bool
+    ensures { result ≡ is_nothing (register_said (note_of note.now) register) }
 {
-    matches!(note.said[register.place()], Said::Nothing)
+    matches!(note.register_said(register), Said::Nothing)
 }
 
 /// Whether a register holds a number.
-fn has_number(note: &Noted, register: Register) -> bool
-    ensures { result ≡ is_range ((note_of note.now).said (place register)) }
+fn has_number(note: &Stored, register: Register) -> bool
+    ensures { result ≡ is_range (register_said (note_of note.now) register) }
 {
-    matches!(note.said[register.place()], Said::Between(..))
+    matches!(note.register_said(register), Said::Between(..))
 }
 
 /// Whether a register holds a flag.
-fn has_flag(note: &Noted, register: Register) -> bool
-    ensures { result ≡ is_flag ((note_of note.now).said (place register)) }
+fn has_flag(note: &Stored, register: Register) -> bool
+    ensures { result ≡ is_flag (register_said (note_of note.now) register) }
 {
-    matches!(note.said[register.place()], Said::Implies(_))
+    matches!(note.register_said(register), Said::Implies(_))
 }
 
 /// Whether an operand may be unset.
-fn has_unset(note: &Noted, instr: Instr) -> bool
+fn has_unset(note: &Stored, instr: Instr) -> bool
     ensures { result ≡ some_unset (note_of note.now) instr }
 {
     match instr {
@@ -77,7 +87,7 @@ fn has_unset(note: &Noted, instr: Instr) -> bool
 }
 
 /// Whether an operand is a flag in place of a number, or a number in place of a flag.
-fn has_other_kind(note: &Noted, instr: Instr) -> bool
+fn has_other_kind(note: &Stored, instr: Instr) -> bool
     ensures { result ≡ some_of_other_kind (note_of note.now) instr }
 {
     match instr {
@@ -95,83 +105,83 @@ fn has_other_kind(note: &Noted, instr: Instr) -> bool
 }
 
 /// Whether the result may be too large for a register.
-fn is_too_large(note: &Noted, instr: Instr) -> bool
-    ensures { result ≡ too_large (note_of note.now) instr }
+fn may_be_too_large(note: &Stored, instr: Instr) -> bool
+    ensures { result ≡ may_be_too_large (note_of note.now) instr }
 {
     match instr {
         Instr::Add(_, a, b) => {
-            let (a, b) = (note.said[a.place()].high(), note.said[b.place()].high());
-            u64::from(a) + u64::from(b) > u64::from(u32::MAX)
+            let (a, b) = (note.register_said(a).high(), note.register_said(b).high());
+            u64::from(a) + u64::from(b) > u64::from(GREATEST_NUMBER)
         }
         Instr::Mul(_, a, n) => {
-            u64::from(note.said[a.place()].high()) * u64::from(n) > u64::from(u32::MAX)
+            u64::from(note.register_said(a).high()) * u64::from(n) > u64::from(GREATEST_NUMBER)
         }
         _ => false,
     }
 }
 
 /// Whether a difference may be below zero.
-fn is_below_zero(note: &Noted, instr: Instr) -> bool
-    ensures { result ≡ below_zero (note_of note.now) instr }
+fn may_be_below_zero(note: &Stored, instr: Instr) -> bool
+    ensures { result ≡ may_be_below_zero (note_of note.now) instr }
 {
     match instr {
-        Instr::Sub(_, a, b) => note.known(b.place(), a.place()) == 0,
+        Instr::Sub(_, a, b) => note.register_level(b, a) == 0,
         _ => false,
     }
 }
 
 /// Whether a new speed may be above an input.
-fn passes(input: Input, note: &Noted, instr: Instr) -> bool
-    ensures { result ≡ may_pass (input_place input) (note_of note.now) instr }
+fn may_be_above(input: Input, note: &Stored, instr: Instr) -> bool
+    ensures { result ≡ may_be_above input (note_of note.now) instr }
 {
     match instr {
-        Instr::Go(a) => note.known(a.place(), input.place()) == 0,
+        Instr::Go(a) => note.known_level(Place::Register(a), Place::Input(input)) == 0,
         _ => false,
     }
 }
 
 /// Whether a car may cross to an occupied cell.
-fn bumps(note: &Noted, instr: Instr) -> bool
-    ensures { result ≡ may_bump (note_of note.now) instr }
+fn may_be_occupied(note: &Stored, instr: Instr) -> bool
+    ensures { result ≡ may_be_occupied (note_of note.now) instr }
 {
     matches!(instr, Instr::Cross) && !note.side
 }
 
-/// The least reason from 2 on to refuse the instruction at `pc` in a program of `len` instructions.
+/// The least reason from the second on to refuse the instruction at `pc` in a program of `len` instructions.
 pub fn reason_against(
     kind: Kind,
     own: Kind,
     len: usize,
     pc: usize,
-    note: &Noted,
+    note: &Stored,
     instr: Instr,
-) -> Option<u32>
+) -> Option<Reason>
     requires { pc < len }
-    ensures { result ≡ first_true 2 (tests kind own len pc (note_of note.now) instr) }
+    ensures { result ≡ reason_against kind own len pc (note_of note.now) instr }
 {
     let target = instr.target();
     if !is_of_kind(kind, own, instr) {
-        Some(2)
+        Some(Reason::WrongProgram)
     } else if has_unset(note, instr) {
-        Some(3)
+        Some(Reason::MaybeUnset)
     } else if has_other_kind(note, instr) {
-        Some(4)
+        Some(Reason::WrongValue)
     } else if target.is_some_and(|target| target as usize <= pc) {
-        Some(5)
+        Some(Reason::JumpsBack)
     } else if target.is_some_and(|target| len <= target as usize) {
-        Some(6)
+        Some(Reason::JumpsOut)
     } else if instr.falls() && len <= pc + 1 {
-        Some(7)
-    } else if is_too_large(note, instr) {
-        Some(8)
-    } else if is_below_zero(note, instr) {
-        Some(9)
-    } else if passes(Input::Gap, note, instr) {
-        Some(10)
-    } else if passes(Input::Limit, note, instr) {
-        Some(11)
-    } else if bumps(note, instr) {
-        Some(12)
+        Some(Reason::FallsOut)
+    } else if may_be_too_large(note, instr) {
+        Some(Reason::MaybeTooLarge)
+    } else if may_be_below_zero(note, instr) {
+        Some(Reason::MaybeBelowZero)
+    } else if may_be_above(Input::Gap, note, instr) {
+        Some(Reason::MaybeAboveGap)
+    } else if may_be_above(Input::Limit, note, instr) {
+        Some(Reason::MaybeAboveLimit)
+    } else if may_be_occupied(note, instr) {
+        Some(Reason::MaybeOccupied)
     } else {
         None
     }

@@ -1,23 +1,26 @@
-//! The notes of what instructions write.
+//! What an instruction writes: what is said of its result, and the order of the result and the places.
 
-ghost use Rattle.std.specs.Prelude.{◌≡◌, ℕ, ◌+◌, ◌-◌, ◌*◌, ◌/◌, ◌<◌, ◌≤◌, ◌&&◌, ◌||◌, min, max, false};
+ghost use Rattle.std.specs.Prelude.{◌≡◌, ℕ, ◌+◌, ◌-◌, ◌*◌, ◌/◌, ◌<◌, ◌≤◌, min, max, false};
+ghost use Rattle.trlab_bounds.specs.declared.programs.TheConstants.{GREATEST_NUMBER};
+ghost use Rattle.trlab_code.specs.declared.instruction.Place.{Place as APlace};
+ghost use Rattle.trlab_code.specs.Machine.{place_number};
 ghost use Rattle.trlab_code.specs.Program.{InRange};
-ghost use Rattle.trlab_notes.specs.Notes.{greatest_number, low, high, implies, told, known, least_gap, after, result_said, result_to, to_result};
 ghost use Rattle.trlab_notes.specs.declared.note.Said.TheVariants.{Between};
-ghost use Rattle.trlab_notes.specs.Kept.{known_with};
-ghost use Rattle.trlab_notes.specs.Noted.{note_of, settled};
-ghost use Rattle.trlab_notes.specs.Rows.{level_in};
-ghost use Rattle.trlab_notes.specs.Reasons.{too_large};
+ghost use Rattle.trlab_notes.specs.Notes.{closure, high, low};
+ghost use Rattle.trlab_notes.specs.Reasons.{may_be_too_large};
+ghost use Rattle.trlab_notes.specs.Rows.{known_with, level_in};
+ghost use Rattle.trlab_notes.specs.Stored.{note_of};
+ghost use Rattle.trlab_notes.specs.Transfer.{assign_result, flag_implies, least_difference, register_level, register_said, result_said, result_to, to_result};
 
-use crate::kept::Noted;
-use crate::note::{BELOW, Said, known_level};
+use crate::note::{BELOW, Said, level_between};
 use crate::rows::{Row, with_place};
-use trlab_code::{Instr, PLACES};
+use crate::stored::Stored;
+use trlab_code::{Instr, PLACES, Place, Register};
 
 /// The range of a sum.
 fn sum(p: Said, q: Said) -> Said
-    requires { high p + high q ≤ greatest_number }
-    ensures { result ≡ Between (min (low p + low q) greatest_number) (high p + high q) }
+    requires { high p + high q ≤ GREATEST_NUMBER }
+    ensures { result ≡ Between (min (low p + low q) GREATEST_NUMBER) (high p + high q) }
 {
     Said::Between(p.low().saturating_add(q.low()), p.high() + q.high())
 }
@@ -34,8 +37,8 @@ fn difference(p: Said, q: Said, least: u32) -> Said
 
 /// The range of a product.
 fn product(p: Said, n: u32) -> Said
-    requires { high p * n ≤ greatest_number }
-    ensures { result ≡ Between (min (low p * n) greatest_number) (high p * n) }
+    requires { high p * n ≤ GREATEST_NUMBER }
+    ensures { result ≡ Between (min (low p * n) GREATEST_NUMBER) (high p * n) }
 {
     Said::Between(p.low().saturating_mul(n), p.high() * n)
 }
@@ -64,140 +67,152 @@ fn greater(p: Said, q: Said) -> Said
 
 /// The least difference where the second number has this level to the first.
 fn least_difference(level: u8) -> u32
-    ensures { result ≡ least_gap level }
+    ensures { result ≡ least_difference level }
 {
     if level >= BELOW { 1 } else { 0 }
 }
 
-/// Whether one of two flags implies that the side cell is empty.
-fn one_implies(p: Said, q: Said) -> bool
-    ensures { result ≡ (implies p || implies q) }
-{
-    p.implies() || q.implies()
-}
-
-/// Whether each of two flags implies that the side cell is empty.
-fn both_imply(p: Said, q: Said) -> bool
-    ensures { result ≡ (implies p && implies q) }
-{
-    p.implies() && q.implies()
-}
-
-/// The row of a place: what is known of its order to each, where it has these levels.
-fn row_of(said: &[Said; PLACES], place: usize, levels: Row) -> Row
+/// The known levels of a place to each and of each to it, where they have these levels.
+fn known_ways(said: &[Said; PLACES], place: usize, to: Row, from: Row) -> (Row, Row)
     requires { place < PLACES }
-    ensures { (y : ℕ) → y < PLACES → level_in result y ≡ known_with said.now place y (level_in levels y) }
+    ensures to { (y : ℕ) → y < PLACES → level_in result.0 y ≡ known_with said.now place y (level_in to y) }
+    ensures from { (x : ℕ) → x < PLACES → level_in result.1 x ≡ known_with said.now x place (level_in from x) }
 {
-    let mut row = levels;
-    for y in 0..PLACES {
-        row = row.with(
-            y,
-            known_level(said[place], said[y], place == y, levels.level(y)),
-        );
-    }
-    row
-}
-
-/// The column of a place: what is known of the order of each to it, where they have these levels.
-fn column_of(said: &[Said; PLACES], place: usize, levels: Row) -> Row
-    requires { place < PLACES }
-    ensures { (x : ℕ) → x < PLACES → level_in result x ≡ known_with said.now x place (level_in levels x) }
-{
-    let mut column = levels;
+    let (mut row, mut column) = (to, from);
     for x in 0..PLACES {
+        row = row.with(
+            x,
+            level_between(said[place], said[x], place == x, to.level(x)),
+        );
         column = column.with(
             x,
-            known_level(said[x], said[place], x == place, levels.level(x)),
+            level_between(said[x], said[place], x == place, from.level(x)),
         );
     }
-    column
+    (row, column)
 }
 
-impl Noted {
+impl Stored {
+    /// What is said of a register.
+    pub(crate) fn register_said(&self, register: Register) -> Said
+        ensures { result ≡ register_said (note_of self.now) register }
+    {
+        self.said[Place::Register(register).number()]
+    }
+
+    /// Whether the flag in a register implies that the side cell is empty.
+    fn flag_implies(&self, register: Register) -> bool
+        ensures { result ≡ flag_implies (note_of self.now) register }
+    {
+        self.said_with_side(Place::Register(register)).implies()
+    }
+
+    /// The known level of one register to another.
+    pub(crate) fn register_level(&self, from: Register, to: Register) -> u8
+        ensures { result ≡ register_level (note_of self.now) from to }
+    {
+        self.known_level(Place::Register(from), Place::Register(to))
+    }
+
     /// What is said of an instruction's result.
     fn result_said(&self, instr: Instr) -> Said
         requires in_range { InRange instr }
-        requires fits { too_large (note_of self.now) instr ≡ false }
+        requires fits { may_be_too_large (note_of self.now) instr ≡ false }
         ensures { result ≡ result_said (note_of self.now) instr }
     {
         match instr {
             Instr::Num(_, n) => Said::Between(n, n),
-            Instr::Get(_, input) => self.told(input.place()),
+            Instr::Get(_, input) => self.said_with_side(Place::Input(input)),
             Instr::Side(_) => Said::Implies(true),
             Instr::Draw(..) | Instr::Not(..) => Said::Implies(false),
-            Instr::Copy(_, a) => self.told(a.place()),
-            Instr::Add(_, a, b) => sum(self.said[a.place()], self.said[b.place()]),
+            Instr::Copy(_, a) => self.said_with_side(Place::Register(a)),
+            Instr::Add(_, a, b) => sum(self.register_said(a), self.register_said(b)),
             Instr::Sub(_, a, b) => {
-                let (a, b) = (a.place(), b.place());
-                let least = least_difference(self.known(b, a));
-                difference(self.said[a], self.said[b], least)
+                let least = least_difference(self.register_level(b, a));
+                difference(self.register_said(a), self.register_said(b), least)
             }
-            Instr::Mul(_, a, n) => product(self.said[a.place()], n),
-            Instr::Div(_, a, n) => quotient(self.said[a.place()], n),
-            Instr::Min(_, a, b) => smaller(self.said[a.place()], self.said[b.place()]),
-            Instr::Max(_, a, b) => greater(self.said[a.place()], self.said[b.place()]),
-            Instr::And(_, a, b) => {
-                Said::Implies(one_implies(self.told(a.place()), self.told(b.place())))
-            }
-            Instr::Or(_, a, b) => {
-                Said::Implies(both_imply(self.told(a.place()), self.told(b.place())))
-            }
+            Instr::Mul(_, a, n) => product(self.register_said(a), n),
+            Instr::Div(_, a, n) => quotient(self.register_said(a), n),
+            Instr::Min(_, a, b) => smaller(self.register_said(a), self.register_said(b)),
+            Instr::Max(_, a, b) => greater(self.register_said(a), self.register_said(b)),
+            Instr::And(_, a, b) => Said::Implies(self.flag_implies(a) || self.flag_implies(b)),
+            Instr::Or(_, a, b) => Said::Implies(self.flag_implies(a) && self.flag_implies(b)),
             _ => Said::Nothing,
         }
     }
 
     /// The levels of an instruction's result to the places.
     fn result_to(&self, instr: Instr) -> Row
-        ensures { (y : ℕ) → y < PLACES → level_in result y ≡ result_to (note_of self.now) instr y }
+        ensures { (y : APlace) → level_in result (place_number y) ≡ result_to (note_of self.now) instr y }
     {
         match instr {
-            Instr::Get(_, input) => self.row(input.place()),
-            Instr::Copy(_, a) | Instr::Div(_, a, _) => self.row(a.place()),
+            Instr::Get(_, input) => self.row(Place::Input(input)),
+            Instr::Copy(_, a) | Instr::Div(_, a, _) => self.row(Place::Register(a)),
             Instr::Add(_, a, b) => {
-                let (a, b) = (a.place(), b.place());
-                let by_first = self.row(a).raised(self.said[b].high());
-                by_first.either(self.row(b).raised(self.said[a].high()))
+                let by_a = self
+                    .row(Place::Register(a))
+                    .slacken(self.register_said(b).high());
+                let by_b = self
+                    .row(Place::Register(b))
+                    .slacken(self.register_said(a).high());
+                by_a.either(by_b)
             }
-            Instr::Sub(_, a, b) => self.row(a.place()).sharpened(self.said[b.place()].low()),
-            Instr::Min(_, a, b) => self.row(a.place()).either(self.row(b.place())),
-            Instr::Max(_, a, b) => self.row(a.place()).both(self.row(b.place())),
+            Instr::Sub(_, a, b) => self
+                .row(Place::Register(a))
+                .sharpen(self.register_said(b).low()),
+            Instr::Min(_, a, b) => {
+                self.row(Place::Register(a))
+                    .either(self.row(Place::Register(b)))
+            }
+            Instr::Max(_, a, b) => self
+                .row(Place::Register(a))
+                .both(self.row(Place::Register(b))),
             _ => Row::empty(),
         }
     }
 
     /// The levels of the places to an instruction's result.
     fn to_result(&self, instr: Instr) -> Row
-        ensures { (y : ℕ) → y < PLACES → level_in result y ≡ to_result (note_of self.now) instr y }
+        ensures { (y : APlace) → level_in result (place_number y) ≡ to_result (note_of self.now) instr y }
     {
         match instr {
-            Instr::Get(_, input) => self.column(input.place()),
-            Instr::Copy(_, a) => self.column(a.place()),
+            Instr::Get(_, input) => self.column(Place::Input(input)),
+            Instr::Copy(_, a) => self.column(Place::Register(a)),
             Instr::Add(_, a, b) => {
-                let (a, b) = (a.place(), b.place());
-                let by_first = self.column(a).sharpened(self.said[b].low());
-                by_first.either(self.column(b).sharpened(self.said[a].low()))
+                let by_a = self
+                    .column(Place::Register(a))
+                    .sharpen(self.register_said(b).low());
+                let by_b = self
+                    .column(Place::Register(b))
+                    .sharpen(self.register_said(a).low());
+                by_a.either(by_b)
             }
-            Instr::Min(_, a, b) => self.column(a.place()).both(self.column(b.place())),
-            Instr::Max(_, a, b) => self.column(a.place()).either(self.column(b.place())),
+            Instr::Min(_, a, b) => {
+                self.column(Place::Register(a))
+                    .both(self.column(Place::Register(b)))
+            }
+            Instr::Max(_, a, b) => {
+                self.column(Place::Register(a))
+                    .either(self.column(Place::Register(b)))
+            }
             _ => Row::empty(),
         }
     }
 
-    /// The note after an instruction has written its result to `dest`.
-    pub fn after(&self, dest: usize, instr: Instr) -> Noted
-        requires inside { dest < PLACES }
+    /// The note once an instruction has written its result to `dest`.
+    pub fn assign_result(&self, dest: Register, instr: Instr) -> Stored
         requires in_range { InRange instr }
-        requires fits { too_large (note_of self.now) instr ≡ false }
-        ensures { note_of result ≡ settled (after (note_of self.now) dest instr) }
+        requires fits { may_be_too_large (note_of self.now) instr ≡ false }
+        ensures { note_of result ≡ closure (assign_result (note_of self.now) dest instr) }
     {
+        let place = Place::Register(dest).number();
         let mut said = self.said;
-        said[dest] = self.result_said(instr);
-        let row = row_of(&said, dest, self.result_to(instr));
-        let column = column_of(&said, dest, self.to_result(instr));
-        Noted {
+        said[place] = self.result_said(instr);
+        let (row, column) = known_ways(&said, place, self.result_to(instr), self.to_result(instr));
+        Stored {
             said,
-            rows: with_place(&self.rows, dest, row, column),
-            columns: with_place(&self.columns, dest, column, row),
+            rows: with_place(&self.rows, place, row, column),
+            columns: with_place(&self.columns, place, column, row),
             side: self.side,
         }
     }

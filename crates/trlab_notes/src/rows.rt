@@ -1,8 +1,8 @@
-//! The levels of a place to all places, as bits.
+//! The levels of a place to all places, as bits. The rows of all places hold their order.
 
-ghost use Rattle.std.specs.Prelude.{◌≡◌, ◌↔◌, ℕ, ◌*◌, ◌<◌, ◌≤◌, IsTrue, min, max, nat_eq, if◌then◌else◌};
+ghost use Rattle.std.specs.Prelude.{◌≡◌, ◌↔◌, ℕ, ◌*◌, ◌<◌, ◌≤◌, IsTrue, min, max, nat_eq, if◌then◌else◌, slice_index};
 ghost use Rattle.std.specs.Int.{bit_at};
-ghost use Rattle.trlab_notes.specs.Notes.{chained, just_below, sharper};
+ghost use Rattle.trlab_notes.specs.Transfer.{chain, slacken, sharpen};
 ghost use Rattle.trlab_notes.specs.Rows.{level_in, level_of};
 
 use crate::note::{AT_MOST, BELOW};
@@ -18,7 +18,8 @@ pub struct Row {
 /// Bits with one of them on or off.
 fn with_bit(bits: u16, place: usize, is_on: bool) -> u16
     requires { place < 16 }
-    ensures { (y : ℕ) → y < 16 → bit_at result y ≡ (if nat_eq y place then (if is_on then 1 else 0) else bit_at bits y) }
+    ensures { (y : ℕ) → y < 16 →
+        bit_at result y ≡ (if nat_eq y place then (if is_on then 1 else 0) else bit_at bits y) }
 {
     if is_on {
         bits | 1 << place
@@ -48,6 +49,17 @@ impl Row {
         } else {
             ((self.at_most >> y) & 1) as u8
         }
+    }
+
+    /// The levels to all places, in the order of their numbers.
+    pub fn levels(self) -> [u8; PLACES]
+        ensures { (y : ℕ) → y < PLACES → slice_index result y ≡ level_in self y }
+    {
+        let mut levels = [0; PLACES];
+        for y in 0..PLACES {
+            levels[y] = self.level(y);
+        }
+        levels
     }
 
     /// The places that one is at most or below.
@@ -89,11 +101,11 @@ impl Row {
 
     /// The levels by way of a place that one has the level `first` to, and that has the level `middle`
     /// to the place of this row.
-    pub fn after(self, first: u8, middle: u8) -> Row
+    pub fn chain(self, first: u8, middle: u8) -> Row
         requires first_in { first ≤ 2 }
         requires middle_from { 1 ≤ middle }
         requires middle_to { middle ≤ 2 }
-        ensures { (y : ℕ) → level_in result y ≡ chained first middle (level_in self y) }
+        ensures { (y : ℕ) → level_in result y ≡ chain first middle (level_in self y) }
     {
         if first == 0 {
             Row::empty()
@@ -105,15 +117,15 @@ impl Row {
     }
 
     /// The levels once a number of at least `low` is added on the greater side.
-    pub fn sharpened(self, low: u32) -> Row
-        ensures { (y : ℕ) → level_in result y ≡ sharper (level_in self y) low }
+    pub fn sharpen(self, low: u32) -> Row
+        ensures { (y : ℕ) → level_in result y ≡ sharpen (level_in self y) low }
     {
         if low == 0 { self } else { self.strict() }
     }
 
     /// The levels of a sum, where one number has this row and the other is at most `high`.
-    pub fn raised(self, high: u32) -> Row
-        ensures { (y : ℕ) → level_in result y ≡ just_below (level_in self y) high }
+    pub fn slacken(self, high: u32) -> Row
+        ensures { (y : ℕ) → level_in result y ≡ slacken (level_in self y) high }
     {
         Row {
             at_most: if high <= 1 { self.below } else { 0 },
@@ -166,24 +178,24 @@ pub fn with_place(rows: &[Row; PLACES], place: usize, row: Row, column: Row) -> 
 
 /// The rows once one place is known to have a level to another: `first` has the levels of the places
 /// to the one, and `last` those of the other to the places.
-pub fn learn_rows(rows: &[Row; PLACES], first: Row, level: u8, last: Row) -> [Row; PLACES]
+pub fn refine_rows(rows: &[Row; PLACES], first: Row, level: u8, last: Row) -> [Row; PLACES]
     requires level_from { 1 ≤ level }
     requires level_to { level ≤ 2 }
     ensures { (x y : ℕ) → x < PLACES → y < PLACES → level_of result x y ≡
         (if nat_eq y x then level_of rows.now x x
-        else max (level_of rows.now x y) (chained (level_in first x) level (level_in last y))) }
+        else max (level_of rows.now x y) (chain (level_in first x) level (level_in last y))) }
 {
-    let mut learnt = *rows;
+    let mut refined = *rows;
     for x in 0..PLACES {
         let row = rows[x];
-        let more = row.either(last.after(first.level(x), level));
-        learnt[x] = more.with(x, row.level(x));
+        let more = row.either(last.chain(first.level(x), level));
+        refined[x] = more.with(x, row.level(x));
     }
-    learnt
+    refined
 }
 
-/// The lesser levels of two tables of rows.
-pub fn common_rows(a: &[Row; PLACES], b: &[Row; PLACES]) -> [Row; PLACES]
+/// The lesser levels of the rows of two notes.
+pub fn join_rows(a: &[Row; PLACES], b: &[Row; PLACES]) -> [Row; PLACES]
     ensures { (x y : ℕ) → x < PLACES → y < PLACES →
         level_of result x y ≡ min (level_of a.now x y) (level_of b.now x y) }
 {

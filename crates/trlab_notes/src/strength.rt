@@ -1,17 +1,19 @@
-//! Whether one note says no more than another.
+//! The order of notes: whether one says no more than another.
 
-ghost use Rattle.std.specs.Prelude.{◌↔◌, ℕ, ◌<◌, ◌≤◌, IsTrue};
-ghost use Rattle.trlab_notes.specs.Noted.{note_of};
-ghost use Rattle.trlab_notes.specs.Notes.{told, known};
-ghost use Rattle.trlab_notes.specs.Order.{NoMore, NoStronger};
+ghost use Rattle.std.specs.Prelude.{◌↔◌, ℕ, ◌<◌, ◌≤◌, IsTrue, slice_index_or};
+ghost use Rattle.trlab_notes.specs.declared.note.Said.TheVariants.{Nothing};
+ghost use Rattle.trlab_notes.specs.Notes.{with_side};
+ghost use Rattle.trlab_notes.specs.Order.{SaysNoMore, IsNoStronger};
+ghost use Rattle.trlab_notes.specs.Rows.{level_of};
+ghost use Rattle.trlab_notes.specs.Stored.{note_of};
 
-use crate::kept::Noted;
 use crate::note::Said;
+use crate::stored::Stored;
 use trlab_code::PLACES;
 
-/// Whether what is told of a place is no more than what is told of it elsewhere.
+/// Whether no more is said of a place than elsewhere.
 fn says_no_more(s: Said, t: Said) -> bool
-    ensures { IsTrue result ↔ NoMore s t }
+    ensures { IsTrue result ↔ SaysNoMore s t }
 {
     match (s, t) {
         (Said::Nothing, _) => true,
@@ -21,13 +23,14 @@ fn says_no_more(s: Said, t: Said) -> bool
     }
 }
 
-/// Whether each place is told no more of.
-fn tells_no_more(m: &Noted, n: &Noted) -> bool
-    ensures { IsTrue result ↔ ((x : ℕ) → x < PLACES →
-        NoMore (told (note_of m.now) x) (told (note_of n.now) x)) }
+/// Whether no more is said of each place.
+fn has_weaker_places(m: &Stored, n: &Stored) -> bool
+    ensures { IsTrue result ↔ ((x : ℕ) → x < PLACES → SaysNoMore
+        (with_side m.now.side (slice_index_or m.now.said x Nothing))
+        (with_side n.now.side (slice_index_or n.now.said x Nothing))) }
 {
     for x in 0..PLACES {
-        if !says_no_more(m.told(x), n.told(x)) {
+        if !says_no_more(m.said_at(x), n.said_at(x)) {
             return false;
         }
     }
@@ -35,12 +38,12 @@ fn tells_no_more(m: &Noted, n: &Noted) -> bool
 }
 
 /// Whether no more is known of the order of each two places.
-fn knows_no_more(m: &Noted, n: &Noted) -> bool
+fn has_lesser_levels(m: &Stored, n: &Stored) -> bool
     ensures { IsTrue result ↔ ((x y : ℕ) → x < PLACES → y < PLACES →
-        known (note_of m.now) x y ≤ known (note_of n.now) x y) }
+        level_of m.now.rows x y ≤ level_of n.now.rows x y) }
 {
     for x in 0..PLACES {
-        if !m.row(x).is_within(n.row(x)) {
+        if !m.rows[x].is_within(n.rows[x]) {
             return false;
         }
     }
@@ -48,8 +51,9 @@ fn knows_no_more(m: &Noted, n: &Noted) -> bool
 }
 
 /// Whether a note is no stronger than another.
-pub fn is_no_stronger(m: &Noted, n: &Noted) -> bool
-    ensures { IsTrue result ↔ NoStronger (note_of m.now) (note_of n.now) }
+#[tactic(auto, using(crate::proofs::Tables::no_stronger, crate::proofs::Tables::no_stronger_said, crate::proofs::Tables::no_stronger_levels))]
+pub fn is_no_stronger(m: &Stored, n: &Stored) -> bool
+    ensures { IsTrue result ↔ IsNoStronger (note_of m.now) (note_of n.now) }
 {
-    tells_no_more(m, n) && knows_no_more(m, n) && (!m.side || n.side)
+    has_weaker_places(m, n) && has_lesser_levels(m, n) && (!m.side || n.side)
 }

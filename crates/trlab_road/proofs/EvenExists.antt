@@ -6,13 +6,12 @@ use Rattle.std.proofs.lemmas.Bool.Decides.{eqb_tells}
 use Rattle.std.proofs.lemmas.List.FromFn.{length-map-range_with_len, get_or-map-range_with_len}
 use Rattle.trlab_road.specs.declared.fault.RoadFault.{RoadFault}
 use Rattle.trlab_road.specs.declared.fault.RoadFault.TheVariants.{Lanes, Length, Limit, Memory, TooManyCars}
-use Rattle.trlab_bounds.specs.declared.roads.TheConstants.{GREATEST_LENGTH, MOST_LANES}
 use Rattle.trlab_road.specs.Cells.{Cells, Lane}
-use Rattle.trlab_road.specs.Spreading.{CanSpread, Even, EvenFault, LaneEven, LanesFit, LengthFits, even_lane, even_place}
+use Rattle.trlab_road.specs.Spreading.{CanSpread, IsEven, IsEvenFault, IsEvenLane, even_lane, even_place}
 use Rattle.trlab_road.specs.Laws.{SaysEven}
 use Rattle.trlab_road.proofs.EvenLanes.{EvenUpTo, even_all, even_more, even_none, even_skip}
 use Rattle.trlab_road.proofs.EvenRoads.{even_legal, no_fault, one_even, one_fault}
-use Rattle.trlab_road.proofs.PictureFaults.{cases_memory, limit_or_not}
+use Rattle.trlab_road.proofs.PictureFaults.{cases_memory, lanes_or_not, length_or_not, limit_or_not}
 
 abbrev Answer : Type 0
 Answer = Result Cells RoadFault
@@ -29,7 +28,7 @@ lane_up_to lanes cells n l some room (suc i) h =
     ]
 
 -- the road of such lanes
-even_exists : (lanes cells limit n : ℕ) → CanSpread lanes cells limit n → (road : Cells) × Even lanes cells limit n road
+even_exists : (lanes cells limit n : ℕ) → CanSpread lanes cells limit n → (road : Cells) × IsEven lanes cells limit n road
 even_exists lanes cells limit n fits =
     let some : 0 < lanes = fits.lanes_fit.some_lane in
     let lane : (l : ℕ) → (one : Lane) × EvenUpTo lanes cells n l n one = λ l. lane_up_to lanes cells n l some fits.room n (omega arith) in
@@ -41,29 +40,9 @@ even_exists lanes cells limit n fits =
         each_lane = λ l h.
             let start : 0 + l ≡ l = omega arith in
             let at_l = get_or-map-range_with_len (λ k. (lane k).0) 0 lanes l l [] h start in
-            subst (λ (one : Lane). LaneEven lanes cells n l one) (sym at_l) (even_all lanes cells n l n (lane l).0 (omega arith) (omega arith) (lane l).1);
+            subst (λ (one : Lane). IsEvenLane lanes cells n l one) (sym at_l) (even_all lanes cells n l n (lane l).0 (omega arith) (omega arith) (lane l).1);
       },
     )
-
-lanes_or_not : (lanes : ℕ) → LanesFit lanes ⊎ (¬ (LanesFit lanes))
-lanes_or_not lanes =
-    elim (cases_lt lanes 1) [
-      | inl none ↦ inr (λ h. let k = h.some_lane in absurd (omega arith))
-      | inr some ↦ elim (cases_lt MOST_LANES lanes) [
-        | inl many ↦ inr (λ h. let k = h.few_lanes in absurd (omega arith))
-        | inr few ↦ inl (record { some_lane = some; few_lanes = few })
-      ]
-    ]
-
-length_or_not : (cells : ℕ) → LengthFits cells ⊎ (¬ (LengthFits cells))
-length_or_not cells =
-    elim (cases_lt cells 1) [
-      | inl none ↦ inr (λ h. let k = h.some_cell in absurd (omega arith))
-      | inr some ↦ elim (cases_lt GREATEST_LENGTH cells) [
-        | inl many ↦ inr (λ h. let k = h.few_cells in absurd (omega arith))
-        | inr few ↦ inl (record { some_cell = some; few_cells = few })
-      ]
-    ]
 
 fitting_says : (lanes cells limit n : ℕ) → CanSpread lanes cells limit n → (said : Answer) × SaysEven lanes cells limit n said
 fitting_says lanes cells limit n fits =
@@ -92,11 +71,11 @@ one_thing lanes cells limit n (Ok road) (Err f) s t = absurd (t.1 (no_fault lane
 one_thing lanes cells limit n (Err f) (Ok road) s t = absurd (s.1 (no_fault lanes cells limit n f t.0 s.0))
 one_thing lanes cells limit n (Err f) (Err g) s t = ap Err (one_fault lanes cells limit n f g s.0 t.0 s.1 t.1)
 
-pub told_fault : (lanes cells limit n : ℕ) (f : RoadFault) → EvenFault lanes cells limit n f → (g : RoadFault) → EvenFault lanes cells limit n g
+pub told_fault : (lanes cells limit n : ℕ) (f : RoadFault) → IsEvenFault lanes cells limit n f → (g : RoadFault) → IsEvenFault lanes cells limit n g
     → g ≢ Memory → (◌≡◌ {A = Answer} (Err f) (Err g)) ⊎ (◌≡◌ {A = Answer} (Err f) (Err Memory))
 told_fault lanes cells limit n f first g other some =
     elim (cases_memory f) [ inl none ↦ inr (ap Err none) | inr not ↦ inl (ap Err (one_fault lanes cells limit n f g first other not some)) ]
 
-pub told_road : (lanes cells limit n : ℕ) (road : Cells) → CanSpread lanes cells limit n → (g : RoadFault) → EvenFault lanes cells limit n g
+pub told_road : (lanes cells limit n : ℕ) (road : Cells) → CanSpread lanes cells limit n → (g : RoadFault) → IsEvenFault lanes cells limit n g
     → g ≢ Memory → (◌≡◌ {A = Answer} (Ok road) (Err g)) ⊎ (◌≡◌ {A = Answer} (Ok road) (Err Memory))
 told_road lanes cells limit n road fits g first some = absurd (some (no_fault lanes cells limit n g fits first))

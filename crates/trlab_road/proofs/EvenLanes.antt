@@ -5,7 +5,7 @@ use Rattle.std.proofs.lemmas.Bool.{cases_lt, cases_eq, cases_order}
 use Rattle.std.proofs.lemmas.List.{get_or-set_same, get_or-set_other, length-set, get_or-replicate, length-replicate, get_or_past}
 use Rattle.std.proofs.lemmas.Option.{some_pair_parts}
 use Rattle.trlab_road.specs.Cells.{Lane, at}
-use Rattle.trlab_road.specs.Spreading.{flat_cell, even_lane, even_place, LaneEven}
+use Rattle.trlab_road.specs.Spreading.{flat_cell, even_lane, even_place, IsEvenLane}
 
 -- a car further on stands on a later cell
 pub flat_rises : (lanes cells n i j : ℕ) → n ≤ lanes * cells → 0 < n → i < j
@@ -122,7 +122,7 @@ even_more lanes cells n l i lane some room low m on =
 
 -- when all cars were looked at, the lane is done
 pub even_all : (lanes cells n l i : ℕ) (lane : Lane) → n ≤ i → i ≤ n → EvenUpTo lanes cells n l i lane
-    → LaneEven lanes cells n l lane
+    → IsEvenLane lanes cells n l lane
 even_all lanes cells n l i lane low high m = record {
   same_length = m.same_length;
   stands = λ k h on. m.stands k (omega arith) on;

@@ -6,17 +6,17 @@ use Rattle.std.proofs.lemmas.Option.{some_pair_parts}
 use Rattle.trlab_road.specs.declared.car.Car.{Car}
 use Rattle.trlab_road.specs.declared.fault.RoadFault.{RoadFault}
 use Rattle.trlab_road.specs.declared.fault.RoadFault.TheVariants.{Lanes, Length, Limit, Character, SpeedAboveLimit, Memory, TooManyCars}
-use Rattle.trlab_road.specs.Cells.{Stands, Cell, Lane, Cells, at, cell, lane_of, cars}
-use Rattle.trlab_road.specs.Legal.{Legal}
-use Rattle.trlab_road.specs.Spreading.{even_lane, even_place, InPlace, LaneEven, Even, CanSpread, EvenFault}
+use Rattle.trlab_road.specs.Cells.{HasNumber, Cell, Lane, Cells, at, cell, lane_of, cars, IsAt}
+use Rattle.trlab_road.specs.Legal.{IsLegal, LanesFit, LengthFits, LimitFits}
+use Rattle.trlab_road.specs.Spreading.{even_lane, even_place, IsInPlace, IsEvenLane, IsEven, CanSpread, IsEvenFault}
 use Rattle.trlab_road.specs.Standing.{standing, rank}
-use Rattle.trlab_road.proofs.Ring.{inside}
+use Rattle.trlab_road.proofs.Ring.{inside, car_in}
 use Rattle.trlab_road.proofs.MotionLaws.{on_lane, fewer_cars}
 use Rattle.trlab_road.proofs.StandingOrder.{get_or-map_in, standing_rank, standing_cell, rank_below_cars, length-standing_lanes, car_of}
 use Rattle.trlab_road.proofs.Numbers.{car_cell, all_taken, full, no_one, no_more_cars}
 
 -- where each number below n has a car, there are n cars at least
-enough_cars : (road : Cells) (n : ℕ) → ((number : ℕ) → number < n → Stands road number)
+enough_cars : (road : Cells) (n : ℕ) → ((number : ℕ) → number < n → HasNumber road number)
     → n ≤ cars road
 unfolding car_of
 enough_cars road n all =
@@ -27,10 +27,10 @@ enough_cars road n all =
     let size : length numbers ≡ n = length-replicate n (Some (0, 0)) in
     let on = inside numbers x a h in
     let s = all x (omega arith) in
-    let l = s.0 in
-    let p = s.1.0 in
-    let v = s.1.1.0 in
-    let here = s.1.1.1 in
+    let l = s.0.lane in
+    let p = s.0.place in
+    let v = s.0.speed in
+    let here : cell road l p ≡ Some (x, v) = subst (λ (i : ℕ). cell road l p ≡ Some (i, v)) s.1.1 s.1.0 in
     let r = rank road l p in
     let low = rank_below_cars road l p (x, v) here in
     let within : r < length (standing road) = rw length-standing_lanes low in
@@ -42,17 +42,17 @@ enough_cars road n all =
     let e = length-standing_lanes 0 road.lanes in
     omega (arith, k, a, b, e)
 
-module _ (lanes cells limit n : ℕ) (road : Cells) (fits : CanSpread lanes cells limit n) (e : Even lanes cells limit n road) where
+module _ (lanes cells limit n : ℕ) (road : Cells) (fits : CanSpread lanes cells limit n) (e : IsEven lanes cells limit n road) where
   -- each number below n has its car
-  pub even_stands : (i : ℕ) → i < n → Stands road i
+  pub even_stands : (i : ℕ) → i < n → HasNumber road i
   even_stands i low =
       let on : even_lane lanes cells n i < lanes = mod-lt _ fits.lanes_fit.some_lane in
-      (even_lane lanes cells n i, (even_place lanes cells n i, (0, (e.each_lane (even_lane lanes cells n i) on).stands i low refl)))
+      (car_in (even_lane lanes cells n i) (even_place lanes cells n i) i 0, ((e.each_lane (even_lane lanes cells n i) on).stands i low refl, refl))
 
-  lane_at : (l x : ℕ) (car : ℕ × ℕ) → cell road l x ≡ Some car → LaneEven lanes cells n l (lane_of road l)
+  lane_at : (l x : ℕ) (car : ℕ × ℕ) → cell road l x ≡ Some car → IsEvenLane lanes cells n l (lane_of road l)
   lane_at l x car h = e.each_lane l (rw e.same_lanes at (on_lane road l x car h))
 
-  car_at : (l x number speed : ℕ) → cell road l x ≡ Some (number, speed) → InPlace lanes cells n number l x
+  car_at : (l x number speed : ℕ) → cell road l x ≡ Some (number, speed) → IsInPlace lanes cells n number l x
   car_at l x number speed h = (lane_at l x (number, speed) h).nothing_else x number speed h
 
   car_stands : (l x number speed : ℕ) → cell road l x ≡ Some (number, speed) → speed ≡ 0
@@ -62,28 +62,26 @@ module _ (lanes cells limit n : ℕ) (road : Cells) (fits : CanSpread lanes cell
       let there : cell road l x ≡ Some (number, 0) = subst (λ (y : ℕ). cell road l y ≡ Some (number, 0)) at_home.at_place here in
       (some_pair_parts number number speed 0 (sym h ∙ there)).1
 
-  once : (l x m y number u v : ℕ) → cell road l x ≡ Some (number, u)
-      → cell road m y ≡ Some (number, v) → (l ≡ m) × (x ≡ y)
-  once l x m y number u v h g =
-      let a = car_at l x number u h in
-      let b = car_at m y number v g in
-      (sym a.on_lane ∙ b.on_lane, sym a.at_place ∙ b.at_place)
+  once : (car other : Car) → IsAt road car → IsAt road other → car.number ≡ other.number → (car.lane ≡ other.lane) × (car.place ≡ other.place)
+  once car other h g same =
+      let a = car_at car.lane car.place car.number car.speed h in
+      let b = car_at other.lane other.place other.number other.speed g in
+      (sym a.on_lane ∙ ap (even_lane lanes cells n) same ∙ b.on_lane, sym a.at_place ∙ ap (even_place lanes cells n) same ∙ b.at_place)
 
   -- evenly spread cars make a legal road
-  pub even_legal : Legal road
+  pub even_legal : IsLegal road
   even_legal =
       let first = (e.each_lane 0 fits.lanes_fit.some_lane).same_length in
       record {
-        some_lane = rw e.same_lanes fits.lanes_fit.some_lane;
-        two_lanes = rw e.same_lanes fits.lanes_fit.few_lanes;
-        limit_low = rw e.same_limit fits.limit_fits.limit_low;
-        limit_high = rw e.same_limit fits.limit_fits.limit_high;
-        some_cell = rw first fits.length_fits.some_cell;
-        cells_high = rw first fits.length_fits.few_cells;
-        equal_lanes = λ l h. let k : l < lanes = rw e.same_lanes at h in (e.each_lane l k).same_length ∙ sym first;
-        within_limit = λ l x number speed h. let z = car_stands l x number speed h in omega arith;
-        numbered = λ l x number speed h.
-            let low = (car_at l x number speed h).numbered in
+        shape = record {
+          lanes = subst LanesFit (sym e.same_lanes) fits.lanes_fit;
+          cells = subst LengthFits (sym first) fits.length_fits;
+          equal = λ l h. let k : l < lanes = rw e.same_lanes at h in (e.each_lane l k).same_length ∙ sym first;
+          limit = subst LimitFits (sym e.same_limit) fits.limit_fits;
+        };
+        within_limit = λ car h. let z = car_stands car.lane car.place car.number car.speed h in omega arith;
+        numbered = λ car h.
+            let low = (car_at car.lane car.place car.number car.speed h).numbered in
             let k = enough_cars road n even_stands in
             omega arith;
         once = once;
@@ -99,7 +97,7 @@ module _ (lanes cells limit n : ℕ) (road : Cells) (fits : CanSpread lanes cell
       omega (arith, enough, most)
 
 -- lanes with the same evenly spread cars have the same cells
-same_cell : (lanes cells n l : ℕ) (lane other : Lane) → LaneEven lanes cells n l lane → LaneEven lanes cells n l other
+same_cell : (lanes cells n l : ℕ) (lane other : Lane) → IsEvenLane lanes cells n l lane → IsEvenLane lanes cells n l other
     → (x : ℕ) (c d : Cell) → at lane x ≡ c → at other x ≡ d → c ≡ d
 same_cell lanes cells n l lane other p q x None None h g = refl
 same_cell lanes cells n l lane other p q x (Some car) d h g =
@@ -116,8 +114,8 @@ abbrev made : ℕ → List Lane → Cells
 made limit lanes = record { limit = limit; lanes = lanes }
 
 -- evenly spread cars make one road only
-pub one_even : (lanes cells limit n : ℕ) (road other : Cells) → Even lanes cells limit n road
-    → Even lanes cells limit n other → road ≡ other
+pub one_even : (lanes cells limit n : ℕ) (road other : Cells) → IsEven lanes cells limit n road
+    → IsEven lanes cells limit n other → road ≡ other
 one_even lanes cells limit n road other p q =
     let same : road.lanes ≡ other.lanes =
     ext_get_or [] road.lanes other.lanes (p.same_lanes ∙ sym q.same_lanes)
@@ -131,7 +129,7 @@ one_even lanes cells limit n road other p q =
 
 -- what fits has no fault
 pub no_fault : (lanes cells limit n : ℕ) (fault : RoadFault) → CanSpread lanes cells limit n
-    → EvenFault lanes cells limit n fault → fault ≡ Memory
+    → IsEvenFault lanes cells limit n fault → fault ≡ Memory
 no_fault lanes cells limit n Lanes fits h = absurd (h fits.lanes_fit)
 no_fault lanes cells limit n Length fits h = absurd (h.1 fits.length_fits)
 no_fault lanes cells limit n Limit fits h = absurd (h.2 fits.limit_fits)
@@ -142,7 +140,7 @@ no_fault lanes cells limit n Memory fits h = refl
 
 -- two faults are one, but that memory may run out
 pub one_fault : (lanes cells limit n : ℕ) (fault other : RoadFault)
-    → EvenFault lanes cells limit n fault → EvenFault lanes cells limit n other
+    → IsEvenFault lanes cells limit n fault → IsEvenFault lanes cells limit n other
     → fault ≢ Memory → other ≢ Memory → fault ≡ other
 one_fault lanes cells limit n Lanes Lanes f g p q = refl
 one_fault lanes cells limit n Lanes Length f g p q = absurd (f g.0)

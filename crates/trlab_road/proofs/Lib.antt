@@ -4,12 +4,12 @@ pub mod MotionLaws
 pub mod MotionByCar
 pub mod MotionExists
 pub mod MotionInOrder
-pub mod CrossingLaws
+pub mod LaneChangeLaws
 pub mod PictureLaws
 pub mod PictureFaults
 pub mod RoadCars
 pub mod Numbers
-pub mod CrossingInOrder
+pub mod LaneChangeInOrder
 pub mod EvenLanes
 pub mod EvenRoads
 pub mod EvenExists
@@ -17,7 +17,7 @@ pub mod Lists
 pub mod ListPush
 pub mod ListGaps
 pub mod ListMotion
-pub mod ListCrossing
+pub mod ListLaneChange
 pub mod ListLeaving
 pub mod ListRoads
 pub mod ListSides

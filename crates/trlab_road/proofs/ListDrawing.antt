@@ -4,8 +4,8 @@ use Rattle.std.proofs.lemmas.Bool.{eq-eqb, ne_eqb, cond-true, cond-false}
 use Rattle.std.proofs.lemmas.List.{length_push}
 use Rattle.trlab_road.specs.declared.lane_car.LaneCar.{LaneCar}
 use Rattle.trlab_road.specs.Cells.{Lane}
-use Rattle.trlab_road.specs.Pictures.{empty_byte, byte_speed, drawn_lane}
-use Rattle.trlab_road.specs.Lists.{cells_of, Rises}
+use Rattle.trlab_road.specs.Pictures.{point}
+use Rattle.trlab_road.specs.Stored.{cells_of, Rises, speed_of_digit, lane_of_picture}
 use Rattle.trlab_road.proofs.Lists.{rises_high}
 use Rattle.trlab_road.proofs.ListPush.{cells_none, cells_some, rises_more, rises_push}
 
@@ -14,23 +14,23 @@ pub record Drawn (from : ℕ) (picture : List ℕ) (cars : List LaneCar) (number
   pub rises : Rises 0 i cars
   pub counted : number ≡ from + length cars
   pub few : length cars ≤ i
-  pub whole : cells_of i cars ++ drawn_lane number (drop i picture) ≡ drawn_lane from picture
+  pub whole : cells_of i cars ++ lane_of_picture number (drop i picture) ≡ lane_of_picture from picture
 
 module _ (from : ℕ) (picture : List ℕ) (cars : List LaneCar) (number i : ℕ) (d : Drawn from picture cars number i) (low : i < length picture) where
   rest : drop i picture ≡ get_or picture i 0 ∷ drop (i + 1) picture
   rest = rw (add-one, drop-cons picture i 0) refl
 
-  pub drawn_skip : get_or picture i 0 ≡ empty_byte → Drawn from picture cars number (i + 1)
+  pub drawn_skip : get_or picture i 0 ≡ point → Drawn from picture cars number (i + 1)
   drawn_skip e = record {
     rises = rises_more 0 i (i + 1) cars (omega arith) d.rises;
     counted = d.counted;
     few = (let a = d.few in omega arith);
-    whole = ap (λ (cs : Lane). cs ++ drawn_lane number (drop (i + 1) picture)) (cells_none i cars d.rises) ∙ append_assoc (cells_of i cars) (None ∷ []) (drawn_lane number (drop (i + 1) picture))
-        ∙ ap (λ (cs : Lane). cells_of i cars ++ cs) (sym (ap (drawn_lane number) rest ∙ cond-true (eqb (get_or picture i 0) empty_byte) _ _ (eq-eqb _ _ e)))
+    whole = ap (λ (cs : Lane). cs ++ lane_of_picture number (drop (i + 1) picture)) (cells_none i cars d.rises) ∙ append_assoc (cells_of i cars) (None ∷ []) (lane_of_picture number (drop (i + 1) picture))
+        ∙ ap (λ (cs : Lane). cells_of i cars ++ cs) (sym (ap (lane_of_picture number) rest ∙ cond-true (eqb (get_or picture i 0) point) _ _ (eq-eqb _ _ e)))
         ∙ d.whole;
   }
 
-  pub drawn_more : (car : LaneCar) → get_or picture i 0 ≢ empty_byte → car ≡ record { number = number; place = i; speed = byte_speed (get_or picture i 0) } → Drawn from picture (cars ++ car ∷ []) (number + 1) (i + 1)
+  pub drawn_more : (car : LaneCar) → get_or picture i 0 ≢ point → car ≡ record { number = number; place = i; speed = speed_of_digit (get_or picture i 0) } → Drawn from picture (cars ++ car ∷ []) (number + 1) (i + 1)
   drawn_more car e is =
       let at_i : car.place ≡ i = ap (λ (c : LaneCar). c.place) is in
       let size = length_push cars car in
@@ -38,9 +38,9 @@ module _ (from : ℕ) (picture : List ℕ) (cars : List LaneCar) (number i : ℕ
         rises = rises_push 0 (i + 1) cars car (rises_more 0 i (i + 1) cars (omega arith) d.rises) (λ k h. let a = rises_high 0 i cars k d.rises h in omega (arith, a, at_i)) (omega arith) (omega (arith, at_i));
         counted = (let a = d.counted in omega (arith, a, size));
         few = (let a = d.few in omega (arith, a, size));
-        whole = ap (λ (cs : Lane). cs ++ drawn_lane (number + 1) (drop (i + 1) picture)) (cells_some i cars car d.rises at_i) ∙ append_assoc (cells_of i cars) (Some (car.number, car.speed) ∷ []) (drawn_lane (number + 1) (drop (i + 1) picture))
-            ∙ ap (λ (cs : Lane). cells_of i cars ++ cs) (ap (λ (c : LaneCar). Some (c.number, c.speed) ∷ drawn_lane (number + 1) (drop (i + 1) picture)) is
-            ∙ ap (λ m. Some (number, byte_speed (get_or picture i 0)) ∷ drawn_lane m (drop (i + 1) picture)) (add-one number)
-            ∙ sym (ap (drawn_lane number) rest ∙ cond-false (eqb (get_or picture i 0) empty_byte) _ _ (ne_eqb _ _ e)))
+        whole = ap (λ (cs : Lane). cs ++ lane_of_picture (number + 1) (drop (i + 1) picture)) (cells_some i cars car d.rises at_i) ∙ append_assoc (cells_of i cars) (Some (car.number, car.speed) ∷ []) (lane_of_picture (number + 1) (drop (i + 1) picture))
+            ∙ ap (λ (cs : Lane). cells_of i cars ++ cs) (ap (λ (c : LaneCar). Some (c.number, c.speed) ∷ lane_of_picture (number + 1) (drop (i + 1) picture)) is
+            ∙ ap (λ m. Some (number, speed_of_digit (get_or picture i 0)) ∷ lane_of_picture m (drop (i + 1) picture)) (add-one number)
+            ∙ sym (ap (lane_of_picture number) rest ∙ cond-false (eqb (get_or picture i 0) point) _ _ (ne_eqb _ _ e)))
             ∙ d.whole;
       }

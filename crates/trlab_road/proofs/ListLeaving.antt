@@ -3,10 +3,10 @@ use Rattle.std.proofs.Common.{◌≡◌, ℕ, ◌+◌, ◌<◌, ◌≤◌, Bool,
 use Rattle.std.proofs.lemmas.Bool.{cases_eq}
 use Rattle.trlab_road.specs.declared.lane_car.LaneCar.{LaneCar}
 use Rattle.trlab_road.specs.Cells.{Cell, at}
-use Rattle.trlab_road.specs.Crossing.{crossing, LaneCrosses, LaneLeaves, lane_crosses_at}
-use Rattle.trlab_road.specs.Lists.{cell_at, cells_of, Rises, no_car, place_of, Sought}
+use Rattle.trlab_road.specs.LaneChange.{cell_after_change, LaneCrosses}
+use Rattle.trlab_road.specs.Stored.{cell_at, cells_of, Rises, no_car, place_of, IsFirstFrom, LaneLeaves, lane_crosses_at}
 use Rattle.trlab_road.proofs.Lists.{length_cells, cells_at, cell_kth, empty_at, kth_of_cell, list_car, rises_high, rises_order, rises_weakly}
-use Rattle.trlab_road.proofs.ListCrossing.{crosses_here}
+use Rattle.trlab_road.proofs.ListLaneChange.{crosses_here}
 use Rattle.trlab_road.proofs.ListPush.{below_push, cell_push, cell_pushed, rises_push}
 
 -- of the first k cars those that cross are in a list
@@ -51,7 +51,7 @@ module _ (n : ℕ) (cars : List LaneCar) (answers : List Bool) (from : ℕ) (r :
       others = l.others;
     }
 
-  sought_kth : (x k : ℕ) → k < length cars → place_of cars k ≡ x → Sought cars x k
+  sought_kth : (x k : ℕ) → k < length cars → place_of cars k ≡ x → IsFirstFrom cars x k
   sought_kth x k low e = record {
     within = omega arith;
     before = λ m h on. let a = rises_order 0 n cars m k r h low in omega (arith, a, e);
@@ -91,5 +91,5 @@ crosses_from n oc bc own beside coming new crosses leaves = record {
   each_cell = λ x h.
       let inside : x < n = rw length_cells at h in
       let there : x < length (cells_of n beside) = rw length_cells inside in
-      crosses.each_cell x h ∙ ap (crossing (oc x) true (at (cells_of n own) x)) (leaves.each_cell x there);
+      crosses.each_cell x h ∙ ap (cell_after_change (oc x) true (at (cells_of n own) x)) (leaves.each_cell x there);
 }

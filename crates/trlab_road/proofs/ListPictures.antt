@@ -3,17 +3,17 @@ use Rattle.std.proofs.Common.{Some, ◌≡◌, ℕ, zero, suc, ◌+◌, ◌<◌,
 use Rattle.std.specs.List.{range_with_len}
 use Rattle.std.proofs.lemmas.List.{map-set, get_or-take, take_more, length-take-le}
 use Rattle.trlab_road.specs.declared.lane_car.LaneCar.{LaneCar}
-use Rattle.trlab_road.specs.Pictures.{cell_byte, empty_byte, speed_byte, picture}
-use Rattle.trlab_road.specs.Lists.{cell_at, cells_of, Rises, no_car, place_of}
+use Rattle.trlab_road.specs.Pictures.{character, point, digit, picture}
+use Rattle.trlab_road.specs.Stored.{cell_at, cells_of, Rises, no_car, place_of}
 use Rattle.trlab_road.proofs.Lists.{rises_high, rises_order}
 use Rattle.trlab_road.proofs.ListPush.{cells_push}
 
-pub empty_picture : (a n : ℕ) → replicate n empty_byte ≡ map cell_byte (map (cell_at []) (range_with_len a n))
+pub empty_picture : (a n : ℕ) → replicate n point ≡ map character (map (cell_at []) (range_with_len a n))
 empty_picture a zero = refl
-empty_picture a (suc n) = ap (λ bytes. empty_byte ∷ bytes) (empty_picture (a + 1) n)
+empty_picture a (suc n) = ap (λ bytes. point ∷ bytes) (empty_picture (a + 1) n)
 
 -- the picture with one more car
-pub picture_more : (n : ℕ) (cars : List LaneCar) (k b : ℕ) → Rises 0 n cars → k < length cars → b ≡ speed_byte (get_or cars k no_car).speed
+pub picture_more : (n : ℕ) (cars : List LaneCar) (k b : ℕ) → Rises 0 n cars → k < length cars → b ≡ digit (get_or cars k no_car).speed
     → set (picture (cells_of n (take k cars))) (place_of cars k) b ≡ picture (cells_of n (take (k + 1) cars))
 picture_more n cars k b r low is =
     let car = get_or cars k no_car in
@@ -21,6 +21,6 @@ picture_more n cars k b r low is =
     let i : j < k = (let e = length-take-le k cars (omega arith) in omega (arith, e, h)) in
     subst (λ (c : LaneCar). c.place < car.place) (sym (get_or-take k cars j no_car i)) (rises_order 0 n cars j k r i low) in
     ap (set (picture (cells_of n (take k cars))) car.place) is
-    ∙ sym (map-set cell_byte (cells_of n (take k cars)) car.place (Some (car.number, car.speed)))
-    ∙ ap (map cell_byte) (sym (cells_push n (take k cars) car past (rises_high 0 n cars k r low)))
+    ∙ sym (map-set character (cells_of n (take k cars)) car.place (Some (car.number, car.speed)))
+    ∙ ap (map character) (sym (cells_push n (take k cars) car past (rises_high 0 n cars k r low)))
     ∙ ap (λ cs. picture (cells_of n cs)) (sym (take_more cars k no_car low))

@@ -9,14 +9,15 @@ use Rattle.trlab_road.specs.declared.car.Car.{Car}
 use Rattle.trlab_road.specs.declared.lane_car.LaneCar.{LaneCar}
 use Rattle.trlab_road.specs.Cells.{Lane, Cells, at, cell, cars, lane_cars}
 use Rattle.trlab_road.specs.Standing.{standing, standing_from, rank}
-use Rattle.trlab_road.specs.Motion.{in_order, Allowed, LaneFits, LaneMoves, Moves, lane_answer, answer_at}
+use Rattle.trlab_road.specs.Motion.{in_order, MayMove, LaneFits, LaneMoves, Moves, answer_at}
 use Rattle.trlab_road.proofs.MotionInOrder.{allowed_fits}
 use Rattle.trlab_road.proofs.RoadCars.{in_order_kth, cars_more, cars_within}
-use Rattle.trlab_road.specs.Crossing.{LaneCrosses, Crosses, lane_crosses_at, crosses_at}
-use Rattle.trlab_road.specs.Lists.{lists_of, cells_of, Rises, no_car, place_of, on, lanes_from, list_at, Sorted, Kept, FoundAt, ListsFit, ListsMove}
+use Rattle.trlab_road.specs.LaneChange.{LaneCrosses, Crosses, crosses_at}
+use Rattle.trlab_road.specs.Stored.{lists_of, cells_of, Rises, no_car, place_of, car_on, lanes_from, list_at, AreSorted, Stored, IsFoundAt, ListsFit, ListsMove, lane_answer, lane_crosses_at}
 use Rattle.trlab_road.proofs.StandingOrder.{car_of, standing_rank, rank_below_cars, length-standing_lanes}
 use Rattle.trlab_road.proofs.Lists.{length_cells, at_kth, cars_of_list, rises_high, standing_list}
 use Rattle.trlab_road.proofs.ListMotion.{rank_kth}
+use Rattle.trlab_road.proofs.Ring.{car_in}
 
 -- a lane is made of its list
 pub lane_from : (n : ℕ) (lists : List (Vec LaneCar Global)) (l : ℕ) → l < length lists → get_or (lanes_from n lists) l [] ≡ cells_of n (list_at lists l)
@@ -24,11 +25,11 @@ lane_from n [] l h = absurd (omega arith)
 lane_from n (v ∷ lists) zero h = refl
 lane_from n (v ∷ lists) (suc l) h = lane_from n lists l (omega arith)
 
-pub sorted_rest : (n : ℕ) (v : Vec LaneCar Global) (lists : List (Vec LaneCar Global)) → Sorted n (v ∷ lists) → Sorted n lists
+pub sorted_rest : (n : ℕ) (v : Vec LaneCar Global) (lists : List (Vec LaneCar Global)) → AreSorted n (v ∷ lists) → AreSorted n lists
 sorted_rest n v lists s = record { rises = λ l h. s.rises (suc l) (omega arith) }
 
 -- as many cars as the lists have together, and so of the first lists
-pub counted : (n : ℕ) (lists : List (Vec LaneCar Global)) → Sorted n lists → sum_by lane_cars (lanes_from n lists) ≡ sum_by length (lists_of lists)
+pub counted : (n : ℕ) (lists : List (Vec LaneCar Global)) → AreSorted n lists → sum_by lane_cars (lanes_from n lists) ≡ sum_by length (lists_of lists)
 counted n [] s = refl
 counted n (v ∷ lists) s =
     let a = sum_by-cons lane_cars (cells_of n v.items) (lanes_from n lists) in
@@ -37,7 +38,7 @@ counted n (v ∷ lists) s =
     let e = counted n lists (sorted_rest n v lists s) in
     omega (arith, a, b, d, e)
 
-pub counted_before : (n : ℕ) (lists : List (Vec LaneCar Global)) (l : ℕ) → Sorted n lists → sum_by lane_cars (take l (lanes_from n lists)) ≡ sum_by length (take l (lists_of lists))
+pub counted_before : (n : ℕ) (lists : List (Vec LaneCar Global)) (l : ℕ) → AreSorted n lists → sum_by lane_cars (take l (lanes_from n lists)) ≡ sum_by length (take l (lists_of lists))
 counted_before n [] zero s = refl
 counted_before n [] (suc l) s = refl
 counted_before n (v ∷ lists) zero s = refl
@@ -52,7 +53,7 @@ pub one_list_more : (lists : List (Vec LaneCar Global)) (l : ℕ) → l < length
 one_list_more lists l h = rw (take_more (lists_of lists) l [] (rw length-map h)) (sum_by_push length (take l (lists_of lists)) (list_at lists l))
 
 -- one or two lists: an index is one of the first list, or else one of the second
-pub found_second : (lists : List (Vec LaneCar Global)) (k : ℕ) → length lists ≤ MOST_LANES → k < sum_by length (lists_of lists) → length (list_at lists 0) ≤ k → FoundAt lists k 1 (k - length (list_at lists 0))
+pub found_second : (lists : List (Vec LaneCar Global)) (k : ℕ) → length lists ≤ MOST_LANES → k < sum_by length (lists_of lists) → length (list_at lists 0) ≤ k → IsFoundAt lists k 1 (k - length (list_at lists 0))
 found_second [] k few h past = absurd (omega arith)
 found_second (v ∷ []) k few h past = let a = sum_by-cons length v.items [] in absurd (omega (arith, a, h, past))
 found_second (v ∷ w ∷ []) k few h past =
@@ -63,7 +64,7 @@ found_second (v ∷ w ∷ []) k few h past =
 found_second (v ∷ w ∷ u ∷ lists) k few h past = absurd (omega arith)
 
 -- the car that is found stands at its place, and is the k-th
-module _ (n : ℕ) (lists : List (Vec LaneCar Global)) (limit k l i : ℕ) (s : Sorted n lists) (f : FoundAt lists k l i) where
+module _ (n : ℕ) (lists : List (Vec LaneCar Global)) (limit k l i : ℕ) (s : AreSorted n lists) (f : IsFoundAt lists k l i) where
   abbrev road : Cells
   road = record { limit = limit; lanes = lanes_from n lists }
 
@@ -83,12 +84,12 @@ module _ (n : ℕ) (lists : List (Vec LaneCar Global)) (limit k l i : ℕ) (s : 
       let q = counted_before n lists l s in
       omega (arith, e, o, q)
 
-  pub found_standing : slice_get (standing road) k ≡ Some (on l car)
+  pub found_standing : slice_get (standing road) k ≡ Some (car_on l car)
   unfolding car_of
   found_standing =
       let below : k < cars road = subst (λ m. m < cars road) found_rank (rank_below_cars road l car.place (car.number, car.speed) found_cell) in
-      slice_get-get_or (standing road) k (on 0 no_car) (rw length-standing_lanes below)
-      ∙ ap Some (ap (λ m. get_or (standing road) m (on 0 no_car)) (sym found_rank) ∙ standing_rank road l car.place car.number car.speed (on 0 no_car) found_cell)
+      slice_get-get_or (standing road) k (car_on 0 no_car) (rw length-standing_lanes below)
+      ∙ ap Some (ap (λ m. get_or (standing road) m (car_on 0 no_car)) (sym found_rank) ∙ standing_rank road l car.place car.number car.speed (car_on 0 no_car) found_cell)
 
 -- the list that an index of the lists reads
 pub list_read : (lists : List (Vec LaneCar Global)) (l : ℕ) (v : Vec LaneCar Global) → l < length lists → v ≡ get_or lists l v → v.items ≡ list_at lists l
@@ -124,14 +125,14 @@ two_written (a ∷ []) v w two = absurd (omega (arith, two))
 two_written (a ∷ b ∷ []) v w two = refl
 two_written (a ∷ b ∷ d ∷ old) v w two = absurd (omega (arith, two))
 
-pub two_sorted : (n : ℕ) (v w : Vec LaneCar Global) → Rises 0 n v.items → Rises 0 n w.items → Sorted n (v ∷ w ∷ [])
+pub two_sorted : (n : ℕ) (v w : Vec LaneCar Global) → Rises 0 n v.items → Rises 0 n w.items → AreSorted n (v ∷ w ∷ [])
 two_sorted n v w first second = record { rises = below_more (λ l. Rises 0 n (list_at (v ∷ w ∷ []) l)) 1 (below_more (λ l. Rises 0 n (list_at (v ∷ w ∷ []) l)) 0 (λ l h. absurd (omega (arith, h))) first) second }
 
 pub some_list : (lists : List (Vec LaneCar Global)) (k : ℕ) → k < sum_by length (lists_of lists) → 0 < length lists
 some_list [] k h = absurd (omega arith)
 some_list (v ∷ lists) k h = omega arith
 
-pub found_later : (lists : List (Vec LaneCar Global)) (k m : ℕ) → length lists ≤ MOST_LANES → k < sum_by length (lists_of lists) → m ≡ length (list_at lists 0) → m ≤ k → FoundAt lists k 1 (k - m)
+pub found_later : (lists : List (Vec LaneCar Global)) (k m : ℕ) → length lists ≤ MOST_LANES → k < sum_by length (lists_of lists) → m ≡ length (list_at lists 0) → m ≤ k → IsFoundAt lists k 1 (k - m)
 found_later lists k m few h e past = rw e (found_second lists k few h (omega arith))
 
 -- a sorted list has no more cars than cells
@@ -140,18 +141,18 @@ rises_length x n [] r le = omega arith
 rises_length x n (car ∷ cars) r le = let low = r.0 in let high = r.1 in let k = rises_length (suc car.place) n cars r.2 (omega arith) in omega (arith, low, k)
 
 -- a road that keeps its lists sorted
-module _ (n : ℕ) (lists : List (Vec LaneCar Global)) (limit : ℕ) (kept : Kept n lists (record { limit = limit; lanes = lanes_from n lists })) where
+module _ (n : ℕ) (lists : List (Vec LaneCar Global)) (limit : ℕ) (kept : Stored n lists (record { limit = limit; lanes = lanes_from n lists })) where
   pub lanes_count : length (lanes_from n lists) ≡ length lists
   lanes_count = length-map lists (λ (v : Vec LaneCar Global). cells_of n v.items)
 
   pub length_first : length (get_or (lanes_from n lists) 0 []) ≡ n
-  length_first = let some = kept.legal.some_lane in ap length (lane_from n lists 0 (omega (arith, some, lanes_count))) ∙ length_cells n (list_at lists 0)
+  length_first = let some = kept.legal.shape.lanes.some_lane in ap length (lane_from n lists 0 (omega (arith, some, lanes_count))) ∙ length_cells n (list_at lists 0)
 
   pub few_cells : n ≤ GREATEST_LENGTH
-  few_cells = let a = kept.legal.cells_high in let b = length_first in omega (arith, a, b)
+  few_cells = let a = kept.legal.shape.cells.few_cells in let b = length_first in omega (arith, a, b)
 
   pub few_lists : length lists ≤ MOST_LANES
-  few_lists = let a = kept.legal.two_lanes in let b = lanes_count in omega (arith, a, b)
+  few_lists = let a = kept.legal.shape.lanes.few_lanes in let b = lanes_count in omega (arith, a, b)
 
   pub few_cars : (l : ℕ) → l < length lists → length (list_at lists l) ≤ GREATEST_LENGTH
   few_cars l h = let a = rises_length 0 n (list_at lists l) (kept.sorted.rises l h) (omega arith) in let b = few_cells in omega (arith, a, b)
@@ -160,37 +161,37 @@ module _ (n : ℕ) (lists : List (Vec LaneCar Global)) (limit : ℕ) (kept : Kep
   below_counted k low = let a = counted n lists kept.sorted in omega (arith, a, low)
 
 -- no car is faster than the greatest limit
-pub slow_list : (n : ℕ) (lists : List (Vec LaneCar Global)) (limit : ℕ) → Kept n lists (record { limit = limit; lanes = lanes_from n lists })
+pub slow_list : (n : ℕ) (lists : List (Vec LaneCar Global)) (limit : ℕ) → Stored n lists (record { limit = limit; lanes = lanes_from n lists })
     → (l : ℕ) → l < length lists → (k : ℕ) → k < length (list_at lists l) → (get_or (list_at lists l) k no_car).speed ≤ GREATEST_LIMIT
 slow_list n lists limit kept l on k low =
     let car = get_or (list_at lists l) k no_car in
     let there = ap (λ (lane : Lane). at lane car.place) (lane_from n lists l on) ∙ at_kth n (list_at lists l) k (kept.sorted.rises l on) low in
-    let a = kept.legal.within_limit l car.place car.number car.speed there in
-    let b = kept.legal.limit_high in
+    let a = kept.legal.within_limit (car_in l car.place car.number car.speed) there in
+    let b = kept.legal.shape.limit.low_limit in
     omega (arith, a, b)
 
 some_same : {a b : Car} → Some a ≡ Some b → a ≡ b
 some_same e = cc
 
 -- what a function of lane and place gives for the car that is found
-module _ {X : Type 0} (F : ℕ → ℕ → X) (n : ℕ) (lists : List (Vec LaneCar Global)) (limit k l i : ℕ) (s : Sorted n lists) (f : FoundAt lists k l i) (v : X) (is : v ≡ F l (place_of (list_at lists l) i)) where
+module _ {X : Type 0} (F : ℕ → ℕ → X) (n : ℕ) (lists : List (Vec LaneCar Global)) (limit k l i : ℕ) (s : AreSorted n lists) (f : IsFoundAt lists k l i) (v : X) (is : v ≡ F l (place_of (list_at lists l) i)) where
   pub found_by : (car : Car) → slice_get (standing (record { limit = limit; lanes = lanes_from n lists })) k ≡ Some car → v ≡ F car.lane car.place
   found_by c h = is ∙ ap (λ (c : Car). F c.lane c.place) (some_same (sym (found_standing n lists limit k l i s f) ∙ h))
 
   pub found_in_order : (e : X) → v ≡ get_or (in_order F (record { limit = limit; lanes = lanes_from n lists })) k e
-  found_in_order e = is ∙ sym (in_order_kth F (record { limit = limit; lanes = lanes_from n lists }) k (on l (get_or (list_at lists l) i no_car)) e (found_standing n lists limit k l i s f))
+  found_in_order e = is ∙ sym (in_order_kth F (record { limit = limit; lanes = lanes_from n lists }) k (car_on l (get_or (list_at lists l) i no_car)) e (found_standing n lists limit k l i s f))
 
 -- counts of cars, by the lengths of the lists
-pub list_count : (n : ℕ) (lists : List (Vec LaneCar Global)) (l : ℕ) → Sorted n lists → l < length lists → lane_cars (get_or (lanes_from n lists) l []) ≡ length (list_at lists l)
+pub list_count : (n : ℕ) (lists : List (Vec LaneCar Global)) (l : ℕ) → AreSorted n lists → l < length lists → lane_cars (get_or (lanes_from n lists) l []) ≡ length (list_at lists l)
 list_count n lists l s h = ap lane_cars (lane_from n lists l h) ∙ cars_of_list n (list_at lists l) (s.rises l h)
 
 on_lanes : (n : ℕ) (lists : List (Vec LaneCar Global)) (l : ℕ) → l < length lists → l < length (lanes_from n lists)
 on_lanes n lists l h = rw length-map h
 
-pub list_counted : (n : ℕ) (lists : List (Vec LaneCar Global)) (l : ℕ) → Sorted n lists → l < length lists → sum_by lane_cars (take (l + 1) (lanes_from n lists)) ≡ sum_by lane_cars (take l (lanes_from n lists)) + length (list_at lists l)
+pub list_counted : (n : ℕ) (lists : List (Vec LaneCar Global)) (l : ℕ) → AreSorted n lists → l < length lists → sum_by lane_cars (take (l + 1) (lanes_from n lists)) ≡ sum_by lane_cars (take l (lanes_from n lists)) + length (list_at lists l)
 list_counted n lists l s h = let a = cars_more (lanes_from n lists) l (on_lanes n lists l h) in let b = list_count n lists l s h in omega (arith, a, b)
 
-pub list_within : (n : ℕ) (lists : List (Vec LaneCar Global)) (l : ℕ) → Sorted n lists → l < length lists → sum_by lane_cars (take l (lanes_from n lists)) + length (list_at lists l) ≤ sum_by lane_cars (lanes_from n lists)
+pub list_within : (n : ℕ) (lists : List (Vec LaneCar Global)) (l : ℕ) → AreSorted n lists → l < length lists → sum_by lane_cars (take l (lanes_from n lists)) + length (list_at lists l) ≤ sum_by lane_cars (lanes_from n lists)
 list_within n lists l s h = let a = cars_within (lanes_from n lists) l (on_lanes n lists l h) in let b = list_count n lists l s h in omega (arith, a, b)
 
 -- lists after a push
@@ -226,7 +227,7 @@ crosses_two n limit (v ∷ w ∷ []) a b answers two first second = record { sam
 crosses_two n limit (v ∷ w ∷ u ∷ lists) a b answers two first second = absurd (omega arith)
 
 -- from the lists to the road: the motion
-pub lists_fit : (n limit : ℕ) (lists : List (Vec LaneCar Global)) (answers : List ℕ) → Allowed (record { limit = limit; lanes = lanes_from n lists }) answers → ListsFit n lists answers
+pub lists_fit : (n limit : ℕ) (lists : List (Vec LaneCar Global)) (answers : List ℕ) → MayMove (record { limit = limit; lanes = lanes_from n lists }) answers → ListsFit n lists answers
 lists_fit n limit lists answers allowed = record {
   each_lane = λ l h. subst (λ (lane : Lane). LaneFits (lane_answer lane answers (sum_by lane_cars (take l (lanes_from n lists)))) lane) (lane_from n lists l h)
       ((allowed_fits (record { limit = limit; lanes = lanes_from n lists }) answers allowed).each_lane l (on_lanes n lists l h));
@@ -242,14 +243,14 @@ lists_move n limit lists next answers m = record {
       (subst (λ (lane : Lane). LaneMoves (lane_answer lane answers (sum_by lane_cars (take l (lanes_from n lists)))) lane (cells_of n (list_at next l))) (sym (lane_from n lists l on)) (m.each_lane l on));
 }
 
-pub allowed_count : (n limit : ℕ) (lists : List (Vec LaneCar Global)) (answers : List ℕ) → Allowed (record { limit = limit; lanes = lanes_from n lists }) answers → sum_by lane_cars (lanes_from n lists) ≤ length answers
+pub allowed_count : (n limit : ℕ) (lists : List (Vec LaneCar Global)) (answers : List ℕ) → MayMove (record { limit = limit; lanes = lanes_from n lists }) answers → sum_by lane_cars (lanes_from n lists) ≤ length answers
 allowed_count n limit lists answers allowed = let e = allowed.one_each in omega (arith, e)
 
 -- a sorted list is told by the cells that it makes
 abbrev off : Car → LaneCar
 off car = record { number = car.number; place = car.place; speed = car.speed }
 
-off_on : (cars : List LaneCar) → map off (map (on 0) cars) ≡ cars
+off_on : (cars : List LaneCar) → map off (map (car_on 0) cars) ≡ cars
 off_on [] = refl
 off_on (car ∷ cars) = ap (λ cs. car ∷ cs) (off_on cars)
 

@@ -4,11 +4,11 @@ use Rattle.std.specs.Prelude.{is_none}
 use Rattle.std.proofs.lemmas.Bool.{cases_eq, cond-true, cond-false}
 use Rattle.trlab_road.specs.declared.lane_car.LaneCar.{LaneCar}
 use Rattle.trlab_road.specs.Gaps.{ahead, behind, clear_cells, gap, side, sidegap, sideback}
-use Rattle.trlab_road.specs.Lists.{cells_of, Rises, place_of, Parted, Sought}
+use Rattle.trlab_road.specs.Stored.{cells_of, Rises, place_of, IsParted, IsFirstFrom}
 use Rattle.trlab_road.proofs.Lists.{length_cells, cells_at, rises_order}
-use Rattle.trlab_road.proofs.ListCrossing.{sought_here, sought_none}
+use Rattle.trlab_road.proofs.ListLaneChange.{sought_here, sought_none}
 
-module _ (n : ℕ) (cars : List LaneCar) (x k : ℕ) (r : Rises 0 n cars) (inside : x < n) (s : Sought cars x k) where
+module _ (n : ℕ) (cars : List LaneCar) (x k : ℕ) (r : Rises 0 n cars) (inside : x < n) (s : IsFirstFrom cars x k) where
   -- the side cell is taken
   module _ (low : k < length cars) (e : place_of cars k ≡ x) where
     pub taken : side (cells_of n cars) x ≡ false
@@ -38,5 +38,5 @@ module _ (n : ℕ) (cars : List LaneCar) (x k : ℕ) (r : Rises 0 n cars) (insid
           | inr more ↦ let a = s.from k (omega arith) (omega arith) in let b = rises_order 0 n cars k m r (omega arith) on in omega (arith, a, b)
         ]
 
-    pub free_parted : Parted cars x k
+    pub free_parted : IsParted cars x k
     free_parted = record { before = λ m h on. let a = s.before m h on in omega (arith, a); after = free_past }

@@ -10,7 +10,7 @@ use Rattle.trlab_road.specs.declared.car.Car.{Car}
 use Rattle.trlab_road.specs.declared.lane_car.LaneCar.{LaneCar}
 use Rattle.trlab_road.specs.Cells.{Cell, Lane, at, lane_cars}
 use Rattle.trlab_road.specs.Standing.{standing_from}
-use Rattle.trlab_road.specs.Lists.{cell_at, cells_of, Rises, no_car, place_of, on}
+use Rattle.trlab_road.specs.Stored.{cell_at, cells_of, Rises, no_car, place_of, car_on}
 use Rattle.trlab_road.proofs.StandingOrder.{length-standing_from}
 
 -- the lane has so many cells, and at each place what the list has there
@@ -46,11 +46,11 @@ step_some : (l s : ℕ) (c : Cell) (cells : Lane) (number speed : ℕ) → c ≡
     → standing_from l s (c ∷ cells) ≡ record { number = number; lane = l; place = s; speed = speed } ∷ standing_from l (suc s) cells
 step_some l s c cells number speed e = ap (λ d. standing_from l s (d ∷ cells)) e
 
-car_on : (l s : ℕ) (car : LaneCar) → car.place ≡ s → ◌≡◌ {A = Car} (record { number = car.number; lane = l; place = s; speed = car.speed }) (on l car)
-car_on l s car e = ap (λ k. record { number = car.number; lane = l; place = k; speed = car.speed }) (sym e)
+same_car_on : (l s : ℕ) (car : LaneCar) → car.place ≡ s → ◌≡◌ {A = Car} (record { number = car.number; lane = l; place = s; speed = car.speed }) (car_on l car)
+same_car_on l s car e = ap (λ k. record { number = car.number; lane = l; place = k; speed = car.speed }) (sym e)
 
 -- the lane that a sorted list makes has these cars in standing order
-pub standing_cells : (l s m n : ℕ) (cars : List LaneCar) → s + m ≡ n → Rises s n cars → standing_from l s (map (cell_at cars) (range_with_len s m)) ≡ map (on l) cars
+pub standing_cells : (l s m n : ℕ) (cars : List LaneCar) → s + m ≡ n → Rises s n cars → standing_from l s (map (cell_at cars) (range_with_len s m)) ≡ map (car_on l) cars
 standing_cells l s zero n [] size r = refl
 standing_cells l s zero n (car ∷ cars) size r = let a = r.0 in let b = r.1 in absurd (omega arith)
 standing_cells l s (suc m) n [] size r =
@@ -61,10 +61,10 @@ standing_cells l s (suc m) n (car ∷ cars) size r =
           let later : Rises (suc s) n cars = subst (λ k. Rises (suc k) n cars) here r.2 in
           let rest = map (cell_at (car ∷ cars)) (range_with_len (s + 1) m) in
           step_some l s (cell_at (car ∷ cars) s) rest car.number car.speed (cell_here car cars s here)
-          ∙ ap (λ c. c ∷ standing_from l (suc s) rest) (car_on l s car here)
-          ∙ ap (λ cs. on l car ∷ standing_from l (suc s) cs) (map_range_same (cell_at (car ∷ cars)) (cell_at cars) (s + 1) m (λ y k. cell_other car cars y (λ e. omega arith)))
-          ∙ ap (λ k. on l car ∷ standing_from l (suc s) (map (cell_at cars) (range_with_len k m))) (add-one s)
-          ∙ ap (λ cs. on l car ∷ cs) (standing_cells l (suc s) m n cars (omega arith) later)
+          ∙ ap (λ c. c ∷ standing_from l (suc s) rest) (same_car_on l s car here)
+          ∙ ap (λ cs. car_on l car ∷ standing_from l (suc s) cs) (map_range_same (cell_at (car ∷ cars)) (cell_at cars) (s + 1) m (λ y k. cell_other car cars y (λ e. omega arith)))
+          ∙ ap (λ k. car_on l car ∷ standing_from l (suc s) (map (cell_at cars) (range_with_len k m))) (add-one s)
+          ∙ ap (λ cs. car_on l car ∷ cs) (standing_cells l (suc s) m n cars (omega arith) later)
       | inr other ↦
           let low = r.0 in
           let past : Rises (suc s) n (car ∷ cars) = ((let k : suc s ≤ car.place = omega arith in k), r.1, r.2) in
@@ -73,12 +73,12 @@ standing_cells l s (suc m) n (car ∷ cars) size r =
           ∙ standing_cells l (suc s) m n (car ∷ cars) (omega arith) past
     ]
 
-pub standing_list : (l n : ℕ) (cars : List LaneCar) → Rises 0 n cars → standing_from l 0 (cells_of n cars) ≡ map (on l) cars
+pub standing_list : (l n : ℕ) (cars : List LaneCar) → Rises 0 n cars → standing_from l 0 (cells_of n cars) ≡ map (car_on l) cars
 standing_list l n cars r = standing_cells l 0 n n cars (let e : 0 + n ≡ n = omega arith in e) r
 
 -- as many cars as the list has
 pub cars_of_list : (n : ℕ) (cars : List LaneCar) → Rises 0 n cars → lane_cars (cells_of n cars) ≡ length cars
-cars_of_list n cars r = sym (length-standing_from 0 0 (cells_of n cars)) ∙ ap length (standing_list 0 n cars r) ∙ length-map cars (on 0)
+cars_of_list n cars r = sym (length-standing_from 0 0 (cells_of n cars)) ∙ ap length (standing_list 0 n cars r) ∙ length-map cars (car_on 0)
 
 -- places of a sorted list
 pub rises_low : (x n : ℕ) (cars : List LaneCar) (k : ℕ) → Rises x n cars → k < length cars → x ≤ place_of cars k

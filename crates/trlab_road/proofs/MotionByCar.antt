@@ -7,7 +7,7 @@ use Rattle.std.proofs.lemmas.Option.{some_pair_parts}
 use Rattle.trlab_road.proofs.Ring.{Apart}
 use Rattle.trlab_road.specs.Cells.{Lane, at}
 use Rattle.trlab_road.specs.Gaps.{ahead}
-use Rattle.trlab_road.specs.Motion.{CameFrom, LaneMoves}
+use Rattle.trlab_road.specs.Motion.{ComesFrom, LaneMoves}
 use Rattle.trlab_road.proofs.Ring.{inside}
 
 -- the cars of the first places of a lane have moved, and nothing else stands in the new lane
@@ -16,7 +16,7 @@ pub record MovedBelow (answer : ℕ → ℕ) (old new : Lane) (i : ℕ) : Type 0
   pub arrived : (x number speed : ℕ) → x < i → at old x ≡ Some (number, speed)
       → at new (ahead (length old) x (answer x)) ≡ Some (number, answer x)
   pub nothing_else : (y number speed : ℕ) → at new y ≡ Some (number, speed)
-      → (x : ℕ) × ((before : ℕ) × ((x < i) × CameFrom answer old y number speed x before))
+      → (x : ℕ) × ((before : ℕ) × ((x < i) × ComesFrom answer old y number speed x before))
 
 -- two equal cells that hold cars hold the same car
 same_parts : (a b u v : ℕ) → ◌≡◌ {A = Option (ℕ × ℕ)} (Some (a, u)) (Some (b, v)) → (a ≡ b) × (u ≡ v)

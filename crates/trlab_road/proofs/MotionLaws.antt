@@ -4,11 +4,11 @@ use Rattle.std.specs.Prelude.{is_some, sum_by}
 use Rattle.std.proofs.lemmas.Bool.{cases_lt}
 use Rattle.std.proofs.lemmas.List.{get_or_past, ext_get_or, get_or-set_other}
 use Rattle.std.proofs.lemmas.List.Sums.{sum_by-set, sum_by-cons}
-use Rattle.trlab_road.proofs.Ring.{Apart}
+use Rattle.trlab_road.proofs.Ring.{Apart, car_in}
 use Rattle.trlab_road.specs.Cells.{Cell, Lane, Cells, at, cell, lane_of, cars, lane_cars}
 use Rattle.trlab_road.specs.Gaps.{ahead}
-use Rattle.trlab_road.specs.Legal.{Legal}
-use Rattle.trlab_road.specs.Motion.{LaneMoves, Moves, LaneFits, Fits, LaneClean, CleanMotion}
+use Rattle.trlab_road.specs.Legal.{IsLegal, LanesFit, LengthFits, LimitFits}
+use Rattle.trlab_road.specs.Motion.{LaneMoves, Moves, LaneFits, Fits, CleanLaneMotion, CleanMotion}
 use Rattle.trlab_road.proofs.Ring.{inside, clear_within_gap, apart_within_gaps}
 
 -- the motion phase leaves one road only
@@ -74,7 +74,7 @@ pair_path e f = cc
 
 -- the motion of a lane is clean where each answer is within its gap
 pub lane_clean : (answer : ℕ → ℕ) (old new : Lane) → LaneMoves answer old new → LaneFits answer old
-    → LaneClean old new
+    → CleanLaneMotion old new
 lane_clean answer old new m within = record {
   same_count = lane_same_count answer old new m (apart_within_gaps answer old within);
   none_lost = λ x number before h. (answer x, record { stands = m.arrives x number before h; over_empty = clear_within_gap old x (answer x) (within.gaps x number before h) });
@@ -103,7 +103,7 @@ same_sum (x ∷ xs) (y ∷ ys) e h =
     let b = sum_by-cons lane_cars y ys in
     omega arith
 
-module _ (answer : ℕ → ℕ → ℕ) (old new : Cells) (legal : Legal old) (m : Moves answer old new) (within : Fits answer old) where
+module _ (answer : ℕ → ℕ → ℕ) (old new : Cells) (legal : IsLegal old) (m : Moves answer old new) (within : Fits answer old) where
   pub moves_clean : CleanMotion old new
   moves_clean = record {
     same_lanes = m.same_lanes;
@@ -118,28 +118,27 @@ module _ (answer : ℕ → ℕ → ℕ) (old new : Cells) (legal : Legal old) (m
   lane_moves l x car h = m.each_lane l (let k = on_lane new l x car h in let e = m.same_lanes in omega arith)
 
   -- the motion phase keeps a road legal
-  pub moved_legal : Legal new
+  pub moved_legal : IsLegal new
   moved_legal =
-      let first = m.each_lane 0 legal.some_lane in
+      let first = m.each_lane 0 legal.shape.lanes.some_lane in
       record {
-        some_lane = rw m.same_lanes legal.some_lane;
-        two_lanes = rw m.same_lanes legal.two_lanes;
-        limit_low = rw m.same_limit legal.limit_low;
-        limit_high = rw m.same_limit legal.limit_high;
-        some_cell = rw first.same_length legal.some_cell;
-        cells_high = rw first.same_length legal.cells_high;
-        equal_lanes = λ l h. let k : l < length old.lanes = rw m.same_lanes at h in (m.each_lane l k).same_length ∙ legal.equal_lanes l k ∙ sym first.same_length;
-        within_limit = λ l x number speed h.
-            let came = (lane_moves l x (number, speed) h).nothing_else x number speed h in
-            let bound = within.limits l came.0 number came.1.0 came.1.1.was in
+        shape = record {
+          lanes = subst LanesFit (sym m.same_lanes) legal.shape.lanes;
+          cells = subst LengthFits (sym first.same_length) legal.shape.cells;
+          equal = λ l h. let k : l < length old.lanes = rw m.same_lanes at h in (m.each_lane l k).same_length ∙ legal.shape.equal l k ∙ sym first.same_length;
+          limit = subst LimitFits (sym m.same_limit) legal.shape.limit;
+        };
+        within_limit = λ car h.
+            let came = (lane_moves car.lane car.place (car.number, car.speed) h).nothing_else car.place car.number car.speed h in
+            let bound = within.within_limit (car_in car.lane came.0 car.number came.1.0) came.1.1.was in
             rw (m.same_limit, came.1.1.at_speed) bound;
-        numbered = λ l x number speed h.
-            let came = (lane_moves l x (number, speed) h).nothing_else x number speed h in
-            rw moves_same_count (legal.numbered l came.0 number came.1.0 came.1.1.was);
-        once = λ l x k y number u v h g.
-            let a = (lane_moves l x (number, u) h).nothing_else x number u h in
-            let b = (lane_moves k y (number, v) g).nothing_else y number v g in
-            let same = legal.once l a.0 k b.0 number a.1.0 b.1.0 a.1.1.was b.1.1.was in
+        numbered = λ car h.
+            let came = (lane_moves car.lane car.place (car.number, car.speed) h).nothing_else car.place car.number car.speed h in
+            rw moves_same_count (legal.numbered (car_in car.lane came.0 car.number came.1.0) came.1.1.was);
+        once = λ car other h g same_number.
+            let a = (lane_moves car.lane car.place (car.number, car.speed) h).nothing_else car.place car.number car.speed h in
+            let b = (lane_moves other.lane other.place (other.number, other.speed) g).nothing_else other.place other.number other.speed g in
+            let same = legal.once (car_in car.lane a.0 car.number a.1.0) (car_in other.lane b.0 other.number b.1.0) a.1.1.was b.1.1.was same_number in
             (same.0, a.1.1.reaches ∙ ap (λ (p : ℕ × ℕ). ahead (length (lane_of old p.0)) p.1 (answer p.0 p.1)) (pair_path same.0 same.1) ∙ sym b.1.1.reaches);
       }
 

@@ -5,8 +5,8 @@ use Rattle.std.proofs.lemmas.Bool.{cases_lt, cases_eq, cases_order}
 use Rattle.std.proofs.lemmas.List.{length-map, get_or-replicate, get_or_append_left, get_or-append_right}
 use Rattle.std.proofs.lemmas.List.Sums.{sum_by-cons}
 use Rattle.trlab_road.specs.declared.car.Car.{Car}
-use Rattle.trlab_road.specs.Cells.{Stands, Cell, Lane, Cells, cell, cars, lane_cars}
-use Rattle.trlab_road.specs.Legal.{Legal}
+use Rattle.trlab_road.specs.Cells.{HasNumber, Cell, Lane, Cells, cars, lane_cars}
+use Rattle.trlab_road.specs.Legal.{IsLegal}
 use Rattle.trlab_road.specs.Standing.{standing_from, standing_lanes, standing, rank}
 use Rattle.trlab_road.proofs.Ring.{inside}
 use Rattle.trlab_road.proofs.MotionLaws.{fewer_cars}
@@ -77,7 +77,7 @@ rank_of_kth road k h =
     let e : (get_or (standing road) k no_one).lane - 0 ≡ (get_or (standing road) k no_one).lane = omega arith in
     rw e at (kth_before 0 road.lanes k (rw length-standing_lanes h))
 
-module _ (road : Cells) (legal : Legal road) where
+module _ (road : Cells) (legal : IsLegal road) where
   -- the number of the k-th car
   abbrev pub number_at : ℕ → ℕ
   number_at k = (get_or (standing road) k no_one).number
@@ -89,7 +89,7 @@ module _ (road : Cells) (legal : Legal road) where
       let b = get_or (standing road) m no_one in
       let here = standing_cell road k no_one low in
       let there = standing_cell road m no_one high in
-      let c = legal.once a.lane a.place b.lane b.place a.number a.speed b.speed here (subst (λ (i : ℕ). cell road b.lane b.place ≡ Some (i, b.speed)) (sym same) there) in
+      let c = legal.once a b here there same in
       sym (rank_of_kth road k low) ∙ ap (λ i. rank road i a.place) c.0 ∙ ap (rank road b.lane) c.1 ∙ rank_of_kth road m high
 
   car_at : (k : ℕ) → k < length (map car_cell (standing road)) → k < cars road
@@ -134,7 +134,7 @@ module _ (road : Cells) (legal : Legal road) where
       let most = fewer_cars (map car_cell (standing road)) (replicate (n - 1) (Some (0, 0))) (λ x y. (x < n) × Squeezed i (number_at x) y)
       (λ x a h.
       let low = car_at x (inside (map car_cell (standing road)) x a h) in
-      let below = let c = standing_cell road x no_one low in legal.numbered (get_or (standing road) x no_one).lane (get_or (standing road) x no_one).place (number_at x) (get_or (standing road) x no_one).speed c in
+      let below = let c = standing_cell road x no_one low in legal.numbered (get_or (standing road) x no_one) c in
       let s = squeeze i (number_at x) n below on (none x low) in
       (s.0, ((0, 0), get_or-replicate (n - 1) s.0 (Some (0, 0)) None (let k = s.1.0 in omega arith), (low, s.1.1))))
       (λ x z y h g. number_once x z h.0 g.0 (squeezed_once i (number_at x) (number_at z) y h.1 g.1)) in
@@ -154,12 +154,12 @@ module _ (road : Cells) (legal : Legal road) where
       ]
 
   -- each number below the count of cars is present
-  pub all_present : (i : ℕ) → i < cars road → Stands road i
+  pub all_present : (i : ℕ) → i < cars road → HasNumber road i
   all_present i on =
       elim (find i (cars road)) [
         | inl found ↦
             let car = get_or (standing road) found.0 no_one in
             let c = standing_cell road found.0 no_one found.1.0 in
-            (car.lane, (car.place, (car.speed, subst (λ j. cell road car.lane car.place ≡ Some (j, car.speed)) found.1.1 c)))
+            (car, (c, found.1.1))
         | inr none ↦ absurd (missing i on none)
       ]

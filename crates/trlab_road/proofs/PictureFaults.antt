@@ -6,32 +6,33 @@ use Rattle.trlab_road.specs.declared.fault.RoadFault.{RoadFault}
 use Rattle.trlab_road.specs.declared.fault.RoadFault.TheVariants.{Lanes, Length, Limit, Character, SpeedAboveLimit, Memory}
 use Rattle.trlab_bounds.specs.declared.roads.TheConstants.{GREATEST_LENGTH, GREATEST_LIMIT, MOST_LANES}
 use Rattle.trlab_road.specs.Cells.{Cells}
-use Rattle.trlab_road.specs.Legal.{Legal}
-use Rattle.trlab_road.specs.Pictures.{EqualLanes, FewLanes, FirstBad, FirstFault, GoodPictures, LimitFits, NumberedInOrder, Shows, ShowsCell, ShowsSpeed, byte_at, drawn_lanes, empty_byte, picture, picture_at}
+use Rattle.trlab_road.specs.Legal.{IsLegal, LanesFit, LengthFits, LimitFits}
+use Rattle.trlab_road.specs.Pictures.{HaveEqualLengths, IsFirstBad, IsFirstFault, AreGoodPictures, AreNumberedInOrder, Shows, ShowsCell, ShowsSpeed, character_at, point, picture, picture_at}
 use Rattle.trlab_road.specs.Laws.{Says}
 use Rattle.trlab_road.proofs.PictureLaws.{draws, no_fault, one_fault, one_shown, pictures_good, shown_legal}
+use Rattle.trlab_road.specs.Stored.{lanes_of_pictures}
 
 abbrev Answer : Type 0
 Answer = Result Cells RoadFault
 
 -- the pictures of a legal road have no fault
-pub no_fault_shown : (limit : ℕ) (ps : List (List ℕ)) (fault : RoadFault) → FirstFault limit ps fault
-    → (road : Cells) → Legal road → Shows limit ps road → fault ≡ Memory
+pub no_fault_shown : (limit : ℕ) (ps : List (List ℕ)) (fault : RoadFault) → IsFirstFault limit ps fault
+    → (road : Cells) → IsLegal road → Shows limit ps road → fault ≡ Memory
 no_fault_shown limit ps fault h road legal s =
-    let good = subst (λ (qs : List (List ℕ)). GoodPictures road.limit qs) s.drawn (pictures_good road legal) in
-    no_fault limit ps fault (subst (λ (k : ℕ). GoodPictures k ps) s.same_limit good) h
+    let good = subst (λ (qs : List (List ℕ)). AreGoodPictures road.limit qs) s.drawn (pictures_good road legal) in
+    no_fault limit ps fault (subst (λ (k : ℕ). AreGoodPictures k ps) s.same_limit good) h
 
 -- whether a fault is that memory runs out
 pub cases_memory : (f : RoadFault) → (f ≡ Memory) ⊎ (f ≢ Memory)
 cases_memory Memory = inl refl
 cases_memory _ = inr (λ e. cc)
 
-pub told_fault : (limit : ℕ) (ps : List (List ℕ)) (f : RoadFault) → FirstFault limit ps f → (g : RoadFault) → FirstFault limit ps g
+pub told_fault : (limit : ℕ) (ps : List (List ℕ)) (f : RoadFault) → IsFirstFault limit ps f → (g : RoadFault) → IsFirstFault limit ps g
     → g ≢ Memory → (◌≡◌ {A = Answer} (Err f) (Err g)) ⊎ (◌≡◌ {A = Answer} (Err f) (Err Memory))
 told_fault limit ps f first g other some =
     elim (cases_memory f) [ inl none ↦ inr (ap Err none) | inr not ↦ inl (ap Err (one_fault limit ps f g first other not some)) ]
 
-pub told_road : (limit : ℕ) (ps : List (List ℕ)) (road : Cells) → Legal road → Shows limit ps road → (g : RoadFault) → FirstFault limit ps g
+pub told_road : (limit : ℕ) (ps : List (List ℕ)) (road : Cells) → IsLegal road → Shows limit ps road → (g : RoadFault) → IsFirstFault limit ps g
     → g ≢ Memory → (◌≡◌ {A = Answer} (Ok road) (Err g)) ⊎ (◌≡◌ {A = Answer} (Ok road) (Err Memory))
 told_road limit ps road legal shows g first some = absurd (some (no_fault_shown limit ps g first road legal shows))
 
@@ -43,7 +44,7 @@ one_thing limit ps (Err f) (Ok road) s t = absurd (s.1 (no_fault_shown limit ps 
 one_thing limit ps (Err f) (Err g) s t = ap Err (one_fault limit ps f g s.0 t.0 s.1 t.1)
 
 -- the road again
-pub same_again : (road : Cells) (said : Answer) → Legal road → NumberedInOrder road → Says road.limit (map picture road.lanes) said ↔ (said ≡ Ok road)
+pub same_again : (road : Cells) (said : Answer) → IsLegal road → AreNumberedInOrder road → Says road.limit (map picture road.lanes) said ↔ (said ≡ Ok road)
 same_again road said legal numbered =
     let itself : Says road.limit (map picture road.lanes) (Ok road) = (record { same_limit = refl; drawn = refl; numbered = numbered }, legal) in
     (λ s. one_thing road.limit (map picture road.lanes) said (Ok road) s itself, λ e. rw e itself)
@@ -53,16 +54,16 @@ same_again road said legal numbered =
 shows_speed_or_not : (most byte : ℕ) → ShowsSpeed most byte ⊎ (¬ (ShowsSpeed most byte))
 shows_speed_or_not most byte =
     elim (cases_lt byte 48) [
-      | inl low ↦ inr (λ h. let w = h.written in absurd (omega arith))
+      | inl low ↦ inr (λ h. let w = h.is_digit in absurd (omega arith))
       | inr from ↦ elim (cases_lt (48 + most) byte) [
-        | inl high ↦ inr (λ h. let w = h.written in let k = h.within in absurd (omega arith))
-        | inr to ↦ inl (record { speed = byte - 48; within = omega arith; written = omega arith })
+        | inl high ↦ inr (λ h. let w = h.is_digit in let k = h.within in absurd (omega arith))
+        | inr to ↦ inl (record { speed = byte - 48; within = omega arith; is_digit = omega arith })
       ]
     ]
 
 shows_cell_or_not : (limit byte : ℕ) → ShowsCell limit byte ⊎ (¬ (ShowsCell limit byte))
 shows_cell_or_not limit byte =
-    elim (eqb_tells byte empty_byte) [
+    elim (eqb_tells byte point) [
       | inl point ↦ inl (inl point.1)
       | inr other ↦ elim (shows_speed_or_not limit byte) [
         | inl digit ↦ inl (inr digit)
@@ -70,35 +71,45 @@ shows_cell_or_not limit byte =
       ]
     ]
 
-few_or_not : (ps : List (List ℕ)) → FewLanes ps ⊎ (¬ (FewLanes ps))
-few_or_not ps =
-    elim (cases_lt (length ps) 1) [
+pub lanes_or_not : (lanes : ℕ) → LanesFit lanes ⊎ (¬ (LanesFit lanes))
+lanes_or_not lanes =
+    elim (cases_lt lanes 1) [
       | inl none ↦ inr (λ h. let k = h.some_lane in absurd (omega arith))
-      | inr some ↦ elim (cases_lt MOST_LANES (length ps)) [
-        | inl many ↦ inr (λ h. let k = h.two_lanes in absurd (omega arith))
-        | inr few ↦ inl (record { some_lane = some; two_lanes = few })
+      | inr some ↦ elim (cases_lt MOST_LANES lanes) [
+        | inl many ↦ inr (λ h. let k = h.few_lanes in absurd (omega arith))
+        | inr few ↦ inl (record { some_lane = some; few_lanes = few })
+      ]
+    ]
+
+pub length_or_not : (cells : ℕ) → LengthFits cells ⊎ (¬ (LengthFits cells))
+length_or_not cells =
+    elim (cases_lt cells 1) [
+      | inl none ↦ inr (λ h. let k = h.some_cell in absurd (omega arith))
+      | inr some ↦ elim (cases_lt GREATEST_LENGTH cells) [
+        | inl many ↦ inr (λ h. let k = h.few_cells in absurd (omega arith))
+        | inr few ↦ inl (record { some_cell = some; few_cells = few })
       ]
     ]
 
 pub limit_or_not : (limit : ℕ) → LimitFits limit ⊎ (¬ (LimitFits limit))
 limit_or_not limit =
     elim (cases_lt limit 1) [
-      | inl none ↦ inr (λ h. let k = h.limit_low in absurd (omega arith))
+      | inl none ↦ inr (λ h. let k = h.some_limit in absurd (omega arith))
       | inr some ↦ elim (cases_lt GREATEST_LIMIT limit) [
-        | inl high ↦ inr (λ h. let k = h.limit_high in absurd (omega arith))
-        | inr low ↦ inl (record { limit_low = some; limit_high = low })
+        | inl high ↦ inr (λ h. let k = h.low_limit in absurd (omega arith))
+        | inr low ↦ inl (record { some_limit = some; low_limit = low })
       ]
     ]
 
 -- the first n lanes are as long as the first, or one is not
 lengths_or_not : (ps : List (List ℕ)) (n : ℕ) → n ≤ length ps
-    → ((l : ℕ) → l < n → length (picture_at ps l) ≡ length (picture_at ps 0)) ⊎ (¬ (EqualLanes ps))
+    → ((l : ℕ) → l < n → length (picture_at ps l) ≡ length (picture_at ps 0)) ⊎ (¬ (HaveEqualLengths ps))
 lengths_or_not ps zero h = inl (λ l below. absurd (omega arith))
 lengths_or_not ps (suc n) h =
     elim (lengths_or_not ps n (omega arith)) [
       | inr no_one ↦ inr no_one
       | inl before ↦ elim (eqb_tells (length (picture_at ps n)) (length (picture_at ps 0))) [
-        | inr other ↦ inr (λ e. other.1 (e.equal_lanes n (omega arith)))
+        | inr other ↦ inr (λ e. other.1 (e.equal n (omega arith)))
         | inl same ↦ inl (λ l below. elim (cases_order l n) [
           | inl is ↦ ap (λ k. length (picture_at ps k)) is ∙ same.1
           | inr apart ↦ elim apart [ inl low ↦ before l low | inr high ↦ absurd (omega arith) ]
@@ -106,29 +117,26 @@ lengths_or_not ps (suc n) h =
       ]
     ]
 
-equal_or_not : (ps : List (List ℕ)) → EqualLanes ps ⊎ (¬ (EqualLanes ps))
+equal_or_not : (ps : List (List ℕ)) → HaveEqualLengths ps ⊎ (¬ (HaveEqualLengths ps))
 equal_or_not ps =
-    elim (cases_lt (length (picture_at ps 0)) 1) [
-      | inl none ↦ inr (λ h. let k = h.some_cell in absurd (omega arith))
-      | inr some ↦ elim (cases_lt GREATEST_LENGTH (length (picture_at ps 0))) [
-        | inl many ↦ inr (λ h. let k = h.cells_high in absurd (omega arith))
-        | inr few ↦ elim (lengths_or_not ps (length ps) (omega arith)) [
-          | inr no_one ↦ inr no_one
-          | inl same ↦ inl (record { some_cell = some; cells_high = few; equal_lanes = same })
-        ]
+    elim (length_or_not (length (picture_at ps 0))) [
+      | inr none ↦ inr (λ h. none h.cells)
+      | inl fits ↦ elim (lengths_or_not ps (length ps) (omega arith)) [
+        | inr no_one ↦ inr no_one
+        | inl same ↦ inl (record { cells = fits; equal = same })
       ]
     ]
 
 -- the bytes of a lane before x show cells
 abbrev PlacesShow : ℕ → List (List ℕ) → ℕ → ℕ → Type 0
-PlacesShow limit ps l x = (y : ℕ) → y < x → ShowsCell limit (byte_at ps l y)
+PlacesShow limit ps l x = (y : ℕ) → y < x → ShowsCell limit (character_at ps l y)
 
 -- all bytes of the lanes before l show cells
 abbrev LanesShow : ℕ → List (List ℕ) → ℕ → Type 0
-LanesShow limit ps l = (m y : ℕ) → m < l → y < length (picture_at ps m) → ShowsCell limit (byte_at ps m y)
+LanesShow limit ps l = (m y : ℕ) → m < l → y < length (picture_at ps m) → ShowsCell limit (character_at ps m y)
 
 abbrev SomeBad : ℕ → List (List ℕ) → Type 0
-SomeBad limit ps = (l : ℕ) × ((x : ℕ) × FirstBad limit ps l x)
+SomeBad limit ps = (l : ℕ) × ((x : ℕ) × IsFirstBad limit ps l x)
 
 places_or_bad : (limit : ℕ) (ps : List (List ℕ)) (l : ℕ) → l < length ps → LanesShow limit ps l → (x : ℕ) → x ≤ length (picture_at ps l)
     → PlacesShow limit ps l x ⊎ SomeBad limit ps
@@ -136,10 +144,10 @@ places_or_bad limit ps l on earlier zero h = inl (λ y below. absurd (omega arit
 places_or_bad limit ps l on earlier (suc x) h =
     elim (places_or_bad limit ps l on earlier x (omega arith)) [
       | inr found ↦ inr found
-      | inl before ↦ elim (shows_cell_or_not limit (byte_at ps l x)) [
+      | inl before ↦ elim (shows_cell_or_not limit (character_at ps l x)) [
         | inr bad ↦ inr (l, (x, record { on_lane = on; inside = omega arith; bad = bad; earlier_lanes = earlier; earlier_places = before }))
         | inl shows ↦ inl (λ y below. elim (cases_order y x) [
-          | inl is ↦ subst (λ k. ShowsCell limit (byte_at ps l k)) (sym is) shows
+          | inl is ↦ subst (λ k. ShowsCell limit (character_at ps l k)) (sym is) shows
           | inr apart ↦ elim apart [ inl low ↦ before y low | inr high ↦ absurd (omega arith) ]
         ])
       ]
@@ -153,30 +161,30 @@ lanes_or_bad limit ps (suc l) h =
       | inl before ↦ elim (places_or_bad limit ps l (omega arith) before (length (picture_at ps l)) (omega arith)) [
         | inr found ↦ inr found
         | inl here ↦ inl (λ m y below inside. elim (cases_order m l) [
-          | inl is ↦ subst (λ k. ShowsCell limit (byte_at ps k y)) (sym is) (here y (subst (λ k. y < length (picture_at ps k)) is inside))
+          | inl is ↦ subst (λ k. ShowsCell limit (character_at ps k y)) (sym is) (here y (subst (λ k. y < length (picture_at ps k)) is inside))
           | inr apart ↦ elim apart [ inl low ↦ before m y low inside | inr high ↦ absurd (omega arith) ]
         ])
       ]
     ]
 
-good_says : (limit : ℕ) (ps : List (List ℕ)) → GoodPictures limit ps → (said : Answer) × Says limit ps said
+good_says : (limit : ℕ) (ps : List (List ℕ)) → AreGoodPictures limit ps → (said : Answer) × Says limit ps said
 good_says limit ps good =
-    let road : Cells = record { limit = limit; lanes = drawn_lanes 0 ps } in
+    let road : Cells = record { limit = limit; lanes = lanes_of_pictures 0 ps } in
     (Ok road, (draws limit ps good, shown_legal limit ps road good (draws limit ps good)))
 
 pub something : (limit : ℕ) (ps : List (List ℕ)) → (said : Answer) × Says limit ps said
 something limit ps =
-    elim (few_or_not ps) [
+    elim (lanes_or_not (length ps)) [
       | inr not_few ↦ (Err Lanes, (not_few, λ e. cc))
       | inl few ↦ elim (equal_or_not ps) [
         | inr not_equal ↦ (Err Length, ((few, not_equal), λ e. cc))
         | inl equal ↦ elim (limit_or_not limit) [
           | inr not_fit ↦ (Err Limit, ((few, equal, not_fit), λ e. cc))
           | inl fits ↦ elim (lanes_or_bad limit ps (length ps) (omega arith)) [
-            | inl shown ↦ good_says limit ps (record { few = few; equal = equal; limits = fits; cells = shown })
-            | inr found ↦ elim (shows_speed_or_not GREATEST_LIMIT (byte_at ps found.0 found.1.0)) [
-              | inl digit ↦ (Err (SpeedAboveLimit found.0 found.1.0), ((few, equal, fits, found.1.1, digit), λ e. cc))
-              | inr none ↦ (Err (Character found.0 found.1.0), ((few, equal, fits, found.1.1, none), λ e. cc))
+            | inl shown ↦ good_says limit ps (record { shape = record { lanes = few; lengths = equal; limit_fits = fits }; cells = shown })
+            | inr found ↦ elim (shows_speed_or_not GREATEST_LIMIT (character_at ps found.0 found.1.0)) [
+              | inl digit ↦ (Err (SpeedAboveLimit found.0 found.1.0), (((record { lanes = few; lengths = equal; limit_fits = fits }, found.1.1), digit), λ e. cc))
+              | inr none ↦ (Err (Character found.0 found.1.0), (((record { lanes = few; lengths = equal; limit_fits = fits }, found.1.1), none), λ e. cc))
             ]
           ]
         ]

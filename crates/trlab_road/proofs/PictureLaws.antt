@@ -12,12 +12,13 @@ use Rattle.trlab_road.specs.declared.fault.RoadFault.TheVariants.{Lanes, Length,
 use Rattle.trlab_bounds.specs.declared.roads.TheConstants.{GREATEST_LIMIT}
 use Rattle.trlab_road.specs.declared.car.Car.{Car}
 use Rattle.trlab_road.specs.Cells.{Cell, Lane, Cells, cell, lane_of, cars, lane_cars}
-use Rattle.trlab_road.specs.Legal.{Legal}
-use Rattle.trlab_road.specs.Pictures.{ShowsSpeed, empty_byte, speed_byte, byte_speed, cell_byte, picture, Shows, picture_at, byte_at, ShowsCell, GoodPictures, FirstBad, FirstFault, drawn_lane, drawn_lanes}
+use Rattle.trlab_road.specs.Legal.{IsLegal, LanesFit, LengthFits, LimitFits}
+use Rattle.trlab_road.specs.Pictures.{ShowsSpeed, point, digit, character, picture, Shows, picture_at, character_at, ShowsCell, AreGoodPictures, IsFirstBad, IsFirstFault}
 use Rattle.trlab_road.specs.Standing.{standing_from, standing_lanes, standing, rank}
-use Rattle.trlab_road.proofs.Ring.{inside}
+use Rattle.trlab_road.proofs.Ring.{inside, car_in}
 use Rattle.trlab_road.proofs.MotionLaws.{on_lane}
 use Rattle.trlab_road.proofs.StandingOrder.{get_or-map_in, standing_rank, rank_below_cars, length-standing_from, length-standing_lanes, lane_cars-some, car_of}
+use Rattle.trlab_road.specs.Stored.{speed_of_digit, lane_of_picture, lanes_of_pictures}
 
 -- the picture at an index of a list of pictures
 pub picture_read : (ps : List (Bor (List ℕ))) (l : ℕ) → picture_at (map (λ s. s.now) ps) l ≡ (get_or ps l (record { ref_ptr = (0, 0); now = [] })).now
@@ -32,43 +33,43 @@ cons_path : {X : Type 0} {a b : X} {xs ys : List X} → a ≡ b → xs ≡ ys �
 cons_path e f = cc
 
 -- a point draws an empty cell, any other byte a car
-drawn_point : (n byte : ℕ) (bytes : List ℕ) → nat_eq byte empty_byte ≡ true
-    → drawn_lane n (byte ∷ bytes) ≡ None ∷ drawn_lane n bytes
-drawn_point n byte bytes h = cond-true (nat_eq byte empty_byte) (None ∷ drawn_lane n bytes) (Some (n, byte_speed byte) ∷ drawn_lane (suc n) bytes) h
+drawn_point : (n byte : ℕ) (bytes : List ℕ) → nat_eq byte point ≡ true
+    → lane_of_picture n (byte ∷ bytes) ≡ None ∷ lane_of_picture n bytes
+drawn_point n byte bytes h = cond-true (nat_eq byte point) (None ∷ lane_of_picture n bytes) (Some (n, speed_of_digit byte) ∷ lane_of_picture (suc n) bytes) h
 
-drawn_car : (n byte : ℕ) (bytes : List ℕ) → nat_eq byte empty_byte ≡ false
-    → drawn_lane n (byte ∷ bytes) ≡ Some (n, byte_speed byte) ∷ drawn_lane (suc n) bytes
-drawn_car n byte bytes h = cond-false (nat_eq byte empty_byte) (None ∷ drawn_lane n bytes) (Some (n, byte_speed byte) ∷ drawn_lane (suc n) bytes) h
+drawn_car : (n byte : ℕ) (bytes : List ℕ) → nat_eq byte point ≡ false
+    → lane_of_picture n (byte ∷ bytes) ≡ Some (n, speed_of_digit byte) ∷ lane_of_picture (suc n) bytes
+drawn_car n byte bytes h = cond-false (nat_eq byte point) (None ∷ lane_of_picture n bytes) (Some (n, speed_of_digit byte) ∷ lane_of_picture (suc n) bytes) h
 
-back_again : (limit byte : ℕ) → ShowsCell limit byte → byte ≢ empty_byte → speed_byte (byte_speed byte) ≡ byte
+back_again : (limit byte : ℕ) → ShowsCell limit byte → byte ≢ point → digit (speed_of_digit byte) ≡ byte
 back_again limit byte (inl e) n = absurd (n e)
-back_again limit byte (inr d) n = let k = d.written in omega arith
+back_again limit byte (inr d) n = let k = d.is_digit in omega arith
 
 -- the picture of what a good picture draws
 pub picture_drawn : (limit n : ℕ) (bytes : List ℕ)
     → ((x : ℕ) → x < length bytes → ShowsCell limit (get_or bytes x 0))
-    → picture (drawn_lane n bytes) ≡ bytes
+    → picture (lane_of_picture n bytes) ≡ bytes
 picture_drawn limit n [] h = refl
 picture_drawn limit n (byte ∷ bytes) h =
-    elim (eqb_tells byte empty_byte) [
+    elim (eqb_tells byte point) [
       | inl w ↦ ap picture (drawn_point n byte bytes w.0) ∙ cons_path (sym w.1) (picture_drawn limit n bytes (λ x k. h (suc x) (omega arith)))
       | inr w ↦ ap picture (drawn_car n byte bytes w.0) ∙ cons_path (back_again limit byte (h 0 (omega arith)) w.1) (picture_drawn limit (suc n) bytes (λ x k. h (suc x) (omega arith)))
     ]
 
 -- the cars of what is drawn are numbered in order
 numbers_from : (l x n : ℕ) (bytes : List ℕ)
-    → map number_of (standing_from l x (drawn_lane n bytes)) ≡ range_with_len n (lane_cars (drawn_lane n bytes))
+    → map number_of (standing_from l x (lane_of_picture n bytes)) ≡ range_with_len n (lane_cars (lane_of_picture n bytes))
 numbers_from l x n [] = refl
 numbers_from l x n (byte ∷ bytes) =
-    elim (eqb_tells byte empty_byte) [
+    elim (eqb_tells byte point) [
       | inl w ↦ let e = drawn_point n byte bytes w.0 in
           ap (λ (lane : Lane). map number_of (standing_from l x lane)) e ∙ numbers_from l (suc x) n bytes ∙ ap (λ (lane : Lane). range_with_len n (lane_cars lane)) (sym e)
       | inr w ↦ let e = drawn_car n byte bytes w.0 in
-          let rest = drawn_lane (suc n) bytes in
+          let rest = lane_of_picture (suc n) bytes in
           let one : suc n ≡ n + 1 = omega arith in
           ap (λ (lane : Lane). map number_of (standing_from l x lane)) e
           ∙ cons_path refl (numbers_from l (suc x) (suc n) bytes ∙ ap (λ k. range_with_len k (lane_cars rest)) one)
-          ∙ ap (range_with_len n) (sym (lane_cars-some (n, byte_speed byte) rest))
+          ∙ ap (range_with_len n) (sym (lane_cars-some (n, speed_of_digit byte) rest))
           ∙ ap (λ (lane : Lane). range_with_len n (lane_cars lane)) (sym e)
     ]
 
@@ -83,12 +84,12 @@ range_append n (suc c) d =
     cons_path refl (ap (λ k. range_with_len (n + 1) c ++ range_with_len k d) e ∙ range_append (n + 1) c d) ∙ ap (range_with_len n) f
 
 numbers_lanes : (l n : ℕ) (ps : List (List ℕ))
-    → map number_of (standing_lanes l (drawn_lanes n ps)) ≡ range_with_len n (sum_by lane_cars (drawn_lanes n ps))
+    → map number_of (standing_lanes l (lanes_of_pictures n ps)) ≡ range_with_len n (sum_by lane_cars (lanes_of_pictures n ps))
 numbers_lanes l n [] = refl
 numbers_lanes l n (bytes ∷ ps) =
-    let lane = drawn_lane n bytes in
+    let lane = lane_of_picture n bytes in
     let c = lane_cars lane in
-    let rest = drawn_lanes (n + c) ps in
+    let rest = lanes_of_pictures (n + c) ps in
     let e = sum_by-cons lane_cars lane rest in
     map-append number_of (standing_from l 0 lane) (standing_lanes (suc l) rest)
     ∙ ap (λ xs. xs ++ map number_of (standing_lanes (suc l) rest)) (numbers_from l 0 n bytes)
@@ -96,15 +97,15 @@ numbers_lanes l n (bytes ∷ ps) =
     ∙ range_append n c (sum_by lane_cars rest) ∙ ap (range_with_len n) (sym e)
 
 picture_lanes : (limit n : ℕ) (ps : List (List ℕ))
-    → ((l x : ℕ) → l < length ps → x < length (picture_at ps l) → ShowsCell limit (byte_at ps l x))
-    → map picture (drawn_lanes n ps) ≡ ps
+    → ((l x : ℕ) → l < length ps → x < length (picture_at ps l) → ShowsCell limit (character_at ps l x))
+    → map picture (lanes_of_pictures n ps) ≡ ps
 picture_lanes limit n [] h = refl
 picture_lanes limit n (bytes ∷ ps) h =
     cons_path (picture_drawn limit n bytes (λ x k. h 0 x (omega arith) k))
-    (picture_lanes limit (n + lane_cars (drawn_lane n bytes)) ps (λ l x low k. h (suc l) x (omega arith) k))
+    (picture_lanes limit (n + lane_cars (lane_of_picture n bytes)) ps (λ l x low k. h (suc l) x (omega arith) k))
 
 -- good pictures show what they draw
-pub draws : (limit : ℕ) (ps : List (List ℕ)) → GoodPictures limit ps → Shows limit ps (record { limit = limit; lanes = drawn_lanes 0 ps })
+pub draws : (limit : ℕ) (ps : List (List ℕ)) → AreGoodPictures limit ps → Shows limit ps (record { limit = limit; lanes = lanes_of_pictures 0 ps })
 draws limit ps good = record {
   same_limit = refl;
   drawn = picture_lanes limit 0 ps good.cells;
@@ -117,7 +118,7 @@ same_some e f = cc
 -- a lane whose cars are numbered in order is what its picture draws
 lane_back : (l x n : ℕ) (lane : Lane)
     → map number_of (standing_from l x lane) ≡ range_with_len n (lane_cars lane)
-    → drawn_lane n (picture lane) ≡ lane
+    → lane_of_picture n (picture lane) ≡ lane
 lane_back l x n [] h = refl
 lane_back l x n (None ∷ lane) h = ap (λ (xs : Lane). None ∷ xs) (lane_back l (suc x) n lane h)
 lane_back l x n (Some car ∷ lane) h =
@@ -125,14 +126,14 @@ lane_back l x n (Some car ∷ lane) h =
     let first : car.0 ≡ n = cc in
     let rest : map number_of (standing_from l (suc x) lane) ≡ range_with_len (n + 1) (lane_cars lane) = cc in
     let one : n + 1 ≡ suc n = omega arith in
-    let no_point : nat_eq (speed_byte car.1) empty_byte ≡ false = elim (eqb_tells (speed_byte car.1) empty_byte) [ inl w ↦ absurd (let k = w.1 in omega arith) | inr w ↦ w.0 ] in
-    let speed : byte_speed (speed_byte car.1) ≡ car.1 = omega arith in
-    drawn_car n (speed_byte car.1) (picture lane) no_point
+    let no_point : nat_eq (digit car.1) point ≡ false = elim (eqb_tells (digit car.1) point) [ inl w ↦ absurd (let k = w.1 in omega arith) | inr w ↦ w.0 ] in
+    let speed : speed_of_digit (digit car.1) ≡ car.1 = omega arith in
+    drawn_car n (digit car.1) (picture lane) no_point
     ∙ cons_path (same_some (sym first) speed) (lane_back l (suc x) (suc n) lane (rest ∙ ap (λ k. range_with_len k (lane_cars lane)) one))
 
 lanes_back : (l n : ℕ) (lanes : List Lane)
     → map number_of (standing_lanes l lanes) ≡ range_with_len n (sum_by lane_cars lanes)
-    → drawn_lanes n (map picture lanes) ≡ lanes
+    → lanes_of_pictures n (map picture lanes) ≡ lanes
 lanes_back l n [] h = refl
 lanes_back l n (lane ∷ lanes) h =
     let c = lane_cars lane in
@@ -146,17 +147,17 @@ lanes_back l n (lane ∷ lanes) h =
     let first : mine ≡ range_with_len n c = sym (take_at mine others c size) ∙ ap (take c) whole ∙ take_at (range_with_len n c) (range_with_len (n + c) (sum_by lane_cars lanes)) c size_range in
     let rest : others ≡ range_with_len (n + c) (sum_by lane_cars lanes) = sym (drop_at mine others c size) ∙ ap (drop c) whole ∙ drop_at (range_with_len n c) (range_with_len (n + c) (sum_by lane_cars lanes)) c size_range in
     let back = lane_back l 0 n lane first in
-    let count : n + lane_cars (drawn_lane n (picture lane)) ≡ n + c = ap (λ (xs : Lane). n + lane_cars xs) back in
-    cons_path back (ap (λ k. drawn_lanes k (map picture lanes)) count ∙ lanes_back (suc l) (n + c) lanes rest)
+    let count : n + lane_cars (lane_of_picture n (picture lane)) ≡ n + c = ap (λ (xs : Lane). n + lane_cars xs) back in
+    cons_path back (ap (λ k. lanes_of_pictures k (map picture lanes)) count ∙ lanes_back (suc l) (n + c) lanes rest)
 
 abbrev made : ℕ → List Lane → Cells
 made limit lanes = record { limit = limit; lanes = lanes }
 
 -- pictures show one road only: what they draw
 pub shown_drawn : (limit : ℕ) (ps : List (List ℕ)) (road : Cells) → Shows limit ps road
-    → road ≡ made limit (drawn_lanes 0 ps)
+    → road ≡ made limit (lanes_of_pictures 0 ps)
 shown_drawn limit ps road s =
-    let lanes : road.lanes ≡ drawn_lanes 0 ps = sym (lanes_back 0 0 road.lanes s.numbered.numbers) ∙ ap (drawn_lanes 0) s.drawn in
+    let lanes : road.lanes ≡ lanes_of_pictures 0 ps = sym (lanes_back 0 0 road.lanes s.numbered.numbers) ∙ ap (lanes_of_pictures 0) s.drawn in
     ap (λ (p : ℕ). made p road.lanes) s.same_limit ∙ ap (made limit) lanes
 
 pub one_shown : (limit : ℕ) (ps : List (List ℕ)) (road other : Cells) → Shows limit ps road
@@ -168,11 +169,11 @@ picture_of_at [] l = refl
 picture_of_at (lane ∷ lanes) zero = refl
 picture_of_at (lane ∷ lanes) (suc l) = picture_of_at lanes l
 
-within_speed : (limit v byte : ℕ) → byte ≡ speed_byte v → ShowsCell limit byte → v ≤ limit
+within_speed : (limit v byte : ℕ) → byte ≡ digit v → ShowsCell limit byte → v ≤ limit
 within_speed limit v byte e (inl p) = absurd (omega arith)
-within_speed limit v byte e (inr d) = let k = d.written in let m = d.within in omega arith
+within_speed limit v byte e (inr d) = let k = d.is_digit in let m = d.within in omega arith
 
-module _ (limit : ℕ) (ps : List (List ℕ)) (road : Cells) (good : GoodPictures limit ps) (s : Shows limit ps road) where
+module _ (limit : ℕ) (ps : List (List ℕ)) (road : Cells) (good : AreGoodPictures limit ps) (s : Shows limit ps road) where
   shown_lanes : length road.lanes ≡ length ps
   shown_lanes = sym (length-map road.lanes picture) ∙ ap length s.drawn
 
@@ -180,12 +181,12 @@ module _ (limit : ℕ) (ps : List (List ℕ)) (road : Cells) (good : GoodPicture
   drawn_at l = ap (λ (xs : List (List ℕ)). get_or xs l []) (sym s.drawn) ∙ picture_of_at road.lanes l
 
   lane_size : (l : ℕ) → length (lane_of road l) ≡ length (picture_at ps l)
-  lane_size l = sym (length-map (lane_of road l) cell_byte) ∙ sym (ap length (drawn_at l))
+  lane_size l = sym (length-map (lane_of road l) character) ∙ sym (ap length (drawn_at l))
 
-  byte_is : (l x number speed : ℕ) → cell road l x ≡ Some (number, speed) → byte_at ps l x ≡ speed_byte speed
+  byte_is : (l x number speed : ℕ) → cell road l x ≡ Some (number, speed) → character_at ps l x ≡ digit speed
   byte_is l x number speed h =
       ap (λ (p : List ℕ). get_or p x 0) (drawn_at l)
-      ∙ get_or-map_in cell_byte (lane_of road l) x None 0 (inside (lane_of road l) x (number, speed) h) ∙ ap cell_byte h
+      ∙ get_or-map_in character (lane_of road l) x None 0 (inside (lane_of road l) x (number, speed) h) ∙ ap character h
 
   -- the number of a car is how many cars stand before it
   pub number_is_rank : (l x number speed : ℕ) → cell road l x ≡ Some (number, speed) → number ≡ rank road l x
@@ -200,77 +201,74 @@ module _ (limit : ℕ) (ps : List (List ℕ)) (road : Cells) (good : GoodPicture
       sym here ∙ sym (get_or-map_in number_of (standing road) r d 0 size) ∙ ap (λ (xs : List ℕ). get_or xs r 0) s.numbered.numbers ∙ get_or-range_with_len 0 (cars road) r 0 low ∙ e
 
   -- good pictures show a legal road
-  pub shown_legal : Legal road
+  pub shown_legal : IsLegal road
   unfolding car_of
   shown_legal =
       let size = shown_lanes in
       let first = lane_size 0 in
       record {
-        some_lane = let k = good.few.some_lane in omega arith;
-        two_lanes = let k = good.few.two_lanes in omega arith;
-        limit_low = rw s.same_limit good.limits.limit_low;
-        limit_high = rw s.same_limit good.limits.limit_high;
-        some_cell = let k = good.equal.some_cell in omega arith;
-        cells_high = let k = good.equal.cells_high in omega arith;
-        equal_lanes = λ l h. lane_size l ∙ good.equal.equal_lanes l (omega arith) ∙ sym first;
-        within_limit = λ l x number speed h.
-            let on = on_lane road l x (number, speed) h in
-            let k = inside (lane_of road l) x (number, speed) h in
-            let n = lane_size l in
-            rw s.same_limit (within_speed limit speed (byte_at ps l x) (byte_is l x number speed h) (good.cells l x (omega arith) (omega arith)));
-        numbered = λ l x number speed h.
-            let e = number_is_rank l x number speed h in
-            let low = rank_below_cars road l x (number, speed) h in
+        shape = record {
+          lanes = subst LanesFit (sym size) good.shape.lanes;
+          cells = subst LengthFits (sym first) good.shape.lengths.cells;
+          equal = λ l h. lane_size l ∙ good.shape.lengths.equal l (omega arith) ∙ sym first;
+          limit = subst LimitFits (sym s.same_limit) good.shape.limit_fits;
+        };
+        within_limit = λ car h.
+            let on = on_lane road car.lane car.place (car.number, car.speed) h in
+            let k = inside (lane_of road car.lane) car.place (car.number, car.speed) h in
+            let n = lane_size car.lane in
+            rw s.same_limit (within_speed limit car.speed (character_at ps car.lane car.place) (byte_is car.lane car.place car.number car.speed h) (good.cells car.lane car.place (omega arith) (omega arith)));
+        numbered = λ car h.
+            let e = number_is_rank car.lane car.place car.number car.speed h in
+            let low = rank_below_cars road car.lane car.place (car.number, car.speed) h in
             omega arith;
-        once = λ l x m y number u v h g.
+        once = λ one other h g same_number.
             let d : Car = record { number = 0; lane = 0; place = 0; speed = 0 } in
-            let a = standing_rank road l x number u d h in
-            let b = standing_rank road m y number v d g in
-            let same = sym (number_is_rank l x number u h) ∙ number_is_rank m y number v g in
-            let e : car_of number l x u ≡ car_of number m y v = sym a ∙ ap (λ k. get_or (standing road) k d) same ∙ b in
+            let a = standing_rank road one.lane one.place one.number one.speed d h in
+            let b = standing_rank road other.lane other.place other.number other.speed d g in
+            let same = sym (number_is_rank one.lane one.place one.number one.speed h) ∙ same_number ∙ number_is_rank other.lane other.place other.number other.speed g in
+            let e : car_of one.number one.lane one.place one.speed ≡ car_of other.number other.lane other.place other.speed = sym a ∙ ap (λ k. get_or (standing road) k d) same ∙ b in
             (ap (λ (car : Car). car.lane) e, ap (λ (car : Car). car.place) e);
       }
 
 cell_shows : (limit : ℕ) (c : Cell) → ((car : ℕ × ℕ) → c ≡ Some car → car.1 ≤ limit)
-    → ShowsCell limit (cell_byte c)
+    → ShowsCell limit (character c)
 cell_shows limit None h = inl refl
-cell_shows limit (Some car) h = inr (record { speed = car.1; within = h car refl; written = refl })
+cell_shows limit (Some car) h = inr (record { speed = car.1; within = h car refl; is_digit = refl })
 
 -- the pictures of a legal road are good
-pub pictures_good : (road : Cells) → Legal road → GoodPictures road.limit (map picture road.lanes)
+pub pictures_good : (road : Cells) → IsLegal road → AreGoodPictures road.limit (map picture road.lanes)
 pictures_good road legal =
     let count = length-map road.lanes picture in
-    let size : (l : ℕ) → length (picture_at (map picture road.lanes) l) ≡ length (lane_of road l) = λ l. ap length (picture_of_at road.lanes l) ∙ length-map (lane_of road l) cell_byte in
+    let size : (l : ℕ) → length (picture_at (map picture road.lanes) l) ≡ length (lane_of road l) = λ l. ap length (picture_of_at road.lanes l) ∙ length-map (lane_of road l) character in
     let first = size 0 in
     record {
-      few = record { some_lane = (let k = legal.some_lane in omega arith); two_lanes = (let k = legal.two_lanes in omega arith) };
-      equal = record {
-        some_cell = (let k = legal.some_cell in omega arith);
-        cells_high = (let k = legal.cells_high in omega arith);
-        equal_lanes = λ l h. size l ∙ legal.equal_lanes l (omega arith) ∙ sym first;
+      shape = record {
+        lanes = subst LanesFit (sym count) legal.shape.lanes;
+        lengths = record { cells = subst LengthFits (sym first) legal.shape.cells; equal = λ l h. size l ∙ legal.shape.equal l (omega arith) ∙ sym first };
+        limit_fits = legal.shape.limit;
       };
-      limits = record { limit_low = legal.limit_low; limit_high = legal.limit_high };
       cells = λ l x on h.
           let s = size l in
-          let e : byte_at (map picture road.lanes) l x ≡ cell_byte (cell road l x) =
-          ap (λ (p : List ℕ). get_or p x 0) (picture_of_at road.lanes l) ∙ get_or-map_in cell_byte (lane_of road l) x None 0 (omega arith) in
-          rw e (cell_shows road.limit (cell road l x) (λ car here. legal.within_limit l x car.0 car.1 here));
+          let e : character_at (map picture road.lanes) l x ≡ character (cell road l x) =
+          ap (λ (p : List ℕ). get_or p x 0) (picture_of_at road.lanes l) ∙ get_or-map_in character (lane_of road l) x None 0 (omega arith) in
+          rw e (cell_shows road.limit (cell road l x) (λ car here. legal.within_limit (car_in l x car.0 car.1) here));
     }
 
 -- good pictures have no fault but that memory may run out
-pub no_fault : (limit : ℕ) (ps : List (List ℕ)) (fault : RoadFault) → GoodPictures limit ps
-    → FirstFault limit ps fault → fault ≡ Memory
-no_fault limit ps Lanes good h = absurd (h good.few)
-no_fault limit ps Length good h = absurd (h.1 good.equal)
-no_fault limit ps Limit good h = absurd (h.2 good.limits)
-no_fault limit ps (Character l x) good h = absurd (h.3.bad (good.cells l x h.3.on_lane h.3.inside))
-no_fault limit ps (SpeedAboveLimit l x) good h = absurd (h.3.bad (good.cells l x h.3.on_lane h.3.inside))
+pub no_fault : (limit : ℕ) (ps : List (List ℕ)) (fault : RoadFault) → AreGoodPictures limit ps
+    → IsFirstFault limit ps fault → fault ≡ Memory
+no_fault limit ps Lanes good h = absurd (h good.shape.lanes)
+no_fault limit ps Length good h = absurd (h.1 good.shape.lengths)
+no_fault limit ps Limit good h = absurd (h.2 good.shape.limit_fits)
+no_fault limit ps (Character l x) good h = absurd (h.0.1.bad (good.cells l x h.0.1.on_lane h.0.1.inside))
+no_fault limit ps (SpeedAboveLimit l x) good h = absurd (h.0.1.bad (good.cells l x h.0.1.on_lane h.0.1.inside))
 no_fault limit ps Memory good h = refl
 no_fault limit ps TooManyCars good h = absurd h
 
 -- one byte only is the first that shows no cell
-pub one_first_bad : (limit : ℕ) (ps : List (List ℕ)) (l x m y : ℕ) → FirstBad limit ps l x
-    → FirstBad limit ps m y → (l ≡ m) × (x ≡ y)
+pub one_first_bad : (limit : ℕ) (ps : List (List ℕ)) (l x m y : ℕ) → IsFirstBad limit ps l x
+    → IsFirstBad limit ps m y → (l ≡ m) × (x ≡ y)
 one_first_bad limit ps l x m y a b =
     elim (cases_order l m) [
       | inl same ↦ (
@@ -278,8 +276,8 @@ one_first_bad limit ps l x m y a b =
         elim (cases_order x y) [
           | inl e ↦ e
           | inr different ↦ elim different [
-            | inl less ↦ absurd (a.bad (subst (λ k. ShowsCell limit (byte_at ps k x)) (sym same) (b.earlier_places x less)))
-            | inr more ↦ absurd (b.bad (subst (λ k. ShowsCell limit (byte_at ps k y)) same (a.earlier_places y more)))
+            | inl less ↦ absurd (a.bad (subst (λ k. ShowsCell limit (character_at ps k x)) (sym same) (b.earlier_places x less)))
+            | inr more ↦ absurd (b.bad (subst (λ k. ShowsCell limit (character_at ps k y)) same (a.earlier_places y more)))
           ]
         ],
       )
@@ -297,46 +295,46 @@ same_speed : {l x m y : ℕ} → (l ≡ m) × (x ≡ y)
 same_speed e = let a = e.0 in let b = e.1 in cc
 
 same_byte : (limit : ℕ) (ps : List (List ℕ)) (l x m y : ℕ) → (l ≡ m) × (x ≡ y)
-    → ShowsSpeed GREATEST_LIMIT (byte_at ps l x) → ShowsSpeed GREATEST_LIMIT (byte_at ps m y)
+    → ShowsSpeed GREATEST_LIMIT (character_at ps l x) → ShowsSpeed GREATEST_LIMIT (character_at ps m y)
 same_byte limit ps l x m y e h =
-    subst (λ (k : ℕ). ShowsSpeed GREATEST_LIMIT (byte_at ps m k)) e.1 (subst (λ (k : ℕ). ShowsSpeed GREATEST_LIMIT (byte_at ps k x)) e.0 h)
+    subst (λ (k : ℕ). ShowsSpeed GREATEST_LIMIT (character_at ps m k)) e.1 (subst (λ (k : ℕ). ShowsSpeed GREATEST_LIMIT (character_at ps k x)) e.0 h)
 
 -- a limit and pictures have one first fault, but that memory may run out
-pub one_fault : (limit : ℕ) (ps : List (List ℕ)) (fault other : RoadFault) → FirstFault limit ps fault
-    → FirstFault limit ps other → fault ≢ Memory → other ≢ Memory → fault ≡ other
+pub one_fault : (limit : ℕ) (ps : List (List ℕ)) (fault other : RoadFault) → IsFirstFault limit ps fault
+    → IsFirstFault limit ps other → fault ≢ Memory → other ≢ Memory → fault ≡ other
 one_fault limit ps Lanes Lanes f g p q = refl
 one_fault limit ps Lanes Length f g p q = absurd (f g.0)
 one_fault limit ps Lanes Limit f g p q = absurd (f g.0)
-one_fault limit ps Lanes (Character m y) f g p q = absurd (f g.0)
-one_fault limit ps Lanes (SpeedAboveLimit m y) f g p q = absurd (f g.0)
+one_fault limit ps Lanes (Character m y) f g p q = absurd (f g.0.0.lanes)
+one_fault limit ps Lanes (SpeedAboveLimit m y) f g p q = absurd (f g.0.0.lanes)
 one_fault limit ps Lanes Memory f g p q = absurd (q refl)
 one_fault limit ps Lanes TooManyCars f g p q = absurd g
 one_fault limit ps Length Lanes f g p q = absurd (g f.0)
 one_fault limit ps Length Length f g p q = refl
 one_fault limit ps Length Limit f g p q = absurd (f.1 g.1)
-one_fault limit ps Length (Character m y) f g p q = absurd (f.1 g.1)
-one_fault limit ps Length (SpeedAboveLimit m y) f g p q = absurd (f.1 g.1)
+one_fault limit ps Length (Character m y) f g p q = absurd (f.1 g.0.0.lengths)
+one_fault limit ps Length (SpeedAboveLimit m y) f g p q = absurd (f.1 g.0.0.lengths)
 one_fault limit ps Length Memory f g p q = absurd (q refl)
 one_fault limit ps Length TooManyCars f g p q = absurd g
 one_fault limit ps Limit Lanes f g p q = absurd (g f.0)
 one_fault limit ps Limit Length f g p q = absurd (g.1 f.1)
 one_fault limit ps Limit Limit f g p q = refl
-one_fault limit ps Limit (Character m y) f g p q = absurd (f.2 g.2)
-one_fault limit ps Limit (SpeedAboveLimit m y) f g p q = absurd (f.2 g.2)
+one_fault limit ps Limit (Character m y) f g p q = absurd (f.2 g.0.0.limit_fits)
+one_fault limit ps Limit (SpeedAboveLimit m y) f g p q = absurd (f.2 g.0.0.limit_fits)
 one_fault limit ps Limit Memory f g p q = absurd (q refl)
 one_fault limit ps Limit TooManyCars f g p q = absurd g
-one_fault limit ps (Character l x) Lanes f g p q = absurd (g f.0)
-one_fault limit ps (Character l x) Length f g p q = absurd (g.1 f.1)
-one_fault limit ps (Character l x) Limit f g p q = absurd (g.2 f.2)
-one_fault limit ps (Character l x) (Character m y) f g p q = same_character (one_first_bad limit ps l x m y f.3 g.3)
-one_fault limit ps (Character l x) (SpeedAboveLimit m y) f g p q = absurd (f.4 (same_byte limit ps m y l x (one_first_bad limit ps m y l x g.3 f.3) g.4))
+one_fault limit ps (Character l x) Lanes f g p q = absurd (g f.0.0.lanes)
+one_fault limit ps (Character l x) Length f g p q = absurd (g.1 f.0.0.lengths)
+one_fault limit ps (Character l x) Limit f g p q = absurd (g.2 f.0.0.limit_fits)
+one_fault limit ps (Character l x) (Character m y) f g p q = same_character (one_first_bad limit ps l x m y f.0.1 g.0.1)
+one_fault limit ps (Character l x) (SpeedAboveLimit m y) f g p q = absurd (f.1 (same_byte limit ps m y l x (one_first_bad limit ps m y l x g.0.1 f.0.1) g.1))
 one_fault limit ps (Character l x) Memory f g p q = absurd (q refl)
 one_fault limit ps (Character l x) TooManyCars f g p q = absurd g
-one_fault limit ps (SpeedAboveLimit l x) Lanes f g p q = absurd (g f.0)
-one_fault limit ps (SpeedAboveLimit l x) Length f g p q = absurd (g.1 f.1)
-one_fault limit ps (SpeedAboveLimit l x) Limit f g p q = absurd (g.2 f.2)
-one_fault limit ps (SpeedAboveLimit l x) (Character m y) f g p q = absurd (g.4 (same_byte limit ps l x m y (one_first_bad limit ps l x m y f.3 g.3) f.4))
-one_fault limit ps (SpeedAboveLimit l x) (SpeedAboveLimit m y) f g p q = same_speed (one_first_bad limit ps l x m y f.3 g.3)
+one_fault limit ps (SpeedAboveLimit l x) Lanes f g p q = absurd (g f.0.0.lanes)
+one_fault limit ps (SpeedAboveLimit l x) Length f g p q = absurd (g.1 f.0.0.lengths)
+one_fault limit ps (SpeedAboveLimit l x) Limit f g p q = absurd (g.2 f.0.0.limit_fits)
+one_fault limit ps (SpeedAboveLimit l x) (Character m y) f g p q = absurd (g.1 (same_byte limit ps l x m y (one_first_bad limit ps l x m y f.0.1 g.0.1) f.1))
+one_fault limit ps (SpeedAboveLimit l x) (SpeedAboveLimit m y) f g p q = same_speed (one_first_bad limit ps l x m y f.0.1 g.0.1)
 one_fault limit ps (SpeedAboveLimit l x) Memory f g p q = absurd (q refl)
 one_fault limit ps (SpeedAboveLimit l x) TooManyCars f g p q = absurd g
 one_fault limit ps Memory Lanes f g p q = absurd (p refl)
@@ -354,14 +352,14 @@ one_fault limit ps TooManyCars (SpeedAboveLimit m y) f g p q = absurd f
 one_fault limit ps TooManyCars Memory f g p q = absurd (q refl)
 one_fault limit ps TooManyCars TooManyCars f g p q = absurd f
 
-pub length-drawn_lane : (n : ℕ) (bytes : List ℕ) → length (drawn_lane n bytes) ≡ length bytes
-length-drawn_lane n [] = refl
-length-drawn_lane n (byte ∷ bytes) =
-    elim (eqb_tells byte empty_byte) [
-      | inl w ↦ ap length (drawn_point n byte bytes w.0) ∙ ap suc (length-drawn_lane n bytes)
-      | inr w ↦ ap length (drawn_car n byte bytes w.0) ∙ ap suc (length-drawn_lane (suc n) bytes)
+pub length-lane_of_picture : (n : ℕ) (bytes : List ℕ) → length (lane_of_picture n bytes) ≡ length bytes
+length-lane_of_picture n [] = refl
+length-lane_of_picture n (byte ∷ bytes) =
+    elim (eqb_tells byte point) [
+      | inl w ↦ ap length (drawn_point n byte bytes w.0) ∙ ap suc (length-lane_of_picture n bytes)
+      | inr w ↦ ap length (drawn_car n byte bytes w.0) ∙ ap suc (length-lane_of_picture (suc n) bytes)
     ]
 
 -- a lane has no more cars than cells
-pub drawn_few : (n : ℕ) (bytes : List ℕ) → lane_cars (drawn_lane n bytes) ≤ length bytes
-drawn_few n bytes = let e = length-drawn_lane n bytes in let k = count_by-le-length is_some (drawn_lane n bytes) in omega arith
+pub drawn_few : (n : ℕ) (bytes : List ℕ) → lane_cars (lane_of_picture n bytes) ≤ length bytes
+drawn_few n bytes = let e = length-lane_of_picture n bytes in let k = count_by-le-length is_some (lane_of_picture n bytes) in omega arith

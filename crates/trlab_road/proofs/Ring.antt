@@ -7,7 +7,12 @@ use Rattle.std.proofs.lemmas.Bool.{cases_lt, cases_order, cases_Bool, cases_eq, 
 use Rattle.std.proofs.lemmas.List.{get_or_past}
 use Rattle.trlab_road.specs.Cells.{Cell, Lane, at}
 use Rattle.trlab_road.specs.Gaps.{ahead, is_clear, greatest, clear_cells, gap}
-use Rattle.trlab_road.specs.Motion.{ClearAhead, LaneFits}
+use Rattle.trlab_road.specs.Motion.{IsClearAhead, LaneFits}
+use Rattle.trlab_road.specs.declared.car.Car.{Car}
+
+-- the car that a cell has
+abbrev pub car_in : ℕ → ℕ → ℕ → ℕ → Car
+car_in l x number speed = record { number = number; lane = l; place = x; speed = speed }
 
 -- two cars of a lane never go to one cell
 pub record Apart (answer : ℕ → ℕ) (lane : Lane) : Type 0 where
@@ -42,7 +47,7 @@ inside lane x car h =
     ]
 
 -- a clear run ahead of x ends before an occupied cell
-pub blocked : (lane : Lane) (x g j y : ℕ) (car : ℕ × ℕ) → ClearAhead lane x g → at lane y ≡ Some car
+pub blocked : (lane : Lane) (x g j y : ℕ) (car : ℕ × ℕ) → IsClearAhead lane x g → at lane y ≡ Some car
     → 1 ≤ j → ahead (length lane) x j ≡ y → g < j
 blocked lane x g j y car run there low reach =
     elim (cases_lt g j) [
@@ -93,7 +98,7 @@ greatest_passes test (suc n) h =
     ]
 
 -- an answer within the gap goes over empty cells alone
-pub clear_within_gap : (lane : Lane) (x v : ℕ) → v ≤ gap lane x → ClearAhead lane x v
+pub clear_within_gap : (lane : Lane) (x v : ℕ) → v ≤ gap lane x → IsClearAhead lane x v
 clear_within_gap lane x v h =
     let way : ℕ → ℕ = ahead (length lane) x in
     let passes = greatest_passes (is_clear lane way) (length lane - 1) refl in

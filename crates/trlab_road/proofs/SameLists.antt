@@ -9,7 +9,7 @@ use Rattle.std.proofs.lemmas.Bool.Decides.{Decides-eqb, Decides-and, Decides-lik
 use Rattle.std.proofs.lemmas.Slice.Eq.{slice_eq-Decides}
 use Rattle.trlab_road.specs.declared.lane_car.LaneCar.{LaneCar}
 use Rattle.trlab_road.specs.Cells.{Cells, Lane}
-use Rattle.trlab_road.specs.Lists.{Kept, Sorted, cells_of, lanes_from, lists_of}
+use Rattle.trlab_road.specs.Stored.{Stored, AreSorted, cells_of, lanes_from, lists_of}
 use Rattle.trlab_road.proofs.ListRoads.{list_told, sorted_rest, length_first}
 
 -- the comparison of two cars tells whether they are the same
@@ -42,7 +42,7 @@ by_lists n (v ∷ lists) = ap (λ (lanes : List Lane). cells_of n v.items ∷ la
 pub same_lanes : (n : ℕ) (lists others : List (Vec LaneCar Global)) → lists_of lists ≡ lists_of others → lanes_from n lists ≡ lanes_from n others
 same_lanes n lists others e = by_lists n lists ∙ ap (map (cells_of n)) e ∙ sym (by_lists n others)
 
-pub same_sorted : (n : ℕ) (lists others : List (Vec LaneCar Global)) → lists_of lists ≡ lists_of others → Sorted n others → Sorted n lists
+pub same_sorted : (n : ℕ) (lists others : List (Vec LaneCar Global)) → lists_of lists ≡ lists_of others → AreSorted n others → AreSorted n lists
 same_sorted n lists others e s =
     let a = length-map lists (λ (v : Vec LaneCar Global). v.items) in
     let b = length-map others (λ (v : Vec LaneCar Global). v.items) in
@@ -50,7 +50,7 @@ same_sorted n lists others e s =
     record { rises = λ l h. rw (ap (λ (xs : List (List LaneCar)). get_or xs l []) e) (s.rises l (omega (arith, a, b, d, h))) }
 
 -- sorted lists that make the same lanes are the same
-pub told_lists : (n : ℕ) (lists others : List (Vec LaneCar Global)) → Sorted n lists → Sorted n others
+pub told_lists : (n : ℕ) (lists others : List (Vec LaneCar Global)) → AreSorted n lists → AreSorted n others
     → lanes_from n lists ≡ lanes_from n others → lists_of lists ≡ lists_of others
 told_lists n [] [] r s e = refl
 told_lists n [] (w ∷ others) r s e = absurd (let d = ap length e in omega (arith, d))
@@ -68,7 +68,7 @@ same_road limit limit' n n' lists others e f g =
     ∙ ap (λ m. record { limit = m; lanes = lanes_from n others }) e ∙ ap (λ m. record { limit = limit'; lanes = lanes_from m others }) f
 
 module _ (limit limit' n n' : ℕ) (lists others : List (Vec LaneCar Global))
-    (kept : Kept n lists (record { limit = limit; lanes = lanes_from n lists })) (kept' : Kept n' others (record { limit = limit'; lanes = lanes_from n' others }))
+    (kept : Stored n lists (record { limit = limit; lanes = lanes_from n lists })) (kept' : Stored n' others (record { limit = limit'; lanes = lanes_from n' others }))
     (e : ◌≡◌ {A = Cells} (record { limit = limit; lanes = lanes_from n lists }) (record { limit = limit'; lanes = lanes_from n' others })) where
   pub told_limit : limit ≡ limit'
   told_limit = ap (λ (road : Cells). road.limit) e

@@ -12,9 +12,6 @@ use Rattle.trlab_road.specs.Standing.{standing_from, standing_lanes, standing, r
 one_if : Cell → ℕ
 one_if c = cond (is_some c) 1 0
 
-lane_cars-none : (cells : Lane) → lane_cars (None ∷ cells) ≡ lane_cars cells
-lane_cars-none cells = refl
-
 pub lane_cars-some : (car : ℕ × ℕ) (cells : Lane) → lane_cars (Some car ∷ cells) ≡ suc (lane_cars cells)
 lane_cars-some car cells = let e = sum_by-cons (λ (c : Cell). cond (is_some c) 1 0) (Some car) cells in omega arith
 

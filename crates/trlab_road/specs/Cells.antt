@@ -1,5 +1,6 @@
 -- Roads as contracts see them: a speed limit and lanes of cells on a ring.
 use Rattle.std.specs.Prelude.{◌≡◌, ℕ, is_some, Option, Some, None, List, [], slice_index_or, count_by, sum_by}
+use Rattle.trlab_road.specs.declared.car.Car.{Car}
 
 -- a cell is empty, or holds a car: its number and its speed
 abbrev pub Cell : Type 0
@@ -34,12 +35,15 @@ lane_cars lane = count_by is_some lane
 abbrev pub cars : Cells → ℕ
 cars road = sum_by lane_cars road.lanes
 
--- a car of this number stands somewhere on the road
-abbrev pub Stands : Cells → ℕ → Type 0
-Stands road number =
-    (l : ℕ) × ((x : ℕ) × ((speed : ℕ) × (cell road l x ≡ Some (number, speed))))
+-- a car stands in the cell of its lane and its place, which has its number and its speed
+abbrev pub IsAt : Cells → Car → Type 0
+IsAt road car = cell road car.lane car.place ≡ Some (car.number, car.speed)
+
+-- some car of the road has this number
+abbrev pub HasNumber : Cells → ℕ → Type 0
+HasNumber road number = (car : Car) × (IsAt road car × (car.number ≡ number))
 
 -- two functions of lane and place give the same answer for each car of the road
-abbrev pub SameAtCars : {X : Type 0} → (ℕ → ℕ → X) → (ℕ → ℕ → X) → Cells → Type 0
-SameAtCars answer other road =
-    (l x number speed : ℕ) → cell road l x ≡ Some (number, speed) → answer l x ≡ other l x
+abbrev pub AgreeAtCars : {X : Type 0} → (ℕ → ℕ → X) → (ℕ → ℕ → X) → Cells → Type 0
+AgreeAtCars answer other road =
+    (car : Car) → IsAt road car → answer car.lane car.place ≡ other car.lane car.place

@@ -1,40 +1,40 @@
 -- Laws of pictures, of the two phases of a step and of evenly spread cars, for every road and
--- whichever code moves the cars
+-- whichever code moves the cars.
 use Rattle.std.specs.Prelude.{◌≢◌, List, map, ◌≡◌, ℕ, ◌<◌, ◌↔◌, Bool, Result, Ok, Err}
 use Rattle.trlab_road.specs.declared.fault.RoadFault.{RoadFault}
 use Rattle.trlab_road.specs.declared.fault.RoadFault.TheVariants.{Memory}
-use Rattle.trlab_road.specs.Cells.{Cells, SameAtCars, Stands, cars}
-use Rattle.trlab_road.specs.Legal.{Legal}
-use Rattle.trlab_road.specs.Pictures.{FirstFault, GoodPictures, NumberedInOrder, Shows, picture}
-use Rattle.trlab_road.specs.Crossing.{Crosses, CrossesFree, CleanCrossing, crossed}
-use Rattle.trlab_road.specs.Spreading.{CanSpread, Even, EvenFault}
+use Rattle.trlab_road.specs.Cells.{Cells, AgreeAtCars, HasNumber, cars}
+use Rattle.trlab_road.specs.Legal.{IsLegal}
+use Rattle.trlab_road.specs.Pictures.{IsFirstFault, AreGoodPictures, AreNumberedInOrder, Shows, picture}
+use Rattle.trlab_road.specs.LaneChange.{Crosses, CrossesFree, CleanLaneChange, road_after_change}
+use Rattle.trlab_road.specs.Spreading.{CanSpread, IsEven, IsEvenFault}
 use Rattle.trlab_road.specs.Motion.{CleanMotion, Fits, Moves}
 
 -- pictures show one road only
-abbrev pub OneRoadShown : Type 0
-OneRoadShown = (limit : ℕ) (pictures : List (List ℕ)) (road other : Cells)
+abbrev pub PicturesShowOneRoad : Type 0
+PicturesShowOneRoad = (limit : ℕ) (pictures : List (List ℕ)) (road other : Cells)
     → Shows limit pictures road → Shows limit pictures other → road ≡ other
 
 -- good pictures show a legal road
-abbrev pub LegalRoadShown : Type 0
-LegalRoadShown = (limit : ℕ) (pictures : List (List ℕ)) (road : Cells)
-    → GoodPictures limit pictures → Shows limit pictures road → Legal road
+abbrev pub GoodPicturesShowLegalRoads : Type 0
+GoodPicturesShowLegalRoads = (limit : ℕ) (pictures : List (List ℕ)) (road : Cells)
+    → AreGoodPictures limit pictures → Shows limit pictures road → IsLegal road
 
 -- a limit and pictures have one first fault, but that memory may run out
 abbrev pub OneFirstFault : Type 0
 OneFirstFault = (limit : ℕ) (pictures : List (List ℕ)) (fault other : RoadFault)
-    → FirstFault limit pictures fault → FirstFault limit pictures other
+    → IsFirstFault limit pictures fault → IsFirstFault limit pictures other
     → fault ≢ Memory → other ≢ Memory → fault ≡ other
 
 -- good pictures have no fault, but that memory may run out
 abbrev pub NoFaultInGood : Type 0
 NoFaultInGood = (limit : ℕ) (pictures : List (List ℕ)) (fault : RoadFault)
-    → GoodPictures limit pictures → FirstFault limit pictures fault → fault ≡ Memory
+    → AreGoodPictures limit pictures → IsFirstFault limit pictures fault → fault ≡ Memory
 
 -- what a limit and pictures say: the legal road that they show, or their first fault
 abbrev pub Says : ℕ → List (List ℕ) → Result Cells RoadFault → Type 0
-Says limit pictures (Ok road) = Shows limit pictures road × Legal road
-Says limit pictures (Err fault) = FirstFault limit pictures fault × (fault ≢ Memory)
+Says limit pictures (Ok road) = Shows limit pictures road × IsLegal road
+Says limit pictures (Err fault) = IsFirstFault limit pictures fault × (fault ≢ Memory)
 
 -- any limit and pictures say something
 abbrev pub PicturesSaySomething : Type 0
@@ -48,11 +48,11 @@ PicturesSayOneThing = (limit : ℕ) (pictures : List (List ℕ)) (said other : R
 
 -- a legal road has pictures, and they are good
 abbrev pub PicturesOfLegalRoads : Type 0
-PicturesOfLegalRoads = (road : Cells) → Legal road → GoodPictures road.limit (map picture road.lanes)
+PicturesOfLegalRoads = (road : Cells) → IsLegal road → AreGoodPictures road.limit (map picture road.lanes)
 
 -- the pictures of a legal road whose cars are numbered in standing order say this road, and nothing else
 abbrev pub PicturesSayTheRoad : Type 0
-PicturesSayTheRoad = (road : Cells) (said : Result Cells RoadFault) → Legal road → NumberedInOrder road
+PicturesSayTheRoad = (road : Cells) (said : Result Cells RoadFault) → IsLegal road → AreNumberedInOrder road
     → Says road.limit (map picture road.lanes) said ↔ (said ≡ Ok road)
 
 -- where each answer is at most the gap and the limit, some road comes after the motion
@@ -68,52 +68,53 @@ OneRoadAfterMotion = (answer : ℕ → ℕ → ℕ) (old new other : Cells)
 -- the motion knows the answers of the cars alone, and not what a function gives for empty cells
 abbrev pub MotionByCars : Type 0
 MotionByCars = (answer other : ℕ → ℕ → ℕ) (old new : Cells)
-    → SameAtCars answer other old → Moves answer old new → Moves other old new
+    → AgreeAtCars answer other old → Moves answer old new → Moves other old new
 
 -- on a legal road, where each answer is at most the gap and the limit, the motion is clean
 abbrev pub MotionIsClean : Type 0
 MotionIsClean = (answer : ℕ → ℕ → ℕ) (old new : Cells)
-    → Legal old → Fits answer old → Moves answer old new → CleanMotion old new
+    → IsLegal old → Fits answer old → Moves answer old new → CleanMotion old new
 
 -- and then the road after the motion is legal
 abbrev pub MotionKeepsLegal : Type 0
 MotionKeepsLegal = (answer : ℕ → ℕ → ℕ) (old new : Cells)
-    → Legal old → Fits answer old → Moves answer old new → Legal new
+    → IsLegal old → Fits answer old → Moves answer old new → IsLegal new
 
 -- and then there are as many cars after the motion as before
 abbrev pub MotionKeepsCars : Type 0
 MotionKeepsCars = (answer : ℕ → ℕ → ℕ) (old new : Cells)
-    → Legal old → Fits answer old → Moves answer old new → cars new ≡ cars old
+    → IsLegal old → Fits answer old → Moves answer old new → cars new ≡ cars old
 
 -- on a legal road each number below the count of cars is that of a car
-abbrev pub AllNumbersStand : Type 0
-AllNumbersStand = (road : Cells)
-    → Legal road → (number : ℕ) → number < cars road → Stands road number
+abbrev pub HasAllNumbers : Type 0
+HasAllNumbers = (road : Cells)
+    → IsLegal road → (number : ℕ) → number < cars road → HasNumber road number
 
--- the road after the sideways phase is the one that `crossed` gives
-abbrev pub OneRoadAfterCrossing : Type 0
-OneRoadAfterCrossing = (crosses : ℕ → ℕ → Bool) (old new : Cells)
-    → Crosses crosses old new ↔ (new ≡ crossed crosses old)
+-- the road after the lane change is the one that `road_after_change` gives
+abbrev pub OneRoadAfterLaneChange : Type 0
+OneRoadAfterLaneChange = (crosses : ℕ → ℕ → Bool) (old new : Cells)
+    → Crosses crosses old new ↔ (new ≡ road_after_change crosses old)
 
--- the sideways phase knows the answers of the cars alone, not what a function gives for empty cells
-abbrev pub CrossingByCars : Type 0
-CrossingByCars = (crosses others : ℕ → ℕ → Bool) (old new : Cells)
-    → SameAtCars crosses others old → Crosses crosses old new → Crosses others old new
+-- the lane change knows the answers of the cars alone, not what a function gives for empty cells
+abbrev pub LaneChangeByCars : Type 0
+LaneChangeByCars = (crosses others : ℕ → ℕ → Bool) (old new : Cells)
+    → AgreeAtCars crosses others old → Crosses crosses old new → Crosses others old new
 
--- on a legal road of two lanes, where cars cross to empty cells alone, the crossing is clean
-abbrev pub CrossingIsClean : Type 0
-CrossingIsClean = (crosses : ℕ → ℕ → Bool) (old new : Cells)
-    → Legal old → CrossesFree crosses old → Crosses crosses old new → CleanCrossing old new
+-- on a legal road of two lanes, where cars cross to empty cells alone, the lane change is clean
+abbrev pub LaneChangeIsClean : Type 0
+LaneChangeIsClean = (crosses : ℕ → ℕ → Bool) (old new : Cells)
+    → IsLegal old → CrossesFree crosses old → Crosses crosses old new → CleanLaneChange old new
 
--- and then the road after the sideways phase is legal
-abbrev pub CrossingKeepsLegal : Type 0
-CrossingKeepsLegal = (crosses : ℕ → ℕ → Bool) (old new : Cells)
-    → Legal old → CrossesFree crosses old → Crosses crosses old new → Legal new
+-- and then the road after the lane change is legal
+abbrev pub LaneChangeKeepsLegal : Type 0
+LaneChangeKeepsLegal = (crosses : ℕ → ℕ → Bool) (old new : Cells)
+    → IsLegal old → CrossesFree crosses old → Crosses crosses old new → IsLegal new
 
 -- what is said of evenly spread cars: the legal road on which they stand, or the first fault
 abbrev pub SaysEven : ℕ → ℕ → ℕ → ℕ → Result Cells RoadFault → Type 0
-SaysEven lanes cells limit n (Ok road) = CanSpread lanes cells limit n × Even lanes cells limit n road × Legal road
-SaysEven lanes cells limit n (Err fault) = EvenFault lanes cells limit n fault × (fault ≢ Memory)
+SaysEven lanes cells limit n (Ok road) =
+    CanSpread lanes cells limit n × IsEven lanes cells limit n road × IsLegal road
+SaysEven lanes cells limit n (Err fault) = IsEvenFault lanes cells limit n fault × (fault ≢ Memory)
 
 -- something is said of any lanes, cells, limit and count of cars
 abbrev pub EvenSaysSomething : Type 0
@@ -128,25 +129,25 @@ EvenSaysOneThing = (lanes cells limit n : ℕ) (said other : Result Cells RoadFa
 -- evenly spread cars make one road only
 abbrev pub OneEvenRoad : Type 0
 OneEvenRoad = (lanes cells limit n : ℕ) (road other : Cells)
-    → Even lanes cells limit n road → Even lanes cells limit n other → road ≡ other
+    → IsEven lanes cells limit n road → IsEven lanes cells limit n other → road ≡ other
 
 -- where they fit, that road is legal
 abbrev pub EvenRoadIsLegal : Type 0
 EvenRoadIsLegal = (lanes cells limit n : ℕ) (road : Cells)
-    → CanSpread lanes cells limit n → Even lanes cells limit n road → Legal road
+    → CanSpread lanes cells limit n → IsEven lanes cells limit n road → IsLegal road
 
 -- and then it has just so many cars
 abbrev pub EvenRoadHasAllCars : Type 0
 EvenRoadHasAllCars = (lanes cells limit n : ℕ) (road : Cells)
-    → CanSpread lanes cells limit n → Even lanes cells limit n road → cars road ≡ n
+    → CanSpread lanes cells limit n → IsEven lanes cells limit n road → cars road ≡ n
 
 -- what a road is to be has one first fault, but that memory may run out
 abbrev pub OneEvenFault : Type 0
 OneEvenFault = (lanes cells limit n : ℕ) (fault other : RoadFault)
-    → EvenFault lanes cells limit n fault → EvenFault lanes cells limit n other
+    → IsEvenFault lanes cells limit n fault → IsEvenFault lanes cells limit n other
     → fault ≢ Memory → other ≢ Memory → fault ≡ other
 
 -- what fits has no fault, but that memory may run out
 abbrev pub NoFaultInFitting : Type 0
 NoFaultInFitting = (lanes cells limit n : ℕ) (fault : RoadFault)
-    → CanSpread lanes cells limit n → EvenFault lanes cells limit n fault → fault ≡ Memory
+    → CanSpread lanes cells limit n → IsEvenFault lanes cells limit n fault → fault ≡ Memory

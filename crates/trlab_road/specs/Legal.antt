@@ -1,22 +1,36 @@
--- Roads that rules can run on.
-use Rattle.std.specs.Prelude.{◌≡◌, ℕ, ◌<◌, ◌≤◌, Some, length}
+-- Legal roads, those that rules can run on.
+use Rattle.std.specs.Prelude.{◌≡◌, ℕ, ◌<◌, ◌≤◌, length}
 use Rattle.trlab_bounds.specs.declared.roads.TheConstants.{GREATEST_LIMIT, GREATEST_LENGTH, MOST_LANES}
-use Rattle.trlab_road.specs.Cells.{Cells, cell, lane_of, cars}
+use Rattle.trlab_road.specs.declared.car.Car.{Car}
+use Rattle.trlab_road.specs.Cells.{Cells, IsAt, lane_of, cars}
 
--- a legal road: bounds on lanes, length and limit, no speed above the limit, and each car,
--- numbered below the count of cars, in one cell only
-pub record Legal (road : Cells) : Type 0 where
-  pub some_lane : 1 ≤ length road.lanes
-  pub two_lanes : length road.lanes ≤ MOST_LANES
-  pub limit_low : 1 ≤ road.limit
-  pub limit_high : road.limit ≤ GREATEST_LIMIT
-  pub some_cell : 1 ≤ length (lane_of road 0)
-  pub cells_high : length (lane_of road 0) ≤ GREATEST_LENGTH
-  pub equal_lanes : (l : ℕ) → l < length road.lanes
-      → length (lane_of road l) ≡ length (lane_of road 0)
-  pub within_limit : (l x number speed : ℕ)
-      → cell road l x ≡ Some (number, speed) → speed ≤ road.limit
-  pub numbered : (l x number speed : ℕ)
-      → cell road l x ≡ Some (number, speed) → number < cars road
-  pub once : (l x m y number u v : ℕ)
-      → cell road l x ≡ Some (number, u) → cell road m y ≡ Some (number, v) → (l ≡ m) × (x ≡ y)
+-- a count of lanes that a road may have
+pub record LanesFit (lanes : ℕ) : Type 0 where
+  pub some_lane : 1 ≤ lanes
+  pub few_lanes : lanes ≤ MOST_LANES
+
+-- a count of cells that a lane may have
+pub record LengthFits (cells : ℕ) : Type 0 where
+  pub some_cell : 1 ≤ cells
+  pub few_cells : cells ≤ GREATEST_LENGTH
+
+-- a limit that a road may have
+pub record LimitFits (limit : ℕ) : Type 0 where
+  pub some_limit : 1 ≤ limit
+  pub low_limit : limit ≤ GREATEST_LIMIT
+
+-- lanes of one length; their count, their length and the limit are those that a road may have
+pub record HasShape (road : Cells) : Type 0 where
+  pub lanes : LanesFit (length road.lanes)
+  pub cells : LengthFits (length (lane_of road 0))
+  pub equal : (l : ℕ) → l < length road.lanes → length (lane_of road l) ≡ length (lane_of road 0)
+  pub limit : LimitFits road.limit
+
+-- a legal road: no car is faster than the limit, and the cars are numbered below their count, each
+-- in one cell only
+pub record IsLegal (road : Cells) : Type 0 where
+  pub shape : HasShape road
+  pub within_limit : (car : Car) → IsAt road car → car.speed ≤ road.limit
+  pub numbered : (car : Car) → IsAt road car → car.number < cars road
+  pub once : (car other : Car) → IsAt road car → IsAt road other → car.number ≡ other.number
+      → (car.lane ≡ other.lane) × (car.place ≡ other.place)

@@ -4,7 +4,7 @@ pub mod Standing
 pub mod Legal
 pub mod Pictures
 pub mod Motion
-pub mod Crossing
+pub mod LaneChange
 pub mod Spreading
 pub mod Laws
-pub mod Lists
+pub mod Stored

@@ -1,13 +1,13 @@
--- The motion phase of a step (Nagel and Schreckenberg 1992): all cars go ahead at once.
+-- The motion, the second phase of a step (Nagel and Schreckenberg 1992): all cars go ahead at once.
 -- Answers are functions of a lane and a place: how many cells does the car that stands there go?
-use Rattle.std.specs.Prelude.{◌≡◌, ℕ, ◌+◌, ◌<◌, ◌≤◌, Some, None, List, length, map, slice_index, take}
+use Rattle.std.specs.Prelude.{◌≡◌, ℕ, ◌<◌, ◌≤◌, Some, None, List, length, map, slice_index}
 use Rattle.trlab_road.specs.declared.car.Car.{Car}
-use Rattle.trlab_road.specs.Cells.{Lane, Cells, at, cell, lane_of, cars, lane_cars}
+use Rattle.trlab_road.specs.Cells.{Lane, Cells, IsAt, at, lane_of, cars, lane_cars}
 use Rattle.trlab_road.specs.Gaps.{ahead, gap}
 use Rattle.trlab_road.specs.Standing.{standing, rank}
 
 -- the car that a lane has at y after the motion stood at x before it
-pub record CameFrom (answer : ℕ → ℕ) (old : Lane) (y number speed x before : ℕ) : Type 0 where
+pub record ComesFrom (answer : ℕ → ℕ) (old : Lane) (y number speed x before : ℕ) : Type 0 where
   pub was : at old x ≡ Some (number, before)
   pub reaches : y ≡ ahead (length old) x (answer x)
   pub at_speed : speed ≡ answer x
@@ -21,9 +21,9 @@ pub record LaneMoves (answer : ℕ → ℕ) (old new : Lane) : Type 0 where
       → at new (ahead (length old) x (answer x)) ≡ Some (number, answer x)
   pub nothing_else : (y number speed : ℕ)
       → at new y ≡ Some (number, speed)
-      → (x : ℕ) × ((before : ℕ) × CameFrom answer old y number speed x before)
+      → (x : ℕ) × ((before : ℕ) × ComesFrom answer old y number speed x before)
 
--- the motion phase of a road
+-- the motion of a road
 pub record Moves (answer : ℕ → ℕ → ℕ) (old new : Cells) : Type 0 where
   pub same_limit : new.limit ≡ old.limit
   pub same_lanes : length new.lanes ≡ length old.lanes
@@ -38,23 +38,22 @@ pub record LaneFits (answer : ℕ → ℕ) (lane : Lane) : Type 0 where
 -- each car's answer is at most the gap ahead of it and the limit
 pub record Fits (answer : ℕ → ℕ → ℕ) (road : Cells) : Type 0 where
   pub each_lane : (l : ℕ) → l < length road.lanes → LaneFits (answer l) (lane_of road l)
-  pub limits : (l x number speed : ℕ)
-      → cell road l x ≡ Some (number, speed) → answer l x ≤ road.limit
+  pub within_limit : (car : Car) → IsAt road car → answer car.lane car.place ≤ road.limit
 
 -- the g cells ahead of x are empty
-pub record ClearAhead (lane : Lane) (x g : ℕ) : Type 0 where
+pub record IsClearAhead (lane : Lane) (x g : ℕ) : Type 0 where
   pub clear : (j : ℕ) → 1 ≤ j → j ≤ g → at lane (ahead (length lane) x j) ≡ None
 
 -- the car of x went ahead over empty cells to where it stands now
-pub record WentAhead (old new : Lane) (x number speed : ℕ) : Type 0 where
+pub record GoesAhead (old new : Lane) (x number speed : ℕ) : Type 0 where
   pub stands : at new (ahead (length old) x speed) ≡ Some (number, speed)
-  pub over_empty : ClearAhead old x speed
+  pub over_empty : IsClearAhead old x speed
 
 -- a lane has as many cars as before, each went ahead over empty cells, and it holds no other
-pub record LaneClean (old new : Lane) : Type 0 where
+pub record CleanLaneMotion (old new : Lane) : Type 0 where
   pub same_count : lane_cars new ≡ lane_cars old
   pub none_lost : (x number before : ℕ)
-      → at old x ≡ Some (number, before) → (speed : ℕ) × WentAhead old new x number speed
+      → at old x ≡ Some (number, before) → (speed : ℕ) × GoesAhead old new x number speed
   pub none_made : (y number speed : ℕ)
       → at new y ≡ Some (number, speed)
       → (x : ℕ) × ((before : ℕ) × (at old x ≡ Some (number, before)))
@@ -62,7 +61,7 @@ pub record LaneClean (old new : Lane) : Type 0 where
 -- no lane lost or made a car, and no car went onto or through another
 pub record CleanMotion (old new : Cells) : Type 0 where
   pub same_lanes : length new.lanes ≡ length old.lanes
-  pub each_lane : (l : ℕ) → l < length old.lanes → LaneClean (lane_of old l) (lane_of new l)
+  pub each_lane : (l : ℕ) → l < length old.lanes → CleanLaneMotion (lane_of old l) (lane_of new l)
 
 -- what a function of lane and place gives for each car, in standing order
 abbrev pub in_order : {X : Type 0} → (ℕ → ℕ → X) → Cells → List X
@@ -72,16 +71,12 @@ in_order f road = map (λ (car : Car). f car.lane car.place) (standing road)
 abbrev pub gaps : Cells → List ℕ
 gaps road = in_order (λ l x. gap (lane_of road l) x) road
 
--- the answer of the car at a place of a lane, whose cars' answers stand from an index on
-abbrev pub lane_answer : Lane → List ℕ → ℕ → ℕ → ℕ
-lane_answer lane answers from x = slice_index answers (from + lane_cars (take x lane))
-
 -- the answer of the car at a lane and a place, where answers stand in standing order
 abbrev pub answer_at : Cells → List ℕ → ℕ → ℕ → ℕ
 answer_at road answers l x = slice_index answers (rank road l x)
 
 -- one answer for each car, at most its gap and the limit
-pub record Allowed (road : Cells) (answers : List ℕ) : Type 0 where
+pub record MayMove (road : Cells) (answers : List ℕ) : Type 0 where
   pub one_each : length answers ≡ cars road
   pub within_gaps : (k : ℕ) → k < cars road → slice_index answers k ≤ slice_index (gaps road) k
   pub within_limit : (k : ℕ) → k < cars road → slice_index answers k ≤ road.limit

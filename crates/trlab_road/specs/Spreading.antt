@@ -1,10 +1,9 @@
 -- Roads on which cars stand evenly spread, with speed 0.
 use Rattle.std.specs.Prelude.{◌≡◌, ℕ, ◌*◌, ◌/◌, ◌%◌, ◌<◌, ◌≤◌, Some, length}
-use Rattle.trlab_bounds.specs.declared.roads.TheConstants.{GREATEST_LENGTH, MOST_LANES}
 use Rattle.trlab_road.specs.declared.fault.RoadFault.{RoadFault}
 use Rattle.trlab_road.specs.declared.fault.RoadFault.TheVariants.{Lanes, Length, Limit, Character, SpeedAboveLimit, Memory, TooManyCars}
 use Rattle.trlab_road.specs.Cells.{Lane, Cells, at, lane_of}
-use Rattle.trlab_road.specs.Pictures.{LimitFits}
+use Rattle.trlab_road.specs.Legal.{LanesFit, LengthFits, LimitFits}
 
 -- cells count across the lanes, place by place: the flat cell of car i, where n cars are spread
 -- over lanes of so many cells
@@ -20,34 +19,24 @@ abbrev pub even_place : ℕ → ℕ → ℕ → ℕ → ℕ
 even_place lanes cells n i = flat_cell lanes cells n i / lanes
 
 -- a car that stands at a lane and a place is one of the n cars, and is where its number puts it
-pub record InPlace (lanes cells n number l x : ℕ) : Type 0 where
+pub record IsInPlace (lanes cells n number l x : ℕ) : Type 0 where
   pub numbered : number < n
   pub on_lane : even_lane lanes cells n number ≡ l
   pub at_place : even_place lanes cells n number ≡ x
 
 -- on lane l each of the n cars that belongs there stands at its place, and nothing else does
-pub record LaneEven (lanes cells n l : ℕ) (lane : Lane) : Type 0 where
+pub record IsEvenLane (lanes cells n l : ℕ) (lane : Lane) : Type 0 where
   pub same_length : length lane ≡ cells
   pub stands : (i : ℕ) → i < n → even_lane lanes cells n i ≡ l
       → at lane (even_place lanes cells n i) ≡ Some (i, 0)
   pub nothing_else : (x number speed : ℕ)
-      → at lane x ≡ Some (number, speed) → InPlace lanes cells n number l x
+      → at lane x ≡ Some (number, speed) → IsInPlace lanes cells n number l x
 
 -- the road on which n cars are evenly spread, all with speed 0
-pub record Even (lanes cells limit n : ℕ) (road : Cells) : Type 0 where
+pub record IsEven (lanes cells limit n : ℕ) (road : Cells) : Type 0 where
   pub same_limit : road.limit ≡ limit
   pub same_lanes : length road.lanes ≡ lanes
-  pub each_lane : (l : ℕ) → l < lanes → LaneEven lanes cells n l (lane_of road l)
-
--- a count of lanes that a road may have
-pub record LanesFit (lanes : ℕ) : Type 0 where
-  pub some_lane : 1 ≤ lanes
-  pub few_lanes : lanes ≤ MOST_LANES
-
--- a count of cells that a lane may have
-pub record LengthFits (cells : ℕ) : Type 0 where
-  pub some_cell : 1 ≤ cells
-  pub few_cells : cells ≤ GREATEST_LENGTH
+  pub each_lane : (l : ℕ) → l < lanes → IsEvenLane lanes cells n l (lane_of road l)
 
 -- the road may be: its lanes, length and limit fit, and it has a cell for each car
 pub record CanSpread (lanes cells limit n : ℕ) : Type 0 where
@@ -57,12 +46,12 @@ pub record CanSpread (lanes cells limit n : ℕ) : Type 0 where
   pub room : n ≤ lanes * cells
 
 -- the first fault of what a road was to be, in the order of the faults; memory may always run out
-abbrev pub EvenFault : ℕ → ℕ → ℕ → ℕ → RoadFault → Type 0
-EvenFault lanes cells limit n Lanes = ¬ (LanesFit lanes)
-EvenFault lanes cells limit n Length = LanesFit lanes × ¬ (LengthFits cells)
-EvenFault lanes cells limit n Limit = LanesFit lanes × LengthFits cells × ¬ (LimitFits limit)
-EvenFault lanes cells limit n TooManyCars =
+abbrev pub IsEvenFault : ℕ → ℕ → ℕ → ℕ → RoadFault → Type 0
+IsEvenFault lanes cells limit n Lanes = ¬ (LanesFit lanes)
+IsEvenFault lanes cells limit n Length = LanesFit lanes × ¬ (LengthFits cells)
+IsEvenFault lanes cells limit n Limit = LanesFit lanes × LengthFits cells × ¬ (LimitFits limit)
+IsEvenFault lanes cells limit n TooManyCars =
     LanesFit lanes × LengthFits cells × LimitFits limit × (lanes * cells < n)
-EvenFault lanes cells limit n (Character l x) = ⊥
-EvenFault lanes cells limit n (SpeedAboveLimit l x) = ⊥
-EvenFault lanes cells limit n Memory = Unit {0}
+IsEvenFault lanes cells limit n (Character l x) = ⊥
+IsEvenFault lanes cells limit n (SpeedAboveLimit l x) = ⊥
+IsEvenFault lanes cells limit n Memory = Unit {0}

@@ -1,5 +1,5 @@
 -- The standing order of the cars of a road: lane by lane, place rising.
-use Rattle.std.specs.Prelude.{ℕ, suc, ◌+◌, Some, None, List, [], ◌∷◌, ◌++◌, sum_by, take}
+use Rattle.std.specs.Prelude.{◌≡◌, ℕ, suc, ◌+◌, Some, None, List, [], ◌∷◌, ◌++◌, slice_get, sum_by, take}
 use Rattle.trlab_road.specs.declared.car.Car.{Car}
 use Rattle.trlab_road.specs.Cells.{Lane, Cells, lane_of, lane_cars}
 
@@ -18,6 +18,10 @@ standing_lanes l (lane ∷ lanes) = standing_from l 0 lane ++ standing_lanes (su
 -- the cars of a road in standing order
 abbrev pub standing : Cells → List Car
 standing road = standing_lanes 0 road.lanes
+
+-- a car is the k-th in standing order
+abbrev pub IsStanding : Cells → ℕ → Car → Type 0
+IsStanding road k car = slice_get (standing road) k ≡ Some car
 
 -- how many cars stand before a place, in standing order
 abbrev pub rank : Cells → ℕ → ℕ → ℕ

@@ -1,7 +1,7 @@
-//! A car as it stands on a road.
+//! Cars where they stand: all that a road tells of a car.
 
-/// A car: its number, which it keeps, its lane, its place on that lane, and its speed in cells a
-/// step.
+/// A car: its number, which it keeps, its lane, 0 or 1, its place, the number of its cell along the
+/// lane from 0 on, and its speed, the cells that it went in the last step.
 #[derive(Clone, Copy, Debug, PartialEq, Eq)]
 pub struct Car {
     pub number: u32,

@@ -1,4 +1,4 @@
-//! Why a road cannot be made.
+//! The faults of what a road was to be made of.
 
 ghost use Rattle.std.specs.Prelude.{◌≡◌};
 ghost use Rattle.trlab_road.specs.declared.fault.RoadFault.TheVariants.{Memory};
@@ -19,7 +19,7 @@ pub enum RoadFault {
     /// A speed limit of 0, or above the greatest.
     #[error("the speed limit is out of range")]
     Limit,
-    /// The byte at a lane and a place is neither a point nor a digit.
+    /// The character at a lane and a place is neither a point nor a digit.
     #[error("no cell is written like that on lane {lane} at place {place}")]
     Character { lane: u32, place: u32 },
     /// The speed at a lane and a place is above the limit.

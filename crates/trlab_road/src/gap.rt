@@ -1,9 +1,10 @@
-//! Gaps along a lane, from its list of cars by rising place.
+//! Gaps along a lane, in cells: from the next car of its list, by rising place, or round the ring from the
+//! first or the last.
 
 ghost use Rattle.std.specs.Prelude.{◌≡◌, ◌<◌, ◌≤◌, ℕ, length};
 ghost use Rattle.trlab_bounds.specs.declared.roads.TheConstants.{GREATEST_LENGTH};
 ghost use Rattle.trlab_road.specs.Gaps.{behind, clear_cells, gap};
-ghost use Rattle.trlab_road.specs.Lists.{Parted, Rises, cells_of, place_of};
+ghost use Rattle.trlab_road.specs.Stored.{IsParted, Rises, cells_of, place_of};
 
 use crate::lane_car::LaneCar;
 
@@ -12,7 +13,7 @@ pub fn gap_ahead(cars: &[LaneCar], cells: usize, place: usize, next: usize) -> u
     requires small { cells ≤ GREATEST_LENGTH }
     requires inside { place < cells }
     requires sorted { Rises 0 cells cars.now }
-    requires parted { Parted cars.now place next }
+    requires parted { IsParted cars.now place next }
     ensures value { result ≡ gap (cells_of cells cars.now) place }
     ensures within { result < cells }
 {

@@ -1,4 +1,4 @@
-//! A car as the list of its lane has it.
+//! Cars as lanes keep them: the lane is that of the list in which a car stands.
 
 /// A car of a lane: its number, its place and its speed.
 #[derive(Clone, Copy, Debug, PartialEq, Eq)]

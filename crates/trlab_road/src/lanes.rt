@@ -2,7 +2,7 @@
 
 ghost use Rattle.std.specs.Prelude.{ℕ, ◌≡◌, ◌<◌, ◌≤◌, ◌↔◌, IsTrue, IfOk, length, slice_index_or, sum_by};
 ghost use Rattle.trlab_bounds.specs.declared.roads.TheConstants.{GREATEST_LENGTH, MOST_LANES};
-ghost use Rattle.trlab_road.specs.Lists.{FoundAt, list_at, lists_of, no_car, on};
+ghost use Rattle.trlab_road.specs.Stored.{IsFoundAt, list_at, lists_of, no_car, car_on};
 
 use crate::car::Car;
 use crate::lane_car::LaneCar;
@@ -12,7 +12,7 @@ use std::alloc::{AllocError, Global};
 pub fn find(lanes: &[Vec<LaneCar>], k: u32) -> (u32, usize)
     requires few { length lanes.now ≤ MOST_LANES }
     requires below { k < sum_by length (lists_of lanes.now) }
-    ensures { FoundAt lanes.now k result.0 result.1 }
+    ensures { IsFoundAt lanes.now k result.0 result.1 }
 {
     let index = k as usize;
     let first = lanes[0].len();
@@ -27,7 +27,7 @@ pub fn find(lanes: &[Vec<LaneCar>], k: u32) -> (u32, usize)
 pub fn car_of(lanes: &[Vec<LaneCar>], lane: u32, index: usize) -> Car
     requires on_lane { lane < length lanes.now }
     requires low { index < length (list_at lanes.now lane) }
-    ensures { result ≡ on lane (slice_index_or (list_at lanes.now lane) index no_car) }
+    ensures { result ≡ car_on lane (slice_index_or (list_at lanes.now lane) index no_car) }
 {
     let car = lanes[lane as usize][index];
     Car {

@@ -3,19 +3,19 @@
 //!
 //! Each law is the contract of a function with nothing to do.
 
-ghost use Rattle.trlab_road.specs.Laws.{LegalRoadShown, NoFaultInGood, OneFirstFault, OneRoadShown};
+ghost use Rattle.trlab_road.specs.Laws.{GoodPicturesShowLegalRoads, NoFaultInGood, OneFirstFault, PicturesShowOneRoad};
 ghost use Rattle.trlab_road.specs.Laws.{PicturesOfLegalRoads, PicturesSayOneThing, PicturesSaySomething, PicturesSayTheRoad};
-ghost use Rattle.trlab_road.specs.Laws.{AllNumbersStand, MotionByCars, MotionIsClean, MotionKeepsCars};
+ghost use Rattle.trlab_road.specs.Laws.{HasAllNumbers, MotionByCars, MotionIsClean, MotionKeepsCars};
 ghost use Rattle.trlab_road.specs.Laws.{MotionKeepsLegal, OneRoadAfterMotion, SomeRoadAfterMotion};
-ghost use Rattle.trlab_road.specs.Laws.{CrossingByCars, CrossingIsClean, CrossingKeepsLegal};
-ghost use Rattle.trlab_road.specs.Laws.{OneRoadAfterCrossing};
+ghost use Rattle.trlab_road.specs.Laws.{LaneChangeByCars, LaneChangeIsClean, LaneChangeKeepsLegal};
+ghost use Rattle.trlab_road.specs.Laws.{OneRoadAfterLaneChange};
 ghost use Rattle.trlab_road.specs.Laws.{EvenRoadHasAllCars, EvenRoadIsLegal, NoFaultInFitting, OneEvenFault, OneEvenRoad};
 ghost use Rattle.trlab_road.specs.Laws.{EvenSaysOneThing, EvenSaysSomething};
 
 /// Pictures show one road, which is legal where they are good, and else have one first fault.
 pub fn pictures_show_one_road()
-    ensures one_road { OneRoadShown }
-    ensures legal { LegalRoadShown }
+    ensures one_road { PicturesShowOneRoad }
+    ensures legal { GoodPicturesShowLegalRoads }
     ensures one_fault { OneFirstFault }
     ensures no_fault { NoFaultInGood }
 {}
@@ -49,17 +49,17 @@ pub fn motion_is_clean()
 {}
 
 /// A legal road has a car of each number below the count of its cars.
-pub fn all_numbers_stand()
-    ensures { AllNumbersStand }
+pub fn road_has_all_numbers()
+    ensures { HasAllNumbers }
 {}
 
-/// Crossing leads to one road, and only the answers at cars count. Where cars cross to empty cells
-/// alone, the crossing of a legal road is clean and gives a legal road.
-pub fn crossing_is_clean()
-    ensures one_road { OneRoadAfterCrossing }
-    ensures by_cars { CrossingByCars }
-    ensures clean { CrossingIsClean }
-    ensures legal { CrossingKeepsLegal }
+/// The lane change leads to one road, and only the answers at cars count. Where cars cross to empty
+/// cells alone, the lane change of a legal road is clean and gives a legal road.
+pub fn lane_change_is_clean()
+    ensures one_road { OneRoadAfterLaneChange }
+    ensures by_cars { LaneChangeByCars }
+    ensures clean { LaneChangeIsClean }
+    ensures legal { LaneChangeKeepsLegal }
 {}
 
 /// Evenly spread cars make one road. Where they fit, it is legal and has all of them; else there is

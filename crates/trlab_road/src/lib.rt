@@ -1,12 +1,13 @@
-//! Roads of cells on a ring, kept as lists of cars: gaps, the two phases of a step, pictures,
-//! evenly spread cars.
+//! Roads for traffic automata: rings of cells, which are kept as lists of cars. The crate reads and
+//! draws pictures, spreads cars evenly, looks at gaps, and moves all cars at once in the two phases of
+//! a step, the lane change and the motion.
 #![tactic(auto)]
 
 mod car;
-mod crossing;
 mod fault;
 mod gap;
 mod lane_car;
+mod lane_change;
 mod lanes;
 pub mod laws;
 mod motion;

@@ -1,10 +1,11 @@
-//! The motion phase: the cars of each lane go ahead at once.
+//! The motion: the cars of each lane go ahead at once, where they stand in its list. Only the last car can
+//! pass the end of the lane, and is the first then.
 
 ghost use Rattle.std.specs.Prelude.{◌≡◌, ◌+◌, ◌≤◌, length, sum_by};
 ghost use Rattle.trlab_bounds.specs.declared.roads.TheConstants.{GREATEST_LENGTH};
 ghost use Rattle.trlab_road.specs.Cells.{lane_cars};
-ghost use Rattle.trlab_road.specs.Motion.{LaneFits, LaneMoves, lane_answer};
-ghost use Rattle.trlab_road.specs.Lists.{ListsFit, ListsMove, Rises, Sorted, cells_of, lanes_from};
+ghost use Rattle.trlab_road.specs.Motion.{LaneFits, LaneMoves};
+ghost use Rattle.trlab_road.specs.Stored.{ListsFit, ListsMove, Rises, AreSorted, cells_of, lanes_from, lane_answer};
 
 use crate::lane_car::LaneCar;
 
@@ -61,10 +62,10 @@ pub fn move_lane(cars: &mut Vec<LaneCar>, cells: u32, speeds: &[u32], from: usiz
 /// Moves the cars of all lanes ahead at once, where their speeds stand in standing order.
 pub fn move_lanes(lanes: &mut [Vec<LaneCar>], cells: u32, speeds: &[u32])
     requires small { cells ≤ GREATEST_LENGTH }
-    requires sorted { Sorted cells lanes.old }
+    requires sorted { AreSorted cells lanes.old }
     requires one_each { sum_by lane_cars (lanes_from cells lanes.old) ≤ length speeds.now }
     requires within { ListsFit cells lanes.old speeds.now }
-    ensures sorted { Sorted cells lanes.new }
+    ensures sorted { AreSorted cells lanes.new }
     ensures moves { ListsMove cells lanes.old lanes.new speeds.now }
 {
     let mut from = 0;

@@ -1,48 +1,48 @@
-//! Cells and speeds as bytes of pictures.
+//! The characters of pictures: a point for an empty cell, a digit for the speed of a car.
 
 ghost use Rattle.std.specs.Prelude.{◌≡◌, ◌<◌, ◌≤◌, ◌↔◌, ℕ, ◌++◌, OnOk, IsTrue, length, slice_index_or};
 ghost use Rattle.trlab_bounds.specs.declared.roads.TheConstants.{GREATEST_LIMIT};
-ghost use Rattle.trlab_road.specs.Lists.{Rises, cells_of, no_car};
-ghost use Rattle.trlab_road.specs.Pictures.{ShowsCell, ShowsSpeed, byte_speed, picture, speed_byte};
+ghost use Rattle.trlab_road.specs.Stored.{Rises, cells_of, no_car, speed_of_digit};
+ghost use Rattle.trlab_road.specs.Pictures.{ShowsCell, ShowsSpeed, picture, digit};
 
 use crate::lane_car::LaneCar;
 use std::alloc::AllocError;
 use trlab_bounds::roads::GREATEST_LIMIT;
 
-/// The byte of an empty cell.
-pub const EMPTY: u8 = b'.';
+/// The character of an empty cell.
+pub const POINT: u8 = b'.';
 
-/// The byte of a speed: its digit.
-pub fn speed_byte(speed: u32) -> u8
+/// The character of a car: the digit of its speed.
+pub fn digit(speed: u32) -> u8
     requires { speed ≤ GREATEST_LIMIT }
-    ensures { result ≡ speed_byte speed }
+    ensures { result ≡ digit speed }
 {
     b'0' + speed as u8
 }
 
 /// The speed that a digit shows.
-pub fn byte_speed(byte: u8) -> u32
-    requires { ShowsSpeed GREATEST_LIMIT byte }
-    ensures value { result ≡ byte_speed byte }
+pub fn speed_of_digit(character: u8) -> u32
+    requires { ShowsSpeed GREATEST_LIMIT character }
+    ensures value { result ≡ speed_of_digit character }
     ensures within { result ≤ GREATEST_LIMIT }
 {
-    u32::from(byte - b'0')
+    u32::from(character - b'0')
 }
 
-/// Does a byte show a speed up to the greatest one?
-pub fn shows_speed(most: u32, byte: u8) -> bool
+/// Does a character show a speed of at most some number?
+pub fn shows_speed(most: u32, character: u8) -> bool
     requires { most ≤ GREATEST_LIMIT }
-    ensures { IsTrue result ↔ ShowsSpeed most byte }
+    ensures { IsTrue result ↔ ShowsSpeed most character }
 {
-    speed_byte(0) <= byte && byte <= speed_byte(most)
+    digit(0) <= character && character <= digit(most)
 }
 
-/// Does a byte show a cell, whose speed is within the limit?
-pub fn shows_cell(limit: u32, byte: u8) -> bool
+/// Does a character show a cell: a point, or a speed within the limit?
+pub fn shows_cell(limit: u32, character: u8) -> bool
     requires { limit ≤ GREATEST_LIMIT }
-    ensures { IsTrue result ↔ ShowsCell limit byte }
+    ensures { IsTrue result ↔ ShowsCell limit character }
 {
-    byte == EMPTY || shows_speed(limit, byte)
+    character == POINT || shows_speed(limit, character)
 }
 
 /// Adds the picture of a lane: a point for an empty cell, the digit of the speed for a car.
@@ -53,10 +53,10 @@ pub fn push_picture(out: &mut Vec<u8>, cars: &[LaneCar], cells: u32) -> Result<(
     ensures { OnOk result (out.new.items ≡ out.old.items ++ picture (cells_of cells cars.now)) }
 {
     let start = out.len();
-    out.resize(start + cells as usize, EMPTY)?;
+    out.resize(start + cells as usize, POINT)?;
     for k in 0..cars.len() {
         let car = cars[k];
-        out[start + car.place as usize] = speed_byte(car.speed);
+        out[start + car.place as usize] = digit(car.speed);
     }
     Ok(())
 }

@@ -1,17 +1,18 @@
-//! Reads pictures of roads.
+//! Reads the pictures of a road: first they are judged, then the lists of its lanes are made of them.
 
 ghost use Rattle.std.specs.Prelude.{◌≡◌, ◌*◌, ◌<◌, ◌≤◌, ◌↔◌, ℕ, length, IfOk, MatchResult, IsTrue, slice_index, EachIndex};
 ghost use Rattle.trlab_bounds.specs.declared.roads.TheConstants.{GREATEST_LIMIT, GREATEST_LENGTH, MOST_LANES};
-ghost use Rattle.trlab_road.specs.Lists.{Rises, Sorted, cells_of, lanes_from};
-ghost use Rattle.trlab_road.specs.Pictures.{EqualLanes, FewLanes, FirstFault, GoodPictures, ShowsCell, drawn_lane, drawn_lanes, picture_at, pictures_of};
+ghost use Rattle.trlab_road.specs.Stored.{Rises, AreSorted, cells_of, lanes_from, lane_of_picture, lanes_of_pictures};
+ghost use Rattle.trlab_road.specs.Legal.{LanesFit};
+ghost use Rattle.trlab_road.specs.Pictures.{HaveEqualLengths, IsFirstFault, AreGoodPictures, ShowsCell, picture_at, pictures_of};
 
 use crate::fault::RoadFault;
 use crate::lane_car::LaneCar;
-use crate::picture::{EMPTY, byte_speed, shows_cell, shows_speed};
+use crate::picture::{POINT, shows_cell, shows_speed, speed_of_digit};
 use std::alloc::{AllocError, Global};
 use trlab_bounds::roads::{GREATEST_LENGTH, GREATEST_LIMIT, MOST_LANES};
 
-/// The place of the first byte that shows no cell, or the length.
+/// The place of the first character that shows no cell, or the length.
 pub fn first_bad(limit: u32, picture: &[u8]) -> usize
     requires { limit ≤ GREATEST_LIMIT }
     ensures within { result ≤ length picture.now }
@@ -19,8 +20,8 @@ pub fn first_bad(limit: u32, picture: &[u8]) -> usize
     ensures bad { result < length picture.now
         → ¬ (ShowsCell limit (slice_index picture.now result)) }
 {
-    for (place, byte) in picture.iter().enumerate() {
-        if !shows_cell(limit, *byte) {
+    for (place, character) in picture.iter().enumerate() {
+        if !shows_cell(limit, *character) {
             return place;
         }
     }
@@ -29,8 +30,8 @@ pub fn first_bad(limit: u32, picture: &[u8]) -> usize
 
 /// Have the lanes one length, which a lane may have?
 pub fn has_equal_lanes(pictures: &[&[u8]]) -> bool
-    requires { FewLanes (pictures_of pictures.now) }
-    ensures { IsTrue result ↔ EqualLanes (pictures_of pictures.now) }
+    requires { LanesFit (length (pictures_of pictures.now)) }
+    ensures { IsTrue result ↔ HaveEqualLengths (pictures_of pictures.now) }
 {
     let cells = pictures[0].len();
     if cells == 0 || cells > GREATEST_LENGTH as usize {
@@ -42,8 +43,8 @@ pub fn has_equal_lanes(pictures: &[&[u8]]) -> bool
 /// Finds the first fault of a limit and pictures.
 pub fn check_pictures(limit: u32, pictures: &[&[u8]]) -> Result<(), RoadFault>
     ensures { MatchResult result
-        (λ _. GoodPictures limit (pictures_of pictures.now))
-        (λ fault. FirstFault limit (pictures_of pictures.now) fault) }
+        (λ _. AreGoodPictures limit (pictures_of pictures.now))
+        (λ fault. IsFirstFault limit (pictures_of pictures.now) fault) }
 {
     if pictures.is_empty() || pictures.len() > MOST_LANES as usize {
         return Err(RoadFault::Lanes);
@@ -70,7 +71,7 @@ pub fn check_pictures(limit: u32, pictures: &[&[u8]]) -> Result<(), RoadFault>
     Ok(())
 }
 
-/// The cars of the lane that a picture draws, numbered from a number on.
+/// The cars of the lane that a picture shows, numbered from a number on.
 pub fn draw_lane(alloc: Global, picture: &[u8], from: u32) -> Result<Vec<LaneCar>, AllocError>
     requires shown { EachIndex picture.now (λ x.
         ShowsCell GREATEST_LIMIT (slice_index picture.now x)) }
@@ -78,16 +79,16 @@ pub fn draw_lane(alloc: Global, picture: &[u8], from: u32) -> Result<Vec<LaneCar
     requires few { from ≤ MOST_LANES * GREATEST_LENGTH }
     ensures rises { IfOk result (λ cars. Rises 0 (length picture.now) cars.items) }
     ensures drawn { IfOk result (λ cars.
-        cells_of (length picture.now) cars.items ≡ drawn_lane from picture.now) }
+        cells_of (length picture.now) cars.items ≡ lane_of_picture from picture.now) }
 {
     let mut cars = Vec::new(alloc);
     let mut number = from;
-    for (place, byte) in picture.iter().enumerate() {
-        if *byte != EMPTY {
+    for (place, character) in picture.iter().enumerate() {
+        if *character != POINT {
             cars.push(LaneCar {
                 number,
                 place: place as u32,
-                speed: byte_speed(*byte),
+                speed: speed_of_digit(*character),
             })?;
             number += 1;
         }
@@ -95,17 +96,17 @@ pub fn draw_lane(alloc: Global, picture: &[u8], from: u32) -> Result<Vec<LaneCar
     Ok(cars)
 }
 
-/// The lanes that pictures of so many cells draw, their cars numbered in standing order.
+/// The lanes that pictures of so many cells show, their cars numbered in standing order.
 pub fn draw_lanes(
     alloc: Global,
     pictures: &[&[u8]],
     cells: usize,
 ) -> Result<Vec<Vec<LaneCar>>, AllocError>
-    requires good { GoodPictures GREATEST_LIMIT (pictures_of pictures.now) }
+    requires good { AreGoodPictures GREATEST_LIMIT (pictures_of pictures.now) }
     requires first { cells ≡ length (picture_at (pictures_of pictures.now) 0) }
-    ensures sorted { IfOk result (λ lanes. Sorted cells lanes.items) }
+    ensures sorted { IfOk result (λ lanes. AreSorted cells lanes.items) }
     ensures drawn { IfOk result (λ lanes.
-        lanes_from cells lanes.items ≡ drawn_lanes 0 (pictures_of pictures.now)) }
+        lanes_from cells lanes.items ≡ lanes_of_pictures 0 (pictures_of pictures.now)) }
 {
     let mut lanes = Vec::with_capacity(alloc, pictures.len())?;
     let mut number = 0;

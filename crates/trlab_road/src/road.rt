@@ -1,23 +1,23 @@
-//! A road, kept as the list of the cars of each lane by rising place.
+//! A road as callers see it: its cells. It is kept as the list of the cars of each lane, by rising place.
 
-ghost use Rattle.std.specs.Prelude.{◌≡◌, ◌≢◌, ◌⊎◌, ◌<◌, ◌≤◌, ◌↔◌, ℕ, Bool, length, slice_get, Some, slice_index, slice_index_or, false, ◌++◌, IfOk, OnOk, IsTrue, MatchResult};
+ghost use Rattle.std.specs.Prelude.{◌≡◌, ◌≢◌, ◌⊎◌, ◌<◌, ◌≤◌, ◌↔◌, ℕ, Bool, length, slice_index, slice_index_or, false, ◌++◌, IfOk, OnOk, IsTrue, MatchResult};
 ghost use Rattle.trlab_bounds.specs.declared.roads.TheConstants.{GREATEST_LENGTH};
 ghost use Rattle.trlab_road.specs.declared.car.Car.{Car};
 ghost use Rattle.trlab_road.specs.declared.fault.RoadFault.{RoadFault};
-ghost use Rattle.trlab_road.specs.Cells.{Cells, cars, cell, lane_of};
+ghost use Rattle.trlab_road.specs.Cells.{Cells, IsAt, cars, lane_of};
 ghost use Rattle.trlab_road.specs.Gaps.{gap, side, sideback, sidegap};
-ghost use Rattle.trlab_road.specs.Standing.{standing};
-ghost use Rattle.trlab_road.specs.Legal.{Legal};
-ghost use Rattle.trlab_road.specs.Pictures.{FirstFault, Shows, picture, pictures_of};
-ghost use Rattle.trlab_road.specs.Crossing.{CleanCrossing, CrossAllowed, Crosses, other_lane, sides};
-ghost use Rattle.trlab_road.specs.Spreading.{CanSpread, Even, EvenFault};
-ghost use Rattle.trlab_road.specs.Motion.{Allowed, CleanMotion, Moves, gaps, in_order};
+ghost use Rattle.trlab_road.specs.Standing.{IsStanding};
+ghost use Rattle.trlab_road.specs.Legal.{IsLegal};
+ghost use Rattle.trlab_road.specs.Pictures.{IsFirstFault, Shows, picture, pictures_of};
+ghost use Rattle.trlab_road.specs.LaneChange.{CleanLaneChange, Crosses, IsBeside, IsGapBeside, MayCross, sides};
+ghost use Rattle.trlab_road.specs.Spreading.{CanSpread, IsEven, IsEvenFault};
+ghost use Rattle.trlab_road.specs.Motion.{MayMove, CleanMotion, Moves, gaps, in_order};
 
 use crate::car::Car;
-use crate::crossing::crossed_lanes;
 use crate::fault::RoadFault;
 use crate::gap::gap_ahead;
 use crate::lane_car::LaneCar;
+use crate::lane_change::change_lanes;
 use crate::lanes::{car_of, copy_lanes, count_cars, find, list_of, same_lanes};
 use crate::motion::move_lanes;
 use crate::picture::push_picture;
@@ -27,6 +27,7 @@ use crate::side::{Beside, look_beside};
 use crate::spreading::{check_even, even_lanes};
 use std::alloc::{AllocError, Global};
 use std::marker::Model;
+use std::snapshot::Snapshot;
 
 /// A legal road: one or two lanes of cells on a ring, with a speed limit.
 ///
@@ -43,35 +44,39 @@ pub struct Road {
 
 impl Model for Road {
     ghost use Rattle.trlab_road.specs.Cells.{Cells};
-    ghost use Rattle.trlab_road.specs.Lists.{Kept, lanes_from};
+    ghost use Rattle.trlab_road.specs.Stored.{Stored, lanes_from};
 
     ghost Value = { Cells };
 
     ghost view = { λ r. record { limit = r.limit; lanes = lanes_from r.cells r.lanes.items } };
 
-    ghost invariant = { λ r. Kept r.cells r.lanes.items
+    ghost invariant = { λ r. Stored r.cells r.lanes.items
         (record { limit = r.limit; lanes = lanes_from r.cells r.lanes.items }) };
 }
 
 impl Road {
-    /// The road that pictures show, one for each lane, with its cars numbered in standing order.
+    /// The road that pictures show, one for each lane, with its cars numbered in standing order. The
+    /// limit is 1 to 9 cells a step.
     ///
-    /// A picture has one byte a cell: a point for an empty cell, the digit of its speed for a car.
-    /// Of several faults the first is told: `Lanes`, then `Length`, then `Limit`, then that of the
-    /// first byte, lane by lane and from left to right, that shows no cell. `Memory` may be told
-    /// where an allocation was refused.
+    /// A picture has one character a cell: a point for an empty cell, the digit of its speed for a car.
+    ///
+    /// # Errors
+    ///
+    /// The first fault of the limit and the pictures: `Lanes`, then `Length`, then `Limit`, then that of
+    /// the first character, lane by lane and from left to right, that shows no cell. `Memory` may stand
+    /// in its place where an allocation was refused.
     pub fn parse(alloc: Global, limit: u32, lanes: &[&[u8]]) -> Result<Road, RoadFault>
         ensures shown { MatchResult result
             (λ road. Shows limit (pictures_of lanes.now) road)
-            (λ fault. FirstFault limit (pictures_of lanes.now) fault) }
-        ensures legal { IfOk result (λ road. Legal road) }
+            (λ fault. IsFirstFault limit (pictures_of lanes.now) fault) }
+        ensures legal { IfOk result (λ road. IsLegal road) }
 
         // each legal road whose cars are numbered in standing order is read from its pictures
-        ensures back { (road : Cells) → Legal road → Shows limit (pictures_of lanes.now) road
+        ensures back { (road : Cells) → IsLegal road → Shows limit (pictures_of lanes.now) road
             → MatchResult result (λ next. next ≡ road) (λ fault. fault ≡ RoadFault.Memory) }
 
         // each fault is told, but where memory runs out
-        ensures told { (fault : RoadFault) → FirstFault limit (pictures_of lanes.now) fault
+        ensures told { (fault : RoadFault) → IsFirstFault limit (pictures_of lanes.now) fault
             → fault ≢ RoadFault.Memory → (result ≡ Err fault) ⊎ (result ≡ Err RoadFault.Memory) }
     {
         check_pictures(limit, lanes)?;
@@ -84,13 +89,16 @@ impl Road {
         })
     }
 
-    /// The road on which so many cars are evenly spread over lanes of so many cells, all with
-    /// speed 0.
+    /// The road on which so many cars are evenly spread over one or two lanes of 1 to 100000 cells, all
+    /// with speed 0. The limit is 1 to 9 cells a step.
     ///
     /// With C cells in all, car i of n stands at flat cell i * C / n, rounded down. Flat cells
-    /// count across the lanes: place 0 of each lane, then place 1, and so on. Of several faults
-    /// the first is told: `Lanes`, then `Length`, then `Limit`, then `TooManyCars`. `Memory` may be
-    /// told where an allocation was refused.
+    /// count across the lanes: place 0 of each lane, then place 1, and so on.
+    ///
+    /// # Errors
+    ///
+    /// The first fault: `Lanes`, then `Length`, then `Limit`, then `TooManyCars`. `Memory` may stand in
+    /// its place where an allocation was refused.
     pub fn even(
         alloc: Global,
         lanes: u32,
@@ -100,14 +108,14 @@ impl Road {
     ) -> Result<Road, RoadFault>
         ensures fits { MatchResult result
             (λ _. CanSpread lanes cells limit count)
-            (λ fault. EvenFault lanes cells limit count fault) }
-        ensures even { IfOk result (λ road. Even lanes cells limit count road) }
+            (λ fault. IsEvenFault lanes cells limit count fault) }
+        ensures even { IfOk result (λ road. IsEven lanes cells limit count road) }
 
         // each fault is told, but where memory runs out
-        ensures told { (fault : RoadFault) → EvenFault lanes cells limit count fault
+        ensures told { (fault : RoadFault) → IsEvenFault lanes cells limit count fault
             → fault ≢ RoadFault.Memory → (result ≡ Err fault) ⊎ (result ≡ Err RoadFault.Memory) }
         ensures counted { IfOk result (λ road. cars road ≡ count) }
-        ensures legal { IfOk result (λ road. Legal road) }
+        ensures legal { IfOk result (λ road. IsLegal road) }
     {
         check_even(lanes, cells, limit, count)?;
         let lanes = even_lanes(alloc, lanes as usize, cells as usize, count as usize)?;
@@ -119,6 +127,10 @@ impl Road {
     }
 
     /// The same road once more.
+    ///
+    /// # Errors
+    ///
+    /// Where an allocation was refused.
     pub fn copy(&self, alloc: Global) -> Result<Road, AllocError>
         ensures { IfOk result (λ road. road ≡ self.now) }
     {
@@ -130,6 +142,16 @@ impl Road {
         })
     }
 
+    /// This road for contracts, which takes no bytes.
+    pub fn snapshot(&self) -> Snapshot<Road>
+        ensures value { result.value ≡ self.now }
+        ensures legal { IsLegal self.now }
+    {
+        // a field is named, and with it the invariant
+        let _ = &self.limit;
+        Snapshot::of(self)
+    }
+
     /// Have two roads the same limit and the same cells, with the numbers of their cars?
     pub fn equals(&self, other: &Road) -> bool
         ensures { IsTrue result ↔ (self.now ≡ other.now) }
@@ -139,26 +161,26 @@ impl Road {
             && same_lanes(&self.lanes, &other.lanes)
     }
 
-    /// How many lanes.
+    /// How many lanes: 1 or 2.
     pub fn lanes(&self) -> u32
         ensures value { result ≡ length self.now.lanes }
-        ensures legal { Legal self.now }
+        ensures legal { IsLegal self.now }
     {
         self.lanes.len() as u32
     }
 
-    /// How many cells each lane has.
+    /// How many cells each lane has: 1 to 100000.
     pub fn length(&self) -> u32
         ensures value { result ≡ length (lane_of self.now 0) }
-        ensures legal { Legal self.now }
+        ensures legal { IsLegal self.now }
     {
         self.cells
     }
 
-    /// The speed limit, in cells a step.
+    /// The speed limit, 1 to 9 cells a step.
     pub fn limit(&self) -> u32
         ensures value { result ≡ self.now.limit }
-        ensures legal { Legal self.now }
+        ensures legal { IsLegal self.now }
     {
         self.limit
     }
@@ -166,7 +188,7 @@ impl Road {
     /// How many cars.
     pub fn cars(&self) -> u32
         ensures value { result ≡ cars self.now }
-        ensures legal { Legal self.now }
+        ensures legal { IsLegal self.now }
     {
         count_cars(&self.lanes)
     }
@@ -174,8 +196,8 @@ impl Road {
     /// The k-th car in standing order, counted from 0.
     pub fn standing(&self, k: u32) -> Car
         requires { k < cars self.now }
-        ensures order { slice_get (standing self.now) k ≡ Some result }
-        ensures cell { cell self.now result.lane result.place ≡ Some (result.number, result.speed) }
+        ensures order { IsStanding self.now k result }
+        ensures cell { IsAt self.now result }
         ensures lane { result.lane < length self.now.lanes }
         ensures place { result.place < length (lane_of self.now 0) }
     {
@@ -183,13 +205,14 @@ impl Road {
         car_of(&self.lanes, lane, index)
     }
 
-    /// The gap of the k-th car in standing order: how many cells ahead of it are empty.
+    /// The gap of the k-th car in standing order: how many cells ahead of it are empty (Nagel and
+    /// Schreckenberg 1992).
     ///
     /// A lone car on a lane of n cells has the gap n - 1.
     pub fn gap(&self, k: u32) -> u32
         requires { k < cars self.now }
         ensures value { result ≡ slice_index (gaps self.now) k }
-        ensures of_car { (car : Car) → slice_get (standing self.now) k ≡ Some car
+        ensures of_car { (car : Car) → IsStanding self.now k car
             → result ≡ gap (lane_of self.now car.lane) car.place }
         ensures below { result < length (lane_of self.now 0) }
     {
@@ -199,8 +222,19 @@ impl Road {
         gap_ahead(cars, self.cells as usize, place, index + 1) as u32
     }
 
+    /// Is the side cell of the k-th car in standing order, the cell beside it on the other lane,
+    /// empty?
+    pub fn side(&self, k: u32) -> bool
+        requires below { k < cars self.now }
+        requires two { length self.now.lanes ≡ 2 }
+        ensures value { result ≡ slice_index_or (sides self.now) k false }
+        ensures of_car { IsBeside side self.now k result }
+    {
+        self.beside(k, 0).is_empty
+    }
+
     /// What stands beside the k-th car in standing order, on the other lane: whether the side cell is
-    /// empty, and the gaps ahead and behind from there, as `side`, `sidegap` and `sideback` tell.
+    /// empty, and the gaps ahead and behind from there in cells, as `side`, `sidegap` and `sideback` tell.
     ///
     /// Asked car by car along a lane, with the `next` of the answer before as `near`, it goes on from
     /// there; with any other `near`, as 0, it searches by halves.
@@ -208,12 +242,9 @@ impl Road {
         requires below { k < cars self.now }
         requires two { length self.now.lanes ≡ 2 }
         ensures value { result.is_empty ≡ slice_index_or (sides self.now) k false }
-        ensures empty { (car : Car) → slice_get (standing self.now) k ≡ Some car
-            → result.is_empty ≡ side (lane_of self.now (other_lane car.lane)) car.place }
-        ensures ahead { (car : Car) → slice_get (standing self.now) k ≡ Some car
-            → result.ahead ≡ sidegap (lane_of self.now (other_lane car.lane)) car.place }
-        ensures behind { (car : Car) → slice_get (standing self.now) k ≡ Some car
-            → result.behind ≡ sideback (lane_of self.now (other_lane car.lane)) car.place }
+        ensures empty { IsBeside side self.now k result.is_empty }
+        ensures ahead { IsBeside sidegap self.now k result.ahead }
+        ensures behind { IsBeside sideback self.now k result.behind }
         ensures ahead_below { result.ahead < length (lane_of self.now 0) }
         ensures behind_below { result.behind < length (lane_of self.now 0) }
     {
@@ -223,47 +254,35 @@ impl Road {
         look_beside(other, self.cells as usize, place, near)
     }
 
-    /// Is the side cell of the k-th car in standing order, the cell beside it on the other lane,
-    /// empty?
-    pub fn side(&self, k: u32) -> bool
-        requires below { k < cars self.now }
-        requires two { length self.now.lanes ≡ 2 }
-        ensures value { result ≡ slice_index_or (sides self.now) k false }
-        ensures of_car { (car : Car) → slice_get (standing self.now) k ≡ Some car
-            → result ≡ side (lane_of self.now (other_lane car.lane)) car.place }
-    {
-        self.beside(k, 0).is_empty
-    }
-
-    /// The gap ahead on the other lane, from beside the k-th car in standing order: 0 where the
-    /// side cell is taken.
+    /// The gap ahead on the other lane in cells, from beside the k-th car in standing order: 0 where the
+    /// side cell is taken (Rickert, Nagel, Schreckenberg and Latour 1996).
     ///
     /// On an empty lane of n cells it is n - 1.
     pub fn sidegap(&self, k: u32) -> u32
         requires below { k < cars self.now }
         requires two { length self.now.lanes ≡ 2 }
-        ensures of_car { (car : Car) → slice_get (standing self.now) k ≡ Some car
-            → result ≡ sidegap (lane_of self.now (other_lane car.lane)) car.place }
-        ensures below { result < length (lane_of self.now 0) }
+        ensures { IsGapBeside sidegap self.now k result }
     {
         self.beside(k, 0).ahead
     }
 
-    /// The gap behind on the other lane, from beside the k-th car in standing order: 0 where the
-    /// side cell is taken.
+    /// The gap behind on the other lane in cells, from beside the k-th car in standing order: 0 where the
+    /// side cell is taken (Rickert, Nagel, Schreckenberg and Latour 1996).
     ///
     /// On an empty lane of n cells it is n - 1.
     pub fn sideback(&self, k: u32) -> u32
         requires below { k < cars self.now }
         requires two { length self.now.lanes ≡ 2 }
-        ensures of_car { (car : Car) → slice_get (standing self.now) k ≡ Some car
-            → result ≡ sideback (lane_of self.now (other_lane car.lane)) car.place }
-        ensures below { result < length (lane_of self.now 0) }
+        ensures { IsGapBeside sideback self.now k result }
     {
         self.beside(k, 0).behind
     }
 
-    /// The picture of a lane: one byte a cell, a point or the digit of the car's speed.
+    /// The picture of a lane: one character a cell, a point or the digit of the car's speed.
+    ///
+    /// # Errors
+    ///
+    /// Where an allocation was refused.
     pub fn picture(&self, alloc: Global, lane: u32) -> Result<Vec<u8>, AllocError>
         requires { lane < length self.now.lanes }
         ensures { IfOk result (λ bytes. bytes.items ≡ picture (lane_of self.now lane)) }
@@ -274,6 +293,10 @@ impl Road {
     }
 
     /// Adds the picture of a lane to bytes.
+    ///
+    /// # Errors
+    ///
+    /// Where an allocation was refused.
     pub fn push_picture(&self, out: &mut Vec<u8>, lane: u32) -> Result<(), AllocError>
         requires { lane < length self.now.lanes }
         ensures { OnOk result (out.new.items ≡ out.old.items ++ picture (lane_of self.now lane)) }
@@ -281,14 +304,18 @@ impl Road {
         push_picture(out, list_of(&self.lanes, lane), self.cells)
     }
 
-    /// The road after all cars went ahead at once, each by its speed of the list, which stands in
-    /// standing order and gives the new speeds.
-    pub fn moved(&self, alloc: Global, speeds: &[u32]) -> Result<Road, AllocError>
-        requires { Allowed self.now speeds.now }
+    /// The road after the motion: all cars go ahead at once, each by its speed of the list, which stands
+    /// in standing order and gives the new speeds, in cells a step.
+    ///
+    /// # Errors
+    ///
+    /// Where an allocation was refused.
+    pub fn after_motion(&self, alloc: Global, speeds: &[u32]) -> Result<Road, AllocError>
+        requires { MayMove self.now speeds.now }
         ensures moves { IfOk result (λ next. (answer : ℕ → ℕ → ℕ)
             → speeds.now ≡ in_order answer self.now → Moves answer self.now next) }
         ensures clean { IfOk result (λ next. CleanMotion self.now next) }
-        ensures legal { IfOk result (λ next. Legal next) }
+        ensures legal { IfOk result (λ next. IsLegal next) }
     {
         let mut next = self.copy(alloc)?;
         next.move_cars(speeds);
@@ -298,41 +325,49 @@ impl Road {
     /// Moves all cars ahead at once, each by its speed of the list, which stands in standing order and
     /// gives the new speeds. It takes no memory.
     pub fn move_cars(&mut self, speeds: &[u32])
-        requires { Allowed self.old speeds.now }
+        requires { MayMove self.old speeds.now }
         ensures moves { (answer : ℕ → ℕ → ℕ)
             → speeds.now ≡ in_order answer self.old → Moves answer self.old self.new }
         ensures clean { CleanMotion self.old self.new }
-        ensures legal { Legal self.new }
+        ensures legal { IsLegal self.new }
     {
         move_lanes(&mut self.lanes, self.cells, speeds);
     }
 
-    /// The road of two lanes after all cars that cross did so at once; whether a car crosses stands
-    /// in standing order.
-    pub fn crossed(&self, alloc: Global, crosses: &[bool]) -> Result<Road, AllocError>
-        requires { CrossAllowed self.now crosses.now }
+    /// The road of two lanes after the lane change: all cars that cross do so at once. Whether each car
+    /// crosses stands in standing order.
+    ///
+    /// # Errors
+    ///
+    /// Where an allocation was refused.
+    pub fn after_lane_change(&self, alloc: Global, crosses: &[bool]) -> Result<Road, AllocError>
+        requires { MayCross self.now crosses.now }
         ensures crosses { IfOk result (λ next. (answer : ℕ → ℕ → Bool)
             → crosses.now ≡ in_order answer self.now → Crosses answer self.now next) }
-        ensures clean { IfOk result (λ next. CleanCrossing self.now next) }
-        ensures legal { IfOk result (λ next. Legal next) }
+        ensures clean { IfOk result (λ next. CleanLaneChange self.now next) }
+        ensures legal { IfOk result (λ next. IsLegal next) }
     {
-        self.crossed_in(alloc, &mut Room::new(alloc), crosses)
+        self.after_lane_change_in(alloc, &mut Room::new(alloc), crosses)
     }
 
-    /// The road as `crossed` tells it, which takes its memory from the room.
-    pub fn crossed_in(
+    /// The road as `after_lane_change` tells it, which takes its memory from the room.
+    ///
+    /// # Errors
+    ///
+    /// Where an allocation was refused.
+    pub fn after_lane_change_in(
         &self,
         alloc: Global,
         room: &mut Room,
         crosses: &[bool],
     ) -> Result<Road, AllocError>
-        requires { CrossAllowed self.now crosses.now }
+        requires { MayCross self.now crosses.now }
         ensures crosses { IfOk result (λ next. (answer : ℕ → ℕ → Bool)
             → crosses.now ≡ in_order answer self.now → Crosses answer self.now next) }
-        ensures clean { IfOk result (λ next. CleanCrossing self.now next) }
-        ensures legal { IfOk result (λ next. Legal next) }
+        ensures clean { IfOk result (λ next. CleanLaneChange self.now next) }
+        ensures legal { IfOk result (λ next. IsLegal next) }
     {
-        let lanes = crossed_lanes(alloc, room, &self.lanes, self.cells, crosses)?;
+        let lanes = change_lanes(alloc, room, &self.lanes, self.cells, crosses)?;
         Ok(Road {
             limit: self.limit,
             cells: self.cells,

@@ -1,4 +1,4 @@
-//! Memory that is kept from one crossing to the next.
+//! Memory that is kept from one lane change to the next.
 
 ghost use Rattle.std.specs.Prelude.{◌≡◌, length, IfOk};
 
@@ -6,7 +6,7 @@ use crate::lane_car::LaneCar;
 use std::alloc::{AllocError, Global};
 use std::mem;
 
-/// Lists that are filled again in each crossing: it says nothing of a road.
+/// Lists that are filled again in each lane change: they say nothing of a road.
 #[derive(Drop)]
 pub struct Room {
     /// The lists of a road that is no longer needed.

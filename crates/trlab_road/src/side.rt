@@ -1,17 +1,18 @@
-//! The side cell of a car and the gaps beside it, by a search of the other lane's list.
+//! What stands beside a car, found in the other lane's list: by halves, or near where the car before it
+//! found its own.
 
 ghost use Rattle.std.specs.Prelude.{◌≡◌, ◌<◌, ◌≤◌, ℕ, length, nat_lt};
 ghost use Rattle.trlab_bounds.specs.declared.roads.TheConstants.{GREATEST_LENGTH};
 ghost use Rattle.trlab_road.specs.Gaps.{side, sideback, sidegap};
-ghost use Rattle.trlab_road.specs.Lists.{Rises, Rising, Sought, cells_of, place_of};
+ghost use Rattle.trlab_road.specs.Stored.{Rises, IsRising, IsFirstFrom, cells_of, place_of};
 
 use crate::gap::{gap_ahead, gap_behind};
 use crate::lane_car::LaneCar;
 
 /// The index of the first car from a place on.
 fn first_from(cars: &[LaneCar], place: u32) -> usize
-    requires sorted { Rising cars.now }
-    ensures { Sought cars.now place result }
+    requires sorted { IsRising cars.now }
+    ensures { IsFirstFrom cars.now place result }
 {
     cars.partition_point(
         |car: &LaneCar| -> bool
@@ -51,8 +52,8 @@ fn past_one(cars: &[LaneCar], place: u32, next: usize) -> usize
 /// The index of the first car from a place on, looked for from an index near it: from car to car
 /// where no earlier car is in question, else by halves.
 fn first_near(cars: &[LaneCar], place: u32, near: usize) -> usize
-    requires sorted { Rising cars.now }
-    ensures { Sought cars.now place result }
+    requires sorted { IsRising cars.now }
+    ensures { IsFirstFrom cars.now place result }
 {
     if near == 0 || near > cars.len() || cars[near - 1].place >= place {
         return first_from(cars, place);

@@ -1,9 +1,9 @@
-//! Spreads cars evenly over lanes.
+//! Cars evenly spread: the cells of all lanes in a row, place by place, are shared out among the cars.
 
 ghost use Rattle.std.specs.Prelude.{◌≡◌, ◌*◌, ◌<◌, ◌≤◌, ℕ, length, IfOk, MatchResult};
 ghost use Rattle.trlab_bounds.specs.declared.roads.TheConstants.{GREATEST_LENGTH, MOST_LANES};
-ghost use Rattle.trlab_road.specs.Lists.{Sorted, cells_of, list_at};
-ghost use Rattle.trlab_road.specs.Spreading.{CanSpread, EvenFault, LaneEven};
+ghost use Rattle.trlab_road.specs.Stored.{AreSorted, cells_of, list_at};
+ghost use Rattle.trlab_road.specs.Spreading.{CanSpread, IsEvenFault, IsEvenLane};
 
 use crate::fault::RoadFault;
 use crate::lane_car::LaneCar;
@@ -14,7 +14,7 @@ use trlab_bounds::roads::{GREATEST_LENGTH, GREATEST_LIMIT, MOST_LANES};
 pub fn check_even(lanes: u32, cells: u32, limit: u32, count: u32) -> Result<(), RoadFault>
     ensures { MatchResult result
         (λ _. CanSpread lanes cells limit count)
-        (λ fault. EvenFault lanes cells limit count fault) }
+        (λ fault. IsEvenFault lanes cells limit count fault) }
 {
     if lanes == 0 || lanes > MOST_LANES {
         return Err(RoadFault::Lanes);
@@ -43,9 +43,9 @@ pub fn even_lanes(
     requires small { cells ≤ GREATEST_LENGTH }
     requires room { count ≤ lanes * cells }
     ensures same_lanes { IfOk result (λ next. length next.items ≡ lanes) }
-    ensures sorted { IfOk result (λ next. Sorted cells next.items) }
+    ensures sorted { IfOk result (λ next. AreSorted cells next.items) }
     ensures each_lane { IfOk result (λ next. (l : ℕ) → l < lanes
-        → LaneEven lanes cells count l (cells_of cells (list_at next.items l))) }
+        → IsEvenLane lanes cells count l (cells_of cells (list_at next.items l))) }
 {
     let mut first = Vec::new(alloc);
     let mut second = Vec::new(alloc);

@@ -6,7 +6,7 @@ use Rattle.trlab_code.specs.declared.instruction.Input.TheVariants.{Speed, Limit
 use Rattle.trlab_code.specs.declared.view.View.{View}
 use Rattle.trlab_code.specs.Views.{IsView}
 use Rattle.trlab_code.specs.Machine.{At, Goes, start, update}
-use Rattle.trlab_rules.specs.Published.{calmed, braked, happens_at, nasch_speed}
+use Rattle.trlab_rules.specs.Published.{safe_speed, brake, happens_at, nasch_speed}
 use Rattle.trlab_rules.specs.Standard.{nasch_program}
 use Rattle.trlab_rules.specs.Laws.{MovesBy}
 use Rattle.trlab_rules.proofs.Rows.{Run, num, get, draw, add, sub, smaller, if_false-jumps, if_false-falls, go}
@@ -20,13 +20,13 @@ pub one_off : (v : ℕ) → v - min 1 v ≡ v - 1
 one_off v = omega arith
 
 module _ (p : ℕ) (view : View) (words : List ℕ) (seen : IsView view) where
-  abbrev calm : ℕ
-  calm = calmed view.speed view.limit view.gap
+  abbrev safe : ℕ
+  safe = safe_speed view.speed view.limit view.gap
 
-  runs : (h : Bool) → happens_at p words 0 ≡ h → Run Motion (nasch_program p).instrs view words (At 0 (start Motion view)) (Goes (braked h calm))
+  runs : (h : Bool) → happens_at p words 0 ≡ h → Run Motion (nasch_program p).instrs view words (At 0 (start Motion view)) (Goes (brake h safe))
   unfolding start update
   runs true happens =
-      subst (λ (v : ℕ). Run Motion (nasch_program p).instrs view words (At 0 (start Motion view)) (Goes v)) (one_off calm)
+      subst (λ (v : ℕ). Run Motion (nasch_program p).instrs view words (At 0 (start Motion view)) (Goes v)) (one_off safe)
       (get R0 Speed view.speed refl refl refl
       (num R1 1 refl
       (add R0 R0 R1 view.speed 1 refl refl refl (one_more view seen)
@@ -36,9 +36,9 @@ module _ (p : ℕ) (view : View) (words : List ℕ) (seen : IsView view) where
       (smaller R0 R0 R2 (min (view.speed + 1) view.limit) view.gap refl refl refl
       (draw R3 0 p true refl happens
       (if_false-falls R3 11 refl refl
-      (smaller R1 R1 R0 1 calm refl refl refl
-      (sub R0 R0 R1 calm (min 1 calm) refl refl refl (omega arith)
-      (go R0 (calm - min 1 calm) refl refl (omega arith) (omega arith)))))))))))))
+      (smaller R1 R1 R0 1 safe refl refl refl
+      (sub R0 R0 R1 safe (min 1 safe) refl refl refl (omega arith)
+      (go R0 (safe - min 1 safe) refl refl (omega arith) (omega arith)))))))))))))
   runs false happens =
       get R0 Speed view.speed refl refl refl
       (num R1 1 refl
@@ -49,7 +49,7 @@ module _ (p : ℕ) (view : View) (words : List ℕ) (seen : IsView view) where
       (smaller R0 R0 R2 (min (view.speed + 1) view.limit) view.gap refl refl refl
       (draw R3 0 p false refl happens
       (if_false-jumps R3 11 refl refl
-      (go R0 calm refl refl (omega arith) (omega arith))))))))))
+      (go R0 safe refl refl (omega arith) (omega arith))))))))))
 
 -- it answers the speed of Nagel and Schreckenberg
 pub nasch_moves : (p : ℕ) → MovesBy (nasch_speed p) (nasch_program p)

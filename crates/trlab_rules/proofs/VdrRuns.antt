@@ -3,38 +3,39 @@ use Rattle.std.proofs.Common.{◌≡◌, ℕ, ◌+◌, ◌-◌, min, refl, subst
 use Rattle.std.proofs.lemmas.Bool.{eqb-true, lt-leb}
 use Rattle.trlab_code.specs.declared.kind.Kind.TheVariants.{Motion}
 use Rattle.trlab_code.specs.declared.instruction.Register.TheVariants.{R0, R1, R2, R3}
+use Rattle.trlab_code.specs.declared.instruction.Place.TheVariants as place
 use Rattle.trlab_code.specs.declared.instruction.Input.TheVariants.{Speed, Limit, Gap}
 use Rattle.trlab_code.specs.declared.view.View.{View}
 use Rattle.trlab_code.specs.Views.{IsView}
 use Rattle.trlab_code.specs.Machine.{Store, Number, Flag, At, Goes, start, update}
-use Rattle.trlab_rules.specs.Published.{calmed, braked, happens_at, vdr_chance, vdr_speed}
+use Rattle.trlab_rules.specs.Published.{safe_speed, brake, happens_at, vdr_chance, vdr_speed}
 use Rattle.trlab_rules.specs.Standard.{vdr_program}
 use Rattle.trlab_rules.specs.Laws.{MovesBy}
 use Rattle.trlab_rules.proofs.Rows.{Run, num, get, draw, add, sub, smaller, jump, at_most-jumps, at_most-falls, if_false-jumps, if_false-falls, go}
 use Rattle.trlab_rules.proofs.NaschRuns.{one_more, one_off}
 
 module _ (p p0 : ℕ) (view : View) (words : List ℕ) (seen : IsView view) where
-  abbrev calm : ℕ
-  calm = calmed view.speed view.limit view.gap
+  abbrev safe : ℕ
+  safe = safe_speed view.speed view.limit view.gap
 
   -- the values once the draw is done
   abbrev drawn : Bool → Store
-  drawn h = update (update (update (start Motion view) 0 (Number view.speed)) 1 (Number 1)) 3 (Flag h)
+  drawn h = update (update (update (start Motion view) (place.Register R0) (Number view.speed)) (place.Register R1) (Number 1)) (place.Register R3) (Flag h)
 
   -- behind the draw it moves as the one of 1992
-  behind : (h : Bool) → Run Motion (vdr_program p p0).instrs view words (At 6 (drawn h)) (Goes (braked h calm))
+  behind : (h : Bool) → Run Motion (vdr_program p p0).instrs view words (At 6 (drawn h)) (Goes (brake h safe))
   unfolding start update
   behind true =
-      subst (λ (v : ℕ). Run Motion (vdr_program p p0).instrs view words (At 6 (drawn true)) (Goes v)) (one_off calm)
+      subst (λ (v : ℕ). Run Motion (vdr_program p p0).instrs view words (At 6 (drawn true)) (Goes v)) (one_off safe)
       (add R0 R0 R1 view.speed 1 refl refl refl (one_more view seen)
       (get R2 Limit view.limit refl refl refl
       (smaller R0 R0 R2 (view.speed + 1) view.limit refl refl refl
       (get R2 Gap view.gap refl refl refl
       (smaller R0 R0 R2 (min (view.speed + 1) view.limit) view.gap refl refl refl
       (if_false-falls R3 14 refl refl
-      (smaller R1 R1 R0 1 calm refl refl refl
-      (sub R0 R0 R1 calm (min 1 calm) refl refl refl (omega arith)
-      (go R0 (calm - min 1 calm) refl refl (omega arith) (omega arith))))))))))
+      (smaller R1 R1 R0 1 safe refl refl refl
+      (sub R0 R0 R1 safe (min 1 safe) refl refl refl (omega arith)
+      (go R0 (safe - min 1 safe) refl refl (omega arith) (omega arith))))))))))
   behind false =
       add R0 R0 R1 view.speed 1 refl refl refl (one_more view seen)
       (get R2 Limit view.limit refl refl refl
@@ -42,11 +43,11 @@ module _ (p p0 : ℕ) (view : View) (words : List ℕ) (seen : IsView view) wher
       (get R2 Gap view.gap refl refl refl
       (smaller R0 R0 R2 (min (view.speed + 1) view.limit) view.gap refl refl refl
       (if_false-jumps R3 14 refl refl
-      (go R0 calm refl refl (omega arith) (omega arith)))))))
+      (go R0 safe refl refl (omega arith) (omega arith)))))))
 
   -- before the draw it asks whether the car stands
   runs : (stands : Bool) (h : Bool) → nat_eq view.speed 0 ≡ stands → happens_at (vdr_chance p p0 view.speed) words 0 ≡ h →
-      Run Motion (vdr_program p p0).instrs view words (At 0 (start Motion view)) (Goes (braked h calm))
+      Run Motion (vdr_program p p0).instrs view words (At 0 (start Motion view)) (Goes (brake h safe))
   unfolding start update
   runs true h stands happens =
       let none : view.speed ≡ 0 = eqb-true view.speed 0 stands in

@@ -7,7 +7,7 @@ use Rattle.trlab_code.specs.declared.kind.Kind.TheVariants.{Motion, Change}
 use Rattle.trlab_code.specs.declared.view.View.{View}
 use Rattle.trlab_code.specs.Program.{Program}
 use Rattle.trlab_code.specs.Views.{IsView}
-use Rattle.trlab_code.specs.Machine.{Flag, Goes, Crosses, Stays, Store, Writes, EndsWith, effect, place}
+use Rattle.trlab_code.specs.Machine.{Flag, Goes, Crosses, Stays, Store, Writes, EndsWith, effect}
 
 -- a motion program answers the speed of a rule, whatever the car sees and whatever its words are
 abbrev pub MovesBy : (View → List ℕ → ℕ) → Program → Type 0
@@ -24,4 +24,4 @@ ChangesBy crosses program = (view : View) (words : List ℕ) → IsView view
 abbrev pub DrawsHappenAsChances : Type 0
 DrawsHappenAsChances = (view : View) (words : List ℕ) (values : Store) (d : Register) (k chance : ℕ)
     → effect view words values (Draw d k chance)
-    ≡ Writes (place d) (Flag (happens_on chance (slice_index words k)))
+    ≡ Writes d (Flag (happens_on chance (slice_index words k)))

@@ -2,4 +2,4 @@ pub mod Rules
 pub mod Published
 pub mod Standard
 pub mod Laws
-pub mod Given
+pub mod StandardRules

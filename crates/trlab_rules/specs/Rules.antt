@@ -1,14 +1,14 @@
--- What drives the cars of a road.
+-- Rules: the accepted programs that drive the cars of a road.
 use Rattle.std.specs.Prelude.{Option, IfSome}
 use Rattle.trlab_code.specs.declared.kind.Kind.TheVariants.{Motion, Change}
-use Rattle.trlab_verify.specs.Checked.{Checked, IsChecked}
+use Rattle.trlab_verify.specs.CheckedProgram.{CheckedProgram, IsChecked}
 
 -- a motion program, and perhaps a change program
 pub record Programs : Type 0 where
-  pub motion : Checked
-  pub change : Option Checked
+  pub motion : CheckedProgram
+  pub change : Option CheckedProgram
 
--- what a rule keeps: accepted programs, each of its kind
+-- the programs of a rule are accepted, each as one of its kind
 pub record IsRule (rule : Programs) : Type 0 where
   pub motion : IsChecked Motion rule.motion
   pub change : IfSome rule.change (IsChecked Change)

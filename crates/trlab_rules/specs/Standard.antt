@@ -26,7 +26,7 @@ nasch_program p = record {
       ∷ [];
 }
 
--- the motion of 1998 with the chance p0 for a car that stands, and p for one that moves
+-- the motion of 1998 with the chance p0 for a stopped car, and p for one that moves
 abbrev pub vdr_program : ℕ → ℕ → Program
 vdr_program p p0 = record {
   kind = Motion;
@@ -49,7 +49,7 @@ vdr_program p p0 = record {
       ∷ [];
 }
 
--- the exchange of lanes of 1996 with the chance c
+-- the lane change of 1996 with the chance c
 abbrev pub rickert_program : ℕ → Program
 rickert_program c = record {
   kind = Change;

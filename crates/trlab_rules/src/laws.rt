@@ -1,7 +1,7 @@
 //! Laws of the standard rules: what their programs answer is what was published.
 
 ghost use Rattle.std.specs.Prelude.{◌≡◌, ◌≤◌, ℕ};
-ghost use Rattle.trlab_rules.specs.Published.{calmed, wording_1992, nasch_speed, vdr_speed, rickert_crosses};
+ghost use Rattle.trlab_rules.specs.Published.{safe_speed, wording_1992, nasch_speed, vdr_speed, rickert_crosses};
 ghost use Rattle.trlab_rules.specs.Standard.{nasch_program, vdr_program, rickert_program};
 ghost use Rattle.trlab_rules.specs.Laws.{MovesBy, ChangesBy, DrawsHappenAsChances};
 
@@ -26,6 +26,6 @@ pub fn rickert_is_published()
 {}
 
 /// The wording of 1992 gives the least of one more than the speed, the limit and the gap.
-pub fn wording_is_calmed()
-    ensures { (speed limit gap : ℕ) → speed ≤ limit → wording_1992 speed limit gap ≡ calmed speed limit gap }
+pub fn wording_is_safe_speed()
+    ensures { (speed limit gap : ℕ) → speed ≤ limit → wording_1992 speed limit gap ≡ safe_speed speed limit gap }
 {}

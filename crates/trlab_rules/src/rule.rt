@@ -1,4 +1,4 @@
-//! What drives the cars of a road.
+//! A rule: the accepted programs that drive the cars of a road.
 
 ghost use Rattle.std.specs.Prelude.{◌≡◌, ◌↔◌, IsTrue, IfOk, option_map};
 ghost use Rattle.trlab_rules.specs.Rules.{IsRule, Programs};
@@ -33,7 +33,7 @@ impl Rule {
         Rule { motion, change }
     }
 
-    /// The program that answers each car's new speed.
+    /// The program that answers each car's new speed, in cells a step.
     pub fn motion(&self) -> &Motion
         ensures value { result.now ≡ self.now.motion }
         ensures rule { IsRule self.now }
@@ -50,6 +50,10 @@ impl Rule {
     }
 
     /// A copy of the rule.
+    ///
+    /// # Errors
+    ///
+    /// Where memory runs out.
     pub fn copy(&self, alloc: Global) -> Result<Rule, AllocError>
         ensures { IfOk result (λ copy. copy ≡ self.now) }
     {

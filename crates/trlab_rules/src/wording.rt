@@ -1,7 +1,7 @@
-//! The speeds of 1992, as they were worded.
+//! Acceleration and slowing down in the words of 1992, which speak of the distance to the car ahead.
 
 ghost use Rattle.std.specs.Prelude.{◌≡◌, ◌≤◌};
-ghost use Rattle.trlab_rules.specs.Published.{calmed, wording_1992};
+ghost use Rattle.trlab_rules.specs.Published.{safe_speed, wording_1992};
 
 /// The speed of a car after acceleration and slowing down, as Nagel and Schreckenberg worded it in 1992.
 ///
@@ -11,7 +11,7 @@ ghost use Rattle.trlab_rules.specs.Published.{calmed, wording_1992};
 /// limit this is the least of one more than the speed, the limit and the gap.
 pub fn slowed_1992(speed: u32, limit: u32, gap: u32) -> u32
     ensures wording { result ≡ wording_1992 speed limit gap }
-    ensures calmed { speed ≤ limit → result ≡ calmed speed limit gap }
+    ensures safe { speed ≤ limit → result ≡ safe_speed speed limit gap }
 {
     let accelerated = if speed < limit && speed < gap {
         speed + 1

@@ -4,13 +4,13 @@ use Rattle.std.proofs.lemmas.List.Sums.{sum_by-cons}
 use Rattle.std.specs.Prelude.{Option, Some, None, sum_by, count_by, is_some, nat_eq}
 use Rattle.trlab_road.specs.declared.car.Car.{Car}
 use Rattle.trlab_road.specs.Cells.{Cells, Lane, cars, lane_cars}
-use Rattle.trlab_road.specs.Legal.{Legal}
+use Rattle.trlab_road.specs.Legal.{IsLegal}
 use Rattle.trlab_road.specs.Standing.{standing}
 use Rattle.trlab_road.proofs.StandingOrder.{standing_cell, length-standing_lanes}
 use Rattle.trlab_rules.specs.Rules.{Programs}
-use Rattle.trlab_verify.specs.Checked.{Checked}
+use Rattle.trlab_verify.specs.CheckedProgram.{CheckedProgram}
 use Rattle.trlab_machine.specs.declared.dice.Dice.{Dice}
-use Rattle.trlab_step.specs.Next.{IsNext, Sideways, crossing_cars}
+use Rattle.trlab_step.specs.Next.{IsNext, LaneChangePhase, crossing_cars}
 use Rattle.trlab_step.specs.declared.tally.StepTally.{StepTally}
 
 -- a count is at most the length
@@ -35,27 +35,27 @@ small_sum f (x ∷ xs) small =
     let rest = small_sum f xs (λ k d below. small (suc k) d (omega arith)) in
     omega arith
 
-few_on_lanes : (limit : ℕ) (lanes : List Lane) → Legal (record { limit = limit; lanes = lanes }) → sum_by lane_cars lanes ≤ 200000
+few_on_lanes : (limit : ℕ) (lanes : List Lane) → IsLegal (record { limit = limit; lanes = lanes }) → sum_by lane_cars lanes ≤ 200000
 few_on_lanes limit [] legal = omega arith
 few_on_lanes limit (a ∷ []) legal =
-    let long : length a ≤ 100000 = legal.cells_high in
+    let long : length a ≤ 100000 = legal.shape.cells.few_cells in
     let few : lane_cars a ≤ length a = few_counted is_some a in
     let one = sum_by-cons lane_cars a [] in
     omega arith
 few_on_lanes limit (a ∷ b ∷ []) legal =
-    let long : length a ≤ 100000 = legal.cells_high in
-    let same : length b ≡ length a = legal.equal_lanes 1 (omega arith) in
+    let long : length a ≤ 100000 = legal.shape.cells.few_cells in
+    let same : length b ≡ length a = legal.shape.equal 1 (omega arith) in
     let few : lane_cars a ≤ length a = few_counted is_some a in
     let also : lane_cars b ≤ length b = few_counted is_some b in
     let one = sum_by-cons lane_cars a (b ∷ []) in
     let two = sum_by-cons lane_cars b [] in
     omega arith
 few_on_lanes limit (a ∷ b ∷ c ∷ lanes) legal =
-    let many = legal.two_lanes in
+    let many = legal.shape.lanes.few_lanes in
     absurd (omega arith)
 
 -- a legal road has at most 200000 cars
-pub few_cars : (road : Cells) → Legal road → cars road ≤ 200000
+pub few_cars : (road : Cells) → IsLegal road → cars road ≤ 200000
 few_cars road legal = few_on_lanes road.limit road.lanes legal
 
 stand : (road : Cells) → length (standing road) ≡ cars road
@@ -67,7 +67,7 @@ pub record IsSmall (tally : StepTally) : Type 0 where
   pub stopped : tally.stopped ≤ 200000
   pub changes : tally.changes ≤ 200000
 
-few_changes : (change : Option Checked) (dice : Dice) (road middle : Cells) (changes : ℕ) → Legal road → Sideways change dice road middle changes → changes ≤ 200000
+few_changes : (change : Option CheckedProgram) (dice : Dice) (road middle : Cells) (changes : ℕ) → IsLegal road → LaneChangePhase change dice road middle changes → changes ≤ 200000
 few_changes None dice road middle changes legal phase = let none = phase.1 in omega arith
 few_changes (Some change) dice road middle changes legal phase =
     let counted : changes ≡ crossing_cars phase.1 road = phase.4 in
@@ -77,7 +77,7 @@ few_changes (Some change) dice road middle changes legal phase =
     omega arith
 
 -- the tally of a step between legal roads is small
-pub small_tally : (rule : Programs) (dice : Dice) (road next : Cells) (tally : StepTally) → Legal road → Legal next → IsNext rule dice road next tally → IsSmall tally
+pub small_tally : (rule : Programs) (dice : Dice) (road next : Cells) (tally : StepTally) → IsLegal road → IsLegal next → IsNext rule dice road next tally → IsSmall tally
 small_tally rule dice road next tally legal after is =
     let all = stand next in
     let most = few_cars next after in
@@ -85,12 +85,12 @@ small_tally rule dice road next tally legal after is =
     let stood = is.1.stopped in
     let slow = small_sum (λ (car : Car). car.speed) (standing next) (λ k d below.
     let car = get_or (standing next) k d in
-    let low : car.speed ≤ next.limit = after.within_limit car.lane car.place car.number car.speed (standing_cell next k d (omega arith)) in
-    let limit : next.limit ≤ 9 = after.limit_high in
+    let low : car.speed ≤ next.limit = after.within_limit car (standing_cell next k d (omega arith)) in
+    let limit : next.limit ≤ 9 = after.shape.limit.low_limit in
     omega arith) in
     let few = few_counted (λ (car : Car). nat_eq car.speed 0) (standing next) in
     record {
       distance = omega arith;
       stopped = omega arith;
-      changes = few_changes rule.change dice road is.0 tally.changes legal is.1.sideways;
+      changes = few_changes rule.change dice road is.0 tally.changes legal is.1.lane_change;
     }

@@ -1,1 +1,1 @@
-pub mod Reached
+pub mod Progress

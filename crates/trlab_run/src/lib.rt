@@ -1,4 +1,4 @@
-//! Runs of a road under a sheet of rules.
+//! Runs of a road under a sheet of rules, which says for each step the rule in force.
 #![tactic(auto)]
 
 mod run;

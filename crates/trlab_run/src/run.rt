@@ -1,15 +1,16 @@
-//! A run on its way.
+//! Runs: a road goes from step to step under the rules of a sheet, and its tallies are summed.
 
 ghost use Rattle.std.specs.Prelude.{◌≡◌, ◌+◌, ◌<◌, ◌^◌, OnOk, OnErr, length};
 ghost use Rattle.trlab_step.specs.Laws.{IsSheetFor};
-ghost use Rattle.trlab_step.specs.Run.{RoadAt, TallyAt};
-ghost use Rattle.trlab_run.specs.Reached.{IsUnderway, OneStepOn, at_start};
+ghost use Rattle.trlab_step.specs.Run.{IsRoadAt, IsTallyAt};
+ghost use Rattle.trlab_run.specs.Progress.{IsUnderway, IsOneStepOn, at_start};
 
 use crate::sheet::Sheet;
 use crate::totals::{no_tally, tally_sum};
 use std::alloc::{AllocError, Global};
 use std::marker::Model;
 use std::snapshot::Snapshot;
+use trlab_machine::Dice;
 use trlab_road::Road;
 use trlab_step::{Asker, StepRoom, StepTally, take_step};
 use trlab_words::Key;
@@ -31,9 +32,9 @@ pub struct Run {
 }
 
 impl Model for Run {
-    ghost use Rattle.trlab_run.specs.Reached.{IsUnderway, Reached};
+    ghost use Rattle.trlab_run.specs.Progress.{IsUnderway, Progress};
 
-    ghost Value = { Reached };
+    ghost Value = { Progress };
 
     ghost view = { λ run. record {
       seed = record { road = run.start.value; key = run.key.0; number = run.number; warm = run.warm };
@@ -53,15 +54,14 @@ impl Model for Run {
 }
 
 impl Run {
-    /// The run of a road from step 0 on: its words go by the key and the number of the road, and
-    /// steps before `warm` are not counted.
+    /// The run of a road from step 0 on: its words go by the key and the number of the road, and the
+    /// tallies of steps before `warm` are not counted.
     pub fn new(alloc: Global, key: Key, number: u32, warm: u32, road: Road, sheet: Sheet) -> Run
         requires suits { IsSheetFor (length road.lanes) sheet }
         ensures { result ≡ at_start (record { road = road; key = key.0; number = number; warm = warm }) sheet }
     {
-        let _ = road.cars();
         Run {
-            start: Snapshot::of(&road),
+            start: road.snapshot(),
             key,
             number,
             warm,
@@ -73,7 +73,7 @@ impl Run {
         }
     }
 
-    /// The step to which the run has come.
+    /// The step to which the run has come, from 0 on.
     pub fn step(&self) -> u32
         ensures value { result ≡ self.now.step }
         ensures underway { IsUnderway self.now }
@@ -84,7 +84,7 @@ impl Run {
     /// The road at this step.
     pub fn road(&self) -> &Road
         ensures value { result.now ≡ self.now.road }
-        ensures run { RoadAt self.now.seed self.now.sheet self.now.step result.now }
+        ensures run { IsRoadAt self.now.seed self.now.sheet self.now.step result.now }
     {
         &self.road
     }
@@ -92,26 +92,29 @@ impl Run {
     /// The sum of the tallies of the steps so far, without those before `warm`.
     pub fn tally(&self) -> StepTally
         ensures value { result ≡ self.now.sum }
-        ensures run { TallyAt self.now.seed self.now.sheet self.now.step result }
+        ensures run { IsTallyAt self.now.seed self.now.sheet self.now.step result }
     {
         self.sum
     }
 
-    /// Takes one step, in which the asker asks the cars; where memory runs out, nothing changes.
+    /// Takes one step, in which the asker asks the cars.
+    ///
+    /// # Errors
+    ///
+    /// Where an allocation was refused; then nothing changes.
     pub fn advance<A: Asker>(&mut self, asker: &A, alloc: Global) -> Result<(), AllocError>
         requires { self.old.step + 1 < 2 ^ 32 }
-        ensures on { OnOk result (OneStepOn self.old self.new) }
+        ensures on { OnOk result (IsOneStepOn self.old self.new) }
         ensures same { OnErr result (self.new ≡ self.old) }
     {
+        let dice = Dice::new(&self.key, self.number, self.step);
         let tally = take_step(
             asker,
             alloc,
             &mut self.road,
             &mut self.room,
             self.sheet.in_force(self.step),
-            &self.key,
-            self.number,
-            self.step,
+            &dice,
         )?;
         self.sum = if self.warm <= self.step {
             tally_sum(self.sum, tally)

@@ -1,4 +1,4 @@
-//! Sheets of rules: which rule is in force at a step.
+//! Sheets of rules: each rule is in force from its step on, up to that of the next.
 
 ghost use Rattle.std.specs.Prelude.{◌≡◌, ◌<◌, Some, ℕ};
 ghost use Rattle.trlab_rules.specs.Rules.{Programs};

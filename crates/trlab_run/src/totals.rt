@@ -1,4 +1,4 @@
-//! Sums of tallies.
+//! Sums of tallies, which stay below 2^64 over all steps of a run.
 
 ghost use Rattle.std.specs.Prelude.{◌≡◌, ◌+◌, ◌<◌, ◌^◌};
 ghost use Rattle.trlab_step.specs.Run.{no_tally, tally_sum};

@@ -4,18 +4,20 @@ use Rattle.std.specs.Prelude.{is_none}
 use Rattle.trlab_words.proofs.RandomWords.{length-random_words}
 use Rattle.trlab_code.specs.declared.kind.Kind.TheVariants.{Motion, Change}
 use Rattle.trlab_code.specs.Views.{IsView}
-use Rattle.trlab_verify.specs.Checked.{Checked, IsChecked}
-use Rattle.trlab_road.specs.Cells.{Cell, Cells, Lane, cell, lane_of}
-use Rattle.trlab_road.specs.Crossing.{other_lane, CrossesFree}
+use Rattle.trlab_verify.specs.CheckedProgram.{CheckedProgram, IsChecked}
+use Rattle.trlab_road.specs.Cells.{Cell, Cells, Lane, cell, lane_of, IsAt}
+use Rattle.trlab_road.specs.LaneChange.{other_lane, CrossesFree}
 use Rattle.trlab_road.specs.Gaps.{gap, side, ahead, behind, clear_cells, greatest, is_clear}
-use Rattle.trlab_road.specs.Legal.{Legal}
+use Rattle.trlab_road.specs.Legal.{IsLegal}
 use Rattle.trlab_road.specs.Motion.{Fits}
 use Rattle.trlab_road.proofs.MotionLaws.{on_lane}
-use Rattle.trlab_machine.proofs.Choices.{checked_change_chooses}
+use Rattle.trlab_machine.proofs.Crossings.{checked_change_answers}
 use Rattle.trlab_machine.proofs.Speeds.{checked_motion_moves}
 use Rattle.trlab_machine.specs.declared.dice.Dice.{Dice}
 use Rattle.trlab_machine.specs.Blocks.{words_of}
-use Rattle.trlab_step.specs.Answers.{motion_seen, change_seen, AnswersSpeed, AnswersCrossing, Speeds, Crossers}
+use Rattle.trlab_step.specs.Answers.{motion_view_of, change_view_of, AnswersSpeed, AnswersCrossing, AnswersSpeeds, AnswersCrossings}
+use Rattle.trlab_road.specs.declared.car.Car.{Car}
+use Rattle.trlab_road.proofs.Ring.{car_in}
 
 greatest_within : (test : ℕ → Bool) (n : ℕ) → greatest test n ≤ n
 greatest_within test zero = omega arith
@@ -34,36 +36,38 @@ or_none true n most h = h
 or_none false n most h = omega arith
 
 -- a lane of a legal road, and so what is seen on it, is short
-pub seen_within : (road : Cells) (l : ℕ) (way : ℕ → ℕ) → Legal road → l < length road.lanes → clear_cells (lane_of road l) way ≤ 99999
+pub seen_within : (road : Cells) (l : ℕ) (way : ℕ → ℕ) → IsLegal road → l < length road.lanes → clear_cells (lane_of road l) way ≤ 99999
 seen_within road l way legal on =
-    let size = legal.equal_lanes l on in
+    let size = legal.shape.equal l on in
     let most = clear_within (lane_of road l) way in
-    let high = legal.cells_high in
+    let high = legal.shape.cells.few_cells in
     omega (arith, size, most, high)
 
 -- what the motion program of a car of a legal road sees is in range
-pub motion_seen_is_view : (road : Cells) (l x car speed : ℕ) → Legal road → cell road l x ≡ Some (car, speed) → IsView (motion_seen road l x speed)
-motion_seen_is_view road l x car speed legal here = record {
-  speed = legal.within_limit l x car speed here;
-  some_limit = legal.limit_low;
-  limit = legal.limit_high;
-  gap = seen_within road l (ahead (length (lane_of road l)) x) legal (on_lane road l x (car, speed) here);
+pub motion_view_is_view : (road : Cells) (car : Car) → IsLegal road → IsAt road car → IsView (motion_view_of road car)
+motion_view_is_view road car legal here = record {
+  speed = legal.within_limit car here;
+  some_limit = legal.shape.limit.some_limit;
+  limit = legal.shape.limit.low_limit;
+  gap = seen_within road car.lane (ahead (length (lane_of road car.lane)) car.place) legal (on_lane road car.lane car.place (car.number, car.speed) here);
   sidegap = omega arith;
   sideback = omega arith;
   lane = omega arith;
 }
 
 -- what the change program of a car of a legal road of two lanes sees is in range
-pub change_seen_is_view : (road : Cells) (l x car speed : ℕ) → Legal road → length road.lanes ≡ 2 → cell road l x ≡ Some (car, speed) → IsView (change_seen road l x speed)
-change_seen_is_view road l x car speed legal two here =
-    let on = on_lane road l x (car, speed) here in
+pub change_view_is_view : (road : Cells) (car : Car) → IsLegal road → length road.lanes ≡ 2 → IsAt road car → IsView (change_view_of road car)
+change_view_is_view road car legal two here =
+    let l = car.lane in
+    let x = car.place in
+    let on = on_lane road l x (car.number, car.speed) here in
     let beside : other_lane l < length road.lanes = omega (arith, two) in
     let other = lane_of road (other_lane l) in
     let empty = side other x in
     record {
-      speed = legal.within_limit l x car speed here;
-      some_limit = legal.limit_low;
-      limit = legal.limit_high;
+      speed = legal.within_limit car here;
+      some_limit = legal.shape.limit.some_limit;
+      limit = legal.shape.limit.low_limit;
       gap = seen_within road l (ahead (length (lane_of road l)) x) legal on;
       sidegap = or_none empty (clear_cells other (ahead (length other) x)) 99999 (seen_within road (other_lane l) (ahead (length other) x) legal beside);
       sideback = or_none empty (clear_cells other (behind (length other) x)) 99999 (seen_within road (other_lane l) (behind (length other) x) legal beside);
@@ -74,30 +78,34 @@ some_inside : {a b : ℕ × ℕ} → ◌≡◌ {A = Cell} (Some a) (Some b) → 
 some_inside h = cc
 
 -- a speed that a motion program answers to what a cell holds, if that is a car
-record AnswersCell (motion : Checked) (dice : Dice) (road : Cells) (l x : ℕ) (c : Cell) (v : ℕ) : Type 0 where
-  answers : (car speed : ℕ) → c ≡ Some (car, speed) → AnswersSpeed motion dice road l x car speed v
-  within_gap : (car speed : ℕ) → c ≡ Some (car, speed) → v ≤ gap (lane_of road l) x
-  within_limit : (car speed : ℕ) → c ≡ Some (car, speed) → v ≤ road.limit
+record AnswersCell (motion : CheckedProgram) (dice : Dice) (road : Cells) (l x : ℕ) (c : Cell) (v : ℕ) : Type 0 where
+  answers : (number speed : ℕ) → c ≡ Some (number, speed) → AnswersSpeed motion dice road (car_in l x number speed) v
+  within_gap : (number speed : ℕ) → c ≡ Some (number, speed) → v ≤ gap (lane_of road l) x
+  within_limit : (number speed : ℕ) → c ≡ Some (number, speed) → v ≤ road.limit
 
-answer_of : (motion : Checked) (dice : Dice) (road : Cells) → IsChecked Motion motion → Legal road → (l x : ℕ) (c : Cell) → cell road l x ≡ c → (v : ℕ) × AnswersCell motion dice road l x c v
-answer_of motion dice road checked legal l x None empty = (0, record { answers = λ car speed h. absurd cc; within_gap = λ car speed h. absurd cc; within_limit = λ car speed h. absurd cc })
+answer_of : (motion : CheckedProgram) (dice : Dice) (road : Cells) → IsChecked Motion motion → IsLegal road → (l x : ℕ) (c : Cell) → cell road l x ≡ c → (v : ℕ) × AnswersCell motion dice road l x c v
+answer_of motion dice road checked legal l x None empty = (0, record { answers = λ number speed h. absurd cc; within_gap = λ number speed h. absurd cc; within_limit = λ number speed h. absurd cc })
 answer_of motion dice road checked legal l x (Some here) is =
-    let ends = checked_motion_moves motion (motion_seen road l x here.1) (words_of dice here.0) checked (motion_seen_is_view road l x here.0 here.1 legal is) (length-random_words dice.key dice.road here.0 dice.step) in (
+    let car = car_in l x here.0 here.1 in
+    let ends = checked_motion_moves motion (motion_view_of road car) (words_of dice here.0) checked (motion_view_is_view road car legal is) (length-random_words dice.key dice.road here.0 dice.step) in (
       ends.speed,
       record {
-        answers = λ car speed h. subst (λ (c : ℕ × ℕ). AnswersSpeed motion dice road l x c.0 c.1 ends.speed) (some_inside h) (ends.steps, ends.ends);
-        within_gap = λ car speed h. ends.allowed.gap;
-        within_limit = λ car speed h. ends.allowed.limit;
+        answers = λ number speed h. subst (λ (c : ℕ × ℕ). AnswersSpeed motion dice road (car_in l x c.0 c.1) ends.speed) (some_inside h) (ends.steps, ends.ends);
+        within_gap = λ number speed h. ends.allowed.gap;
+        within_limit = λ number speed h. ends.allowed.limit;
       },
     )
 
 -- an accepted motion program answers a speed to each car of a legal road, within its gap and the limit
-pub speeds_exist : (motion : Checked) (dice : Dice) (road : Cells) → IsChecked Motion motion → Legal road → (speeds : ℕ → ℕ → ℕ) × Speeds motion dice road speeds × Fits speeds road
+pub speeds_exist : (motion : CheckedProgram) (dice : Dice) (road : Cells) → IsChecked Motion motion → IsLegal road → (speeds : ℕ → ℕ → ℕ) × AnswersSpeeds motion dice road speeds × Fits speeds road
 speeds_exist motion dice road checked legal =
     let answer = λ (l x : ℕ). answer_of motion dice road checked legal l x (cell road l x) refl in (
       λ l x. (answer l x).0,
-      record { each = λ l x. (answer l x).1.answers },
-      record { each_lane = λ l h. record { gaps = λ x. (answer l x).1.within_gap }; limits = λ l x. (answer l x).1.within_limit },
+      record { each = λ car here. (answer car.lane car.place).1.answers car.number car.speed here },
+      record {
+        each_lane = λ l h. record { gaps = λ x. (answer l x).1.within_gap };
+        within_limit = λ car here. (answer car.lane car.place).1.within_limit car.number car.speed here;
+      },
     )
 
 none_of : (c : Cell) → is_none c ≡ true → c ≡ None
@@ -105,26 +113,27 @@ none_of None h = refl
 none_of (Some car) h = absurd cc
 
 -- what a change program answers to what a cell holds, if that is a car
-record ChoosesCell (change : Checked) (dice : Dice) (road : Cells) (l x : ℕ) (c : Cell) (crosses : Bool) : Type 0 where
-  answers : (car speed : ℕ) → c ≡ Some (car, speed) → AnswersCrossing change dice road l x car speed crosses
-  side_empty : (car speed : ℕ) → c ≡ Some (car, speed) → crosses ≡ true → cell road (other_lane l) x ≡ None
+record ChoosesCell (change : CheckedProgram) (dice : Dice) (road : Cells) (l x : ℕ) (c : Cell) (crosses : Bool) : Type 0 where
+  answers : (number speed : ℕ) → c ≡ Some (number, speed) → AnswersCrossing change dice road (car_in l x number speed) crosses
+  side_empty : (number speed : ℕ) → c ≡ Some (number, speed) → crosses ≡ true → cell road (other_lane l) x ≡ None
 
-choice_of : (change : Checked) (dice : Dice) (road : Cells) → IsChecked Change change → Legal road → length road.lanes ≡ 2 → (l x : ℕ) (c : Cell) → cell road l x ≡ c → (crosses : Bool) × ChoosesCell change dice road l x c crosses
-choice_of change dice road checked legal two l x None empty = (false, record { answers = λ car speed h. absurd cc; side_empty = λ car speed h. absurd cc })
-choice_of change dice road checked legal two l x (Some here) is =
-    let ends = checked_change_chooses change (change_seen road l x here.1) (words_of dice here.0) checked (change_seen_is_view road l x here.0 here.1 legal two is) (length-random_words dice.key dice.road here.0 dice.step) in (
+crossing_of : (change : CheckedProgram) (dice : Dice) (road : Cells) → IsChecked Change change → IsLegal road → length road.lanes ≡ 2 → (l x : ℕ) (c : Cell) → cell road l x ≡ c → (crosses : Bool) × ChoosesCell change dice road l x c crosses
+crossing_of change dice road checked legal two l x None empty = (false, record { answers = λ number speed h. absurd cc; side_empty = λ number speed h. absurd cc })
+crossing_of change dice road checked legal two l x (Some here) is =
+    let car = car_in l x here.0 here.1 in
+    let ends = checked_change_answers change (change_view_of road car) (words_of dice here.0) checked (change_view_is_view road car legal two is) (length-random_words dice.key dice.road here.0 dice.step) in (
       ends.crosses,
       record {
-        answers = λ car speed h. subst (λ (c : ℕ × ℕ). AnswersCrossing change dice road l x c.0 c.1 ends.crosses) (some_inside h) (ends.steps, ends.ends);
-        side_empty = λ car speed h goes. none_of (cell road (other_lane l) x) (ends.side goes);
+        answers = λ number speed h. subst (λ (c : ℕ × ℕ). AnswersCrossing change dice road (car_in l x c.0 c.1) ends.crosses) (some_inside h) (ends.steps, ends.ends);
+        side_empty = λ number speed h goes. none_of (cell road (other_lane l) x) (ends.side goes);
       },
     )
 
 -- an accepted change program answers to each car of a legal road of two lanes, and lets it cross to an empty cell alone
-pub crossers_exist : (change : Checked) (dice : Dice) (road : Cells) → IsChecked Change change → Legal road → length road.lanes ≡ 2 → (crosses : ℕ → ℕ → Bool) × Crossers change dice road crosses × CrossesFree crosses road
-crossers_exist change dice road checked legal two =
-    let choice = λ (l x : ℕ). choice_of change dice road checked legal two l x (cell road l x) refl in (
+pub crossings_exist : (change : CheckedProgram) (dice : Dice) (road : Cells) → IsChecked Change change → IsLegal road → length road.lanes ≡ 2 → (crosses : ℕ → ℕ → Bool) × AnswersCrossings change dice road crosses × CrossesFree crosses road
+crossings_exist change dice road checked legal two =
+    let choice = λ (l x : ℕ). crossing_of change dice road checked legal two l x (cell road l x) refl in (
       λ l x. (choice l x).0,
-      record { each = λ l x. (choice l x).1.answers },
-      record { two_lanes = two; side_empty = λ l x. (choice l x).1.side_empty },
+      record { each = λ car here. (choice car.lane car.place).1.answers car.number car.speed here },
+      record { two_lanes = two; side_empty = λ car here. (choice car.lane car.place).1.side_empty car.number car.speed here },
     )

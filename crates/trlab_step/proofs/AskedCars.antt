@@ -1,23 +1,23 @@
 -- What is seen of cars that are asked, and what their programs answer.
 use Rattle.std.proofs.Common.{◌≡◌, ◌∙◌, ℕ, ◌≤◌, Bool, false, Some, List, refl, sym, ap, subst}
-use Rattle.std.specs.Prelude.{slice_get, slice_index, slice_index_or}
+use Rattle.std.specs.Prelude.{slice_index, slice_index_or}
 use Rattle.trlab_code.specs.declared.kind.Kind.TheVariants.{Motion, Change}
 use Rattle.trlab_code.specs.declared.view.View.{View}
 use Rattle.trlab_code.specs.Machine.{EndsWith, Goes}
 use Rattle.trlab_code.specs.Views.{IsView, motion_view, change_view}
-use Rattle.trlab_machine.specs.Blocks.{ChoosesWith, MovesWith}
-use Rattle.trlab_machine.specs.Choices.{crossing_answer}
+use Rattle.trlab_machine.specs.Blocks.{CrossesWith, MovesWith}
+use Rattle.trlab_machine.specs.Crossings.{crossing_answer}
 use Rattle.trlab_road.specs.declared.car.Car.{Car}
 use Rattle.trlab_road.specs.Cells.{Cells, lane_of}
-use Rattle.trlab_road.specs.Crossing.{other_lane, sides}
+use Rattle.trlab_road.specs.LaneChange.{other_lane, sides}
 use Rattle.trlab_road.specs.Gaps.{gap, side, sidegap, sideback}
 use Rattle.trlab_road.specs.Motion.{gaps}
-use Rattle.trlab_road.specs.Standing.{standing}
+use Rattle.trlab_road.specs.Standing.{IsStanding}
 use Rattle.trlab_machine.specs.declared.dice.Dice.{Dice}
 use Rattle.trlab_machine.specs.Blocks.{words_of}
 use Rattle.trlab_step.specs.Answers.{dice_of}
-use Rattle.trlab_step.specs.Asked.{CrossesBy, GoesBy, IsAsked}
-use Rattle.trlab_verify.specs.Checked.{Checked}
+use Rattle.trlab_step.specs.Block.{CrossesBy, GoesBy, IsAsked}
+use Rattle.trlab_verify.specs.CheckedProgram.{CheckedProgram}
 use Rattle.trlab_step.proofs.Parts.{same_view, same_change_view}
 
 some_same : {a b : Car} → Some a ≡ Some b → a ≡ b
@@ -26,9 +26,9 @@ some_same h = cc
 not_change : Motion ≡ Change → ⊥
 not_change h = cc
 
-module _ (road : Cells) (k : ℕ) (told : Car) (order : slice_get (standing road) k ≡ Some told) (limit gap_ahead : ℕ) (limited : limit ≡ road.limit)
-    (gap_is : gap_ahead ≡ slice_index (gaps road) k) (gap_of : (car : Car) → slice_get (standing road) k ≡ Some car → gap_ahead ≡ gap (lane_of road car.lane) car.place) where
-  same : (car : Car) → slice_get (standing road) k ≡ Some car → told ≡ car
+module _ (road : Cells) (k : ℕ) (told : Car) (order : IsStanding road k told) (limit gap_ahead : ℕ) (limited : limit ≡ road.limit)
+    (gap_is : gap_ahead ≡ slice_index (gaps road) k) (gap_of : (car : Car) → IsStanding road k car → gap_ahead ≡ gap (lane_of road car.lane) car.place) where
+  same : (car : Car) → IsStanding road k car → told ≡ car
   same car here = some_same (sym order ∙ here)
 
   pub motion_asked : (view : View) → view ≡ motion_view told.speed limit gap_ahead → IsView view → IsAsked Motion road k view told.number
@@ -42,9 +42,9 @@ module _ (road : Cells) (k : ℕ) (told : Car) (order : slice_get (standing road
   }
 
   pub change_asked : (empty : Bool) (ahead behind : ℕ) → empty ≡ slice_index_or (sides road) k false
-      → ((car : Car) → slice_get (standing road) k ≡ Some car → empty ≡ side (lane_of road (other_lane car.lane)) car.place)
-      → ((car : Car) → slice_get (standing road) k ≡ Some car → ahead ≡ sidegap (lane_of road (other_lane car.lane)) car.place)
-      → ((car : Car) → slice_get (standing road) k ≡ Some car → behind ≡ sideback (lane_of road (other_lane car.lane)) car.place)
+      → ((car : Car) → IsStanding road k car → empty ≡ side (lane_of road (other_lane car.lane)) car.place)
+      → ((car : Car) → IsStanding road k car → ahead ≡ sidegap (lane_of road (other_lane car.lane)) car.place)
+      → ((car : Car) → IsStanding road k car → behind ≡ sideback (lane_of road (other_lane car.lane)) car.place)
       → (view : View) → view ≡ change_view told.speed limit gap_ahead empty ahead behind told.lane → IsView view → IsAsked Change road k view told.number
   change_asked empty ahead behind side_is side_of ahead_of behind_of view is legal = record {
     is_view = legal;
@@ -60,7 +60,7 @@ pub same_dice : (dice : Dice) (key : List ℕ) (road step : ℕ) → dice.key �
 same_dice dice key road step a b d = ap (λ k. dice_of k dice.road dice.step) a ∙ ap (λ r. dice_of key r dice.step) b ∙ ap (dice_of key road) d
 
 -- what a block answers to a car is what its motion program answers
-pub goes_by : (motion : Checked) (dice : Dice) (road : Cells) (k : ℕ) (view : View) (number speed : ℕ) → IsAsked Motion road k view number
+pub goes_by : (motion : CheckedProgram) (dice : Dice) (road : Cells) (k : ℕ) (view : View) (number speed : ℕ) → IsAsked Motion road k view number
     → MovesWith motion.program.instrs view (words_of dice number) motion.budget speed → GoesBy motion dice road k speed
 goes_by motion dice road k view number speed asked moves = record {
   answer = λ car here. (
@@ -73,8 +73,8 @@ goes_by motion dice road k view number speed asked moves = record {
 }
 
 -- the same of whether it crosses
-pub crosses_by : (change : Checked) (dice : Dice) (road : Cells) (k : ℕ) (view : View) (number : ℕ) (crosses : Bool) → IsAsked Change road k view number
-    → ChoosesWith change.program.instrs view (words_of dice number) change.budget crosses → CrossesBy change dice road k crosses
+pub crosses_by : (change : CheckedProgram) (dice : Dice) (road : Cells) (k : ℕ) (view : View) (number : ℕ) (crosses : Bool) → IsAsked Change road k view number
+    → CrossesWith change.program.instrs view (words_of dice number) change.budget crosses → CrossesBy change dice road k crosses
 crosses_by change dice road k view number crosses asked chooses = record {
   answer = λ car here. (
     chooses.steps,

@@ -1,30 +1,30 @@
 -- The answers to parts of the standing order.
-use Rattle.std.proofs.Common.{◌≡◌, ℕ, ◌+◌, ◌-◌, ◌<◌, ◌≤◌, ◌++◌, Bool, true, false, Some, List, length, get_or, refl, sym, subst, inl, inr, arith, length-append}
+use Rattle.std.proofs.Common.{◌≡◌, ℕ, ◌+◌, ◌-◌, ◌<◌, ◌≤◌, ◌++◌, ◌∙◌, Bool, true, false, Some, List, [], ◌∷◌, length, get_or, refl, sym, ap, subst, inl, inr, arith, length-append}
 use Rattle.std.specs.Prelude.{slice_get}
 use Rattle.std.proofs.lemmas.Bool.{cases_lt}
 use Rattle.std.proofs.lemmas.List.{ext_get_or, get_or_append_left, get_or-append_right}
-use Rattle.std.proofs.lemmas.Option.{slice_get-get_or}
+use Rattle.std.proofs.lemmas.Option.{slice_get-get_or, slice_get_past, get_or_from_slice_get}
 use Rattle.trlab_code.specs.declared.kind.Kind.TheVariants.{Motion, Change}
 use Rattle.trlab_code.specs.Machine.{Goes}
-use Rattle.trlab_machine.specs.Choices.{crossing_answer}
+use Rattle.trlab_machine.specs.Crossings.{crossing_answer}
 use Rattle.trlab_machine.proofs.Answers.{one_answer}
-use Rattle.trlab_verify.specs.Checked.{Checked}
+use Rattle.trlab_verify.specs.CheckedProgram.{CheckedProgram}
 use Rattle.trlab_road.specs.declared.car.Car.{Car}
 use Rattle.trlab_road.specs.Cells.{Cells, cars}
-use Rattle.trlab_road.specs.Standing.{standing}
-use Rattle.trlab_road.proofs.StandingOrder.{length-standing_lanes}
+use Rattle.trlab_road.specs.Standing.{IsStanding, rank, standing}
+use Rattle.trlab_road.proofs.StandingOrder.{car_of, length-standing_lanes, rank_below_cars, standing_rank}
 use Rattle.trlab_machine.specs.declared.dice.Dice.{Dice}
 use Rattle.trlab_machine.specs.Blocks.{words_of}
-use Rattle.trlab_step.specs.Answers.{motion_seen, change_seen, AnswersSpeed, AnswersCrossing}
-use Rattle.trlab_step.specs.Laws.{SpeedsAreOne, SpeedsJoin, CrossersAreOne, CrossersJoin}
+use Rattle.trlab_step.specs.Answers.{motion_view_of, change_view_of, AnswersSpeed, AnswersCrossing, AreAnswers, AreAnswersPart}
+use Rattle.trlab_step.specs.Laws.{SpeedsAreOne, SpeedsJoin, CrossingsAreOne, CrossingsJoin}
 
 one_speed : {a b : ℕ} → Goes a ≡ Goes b → a ≡ b
 one_speed h = cc
 
 -- a motion program answers one speed only to a car
-pub one_answer_each : (motion : Checked) (dice : Dice) (road : Cells) (l x car speed a b : ℕ) → AnswersSpeed motion dice road l x car speed a → AnswersSpeed motion dice road l x car speed b → a ≡ b
-one_answer_each motion dice road l x car speed a b first second =
-    one_speed ((one_answer Motion motion.program.instrs (motion_seen road l x speed) (words_of dice car) (Goes a) (Goes b) first.0 second.0 first.1 second.1).0)
+pub one_answer_each : (motion : CheckedProgram) (dice : Dice) (road : Cells) (car : Car) (a b : ℕ) → AnswersSpeed motion dice road car a → AnswersSpeed motion dice road car b → a ≡ b
+one_answer_each motion dice road car a b first second =
+    one_speed ((one_answer Motion motion.program.instrs (motion_view_of road car) (words_of dice car.number) (Goes a) (Goes b) first.0 second.0 first.1 second.1).0)
 
 one_side : (p q : Bool) → crossing_answer p ≡ crossing_answer q → p ≡ q
 one_side true true h = refl
@@ -33,75 +33,102 @@ one_side false true h = absurd cc
 one_side false false h = refl
 
 -- a change program lets a car cross or stay, and not both
-pub one_choice_each : (change : Checked) (dice : Dice) (road : Cells) (l x car speed : ℕ) (a b : Bool) → AnswersCrossing change dice road l x car speed a → AnswersCrossing change dice road l x car speed b → a ≡ b
-one_choice_each change dice road l x car speed a b first second =
-    one_side a b ((one_answer Change change.program.instrs (change_seen road l x speed) (words_of dice car) (crossing_answer a) (crossing_answer b) first.0 second.0 first.1 second.1).0)
+pub one_crossing_each : (change : CheckedProgram) (dice : Dice) (road : Cells) (car : Car) (a b : Bool) → AnswersCrossing change dice road car a → AnswersCrossing change dice road car b → a ≡ b
+one_crossing_each change dice road car a b first second =
+    one_side a b ((one_answer Change change.program.instrs (change_view_of road car) (words_of dice car.number) (crossing_answer a) (crossing_answer b) first.0 second.0 first.1 second.1).0)
 
 no_one : Car
 no_one = record { number = 0; lane = 0; place = 0; speed = 0 }
 
 module _ {X : Type 0} (none : X) (IsAnswer : Car → X → Type 0) (road : Cells) where
-  -- these are answers to the cars from an index of the standing order on
-  abbrev AnswersFrom : ℕ → List X → Type 0
-  AnswersFrom from answers = (k : ℕ) (car : Car) → k < length answers → slice_get (standing road) (from + k) ≡ Some car → IsAnswer car (get_or answers k none)
+  -- the answer at an index of a part
+  part_at : (from to : ℕ) (answers : List X) → AreAnswersPart IsAnswer road from to answers → (k : ℕ) (car : Car) → k < length answers
+      → IsStanding road (from + k) car → IsAnswer car (get_or answers k none)
+  part_at from to answers part k car below here = part.each k car (get_or answers k none) (slice_get-get_or answers k none below) here
 
   -- where each car has one answer, the cars of a part have one list of them
-  part_is_one : (from to : ℕ) (answers others : List X) → ((car : Car) (a b : X) → IsAnswer car a → IsAnswer car b → a ≡ b)
-      → to ≤ cars road → from + length answers ≡ to → from + length others ≡ to → AnswersFrom from answers → AnswersFrom from others → answers ≡ others
-  part_is_one from to answers others one within size count a b =
+  pub part_is_one : (from to : ℕ) (answers others : List X) → ((car : Car) (a b : X) → IsAnswer car a → IsAnswer car b → a ≡ b)
+      → to ≤ cars road → AreAnswersPart IsAnswer road from to answers → AreAnswersPart IsAnswer road from to others → answers ≡ others
+  part_is_one from to answers others one within a b =
       let all = length-standing_lanes 0 road.lanes in
+      let size = a.one_each in
+      let count = b.one_each in
       ext_get_or none answers others (omega (arith, size, count))
       (λ k below.
       let car = get_or (standing road) (from + k) no_one in
       let there : slice_get (standing road) (from + k) ≡ Some car = slice_get-get_or (standing road) (from + k) no_one (omega (arith, size, count, below, within, all)) in
-      one car (get_or answers k none) (get_or others k none) (a k car below there) (b k car (omega (arith, size, count, below)) there))
+      one car (get_or answers k none) (get_or others k none) (part_at from to answers a k car below there) (part_at from to others b k car (omega (arith, size, count, below)) there))
 
-  -- the answers to two parts, one behind the other, are answers to both
-  parts_join : (from middle : ℕ) (first second : List X) → from + length first ≡ middle → AnswersFrom from first → AnswersFrom middle second → AnswersFrom from (first ++ second)
-  parts_join from middle first second size a b k car below here =
-      let whole = length-append first second in
-      elim (cases_lt k (length first)) [
-        | inl less ↦ subst (IsAnswer car) (sym (get_or_append_left first second none k less)) (a k car less here)
-        | inr past ↦
-            let j = k - length first in
-            let place : from + k ≡ middle + j = omega (arith, size, past) in
-            let inside : j < length second = omega (arith, whole, below, past) in
-            subst (IsAnswer car) (sym (get_or-append_right first second (length first) k none refl past))
-            (b j car inside (subst (λ i. slice_get (standing road) i ≡ Some car) place here))
+  -- what a list answers at an index, if it has one there
+  pub at_index : (answers : List X) (k : ℕ) (answer : X) → slice_get answers k ≡ Some answer → (k < length answers) × (get_or answers k none ≡ answer)
+  at_index answers k answer is =
+      elim (cases_lt k (length answers)) [
+        | inl below ↦ (below, get_or_from_slice_get answers k answer none is)
+        | inr past ↦ let e = sym (slice_get_past answers k past) ∙ is in absurd cc
       ]
 
--- two parts, one behind the other, are as long as both
-both_long : {X : Type 0} (from middle to : ℕ) (first second : List X) → from + length first ≡ middle → middle + length second ≡ to → from + length (first ++ second) ≡ to
-both_long from middle to first second a b = let size = length-append first second in omega (arith, size, a, b)
+  -- answers that are right at each index are right
+  pub each_answer : (from : ℕ) (answers : List X) → ((k : ℕ) (car : Car) → k < length answers → IsStanding road (from + k) car → IsAnswer car (get_or answers k none))
+      → (k : ℕ) (car : Car) (answer : X) → slice_get answers k ≡ Some answer → IsStanding road (from + k) car → IsAnswer car answer
+  each_answer from answers right k car answer is here = let there = at_index answers k answer is in subst (IsAnswer car) there.1 (right k car there.0 here)
 
-abbrev speed_answered : Checked → Dice → Cells → Car → ℕ → Type 0
-speed_answered motion dice road car speed = AnswersSpeed motion dice road car.lane car.place car.number car.speed speed
+  -- the answers to two parts, one behind the other, are answers to both
+  pub parts_join : (from middle to : ℕ) (first second : List X) → AreAnswersPart IsAnswer road from middle first → AreAnswersPart IsAnswer road middle to second
+      → AreAnswersPart IsAnswer road from to (first ++ second)
+  parts_join from middle to first second a b =
+      let whole = length-append first second in
+      let size = a.one_each in
+      let count = b.one_each in
+      record {
+        one_each = omega (arith, size, count, whole);
+        each = each_answer from (first ++ second) (λ k car below here. elim (cases_lt k (length first)) [
+          | inl less ↦ subst (IsAnswer car) (sym (get_or_append_left first second none k less)) (part_at from middle first a k car less here)
+          | inr past ↦
+              let j = k - length first in
+              let place : from + k ≡ middle + j = omega (arith, size, past) in
+              let inside : j < length second = omega (arith, whole, below, past) in
+              subst (IsAnswer car) (sym (get_or-append_right first second (length first) k none refl past))
+              (part_at middle to second b j car inside (subst (λ i. IsStanding road i car) place here))
+        ]);
+      }
 
-abbrev crossing_answered : Checked → Dice → Cells → Car → Bool → Type 0
-crossing_answered change dice road car crosses = AnswersCrossing change dice road car.lane car.place car.number car.speed crosses
+  -- the answers of a part and that of the car behind it are those of a longer part
+  pub one_more : (from to : ℕ) (answers : List X) (answer : X) → AreAnswersPart IsAnswer road from to answers → ((car : Car) → IsStanding road to car → IsAnswer car answer)
+      → AreAnswersPart IsAnswer road from (to + 1) (answers ++ answer ∷ [])
+  one_more from to answers answer part right = parts_join from to (to + 1) answers (answer ∷ []) part (record {
+    one_each = refl;
+    each = each_answer to (answer ∷ []) (λ k car below here. let first : k ≡ 0 = omega (arith, below) in let at : to + k ≡ to = omega (arith, first) in
+        subst (λ i. IsAnswer car (get_or (answer ∷ []) i none)) (sym first) (right car (subst (λ i. IsStanding road i car) at here)));
+  })
+
+  -- answers of all cars in standing order, by lane and place
+  pub by_place : (answers : List X) → AreAnswersPart IsAnswer road 0 (cars road) answers → AreAnswers IsAnswer road (λ l x. get_or answers (rank road l x) none)
+  unfolding car_of
+  by_place answers part = record {
+    each = λ car here.
+        let k = rank road car.lane car.place in
+        let low = rank_below_cars road car.lane car.place (car.number, car.speed) here in
+        let size = part.one_each in
+        let count = length-standing_lanes 0 road.lanes in
+        let first : k ≡ 0 + k = omega arith in
+        let there = slice_get-get_or (standing road) k no_one (omega (arith, low, count)) ∙ ap Some (standing_rank road car.lane car.place car.number car.speed no_one here) in
+        part_at 0 (cars road) answers part k car (omega (arith, low, size)) (subst (λ i. IsStanding road i car) first there);
+  }
 
 -- the cars of a part have one list of speeds
 pub speeds_are_one : SpeedsAreOne
 speeds_are_one motion dice road from to speeds others within a b =
-    part_is_one 0 (speed_answered motion dice road) road from to speeds others
-    (λ car p q. one_answer_each motion dice road car.lane car.place car.number car.speed p q) within a.one_each b.one_each a.each b.each
+    part_is_one 0 (AnswersSpeed motion dice road) road from to speeds others (one_answer_each motion dice road) within a b
 
 -- the speeds of two parts, one behind the other, are those of both
 pub speeds_join : SpeedsJoin
-speeds_join motion dice road from middle to first second a b = record {
-  one_each = both_long from middle to first second a.one_each b.one_each;
-  each = parts_join 0 (speed_answered motion dice road) road from middle first second a.one_each a.each b.each;
-}
+speeds_join motion dice road from middle to first second a b = parts_join 0 (AnswersSpeed motion dice road) road from middle to first second a b
 
 -- the cars of a part have one list of answers whether they cross
-pub crossers_are_one : CrossersAreOne
-crossers_are_one change dice road from to crosses others within a b =
-    part_is_one false (crossing_answered change dice road) road from to crosses others
-    (λ car p q. one_choice_each change dice road car.lane car.place car.number car.speed p q) within a.one_each b.one_each a.each b.each
+pub crossings_are_one : CrossingsAreOne
+crossings_are_one change dice road from to crosses others within a b =
+    part_is_one false (AnswersCrossing change dice road) road from to crosses others (one_crossing_each change dice road) within a b
 
 -- who crosses in two parts, one behind the other, are those who cross in both
-pub crossers_join : CrossersJoin
-crossers_join change dice road from middle to first second a b = record {
-  one_each = both_long from middle to first second a.one_each b.one_each;
-  each = parts_join false (crossing_answered change dice road) road from middle first second a.one_each a.each b.each;
-}
+pub crossings_join : CrossingsJoin
+crossings_join change dice road from middle to first second a b = parts_join false (AnswersCrossing change dice road) road from middle to first second a b

@@ -6,8 +6,8 @@ use Rattle.trlab_road.specs.Cells.{Cells}
 use Rattle.trlab_rules.specs.Rules.{Programs}
 use Rattle.trlab_step.specs.declared.tally.StepTally.{StepTally}
 use Rattle.trlab_step.specs.Next.{IsNext}
-use Rattle.trlab_step.specs.Run.{Seed, Sheet, IsSheet, in_force, no_tally, tally_sum, dice_at, RoadAt, TallyAt}
-use Rattle.trlab_step.specs.Laws.{IsRuleFor, LegalLike, RoadExists, RoadIsOne, RunGoesOn}
+use Rattle.trlab_step.specs.Run.{Seed, Sheet, IsSheet, in_force, no_tally, tally_sum, dice_at, IsRoadAt}
+use Rattle.trlab_step.specs.Laws.{IsRuleFor, IsLegalLike, RoadExists, RoadIsOne, RunGoesOn}
 use Rattle.trlab_step.proofs.NextLaws.{like_itself, like_next, next_road_exists, next_road_is_one}
 
 -- the rule in force is that of the first entry, or the one in force by the others
@@ -38,7 +38,7 @@ run_goes_on seed sheet step road next sum tally rule comes under is =
     (road, sum, rule, tally, comes, record { under = under; next = is; counted = refl })
 
 -- a rule for the lanes of a road is one for those of a road like it
-rule_for_like : (old new : Cells) (rule : Programs) → LegalLike old new → IsRuleFor (length old.lanes) rule → IsRuleFor (length new.lanes) rule
+rule_for_like : (old new : Cells) (rule : Programs) → IsLegalLike old new → IsRuleFor (length old.lanes) rule → IsRuleFor (length new.lanes) rule
 rule_for_like old new rule like is = subst (λ lanes. IsRuleFor lanes rule) (sym like.same_lanes) is
 
 -- a run under a sheet for its lanes comes to a road at each step
@@ -67,9 +67,5 @@ road_is_one seed sheet (suc step) road other sum count a b =
     (same.0, a.5.counted ∙ ap (λ s. total s a.3) before.1 ∙ ap (total b.1) same.1 ∙ sym b.5.counted)
 
 -- a run has one road only at each step, whatever was counted
-pub road_at_is_one : (seed : Seed) (sheet : Sheet) (step : ℕ) (road other : Cells) → RoadAt seed sheet step road → RoadAt seed sheet step other → road ≡ other
+pub road_at_is_one : (seed : Seed) (sheet : Sheet) (step : ℕ) (road other : Cells) → IsRoadAt seed sheet step road → IsRoadAt seed sheet step other → road ≡ other
 road_at_is_one seed sheet step road other a b = (road_is_one seed sheet step road other a.0 b.0 a.1 b.1).0
-
--- a run has one sum of tallies only at each step
-pub tally_at_is_one : (seed : Seed) (sheet : Sheet) (step : ℕ) (sum count : StepTally) → TallyAt seed sheet step sum → TallyAt seed sheet step count → sum ≡ count
-tally_at_is_one seed sheet step sum count a b = (road_is_one seed sheet step a.0 b.0 sum count a.1 b.1).1

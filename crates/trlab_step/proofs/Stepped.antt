@@ -1,55 +1,56 @@
 -- The answers of all cars lead through the two phases of a step.
 use Rattle.std.proofs.Common.{◌≡◌, ℕ, Some, None, List, refl, sym, ◌∙◌, ap, arith}
 use Rattle.std.specs.Prelude.{Bool, Option, false, length, count_by, nat_eq, sum}
-use Rattle.trlab_verify.specs.Checked.{Checked}
+use Rattle.trlab_verify.specs.CheckedProgram.{CheckedProgram}
 use Rattle.trlab_road.specs.Cells.{Cells, cars}
-use Rattle.trlab_road.specs.Crossing.{Crosses, crosses_at}
+use Rattle.trlab_road.specs.LaneChange.{Crosses, crosses_at}
 use Rattle.trlab_road.specs.Motion.{Moves, answer_at, in_order}
 use Rattle.trlab_machine.specs.declared.dice.Dice.{Dice}
-use Rattle.trlab_step.specs.Answers.{SpeedsPart, FitsPart, CrossersPart}
-use Rattle.trlab_step.specs.Next.{total_speed, stopped_cars, Sideways, Onward}
+use Rattle.trlab_step.specs.Answers.{AnswersSpeedsPart, FitsPart, AnswersCrossingsPart, AnswersSpeed, AnswersCrossing}
+use Rattle.trlab_step.specs.Next.{total_speed, stopped_cars, LaneChangePhase, MotionPhase}
 use Rattle.trlab_step.specs.Laws.{CrossByAnswers, AnswersLeadOn}
-use Rattle.trlab_step.proofs.Parts.{whole_allowed, whole_speeds, whole_crossers}
+use Rattle.trlab_step.proofs.Parts.{whole_allowed}
 use Rattle.trlab_step.proofs.Totals.{answers_in_order, total_speed-moved, stopped_cars-moved, crossing_cars-counted}
+use Rattle.trlab_step.proofs.PartLaws.{by_place}
 
--- where all cars are asked on the road as it stands, and cross by their answers, the sideways phase is done
-pub crossed_sideways : (change : Checked) (dice : Dice) (road middle : Cells) (crosses : List Bool) (changes : ℕ) → length road.lanes ≡ 2 → CrossersPart change dice road 0 (cars road) crosses
+-- where all cars are asked on the road as it stands, and cross by their answers, the lane change is done
+pub lane_change_is_done : (change : CheckedProgram) (dice : Dice) (road middle : Cells) (crosses : List Bool) (changes : ℕ) → length road.lanes ≡ 2 → AnswersCrossingsPart change dice road 0 (cars road) crosses
     → ((answer : ℕ → ℕ → Bool) → crosses ≡ in_order answer road → Crosses answer road middle)
-    → changes ≡ count_by (λ c. c) crosses → Sideways (Some change) dice road middle changes
-crossed_sideways change dice road middle crosses changes two part phase counted =
+    → changes ≡ count_by (λ c. c) crosses → LaneChangePhase (Some change) dice road middle changes
+lane_change_is_done change dice road middle crosses changes two part phase counted =
     let one_each = part.one_each in
     let size : length crosses ≡ cars road = omega (arith, one_each) in
-    let crossed = phase (crosses_at road crosses) (sym (answers_in_order false road crosses size)) in
-    (two, crosses_at road crosses, whole_crossers change dice road crosses part, crossed, counted ∙ sym (crossing_cars-counted road crosses size))
+    let done = phase (crosses_at road crosses) (sym (answers_in_order false road crosses size)) in
+    (two, crosses_at road crosses, by_place false (AnswersCrossing change dice road) road crosses part, done, counted ∙ sym (crossing_cars-counted road crosses size))
 
 -- cars that go ahead by their answers in standing order do so by the answers of their places
-pub moved_by_place : (motion : Checked) (dice : Dice) (road next : Cells) (speeds : List ℕ) → SpeedsPart motion dice road 0 (cars road) speeds
+pub moved_by_place : (motion : CheckedProgram) (dice : Dice) (road next : Cells) (speeds : List ℕ) → AnswersSpeedsPart motion dice road 0 (cars road) speeds
     → ((answer : ℕ → ℕ → ℕ) → speeds ≡ in_order answer road → Moves answer road next) → Moves (answer_at road speeds) road next
 moved_by_place motion dice road next speeds part moves =
     let one_each = part.one_each in
     moves (answer_at road speeds) (sym (answers_in_order 0 road speeds (omega (arith, one_each))))
 
-module _ (motion : Checked) (dice : Dice) (road next : Cells) (speeds : List ℕ) where
-  -- where all cars are asked on the road as it stands, and go ahead by their answers, the motion phase is done
-  pub moved_onward : SpeedsPart motion dice road 0 (cars road) speeds → Moves (answer_at road speeds) road next → Onward motion dice road next
-  moved_onward part moves = (answer_at road speeds, whole_speeds motion dice road speeds part, moves)
+module _ (motion : CheckedProgram) (dice : Dice) (road next : Cells) (speeds : List ℕ) where
+  -- where all cars are asked on the road as it stands, and go ahead by their answers, the motion is done
+  pub motion_is_done : AnswersSpeedsPart motion dice road 0 (cars road) speeds → Moves (answer_at road speeds) road next → MotionPhase motion dice road next
+  motion_is_done part moves = (answer_at road speeds, by_place 0 (AnswersSpeed motion dice road) road speeds part, moves)
 
   -- the sum of the answers is that of the new speeds
-  pub all_gone : (distance : ℕ) → SpeedsPart motion dice road 0 (cars road) speeds → FitsPart road 0 speeds → Moves (answer_at road speeds) road next
+  pub all_gone : (distance : ℕ) → AnswersSpeedsPart motion dice road 0 (cars road) speeds → FitsPart road 0 speeds → Moves (answer_at road speeds) road next
       → distance ≡ sum speeds → distance ≡ total_speed next
   all_gone distance part fits moves gone = gone ∙ sym (total_speed-moved road next speeds (whole_allowed motion dice road speeds part fits) moves)
 
   -- the answers that are 0 are as many as the cars that stand
-  pub all_stood : (stopped : ℕ) → SpeedsPart motion dice road 0 (cars road) speeds → FitsPart road 0 speeds → Moves (answer_at road speeds) road next
+  pub all_stood : (stopped : ℕ) → AnswersSpeedsPart motion dice road 0 (cars road) speeds → FitsPart road 0 speeds → Moves (answer_at road speeds) road next
       → stopped ≡ count_by (λ speed. nat_eq speed 0) speeds → stopped ≡ stopped_cars next
   all_stood stopped part fits moves stood = stood ∙ sym (stopped_cars-moved road next speeds (whole_allowed motion dice road speeds part fits) moves)
 
 -- whoever asks the cars, who cross by their answers or do not cross
-crossed_by_answers : (change : Option Checked) (dice : Dice) (road middle : Cells) (crosses : List Bool) → CrossByAnswers change dice road middle crosses
-    → Sideways change dice road middle (count_by (λ c. c) crosses)
+crossed_by_answers : (change : Option CheckedProgram) (dice : Dice) (road middle : Cells) (crosses : List Bool) → CrossByAnswers change dice road middle crosses
+    → LaneChangePhase change dice road middle (count_by (λ c. c) crosses)
 crossed_by_answers None dice road middle crosses by = (by.0, ap (λ cs. count_by (λ c. c) cs) by.1)
 crossed_by_answers (Some change) dice road middle crosses by =
-    crossed_sideways change dice road middle crosses (count_by (λ c. c) crosses) by.0 by.1 by.2 refl
+    lane_change_is_done change dice road middle crosses (count_by (λ c. c) crosses) by.0 by.1 by.2 refl
 
 -- and who then go ahead by theirs, the next road is come to
 pub answers_lead_on : AnswersLeadOn
@@ -57,8 +58,8 @@ answers_lead_on rule dice road middle next crosses speeds cross go =
     let moves = moved_by_place rule.motion dice middle next speeds go.answers go.moves in (
       middle,
       record {
-        sideways = crossed_by_answers rule.change dice road middle crosses cross;
-        onward = moved_onward rule.motion dice middle next speeds go.answers moves;
+        lane_change = crossed_by_answers rule.change dice road middle crosses cross;
+        motion = motion_is_done rule.motion dice middle next speeds go.answers moves;
         distance = all_gone rule.motion dice middle next speeds (sum speeds) go.answers go.fits moves refl;
         stopped = all_stood rule.motion dice middle next speeds (count_by (λ speed. nat_eq speed 0) speeds) go.answers go.fits moves refl;
       },

@@ -1,5 +1,5 @@
 pub mod Answers
-pub mod Asked
+pub mod Block
 pub mod Next
 pub mod Run
 pub mod Laws

@@ -1,21 +1,24 @@
--- One step of a road: the sideways phase, then the motion phase, each for all cars at once.
-use Rattle.std.specs.Prelude.{◌≡◌, ℕ, Bool, Option, Some, None, length, sum_by, count_by, nat_eq}
+-- One step of a road: the lane change, then the motion, each for all cars at once.
+use Rattle.std.specs.Prelude.{◌≡◌, ◌↔◌, ℕ, Bool, Option, Some, None, Result, Err, IfOk, IsSome, length, sum_by, count_by, nat_eq}
 use Rattle.trlab_road.specs.declared.car.Car.{Car}
 use Rattle.trlab_road.specs.Cells.{Cells}
+use Rattle.trlab_road.specs.Legal.{IsLegal}
 use Rattle.trlab_road.specs.Standing.{standing}
-use Rattle.trlab_road.specs.Crossing.{Crosses, CleanCrossing}
+use Rattle.trlab_road.specs.LaneChange.{Crosses, CleanLaneChange}
 use Rattle.trlab_road.specs.Motion.{Moves, CleanMotion}
-use Rattle.trlab_verify.specs.Checked.{Checked}
+use Rattle.trlab_verify.specs.CheckedProgram.{CheckedProgram}
 use Rattle.trlab_rules.specs.Rules.{Programs}
+use Rattle.trlab_step.specs.declared.fault.StepFault.{StepFault}
+use Rattle.trlab_step.specs.declared.fault.StepFault.TheVariants.{LanesMismatch}
 use Rattle.trlab_step.specs.declared.tally.StepTally.{StepTally}
 use Rattle.trlab_machine.specs.declared.dice.Dice.{Dice}
-use Rattle.trlab_step.specs.Answers.{Speeds, Crossers}
+use Rattle.trlab_step.specs.Answers.{AnswersSpeeds, AnswersCrossings}
 
 -- the sum of the speeds of a road's cars
 abbrev pub total_speed : Cells → ℕ
 total_speed road = sum_by (λ (car : Car). car.speed) (standing road)
 
--- how many cars of a road stand
+-- how many cars of a road are stopped: their speed is 0
 abbrev pub stopped_cars : Cells → ℕ
 stopped_cars road = count_by (λ (car : Car). nat_eq car.speed 0) (standing road)
 
@@ -23,37 +26,48 @@ stopped_cars road = count_by (λ (car : Car). nat_eq car.speed 0) (standing road
 abbrev pub crossing_cars : (ℕ → ℕ → Bool) → Cells → ℕ
 crossing_cars crosses road = count_by (λ (car : Car). crosses car.lane car.place) (standing road)
 
--- the sideways phase: with a change program, for which there have to be two lanes, the cars that it lets
+-- the lane change: with a change program, for which there have to be two lanes, the cars that it lets
 -- cross do so; without one no car does
-abbrev pub Sideways : Option Checked → Dice → Cells → Cells → ℕ → Type 0
-Sideways None dice road middle changes = (middle ≡ road) × (changes ≡ 0)
-Sideways (Some change) dice road middle changes =
-    (length road.lanes ≡ 2) × (crosses : ℕ → ℕ → Bool) × Crossers change dice road crosses
+abbrev pub LaneChangePhase : Option CheckedProgram → Dice → Cells → Cells → ℕ → Type 0
+LaneChangePhase None dice road middle changes = (middle ≡ road) × (changes ≡ 0)
+LaneChangePhase (Some change) dice road middle changes =
+    (length road.lanes ≡ 2) × (crosses : ℕ → ℕ → Bool) × AnswersCrossings change dice road crosses
     × Crosses crosses road middle × (changes ≡ crossing_cars crosses road)
 
--- the motion phase: each car goes ahead by the speed that its motion program answers on this very road
-abbrev pub Onward : Checked → Dice → Cells → Cells → Type 0
-Onward motion dice road next =
-    (speeds : ℕ → ℕ → ℕ) × Speeds motion dice road speeds × Moves speeds road next
+-- the motion: each car goes ahead by the speed that its motion program answers on this very road
+abbrev pub MotionPhase : CheckedProgram → Dice → Cells → Cells → Type 0
+MotionPhase motion dice road next =
+    (speeds : ℕ → ℕ → ℕ) × AnswersSpeeds motion dice road speeds × Moves speeds road next
 
--- a step of a road under a rule, over the road between the two phases
--- (Nagel and Schreckenberg 1992 for the parallel motion, Rickert and others 1996 for the lane change before it)
-pub record Step (rule : Programs) (dice : Dice) (road middle next : Cells) (tally : StepTally) : Type 0 where
-  pub sideways : Sideways rule.change dice road middle tally.changes
-  pub onward : Onward rule.motion dice middle next
+-- a step of a road under a rule, over the middle road between the two phases (Nagel and Schreckenberg 1992
+-- for the parallel motion, Rickert and others 1996 for the lane change before it)
+pub record IsStep (rule : Programs) (dice : Dice) (road middle next : Cells)
+    (tally : StepTally) : Type 0 where
+  pub lane_change : LaneChangePhase rule.change dice road middle tally.changes
+  pub motion : MotionPhase rule.motion dice middle next
   pub distance : tally.distance ≡ total_speed next
   pub stopped : tally.stopped ≡ stopped_cars next
 
 -- the next road under a rule, and what is counted on the way
 abbrev pub IsNext : Programs → Dice → Cells → Cells → StepTally → Type 0
-IsNext rule dice road next tally = (middle : Cells) × Step rule dice road middle next tally
+IsNext rule dice road next tally = (middle : Cells) × IsStep rule dice road middle next tally
 
 -- a step whose two phases are clean: no car went onto or through another, none was lost or made
-pub record CleanStep (rule : Programs) (dice : Dice) (road middle next : Cells) (tally : StepTally) : Type 0 where
-  pub step : Step rule dice road middle next tally
-  pub clean_sideways : CleanCrossing road middle
+pub record IsCleanStep (rule : Programs) (dice : Dice) (road middle next : Cells)
+    (tally : StepTally) : Type 0 where
+  pub step : IsStep rule dice road middle next tally
+  pub clean_lane_change : CleanLaneChange road middle
   pub clean_motion : CleanMotion middle next
 
 -- the next road under a rule, and what is counted on the way, both phases clean over one middle road
 abbrev pub IsCleanNext : Programs → Dice → Cells → Cells → StepTally → Type 0
-IsCleanNext rule dice road next tally = (middle : Cells) × CleanStep rule dice road middle next tally
+IsCleanNext rule dice road next tally = (middle : Cells) × IsCleanStep rule dice road middle next tally
+
+-- what is told of a step: the next road, which is legal, with its tally, or a fault; that the lanes do not
+-- suit the rule is told just where there is a change program, and one lane
+pub record TellsNext (rule : Programs) (dice : Dice) (road : Cells)
+    (told : Result (Cells × StepTally) StepFault) : Type 0 where
+  pub mismatch : (told ≡ Err LanesMismatch) ↔ (IsSome rule.change × (length road.lanes ≡ 1))
+  pub next : IfOk told (λ after. IsNext rule dice road after.0 after.1)
+  pub clean : IfOk told (λ after. IsCleanNext rule dice road after.0 after.1)
+  pub legal : IfOk told (λ after. IsLegal after.0)

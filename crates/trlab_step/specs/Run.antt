@@ -72,9 +72,9 @@ ComesTo seed sheet (suc step) road sum =
     × GoesOn seed sheet step before road sum_before sum rule tally
 
 -- the road at a step of a run
-abbrev pub RoadAt : Seed → Sheet → ℕ → Cells → Type 0
-RoadAt seed sheet step road = (sum : StepTally) × ComesTo seed sheet step road sum
+abbrev pub IsRoadAt : Seed → Sheet → ℕ → Cells → Type 0
+IsRoadAt seed sheet step road = (sum : StepTally) × ComesTo seed sheet step road sum
 
 -- the sum of the tallies up to a step of a run
-abbrev pub TallyAt : Seed → Sheet → ℕ → StepTally → Type 0
-TallyAt seed sheet step sum = (road : Cells) × ComesTo seed sheet step road sum
+abbrev pub IsTallyAt : Seed → Sheet → ℕ → StepTally → Type 0
+IsTallyAt seed sheet step sum = (road : Cells) × ComesTo seed sheet step road sum

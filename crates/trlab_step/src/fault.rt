@@ -1,4 +1,4 @@
-//! Why a road cannot make a step.
+//! The faults of a step: the rule does not suit the lanes, or memory runs out.
 
 ghost use Rattle.std.specs.Prelude.{◌≡◌};
 ghost use Rattle.trlab_step.specs.declared.fault.StepFault.TheVariants.{Memory};

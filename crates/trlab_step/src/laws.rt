@@ -3,7 +3,7 @@
 //! Each law is the contract of a function with nothing to do.
 
 ghost use Rattle.trlab_step.specs.Published.{NaschOnCells, RickertOnCells, VdrOnCells};
-ghost use Rattle.trlab_step.specs.Laws.{AnswersLeadOn, CrossersAreOne, CrossersJoin, SpeedsAreOne, SpeedsJoin};
+ghost use Rattle.trlab_step.specs.Laws.{AnswersLeadOn, CrossingsAreOne, CrossingsJoin, SpeedsAreOne, SpeedsJoin};
 ghost use Rattle.trlab_step.specs.Laws.{NextRoadExists, NextRoadIsOne, RoadExists, RoadIsOne, RunGoesOn};
 
 /// The cars of a part of the standing order have one list of speeds, and the lists of parts make up
@@ -14,9 +14,9 @@ pub fn parts_make_the_whole()
 {}
 
 /// The same of the answers whether the cars cross.
-pub fn choices_make_the_whole()
-    ensures one { CrossersAreOne }
-    ensures join { CrossersJoin }
+pub fn crossings_make_the_whole()
+    ensures one { CrossingsAreOne }
+    ensures join { CrossingsJoin }
 {}
 
 /// Whoever asks the cars: answers of all cars in standing order, under which cars cross and then go

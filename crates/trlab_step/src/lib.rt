@@ -1,22 +1,23 @@
-//! One step of a road under a rule.
+//! One step of a road under a rule: the cars are asked on the road as it stands, and then all move at once.
+//! Parts of the cars can be asked by themselves, and the two phases be taken by themselves.
 #![tactic(auto)]
 
-mod answers;
-mod asked;
 mod asker;
-mod choices;
+mod block;
+mod crossings;
 mod fault;
 pub mod laws;
 mod phases;
 mod room;
+mod speeds;
 mod step;
 mod tally;
 
-pub use answers::move_part;
 pub use asker::{Asker, Caller};
-pub use choices::choose_part;
+pub use crossings::choose_part;
 pub use fault::StepFault;
 pub use phases::{commit_change, commit_motion};
 pub use room::StepRoom;
+pub use speeds::move_part;
 pub use step::{step_road, step_road_by, take_step};
 pub use tally::StepTally;

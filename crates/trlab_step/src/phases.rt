@@ -1,9 +1,9 @@
-//! The phases of a step.
+//! The two phases of a step by given answers: the lane change, and the motion.
 
 ghost use Rattle.std.specs.Prelude.{◌≡◌, ℕ, Bool, IfOk};
-ghost use Rattle.trlab_road.specs.Crossing.{CleanCrossing, CrossAllowed, Crosses};
-ghost use Rattle.trlab_road.specs.Legal.{Legal};
-ghost use Rattle.trlab_road.specs.Motion.{Allowed, CleanMotion, Moves, in_order};
+ghost use Rattle.trlab_road.specs.LaneChange.{CleanLaneChange, MayCross, Crosses};
+ghost use Rattle.trlab_road.specs.Legal.{IsLegal};
+ghost use Rattle.trlab_road.specs.Motion.{MayMove, CleanMotion, Moves, in_order};
 
 use std::alloc::{AllocError, Global};
 use trlab_road::Road;
@@ -12,26 +12,34 @@ use trlab_road::Road;
 /// crosses only where the cell beside it on the other lane is empty.
 ///
 /// Nothing collides: each car stays, or goes to an empty cell, none is lost, and no two meet.
+///
+/// # Errors
+///
+/// Where an allocation was refused.
 pub fn commit_change(alloc: Global, road: &Road, crosses: &[bool]) -> Result<Road, AllocError>
-    requires { CrossAllowed road.now crosses.now }
+    requires { MayCross road.now crosses.now }
     ensures crosses { IfOk result (λ next. (answer : ℕ → ℕ → Bool)
         → crosses.now ≡ in_order answer road.now → Crosses answer road.now next) }
-    ensures clean { IfOk result (λ next. CleanCrossing road.now next) }
-    ensures legal { IfOk result (λ next. Legal next) }
+    ensures clean { IfOk result (λ next. CleanLaneChange road.now next) }
+    ensures legal { IfOk result (λ next. IsLegal next) }
 {
-    road.crossed(alloc, crosses)
+    road.after_lane_change(alloc, crosses)
 }
 
-/// The road after all cars went ahead at once, each by its new speed; the speeds stand in
+/// The road after all cars went ahead at once, each by its new speed, in cells a step; the speeds stand in
 /// standing order, and each is at most its car's gap and the limit.
 ///
 /// Nothing collides: each car goes over empty cells only, none is lost, and no two meet.
+///
+/// # Errors
+///
+/// Where an allocation was refused.
 pub fn commit_motion(alloc: Global, road: &Road, speeds: &[u32]) -> Result<Road, AllocError>
-    requires { Allowed road.now speeds.now }
+    requires { MayMove road.now speeds.now }
     ensures moves { IfOk result (λ next. (answer : ℕ → ℕ → ℕ)
         → speeds.now ≡ in_order answer road.now → Moves answer road.now next) }
     ensures clean { IfOk result (λ next. CleanMotion road.now next) }
-    ensures legal { IfOk result (λ next. Legal next) }
+    ensures legal { IfOk result (λ next. IsLegal next) }
 {
-    road.moved(alloc, speeds)
+    road.after_motion(alloc, speeds)
 }

@@ -1,9 +1,9 @@
-//! Memory that is kept from step to step.
+//! Memory that is kept from step to step, so that most steps allocate nothing.
 
 use std::alloc::Global;
 use trlab_road::Room;
 
-/// Lists that are filled again in each step: it says nothing of a road.
+/// Lists that are filled again in each step: they say nothing of a road.
 #[derive(Drop)]
 pub struct StepRoom {
     /// For the lanes.

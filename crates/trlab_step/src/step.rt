@@ -1,11 +1,11 @@
-//! One step of a road.
+//! One step of a road under a rule: the lane change, where the rule has one, and then the motion.
 
-ghost use Rattle.std.specs.Prelude.{◌≡◌, ◌↔◌, Some, Err, IfOk, OnOk, OnErr, IsSome, length};
-ghost use Rattle.trlab_road.specs.Crossing.{CleanCrossing};
-ghost use Rattle.trlab_road.specs.Legal.{Legal};
+ghost use Rattle.std.specs.Prelude.{◌≡◌, Some, IfOk, OnOk, OnErr, IsSome, length};
+ghost use Rattle.trlab_road.specs.LaneChange.{CleanLaneChange};
+ghost use Rattle.trlab_road.specs.Legal.{IsLegal};
 ghost use Rattle.trlab_road.specs.Motion.{CleanMotion};
 ghost use Rattle.trlab_step.specs.Answers.{dice_of};
-ghost use Rattle.trlab_step.specs.Next.{IsCleanNext, IsNext, Onward, Sideways, stopped_cars, total_speed};
+ghost use Rattle.trlab_step.specs.Next.{IsCleanNext, IsNext, LaneChangePhase, MotionPhase, TellsNext, stopped_cars, total_speed};
 
 use crate::asker::{Asker, Caller};
 use crate::fault::StepFault;
@@ -13,6 +13,7 @@ use crate::room::StepRoom;
 use crate::tally::{StepTally, count_crossing, tally_of};
 use std::alloc::{AllocError, Global};
 use std::mem;
+use trlab_machine::Dice;
 use trlab_road::Road;
 use trlab_rules::Rule;
 use trlab_verify::{Change, Motion};
@@ -24,34 +25,33 @@ use trlab_words::Key;
 /// are asked for their speeds, on the road after that, and go ahead at once. The random words of the
 /// step go by the key, the number of the road and that of the step, and are the same in both phases.
 ///
-/// A change program needs two lanes: on one lane it is refused as `LanesMismatch`.
+/// # Errors
+///
+/// `LanesMismatch` where the rule has a change program and the road has one lane, and `Memory` where an
+/// allocation was refused.
 pub fn step_road_by<A: Asker>(
     asker: &A,
     alloc: Global,
     road: &Road,
     rule: &Rule,
-    key: &Key,
-    number: u32,
-    step: u32,
+    dice: &Dice,
 ) -> Result<(Road, StepTally), StepFault>
-    ensures mismatch { (result ≡ Err StepFault.LanesMismatch)
-        ↔ (IsSome rule.now.change × (length road.now.lanes ≡ 1)) }
-    ensures next { IfOk result
-        (λ after. IsNext rule.now (dice_of key.now.0 number step) road.now after.0 after.1) }
-    ensures clean { IfOk result
-        (λ after. IsCleanNext rule.now (dice_of key.now.0 number step) road.now after.0 after.1) }
-    ensures legal { IfOk result (λ after. Legal after.0) }
+    ensures { TellsNext rule.now dice.now road.now result }
 {
     if rule.change().is_some() && road.lanes() == 1 {
         return Err(StepFault::LanesMismatch);
     }
     let mut next = road.copy(alloc)?;
     let mut room = StepRoom::new(alloc);
-    let tally = take_step(asker, alloc, &mut next, &mut room, rule, key, number, step)?;
+    let tally = take_step(asker, alloc, &mut next, &mut room, rule, dice)?;
     Ok((next, tally))
 }
 
 /// The next road as `step_road_by` tells it, where the calling thread asks the cars.
+///
+/// # Errors
+///
+/// Those of `step_road_by`.
 pub fn step_road(
     alloc: Global,
     road: &Road,
@@ -60,106 +60,84 @@ pub fn step_road(
     number: u32,
     step: u32,
 ) -> Result<(Road, StepTally), StepFault>
-    ensures mismatch { (result ≡ Err StepFault.LanesMismatch)
-        ↔ (IsSome rule.now.change × (length road.now.lanes ≡ 1)) }
-    ensures next { IfOk result
-        (λ after. IsNext rule.now (dice_of key.now.0 number step) road.now after.0 after.1) }
-    ensures clean { IfOk result
-        (λ after. IsCleanNext rule.now (dice_of key.now.0 number step) road.now after.0 after.1) }
-    ensures legal { IfOk result (λ after. Legal after.0) }
+    ensures { TellsNext rule.now (dice_of key.now.0 number step) road.now result }
 {
-    step_road_by(&Caller, alloc, road, rule, key, number, step)
+    step_road_by(&Caller, alloc, road, rule, &Dice::new(key, number, step))
 }
 
 /// Takes the step that `step_road_by` tells: the road becomes the next road, and the memory of the step
-/// is that of the room. Where memory runs out, the road stays.
+/// is that of the room.
 ///
 /// It is the caller's part that the rule is one for the lanes of the road.
+///
+/// # Errors
+///
+/// Where an allocation was refused; then the road stays as it was.
 pub fn take_step<A: Asker>(
     asker: &A,
     alloc: Global,
     road: &mut Road,
     room: &mut StepRoom,
     rule: &Rule,
-    key: &Key,
-    number: u32,
-    step: u32,
+    dice: &Dice,
 ) -> Result<StepTally, AllocError>
     requires lanes { IsSome rule.now.change → length road.old.lanes ≡ 2 }
-    ensures next { IfOk result
-        (λ tally. IsNext rule.now (dice_of key.now.0 number step) road.old road.new tally) }
-    ensures clean { IfOk result
-        (λ tally. IsCleanNext rule.now (dice_of key.now.0 number step) road.old road.new tally) }
-    ensures legal { OnOk result (Legal road.new) }
+    ensures next { IfOk result (λ tally. IsNext rule.now dice.now road.old road.new tally) }
+    ensures clean { IfOk result (λ tally. IsCleanNext rule.now dice.now road.old road.new tally) }
+    ensures legal { OnOk result (IsLegal road.new) }
     ensures same { OnErr result (road.new ≡ road.old) }
 {
     let motion = rule.motion();
     match rule.change() {
-        None => onward(
-            asker,
-            alloc,
-            road,
-            &mut room.speeds,
-            motion,
-            key,
-            number,
-            step,
-        ),
+        None => move_cars(asker, alloc, road, &mut room.speeds, motion, dice),
         Some(change) => {
-            let (mut middle, changes) = sideways(
-                asker, alloc, road, room, change, key, number, step,
-            )?;
+            let (mut middle, changes) = change_lanes(asker, alloc, road, room, change, dice)?;
             let speeds = &mut room.speeds;
-            let tally = onward(asker, alloc, &mut middle, speeds, motion, key, number, step)?;
+            let tally = move_cars(asker, alloc, &mut middle, speeds, motion, dice)?;
             mem::replace(road, middle).leave_to(&mut room.lanes);
             Ok(StepTally { changes, ..tally })
         }
     }
 }
 
-/// The road after the sideways phase under a change program, and how many cars crossed.
-fn sideways<A: Asker>(
+/// The road after the lane change under a change program, and how many cars crossed.
+fn change_lanes<A: Asker>(
     asker: &A,
     alloc: Global,
     road: &Road,
     room: &mut StepRoom,
     change: &Change,
-    key: &Key,
-    number: u32,
-    step: u32,
+    dice: &Dice,
 ) -> Result<(Road, u64), AllocError>
     requires { length road.now.lanes ≡ 2 }
-    ensures phase { IfOk result (λ after. Sideways (Some change.now)
-        (dice_of key.now.0 number step) road.now after.0 after.1) }
-    ensures clean { IfOk result (λ after. CleanCrossing road.now after.0) }
-    ensures legal { IfOk result (λ after. Legal after.0) }
+    ensures phase { IfOk result (λ after.
+        LaneChangePhase (Some change.now) dice.now road.now after.0 after.1) }
+    ensures clean { IfOk result (λ after. CleanLaneChange road.now after.0) }
+    ensures legal { IfOk result (λ after. IsLegal after.0) }
 {
-    asker.crossings(alloc, &mut room.crosses, road, change, key, number, step)?;
-    let middle = road.crossed_in(alloc, &mut room.lanes, &room.crosses)?;
+    asker.crossings(alloc, &mut room.crosses, road, change, dice)?;
+    let middle = road.after_lane_change_in(alloc, &mut room.lanes, &room.crosses)?;
     Ok((middle, count_crossing(&room.crosses)))
 }
 
-/// Takes the motion phase, and tells the tally of a step in which no car crossed before.
-fn onward<A: Asker>(
+/// Takes the motion, and tells the tally of a step in which no car crossed before.
+fn move_cars<A: Asker>(
     asker: &A,
     alloc: Global,
     road: &mut Road,
     speeds: &mut Vec<u32>,
     motion: &Motion,
-    key: &Key,
-    number: u32,
-    step: u32,
+    dice: &Dice,
 ) -> Result<StepTally, AllocError>
-    ensures phase { OnOk result
-        (Onward motion.now (dice_of key.now.0 number step) road.old road.new) }
+    ensures phase { OnOk result (MotionPhase motion.now dice.now road.old road.new) }
     ensures distance { IfOk result (λ tally. tally.distance ≡ total_speed road.new) }
     ensures stopped { IfOk result (λ tally. tally.stopped ≡ stopped_cars road.new) }
     ensures changes { IfOk result (λ tally. tally.changes ≡ 0) }
     ensures clean { OnOk result (CleanMotion road.old road.new) }
-    ensures legal { OnOk result (Legal road.new) }
+    ensures legal { OnOk result (IsLegal road.new) }
     ensures same { OnErr result (road.new ≡ road.old) }
 {
-    asker.speeds(alloc, speeds, road, motion, key, number, step)?;
+    asker.speeds(alloc, speeds, road, motion, dice)?;
     road.move_cars(speeds);
     Ok(tally_of(speeds))
 }

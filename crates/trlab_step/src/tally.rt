@@ -1,8 +1,10 @@
-//! What is counted in a step.
+//! Tallies: the distance, the stopped cars and the lane changes of a step, counted over the answers of the
+//! cars.
 
 ghost use Rattle.std.specs.Prelude.{◌≡◌, ◌<◌, ◌^◌, count_by, length, nat_eq, sum};
 
-/// What is counted in a step, or summed over several.
+/// What is counted in a step, or summed over several: the distance makes the flow (Nagel and Schreckenberg
+/// 1992).
 #[derive(Clone, Copy, Debug, PartialEq, Eq)]
 pub struct StepTally {
     /// The cells that all cars went: the sum of their new speeds.

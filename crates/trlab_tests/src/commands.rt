@@ -1,7 +1,7 @@
 //! Words of the command line, what is made of them, and how the commands end.
 
 ghost use Rattle.std.specs.Prelude.{◌≡◌, false, IfOk};
-ghost use Rattle.trlab_commands.specs.Asked.{HasCounts};
+ghost use Rattle.trlab_commands.specs.Requests.{HasCounts};
 
 use clap::Error;
 use std::io;
@@ -115,8 +115,10 @@ fn carried<S: Source, K: Sink>(
 
 #[test]
 fn commands_write_their_own_output(rt: HostRuntime) -> Result<(), Fail> {
-    let job =
-        "road 1\nkey 0000000000000000000000000000000000000000000000000000000000000000\nlimit 5\nlane 0.\nrule nasch 0\nsteps 1\n";
+    let job = concat!(
+        "road 1\nkey 0000000000000000000000000000000000000000000000000000000000000000\n",
+        "limit 5\nlane 0.\nrule nasch 0\nsteps 1\n",
+    );
     for (line, text, status, wanted) in [
         ("check", "change\nstay", 0, "accepted budget 1\nstay\n"),
         ("check", "change\ncross", 1, "refused at 0 reason 12\n"),

@@ -7,11 +7,15 @@ mod commands;
 #[cfg(test)]
 mod devices;
 #[cfg(test)]
+mod diagram;
+#[cfg(test)]
 mod programs;
 #[cfg(test)]
 mod roads;
 #[cfg(test)]
 mod runs;
+#[cfg(test)]
+mod segments;
 #[cfg(test)]
 mod steps;
 #[cfg(test)]

@@ -3,7 +3,7 @@
 use std::alloc::{AllocError, Global};
 use trlab_asm::Why;
 use trlab_code::CodeFault;
-use trlab_jobs::{Job, read_job, read_program};
+use trlab_jobs::{Job, read_check, read_job};
 use trlab_road::RoadFault;
 use trlab_texts::{Cause, TextFault};
 
@@ -47,7 +47,7 @@ fn tells_the_first_fault(rt: HostRuntime) {
         cause: Cause::Line,
     });
     assert_eq!(rt; read_job(rt.alloc(), b"road 2").err(), wanted);
-    assert_eq!(rt; read_program(rt.alloc(), b"motion \ngo r0\n").err(), wanted);
+    assert_eq!(rt; read_check(rt.alloc(), b"motion \ngo r0\n").err(), wanted);
 }
 
 /// A job text with so many later rules.

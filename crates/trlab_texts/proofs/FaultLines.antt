@@ -7,9 +7,9 @@ use Rattle.trlab_code.specs.Program.{Program}
 use Rattle.trlab_asm.specs.declared.fault.Why.{Why}
 use Rattle.trlab_asm.specs.declared.fault.Why.TheVariants.{Empty}
 use Rattle.trlab_asm.specs.declared.fault.AsmFault.{AsmFault}
-use Rattle.trlab_asm.specs.Operands.{◌>>=◌}
+use Rattle.trlab_asm.specs.Results.{◌>>=◌}
 use Rattle.trlab_asm.specs.Reading.{Draft, Labels, Line, line_says}
-use Rattle.trlab_asm.specs.Assembly.{Read, Parts, nothing, in_line, with_read, with_line, first_pass, aimed_at, placed, finished, second_pass, instrs_of, code_of, OutOfMemory}
+use Rattle.trlab_asm.specs.Assembly.{LineDraft, Parts, nothing, in_line, with_draft, with_line, first_pass, jump_to, resolve_label, resolve, second_pass, instrs_of, code_of, IsOutOfMemory}
 
 -- a fault stands at a line up to n
 abbrev Within : {A : Type 0} → ℕ → Result A AsmFault → Type 0
@@ -17,7 +17,7 @@ Within n (Ok x) = Unit {0}
 Within n (Err fault) = fault.line ≤ n
 
 -- instructions were read at lines up to n
-ReadWithin : ℕ → List Read → Type 0
+ReadWithin : ℕ → List LineDraft → Type 0
 ReadWithin n [] = Unit {0}
 ReadWithin n (read ∷ reads) = (read.line ≤ n) × ReadWithin n reads
 
@@ -26,18 +26,18 @@ abbrev PassWithin : ℕ → Result Parts AsmFault → Type 0
 PassWithin n (Ok parts) = ReadWithin n parts.reads
 PassWithin n (Err fault) = fault.line ≤ n
 
-read_more : (n : ℕ) (reads : List Read) (read : Read) → ReadWithin n reads → read.line ≤ n → ReadWithin n (reads ++ (read ∷ []))
+read_more : (n : ℕ) (reads : List LineDraft) (read : LineDraft) → ReadWithin n reads → read.line ≤ n → ReadWithin n (reads ++ (read ∷ []))
 unfolding ReadWithin
 read_more n [] read all here = (here, tt)
 read_more n (first ∷ reads) read all here = (all.0, read_more n reads read all.1 here)
 
-read_line : (n number : ℕ) (reads : List Read) (draft : Option Draft) → ReadWithin n reads → number ≤ n → ReadWithin n (with_read reads number draft)
+read_line : (n number : ℕ) (reads : List LineDraft) (draft : Option Draft) → ReadWithin n reads → number ≤ n → ReadWithin n (with_draft reads number draft)
 read_line n number reads None all here = all
 read_line n number reads (Some draft) all here = read_more n reads (record { line = number; draft = draft }) all here
 
-first_step : (n number : ℕ) (parts : Parts) (left : List (List ℕ)) (said : Result Line Why) → number ≤ n
+first_step : (n number : ℕ) (parts : Parts) (left : List (List ℕ)) (say : Result Line Why) → number ≤ n
     → ((line : Line) → PassWithin n (first_pass (with_line parts number line) (number + 1) left))
-    → PassWithin n (in_line number said >>= λ line. first_pass (with_line parts number line) (number + 1) left)
+    → PassWithin n (in_line number say >>= λ line. first_pass (with_line parts number line) (number + 1) left)
 first_step n number parts left (Ok line) here rest = rest line
 first_step n number parts left (Err why) here rest = here
 
@@ -46,15 +46,15 @@ unfolding first_pass
 first_within n number [] parts room all = all
 first_within n number (line ∷ left) parts room all =
     first_step n number parts left (line_says parts.labels (length parts.reads) line) (omega arith)
-    (λ said. first_within n (number + 1) left (with_line parts number said) (omega arith) (read_line n number parts.reads said.draft all (omega arith)))
+    (λ say. first_within n (number + 1) left (with_line parts number say) (omega arith) (read_line n number parts.reads say.draft all (omega arith)))
 
-aimed_within : (n line : ℕ) (instr : Instr) (pc : Option ℕ) → line ≤ n → Within n (aimed_at line instr pc)
-aimed_within n line instr None here = here
-aimed_within n line instr (Some pc) here = tt
+jump_within : (n line : ℕ) (instr : Instr) (pc : Option ℕ) → line ≤ n → Within n (jump_to line instr pc)
+jump_within n line instr None here = here
+jump_within n line instr (Some pc) here = tt
 
-placed_within : (n line : ℕ) (labels : Labels) (instr : Instr) (label : Option (List ℕ)) → line ≤ n → Within n (placed labels line instr label)
-placed_within n line labels instr None here = tt
-placed_within n line labels instr (Some name) here = aimed_within n line instr (labels name) here
+label_within : (n line : ℕ) (labels : Labels) (instr : Instr) (label : Option (List ℕ)) → line ≤ n → Within n (resolve_label labels line instr label)
+label_within n line labels instr None here = tt
+label_within n line labels instr (Some name) here = jump_within n line instr (labels name) here
 
 second_step : (n : ℕ) (one : Result Instr AsmFault) (rest : Result (List Instr) AsmFault) → Within n one → Within n rest
     → Within n (one >>= λ instr. rest >>= λ instrs. Ok (instr ∷ instrs))
@@ -62,11 +62,11 @@ second_step n (Err fault) rest here others = here
 second_step n (Ok instr) (Err fault) here others = others
 second_step n (Ok instr) (Ok instrs) here others = tt
 
-second_within : (n : ℕ) (labels : Labels) (reads : List Read) → ReadWithin n reads → Within n (second_pass labels reads)
+second_within : (n : ℕ) (labels : Labels) (reads : List LineDraft) → ReadWithin n reads → Within n (second_pass labels reads)
 unfolding second_pass ReadWithin
 second_within n labels [] all = tt
 second_within n labels (read ∷ reads) all =
-    second_step n (finished labels read) (second_pass labels reads) (placed_within n read.line labels read.draft.instr read.draft.label all.0) (second_within n labels reads all.1)
+    second_step n (resolve labels read) (second_pass labels reads) (label_within n read.line labels read.draft.instr read.draft.label all.0) (second_within n labels reads all.1)
 
 abbrev no_instr : Result (List Instr) AsmFault
 no_instr = Err (record { line = 0; why = Empty })
@@ -95,6 +95,6 @@ code_within kind lines =
     passes_within (length lines) kind (first_pass nothing 1 lines) (first_within (length lines) 1 lines nothing (omega arith) (nothing_read (length lines)))
 
 -- the line of what an assembler says of some lines
-pub line_within : (kind : Kind) (lines : List (List ℕ)) (fault : AsmFault) → (code_of kind lines ≡ Err fault) ⊎ OutOfMemory fault → fault.line ≤ length lines
+pub line_within : (kind : Kind) (lines : List (List ℕ)) (fault : AsmFault) → (code_of kind lines ≡ Err fault) ⊎ IsOutOfMemory fault → fault.line ≤ length lines
 line_within kind lines fault (inl told) = subst (Within (length lines)) told (code_within kind lines)
 line_within kind lines fault (inr none) = let at : fault.line ≡ 0 = ap (λ f. f.line) none in omega arith

@@ -6,15 +6,15 @@ use Rattle.trlab_code.specs.declared.kind.Kind.{Kind}
 use Rattle.trlab_code.specs.declared.kind.Kind.TheVariants.{Motion, Change}
 use Rattle.trlab_code.specs.declared.fault.CodeFault.TheVariants.{Kind as OtherKind}
 use Rattle.trlab_code.specs.Program.{Program}
-use Rattle.trlab_verify.specs.Checked.{Checked}
+use Rattle.trlab_verify.specs.CheckedProgram.{CheckedProgram}
 use Rattle.trlab_texts.specs.declared.fault.Cause.TheVariants.{Code}
 use Rattle.trlab_texts.specs.declared.fault.LineFault.{LineFault}
 use Rattle.trlab_texts.specs.declared.fault.LineFault.TheVariants.{Wrong, Memory as NoMemory}
 use Rattle.trlab_texts.specs.declared.fault.TextFault.{TextFault}
 use Rattle.trlab_texts.specs.declared.fault.TextFault.TheVariants.{At, Memory}
-use Rattle.trlab_texts.specs.Lines.{Place, IsNextLine}
-use Rattle.trlab_texts.specs.Reading.{line, Told, ToldOfLine}
-use Rattle.trlab_texts.specs.Programs.{as_kind, code_line, code_line_of, heading, program_part, judged, VerdictSays, part}
+use Rattle.trlab_texts.specs.Lines.{Rest, IsNextLine}
+use Rattle.trlab_texts.specs.Reading.{line, Reports, ReportsLine}
+use Rattle.trlab_texts.specs.Programs.{as_kind, code_line, code_line_of, heading, program_part, verdict, VerdictSays, part}
 use Rattle.trlab_texts.proofs.Readings.{goes_on}
 
 kind_as : (kind own : Kind) (program : Program) → own ≡ kind → as_kind kind own program ≡ Ok program
@@ -36,26 +36,26 @@ code_of_kind kind text program says is = (Ok program, (says, sym (kind_as kind p
 pub code_of_other : (kind : Kind) (text : List ℕ) (program : Program) → code_line text (Ok program) → program.kind ≢ kind → code_line_of kind text (Err (Code OtherKind))
 code_of_other kind text program says other = (Ok program, (says, sym (kind_not kind program.kind program other)))
 
-pub code_of_none : (kind : Kind) (text : List ℕ) (fault : LineFault) → ToldOfLine (code_line text) (Err fault) → ToldOfLine (code_line_of kind text) (Err fault)
+pub code_of_none : (kind : Kind) (text : List ℕ) (fault : LineFault) → ReportsLine (code_line text) (Err fault) → ReportsLine (code_line_of kind text) (Err fault)
 code_of_none kind text (Wrong cause) says = (Err cause, (says, refl))
 code_of_none kind text NoMemory says = tt
 
 -- a program in one line
-pub in_one_line : (kind : Kind) (place after : Place) (text : List ℕ) (out : Result (Program × Place) TextFault) → IsNextLine place text after
-    → bytes_eq text (heading kind) ≡ false → Told (line (code_line_of kind) place) out → Told (program_part kind place) out
+pub in_one_line : (kind : Kind) (place after : Rest) (text : List ℕ) (out : Result (Program × Rest) TextFault) → IsNextLine place text after
+    → bytes_eq text (heading kind) ≡ false → Reports (line (code_line_of kind) place) out → Reports (program_part kind place) out
 in_one_line kind place after text (Ok found) stands other says = rw (stands.0, other) (rw stands.0 at says)
 in_one_line kind place after text (Err (At number cause)) stands other says = rw (stands.0, other) (rw stands.0 at says)
 in_one_line kind place after text (Err Memory) stands other says = tt
 
 -- what the verifier says of a program that was read
-pub verdict_behind : (kind : Kind) (place after : Place) (program : Program) (checked : Checked) → program_part kind place (Ok (program, after))
+pub verdict_behind : (kind : Kind) (place after : Rest) (program : Program) (checked : CheckedProgram) → program_part kind place (Ok (program, after))
     → VerdictSays kind place.number program (Ok checked) → part kind place (Ok (checked, after))
-verdict_behind kind place after program checked says verdict =
-    goes_on (program_part kind) (judged kind place.number) place after program (Ok (checked, after)) says (Ok checked, (verdict, refl))
+verdict_behind kind place after program checked says answer =
+    goes_on (program_part kind) (verdict kind place.number) place after program (Ok (checked, after)) says (Ok checked, (answer, refl))
 
-pub refusal_behind : (kind : Kind) (place after : Place) (program : Program) (first : ℕ) (fault : TextFault) → program_part kind place (Ok (program, after))
-    → first ≡ place.number → Told {A = Checked} (VerdictSays kind first program) (Err fault) → Told {A = Checked × Place} (part kind place) (Err fault)
-refusal_behind kind place after program first (At number cause) says here verdict =
-    goes_on (program_part kind) (judged kind place.number) place after program (Err (At number cause)) says
-    (Err (record { line = number; cause = cause }), (rw here at verdict, refl))
-refusal_behind kind place after program first Memory says here verdict = tt
+pub refusal_behind : (kind : Kind) (place after : Rest) (program : Program) (first : ℕ) (fault : TextFault) → program_part kind place (Ok (program, after))
+    → first ≡ place.number → Reports {A = CheckedProgram} (VerdictSays kind first program) (Err fault) → Reports {A = CheckedProgram × Rest} (part kind place) (Err fault)
+refusal_behind kind place after program first (At number cause) says here answer =
+    goes_on (program_part kind) (verdict kind place.number) place after program (Err (At number cause)) says
+    (Err (record { line = number; cause = cause }), (rw here at answer, refl))
+refusal_behind kind place after program first Memory says here answer = tt

@@ -9,7 +9,8 @@ use Rattle.std.proofs.lemmas.Str.Parse.{digit_from_value}
 use Rattle.std.proofs.lemmas.Slice.Eq.{bytes_eq-Decides}
 use Rattle.std.proofs.lemmas.Bool.{leb-true, lt-ltb, le-leb, ne_eqb}
 use Rattle.trlab_texts.proofs.Numbers.{number_of_some}
-use Rattle.trlab_texts.specs.Words.{after, is_word, has_space, number_of, within, one_word, word_behind, number_within}
+use Rattle.trlab_asm.specs.Cutting.{behind}
+use Rattle.trlab_texts.specs.Words.{is_word, has_space, number_of, within, one_word, word_behind, number_within}
 use Rattle.trlab_texts.specs.declared.fault.Cause.{Cause}
 use Rattle.trlab_texts.specs.declared.fault.Cause.TheVariants.{Line, Number}
 
@@ -24,7 +25,7 @@ ok n = Ok n
 abbrev ok_word : List ℕ → Result (List ℕ) Cause
 ok_word word = Ok word
 
-pub behind_front : (front line word : List ℕ) → after front line ≡ Some word → line ≡ front ++ word
+pub behind_front : (front line word : List ℕ) → behind front line ≡ Some word → line ≡ front ++ word
 behind_front front line word e = elim (chosen (bytes_eq (take (length front) line) front) (Some (drop (length front) line)) None (Some word) e) [
   | inl h ↦ let same = (bytes_eq-Decides (take (length front) line) front).0 h.0 in
       let rest : drop (length front) line ≡ word = cc in
@@ -51,7 +52,7 @@ within_said low high (Some m) n e = elim (chosen (nat_le low m && nat_le m high)
   | inr h ↦ cc (h.1)
 ]
 
-number_said_by : (front line : List ℕ) (low high n : ℕ) (o : Option (List ℕ)) → after front line ≡ o → number_within low high (one_word o) ≡ Ok n
+number_said_by : (front line : List ℕ) (low high n : ℕ) (o : Option (List ℕ)) → behind front line ≡ o → number_within low high (one_word o) ≡ Ok n
     → (line ≡ front ++ decimal n) × (low ≤ n) × (n ≤ high)
 number_said_by front line low high n None is e = cc
 number_said_by front line low high n (Some word) is e = word_is (is_word word) refl e
@@ -59,11 +60,11 @@ number_said_by front line low high n (Some word) is e = word_is (is_word word) r
     word_is : (b : Bool) → is_word word ≡ b → number_within low high (cond b (ok_word word) (Err Line)) ≡ Ok n → (line ≡ front ++ decimal n) × (low ≤ n) × (n ≤ high)
     word_is false e f = cc
     word_is true e f =
-        let said = within_said low high (number_of word) n f in
-        (behind_front front line word is ∙ ap (λ t. front ++ t) (number_said word n said.0), said.1, said.2)
+        let say = within_said low high (number_of word) n f in
+        (behind_front front line word is ∙ ap (λ t. front ++ t) (number_said word n say.0), say.1, say.2)
 
 pub number_line : (front line : List ℕ) (low high n : ℕ) → number_within low high (word_behind front line) ≡ Ok n → (line ≡ front ++ decimal n) × (low ≤ n) × (n ≤ high)
-number_line front line low high n e = number_said_by front line low high n (after front line) refl e
+number_line front line low high n e = number_said_by front line low high n (behind front line) refl e
 
 no_digit : (c : ℕ) → 48 ≤ c → c ≡ 32 → ⊥
 no_digit c low e = omega arith
@@ -83,7 +84,7 @@ decimal_is_word n small =
 within_again : (low high n : ℕ) → low ≤ n → n ≤ high → within low high (Some n) ≡ Ok n
 within_again low high n above below = rw (le-leb low n above, le-leb n high below) refl
 
-front_after : (front word : List ℕ) → after front (front ++ word) ≡ Some word
+front_after : (front word : List ℕ) → behind front (front ++ word) ≡ Some word
 front_after front word =
     let same = (bytes_eq-Decides (take (length front) (front ++ word)) front).1 (take-append_seam front word) in
     rw (same, drop-append_seam front word) refl

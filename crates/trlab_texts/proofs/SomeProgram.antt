@@ -16,21 +16,21 @@ use Rattle.trlab_asm.specs.declared.fault.AsmFault.{AsmFault}
 use Rattle.trlab_asm.specs.declared.fault.Why.TheVariants.{Memory}
 use Rattle.trlab_asm.specs.Assembly.{code_of}
 use Rattle.trlab_asm.proofs.Said.{lines_say}
-use Rattle.trlab_verify.specs.Checked.{Checked, IsChecked}
+use Rattle.trlab_verify.specs.CheckedProgram.{CheckedProgram, IsChecked}
 use Rattle.trlab_verify.proofs.Judged.{accepted_or_refused, some_budget}
 use Rattle.trlab_texts.specs.declared.fault.Cause.{Cause}
 use Rattle.trlab_texts.specs.declared.fault.Cause.TheVariants.{Line, Hex, Code, Verdict}
-use Rattle.trlab_texts.specs.Lines.{Place}
+use Rattle.trlab_texts.specs.Lines.{Rest}
 use Rattle.trlab_texts.specs.Words.{word_behind}
 use Rattle.trlab_texts.specs.Reading.{Fault, before}
-use Rattle.trlab_texts.specs.Programs.{BytesSay, DigitsSay, CodeSays, code_line, as_kind, of_kind, code_line_of, behind_line, program_behind, part_of, heading, block, HeadedProgram, NextProgram, program_part, VerdictSays, judged, part}
+use Rattle.trlab_texts.specs.Programs.{BytesSay, DigitsSay, CodeSays, code_line, as_kind, of_kind, code_line_of, behind_line, program_behind, part_of, heading, block, HeadingSays, PartSays, program_part, VerdictSays, verdict, part}
 use Rattle.trlab_texts.proofs.SomeReading.{SomeRule, SomeReading, next_some, then_some, before_keeps}
 
 -- decoded digits are bytes
 decoded : (digits bytes : List ℕ) → decode_of digits ≡ Ok bytes → AreBytes bytes
 decoded digits bytes is = All-from_get_or (λ byte. byte < 2 ^ 8) bytes 0 (λ i below. (decode_of-ok digits bytes is).3 i)
 
-bytes_said : (bytes : List ℕ) (said : Result Program CodeFault) → Says bytes said
+bytes_said : (bytes : List ℕ) (say : Result Program CodeFault) → Says bytes say
     → (says : Result Program Cause) × (BytesSay bytes says × IfOk says IsProgram)
 bytes_said bytes (Ok program) says = (Ok program, ((says.1, says.0), says.1))
 bytes_said bytes (Err fault) says = (Err (Code fault), (says, tt))
@@ -79,12 +79,12 @@ block_keeps kind first left (Some parts) =
     before_keeps IsProgram (record { number = first + length parts.0 + 2; left = parts.1 }) (program_behind kind first parts.0) (behind_keeps kind first parts.0)
 
 headed_some : (kind : Kind) (headed : Bool) (number : ℕ) (text : List ℕ) (left : List (List ℕ))
-    → (out : Result (Program × Place) Fault) × (HeadedProgram kind headed number text left out × IfOk out (λ found. IsProgram found.0))
+    → (out : Result (Program × Rest) Fault) × (HeadingSays kind headed number text left out × IfOk out (λ found. IsProgram found.0))
 headed_some kind true number text left = (block kind number left (part_of left), (refl, block_keeps kind number left (part_of left)))
 headed_some kind false number text left = next_some IsProgram (code_line_of kind) number (text ∷ left) (code_of_some kind)
 
 next_program_some : (kind : Kind) (number : ℕ) (left : List (List ℕ))
-    → (out : Result (Program × Place) Fault) × (NextProgram kind number left out × IfOk out (λ found. IsProgram found.0))
+    → (out : Result (Program × Rest) Fault) × (PartSays kind number left out × IfOk out (λ found. IsProgram found.0))
 next_program_some kind number [] = (Err (record { line = number; cause = Line }), (refl, tt))
 next_program_some kind number (text ∷ left) = headed_some kind (bytes_eq text (heading kind)) number text left
 
@@ -93,7 +93,7 @@ program_some kind place = next_program_some kind place.number place.left
 
 -- the verifier says something of each program
 verdict_some : (kind : Kind) (first : ℕ) (program : Program) → IsProgram program
-    → (says : Result Checked Fault) × (VerdictSays kind first program says × IfOk says (IsChecked kind))
+    → (says : Result CheckedProgram Fault) × (VerdictSays kind first program says × IfOk says (IsChecked kind))
 verdict_some kind first program is = elim (accepted_or_refused kind program) [
   | inl accepted ↦
       let found = some_budget kind program is accepted in
@@ -101,7 +101,7 @@ verdict_some kind first program is = elim (accepted_or_refused kind program) [
   | inr refused ↦ (Err (record { line = first; cause = Verdict refused.1 }), ((refused.0, refused.1, (refused.2, refl)), tt))
 ]
 
-judged_some : (kind : Kind) (first : ℕ) (program : Program) → IsProgram program → SomeReading (IsChecked kind) (judged kind first program)
+judged_some : (kind : Kind) (first : ℕ) (program : Program) → IsProgram program → SomeReading (IsChecked kind) (verdict kind first program)
 judged_some kind first program is place =
     let found = verdict_some kind first program is in
     (before place found.0, ((found.0, (found.1.0, refl)), before_keeps (IsChecked kind) place found.0 found.1.1))
@@ -109,5 +109,5 @@ judged_some kind first program is place =
 -- each part says a checked program, or has a first fault
 pub part_some : (kind : Kind) → SomeReading (IsChecked kind) (part kind)
 part_some kind place =
-    then_some IsProgram (IsChecked kind) (program_part kind) (judged kind place.number) (program_some kind)
+    then_some IsProgram (IsChecked kind) (program_part kind) (verdict kind place.number) (program_some kind)
     (λ program is. judged_some kind place.number program is) place

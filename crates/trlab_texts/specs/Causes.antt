@@ -42,18 +42,24 @@ road_fault_number (SpeedAboveLimit lane place) = 5
 road_fault_number RoadMemory = 6
 road_fault_number TooManyCars = 7
 
--- the number of a cause in the line of a refused text
+-- the number of a cause that no other text has: of the words of a line, or of the whole text
+abbrev pub own_cause_number : Cause → ℕ
+own_cause_number Line = 1
+own_cause_number Number = 2
+own_cause_number Key = 3
+own_cause_number OneLane = 4
+own_cause_number Order = 5
+own_cause_number TooMany = 6
+own_cause_number Hex = 8
+own_cause_number TooBig = 9
+own_cause_number _ = 0
+
+-- the number of a cause in the line of a refused text: behind 10, 20 and 30 those of faults of programs
+-- and roads, from 40 on what the verifier refuses
 abbrev pub cause_number : Cause → ℕ
-cause_number Line = 1
-cause_number Number = 2
-cause_number Key = 3
-cause_number OneLane = 4
-cause_number Order = 5
-cause_number TooMany = 6
-cause_number Hex = 8
-cause_number TooBig = 9
 cause_number (Program why) = 10 + why_number why
 cause_number (Code fault) = 20 + code_fault_number fault
 cause_number (Road fault) = 30 + road_fault_number fault
 cause_number StandardRefused = 40
 cause_number (Verdict reason) = 40 + reason
+cause_number cause = own_cause_number cause

@@ -1,16 +1,16 @@
--- Places between the lines of a text.
+-- What is left of a text while it is read line by line.
 use Rattle.std.specs.Prelude.{◌≡◌, ℕ, ◌+◌, List, ◌∷◌}
 use Rattle.trlab_asm.specs.Lines.{lines_of}
 
--- the lines that are left of a text, and the number of the first
-pub record Place : Type 0 where
+-- the rest of a text: the lines that are left, and the number of the first
+pub record Rest : Type 0 where
   pub number : ℕ
   pub left : List (List ℕ)
 
--- the place before the first line of a text
-abbrev pub start : List ℕ → Place
+-- all lines of a text
+abbrev pub start : List ℕ → Rest
 start text = record { number = 1; left = lines_of text }
 
--- the next line of a place, and the place after it
-abbrev pub IsNextLine : Place → List ℕ → Place → Type 0
-IsNextLine place text after = (place.left ≡ text ∷ after.left) × (after.number ≡ place.number + 1)
+-- the next line of a rest, and the rest behind it
+abbrev pub IsNextLine : Rest → List ℕ → Rest → Type 0
+IsNextLine rest text after = (rest.left ≡ text ∷ after.left) × (after.number ≡ rest.number + 1)

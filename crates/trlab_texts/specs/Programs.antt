@@ -8,16 +8,16 @@ use Rattle.trlab_code.specs.declared.kind.Kind.TheVariants.{Motion, Change}
 use Rattle.trlab_code.specs.declared.fault.CodeFault.TheVariants.{Kind as OtherKind, Memory as CodeMemory}
 use Rattle.trlab_code.specs.Program.{Program, IsProgram}
 use Rattle.trlab_code.specs.Spelling.{spelling}
-use Rattle.trlab_code.specs.Faults.{FirstFault as FirstCodeFault}
+use Rattle.trlab_code.specs.Faults.{IsFirstFault as FirstCodeFault}
 use Rattle.trlab_asm.specs.declared.fault.AsmFault.{AsmFault}
 use Rattle.trlab_asm.specs.Assembly.{code_of}
-use Rattle.trlab_verify.specs.Checked.{Checked, IsChecked}
+use Rattle.trlab_verify.specs.CheckedProgram.{CheckedProgram, IsChecked}
 use Rattle.trlab_verify.specs.Verdict.{IsAccepted, IsRefused}
 use Rattle.trlab_texts.specs.declared.fault.Cause.{Cause}
-use Rattle.trlab_texts.specs.declared.fault.Cause.TheVariants.{Line, Number, Key, OneLane, Order, TooMany, Hex, TooBig, Program as InProgram, Code, Road, StandardRefused, Verdict}
-use Rattle.trlab_texts.specs.Lines.{Place}
+use Rattle.trlab_texts.specs.declared.fault.Cause.TheVariants.{Line, Hex, Program as InProgram, Code, Verdict}
+use Rattle.trlab_texts.specs.Lines.{Rest}
 use Rattle.trlab_texts.specs.Words.{word_behind}
-use Rattle.trlab_texts.specs.Reading.{Fault, Rule, Reading, ◌>>=◌, NextLine, before}
+use Rattle.trlab_texts.specs.Reading.{Fault, Rule, Reading, ◌>>=◌, LineSays, before}
 
 -- bytes spell a program
 abbrev pub Spell : List ℕ → Program → Type 0
@@ -26,19 +26,8 @@ Spell bytes program = IsProgram program × (bytes ≡ spelling program)
 -- what the bytes of a program say: the program that they spell, or their first fault
 abbrev pub BytesSay : List ℕ → Result Program Cause → Type 0
 BytesSay bytes (Ok program) = Spell bytes program
-BytesSay bytes (Err Line) = ⊥
-BytesSay bytes (Err Number) = ⊥
-BytesSay bytes (Err Key) = ⊥
-BytesSay bytes (Err OneLane) = ⊥
-BytesSay bytes (Err Order) = ⊥
-BytesSay bytes (Err TooMany) = ⊥
-BytesSay bytes (Err Hex) = ⊥
-BytesSay bytes (Err TooBig) = ⊥
-BytesSay bytes (Err (InProgram why)) = ⊥
 BytesSay bytes (Err (Code fault)) = FirstCodeFault bytes fault × (fault ≢ CodeMemory)
-BytesSay bytes (Err (Road fault)) = ⊥
-BytesSay bytes (Err StandardRefused) = ⊥
-BytesSay bytes (Err (Verdict reason)) = ⊥
+BytesSay bytes (Err cause) = ⊥
 
 -- what hexadecimal digits of either case say
 abbrev pub DigitsSay : Result (List ℕ) FromHexError → Result Program Cause → Type 0
@@ -68,10 +57,11 @@ of_kind kind (Ok program) = as_kind kind program.kind program
 
 -- the line `code X` of a program of a kind
 abbrev pub code_line_of : Kind → Rule Program
-code_line_of kind text says = (any : Result Program Cause) × (code_line text any × (says ≡ of_kind kind any))
+code_line_of kind text says =
+    (any : Result Program Cause) × (code_line text any × (says ≡ of_kind kind any))
 
--- what an assembler says of the lines behind the line `first`, told of the whole text; where no
--- line is at fault, as in a program without instructions, it is told of the line `first`
+-- what an assembler says of the lines behind the line `first`, counted in the whole text; where no
+-- line is at fault, as in a program without instructions, it stands at the line `first`
 abbrev pub behind_line : ℕ → Result Program AsmFault → Result Program Fault
 behind_line first (Ok program) = Ok program
 behind_line first (Err fault) = Err (record { line = first + fault.line; cause = InProgram fault.why })
@@ -80,19 +70,25 @@ behind_line first (Err fault) = Err (record { line = first + fault.line; cause =
 abbrev pub program_behind : Kind → ℕ → List (List ℕ) → Result Program Fault
 program_behind kind first lines = behind_line first (code_of kind lines)
 
--- a line before others, up to the line `end`
-abbrev pub with_first : List ℕ → Option (List (List ℕ) × List (List ℕ)) → Option (List (List ℕ) × List (List ℕ))
+-- the lines of a part, and the lines behind its line `end`
+abbrev pub Part : Type 0
+Part = List (List ℕ) × List (List ℕ)
+
+-- a line before those of a part, if there is one
+abbrev pub with_first : List ℕ → Option Part → Option Part
 with_first text None = None
 with_first text (Some found) = Some (text ∷ found.0, found.1)
 
 -- the lines up to the line `end`, and the lines behind it; none where no line is `end`
-unfoldable pub part_of : List (List ℕ) → Option (List (List ℕ) × List (List ℕ))
+unfoldable pub part_of : List (List ℕ) → Option Part
 part_of [] = None
-part_of (text ∷ left) = if bytes_eq text (codes "end") then Some ([], left) else with_first text (part_of left)
+part_of (text ∷ left) =
+    if bytes_eq text (codes "end") then Some ([], left) else with_first text (part_of left)
 
--- the lines of a part, and the place behind the line `end`
-abbrev pub IsPart : Place → List (List ℕ) → Place → Type 0
-IsPart place lines after = (part_of place.left ≡ Some (lines, after.left)) × (after.number ≡ place.number + length lines + 1)
+-- the lines of a part, and the rest behind its line `end`
+abbrev pub IsPart : Rest → List (List ℕ) → Rest → Type 0
+IsPart rest lines after =
+    (part_of rest.left ≡ Some (lines, after.left)) × (after.number ≡ rest.number + length lines + 1)
 
 -- the line that heads a block of a kind
 abbrev pub heading : Kind → List ℕ
@@ -101,38 +97,41 @@ heading Change = codes "change"
 
 -- the program of a block whose heading is the line `first`: the lines up to `end`; where that is
 -- missing, the text has ended too early
-abbrev pub block : Kind → ℕ → List (List ℕ) → Option (List (List ℕ) × List (List ℕ)) → Result (Program × Place) Fault
+abbrev pub block : Kind → ℕ → List (List ℕ) → Option Part → Result (Program × Rest) Fault
 block kind first left None = Err (record { line = first + 1 + length left; cause = Line })
 block kind first left (Some parts) =
-    before (record { number = first + length parts.0 + 2; left = parts.1 }) (program_behind kind first parts.0)
+    before (record { number = first + length parts.0 + 2; left = parts.1 })
+    (program_behind kind first parts.0)
 
 -- a program by its first line, which is the heading of a block or is not
-abbrev pub HeadedProgram : Kind → Bool → ℕ → List ℕ → List (List ℕ) → Result (Program × Place) Fault → Type 0
-HeadedProgram kind true number text left out = out ≡ block kind number left (part_of left)
-HeadedProgram kind false number text left out = NextLine (code_line_of kind) number (text ∷ left) out
+abbrev pub HeadingSays : Kind → Bool → ℕ → List ℕ → List (List ℕ)
+    → Result (Program × Rest) Fault → Type 0
+HeadingSays kind true number text left out = out ≡ block kind number left (part_of left)
+HeadingSays kind false number text left out = LineSays (code_line_of kind) number (text ∷ left) out
 
 -- a program by the lines from a number on
-abbrev pub NextProgram : Kind → ℕ → List (List ℕ) → Result (Program × Place) Fault → Type 0
-NextProgram kind number [] out = out ≡ Err (record { line = number; cause = Line })
-NextProgram kind number (text ∷ left) out = HeadedProgram kind (bytes_eq text (heading kind)) number text left out
+abbrev pub PartSays : Kind → ℕ → List (List ℕ) → Result (Program × Rest) Fault → Type 0
+PartSays kind number [] out = out ≡ Err (record { line = number; cause = Line })
+PartSays kind number (text ∷ left) out =
+    HeadingSays kind (bytes_eq text (heading kind)) number text left out
 
 -- a program of a kind: a block, or the line `code X`
 abbrev pub program_part : Kind → Reading Program
-program_part kind place out = NextProgram kind place.number place.left out
+program_part kind rest out = PartSays kind rest.number rest.left out
 
 -- what the verifier says of a program of a kind whose first line is `first`: that it is accepted,
 -- with its budget, or why it is refused
-abbrev pub VerdictSays : Kind → ℕ → Program → Result Checked Fault → Type 0
+abbrev pub VerdictSays : Kind → ℕ → Program → Result CheckedProgram Fault → Type 0
 VerdictSays kind first program (Ok checked) =
     (checked.program ≡ program) × (IsAccepted kind program × IsChecked kind checked)
 VerdictSays kind first program (Err fault) = (at reason : ℕ)
     × (IsRefused kind program at reason × (fault ≡ record { line = first; cause = Verdict reason }))
 
 -- the verdict, once the lines of a program were read
-abbrev pub judged : Kind → ℕ → Program → Reading Checked
-judged kind first program place out =
-    (says : Result Checked Fault) × (VerdictSays kind first program says × (out ≡ before place says))
+abbrev pub verdict : Kind → ℕ → Program → Reading CheckedProgram
+verdict kind first program rest out =
+    (says : Result CheckedProgram Fault) × (VerdictSays kind first program says × (out ≡ before rest says))
 
 -- a program part of a kind: a program that the verifier accepts
-abbrev pub part : Kind → Reading Checked
-part kind place out = (program_part kind >>= judged kind place.number) place out
+abbrev pub part : Kind → Reading CheckedProgram
+part kind rest out = (program_part kind >>= verdict kind rest.number) rest out

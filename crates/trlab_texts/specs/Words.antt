@@ -1,14 +1,11 @@
 -- The words of a line, and the numbers that they write.
-use Rattle.std.specs.Prelude.{ℕ, ◌+◌, ◌==◌, ◌&&◌, not, Bool, false, List, [], ◌∷◌, length, take, drop, decimal, nat_le, nat_lt, Option, None, Some, Result, Ok, Err, if◌then◌else◌}
+use Rattle.std.specs.Prelude.{ℕ, ◌==◌, ◌&&◌, not, Bool, false, List, [], ◌∷◌, length, decimal, nat_le, nat_lt, Option, None, Some, Result, Ok, Err, if◌then◌else◌}
 use Rattle.std.specs.Str.{bytes_eq}
 use Rattle.std.specs.Str.Parse.{digits_value}
-use Rattle.std.specs.List.{list_any, position}
+use Rattle.std.specs.List.{list_any}
+use Rattle.trlab_asm.specs.Cutting.{behind, cut, front_or_all}
 use Rattle.trlab_texts.specs.declared.fault.Cause.{Cause}
 use Rattle.trlab_texts.specs.declared.fault.Cause.TheVariants.{Line, Number}
-
--- what stands behind a front of a line
-abbrev pub after : List ℕ → List ℕ → Option (List ℕ)
-after front line = if bytes_eq (take (length front) line) front then Some (drop (length front) line) else None
 
 -- a text with a space in it
 abbrev pub has_space : List ℕ → Bool
@@ -25,7 +22,7 @@ one_word (Some word) = if is_word word then Ok word else Err Line
 
 -- the one word of a line behind its name, which ends with a space
 abbrev pub word_behind : List ℕ → List ℕ → Result (List ℕ) Cause
-word_behind name text = one_word (after name text)
+word_behind name text = one_word (behind name text)
 
 -- the number that a word is the decimal digits of
 abbrev pub number_of : List ℕ → Option ℕ
@@ -41,32 +38,18 @@ abbrev pub number_within : ℕ → ℕ → Result (List ℕ) Cause → Result �
 number_within low high (Err cause) = Err cause
 number_within low high (Ok word) = within low high (number_of word)
 
--- what stands before a place, and what stands behind its byte
-abbrev pub around : List ℕ → Option ℕ → Option (List ℕ × List ℕ)
-around text None = None
-around text (Some i) = Some (take i text, drop (i + 1) text)
-
--- what stands before the first space, and what stands behind it
-abbrev pub at_space : List ℕ → Option (List ℕ × List ℕ)
-at_space text = around text (position (λ c. c == 32) text)
-
--- the front part, or the whole text where it was not cut
-abbrev pub front_or_all : List ℕ → Option (List ℕ × List ℕ) → List ℕ
-front_or_all text None = text
-front_or_all text (Some parts) = parts.0
-
 -- the first word of a line: the bytes before its first space, or all of them
-abbrev pub first_word : List ℕ → List ℕ
-first_word text = front_or_all text (at_space text)
+abbrev pub head_word : List ℕ → List ℕ
+head_word text = front_or_all text (cut 32 text)
 
 -- a line is left whose first word is this one
 abbrev pub next_word_is : List ℕ → List (List ℕ) → Bool
 next_word_is word [] = false
-next_word_is word (text ∷ left) = bytes_eq (first_word text) word
+next_word_is word (text ∷ left) = bytes_eq (head_word text) word
 
 -- the text where it is one word
-abbrev pub only_word : List ℕ → Option (List ℕ)
-only_word text = if is_word text then Some text else None
+abbrev pub as_word : List ℕ → Option (List ℕ)
+as_word text = if is_word text then Some text else None
 
 -- two parts where each is a word
 abbrev pub both_words : Option (List ℕ × List ℕ) → Option (List ℕ × List ℕ)
@@ -75,4 +58,4 @@ both_words (Some parts) = if is_word parts.0 && is_word parts.1 then Some parts 
 
 -- the two words that a text is, with one space between them
 abbrev pub two_words : List ℕ → Option (List ℕ × List ℕ)
-two_words text = both_words (at_space text)
+two_words text = both_words (cut 32 text)

@@ -1,4 +1,4 @@
-//! What is wrong with a text.
+//! Faults: what is wrong with a text, the number that tells it, and the line.
 
 ghost use Rattle.std.specs.Prelude.{◌≡◌};
 ghost use Rattle.trlab_texts.specs.Reading.{fault_at};

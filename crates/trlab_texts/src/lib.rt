@@ -3,9 +3,9 @@
 
 mod fault;
 pub mod laws;
-mod place;
 pub mod program;
+mod rest;
 pub mod word;
 
 pub use fault::{Cause, LineFault, TextFault};
-pub use place::{Place, in_place};
+pub use rest::Rest;

@@ -1,5 +1,5 @@
 -- What is accepted is of its kind, and its control goes forward.
-use Rattle.std.proofs.Common.{◌≡◌, ℕ, zero, suc, ◌<◌, ◌&&◌, refl, subst, arith, inl, inr, List, length, Bool, true, false, IsTrue, Option, Some, None, nat_eq, nat_le}
+use Rattle.std.proofs.Common.{◌≡◌, ℕ, zero, suc, ◌<◌, ◌&&◌, refl, arith, inl, inr, List, length, Bool, true, false, IsTrue, Option, Some, None, nat_eq, nat_le}
 use Rattle.std.specs.Prelude.{slice_get}
 use Rattle.std.proofs.lemmas.Bool.{eqb-true, leb-false}
 use Rattle.std.proofs.lemmas.Option.{slice_get_within}
@@ -9,28 +9,22 @@ use Rattle.trlab_code.specs.declared.instruction.Instr.{Instr}
 use Rattle.trlab_code.specs.declared.instruction.Instr.TheVariants.{Go, Cross, Stay}
 use Rattle.trlab_code.specs.Program.{Program, IsProgram}
 use Rattle.trlab_code.specs.Flow.{target, falls, is_end}
-use Rattle.trlab_verify.specs.Checked.{IsChecked}
-use Rattle.trlab_verify.specs.Longest.{Way, IsLongest, IsForward}
 use Rattle.trlab_notes.specs.Reasons.{on_target, may_stand}
 use Rattle.trlab_notes.specs.Notes.{Note}
-use Rattle.trlab_verify.specs.Arrivals.{note_at}
-use Rattle.trlab_verify.specs.Verdict.{fault_of, fault_at, IsAccepted}
+use Rattle.trlab_verify.specs.CheckedProgram.{IsChecked}
+use Rattle.trlab_verify.specs.Longest.{Way, IsLongest, IsForward}
+use Rattle.trlab_verify.specs.Verdict.{IsAccepted}
 use Rattle.trlab_notes.proofs.Steps.{IsClear, clear, not_false}
+use Rattle.trlab_verify.proofs.Reasons.{noted}
 use Rattle.trlab_verify.proofs.Runs.{sound}
 use Rattle.trlab_verify.proofs.Ways.{either_of, both_of}
 
--- an instruction with no fault has a note with which it passes each test
-no_fault : (kind own : Kind) (len pc : ℕ) (note : Option Note) (i : Instr) →
-    fault_of kind own len pc note (Some i) ≡ None → (m : Note) × IsClear kind own len pc m i
-no_fault kind own len pc None i h = absurd (cc h)
-no_fault kind own len pc (Some m) i h = (m, clear kind own len pc m i h)
-
+-- an instruction with no fault has a note with no reason against it
 pub all_clear : (kind : Kind) (program : Program) → IsAccepted kind program → (pc : ℕ) (i : Instr) →
     slice_get program.instrs pc ≡ Some i → (m : Note) × IsClear kind program.kind (length program.instrs) pc m i
-unfolding fault_at
 all_clear kind program accepted pc i e =
-    let h = accepted pc (slice_get_within program.instrs pc i e) in
-    no_fault kind program.kind (length program.instrs) pc (note_at kind program.instrs pc) i (subst (λ z. fault_of kind program.kind (length program.instrs) pc (note_at kind program.instrs pc) z ≡ None) e h)
+    let (m, em, h) = noted kind program pc i e (accepted pc (slice_get_within program.instrs pc i e)) in
+    (m, clear kind program.kind (length program.instrs) pc m i h)
 
 -- an end is allowed in programs of one kind alone
 end_kind : (kind own : Kind) (i : Instr) → is_end i ≡ true → may_stand kind own i ≡ true → own ≡ kind

@@ -107,9 +107,9 @@ disjunction : (a : Register) (b : Register) (c : Register) (j : Instr) → same.
 disjunction a b c (Or d e g) h = three Or a b c d e g h
 disjunction a b c j h = never h
 
-jump : (t : ℕ) (j : Instr) → same.it (Jump t) j ≡ true → Jump t ≡ j
-jump t (Jump u) h = ap Jump (eqb-true t u h)
-jump t j h = never h
+jump_note : (t : ℕ) (j : Instr) → same.it (Jump t) j ≡ true → Jump t ≡ j
+jump_note t (Jump u) h = ap Jump (eqb-true t u h)
+jump_note t j h = never h
 
 jump_less : (a : Register) (b : Register) (n : ℕ) (j : Instr) → same.it (JumpLess a b n) j ≡ true → JumpLess a b n ≡ j
 jump_less a b n (JumpLess c d m) h = two_with_number JumpLess a b c d n m h
@@ -154,7 +154,7 @@ from_same (Max a b c) j h = most a b c j h
 from_same (Not a b) j h = negated a b j h
 from_same (And a b c) j h = conjunction a b c j h
 from_same (Or a b c) j h = disjunction a b c j h
-from_same (Jump t) j h = jump t j h
+from_same (Jump t) j h = jump_note t j h
 from_same (JumpLess a b n) j h = jump_less a b n j h
 from_same (JumpAtMost a b n) j h = jump_at_most a b n j h
 from_same (JumpTrue d n) j h = jump_true d n j h

@@ -8,7 +8,7 @@ use Rattle.trlab_code.specs.declared.instruction.Instr.{Instr}
 use Rattle.trlab_code.specs.declared.instruction.Instr.TheVariants.{Stay}
 use Rattle.trlab_code.specs.Flow.{falls, target}
 use Rattle.trlab_code.specs.Program.{Program, IsProgram}
-use Rattle.trlab_verify.specs.Checked.{IsChecked}
+use Rattle.trlab_verify.specs.CheckedProgram.{IsChecked}
 use Rattle.trlab_verify.specs.Longest.{Follows, IsLongest, IsForward}
 use Rattle.trlab_verify.specs.Verdict.{IsAccepted, IsRefused, fault_at}
 use Rattle.trlab_verify.proofs.Accepted.{checked, forward}

@@ -6,10 +6,11 @@ pub mod Equals
 pub mod Checking
 pub mod Best
 pub mod VerdictChecks
-pub mod HandedIn
+pub mod Forms
 pub mod Bounded
 pub mod Inputs
 pub mod Other
 pub mod Refusals
 pub mod Strongest
 pub mod Judged
+pub mod Reasons

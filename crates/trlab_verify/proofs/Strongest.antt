@@ -4,10 +4,10 @@ use Rattle.std.specs.Prelude.{slice_get, IfSome}
 use Rattle.std.proofs.lemmas.Bool.{cases_lt, eqb-true, eq-eqb}
 use Rattle.trlab_code.specs.declared.kind.Kind.{Kind}
 use Rattle.trlab_code.specs.declared.instruction.Instr.{Instr}
-use Rattle.trlab_notes.specs.Notes.{Note, entry}
-use Rattle.trlab_notes.specs.Order.{NoStronger}
 use Rattle.trlab_notes.proofs.Order.{same_note, join_most}
-use Rattle.trlab_verify.specs.Arrivals.{with_edge, with_edges, if_here, fall_to, jump_to, arrived, note_at, IsSent, Sends}
+use Rattle.trlab_notes.specs.Notes.{Note, entry}
+use Rattle.trlab_notes.specs.Order.{IsNoStronger}
+use Rattle.trlab_verify.specs.Incoming.{add_note, add_notes, if_here, next_note_to, jump_note_to, incoming, note_at, IsSent, Sends}
 use Rattle.trlab_verify.proofs.VerdictChecks.{Under, under_old, under_new, under_edges}
 
 module _ (kind : Kind) (code : List Instr) (q : ℕ) where
@@ -16,60 +16,60 @@ module _ (kind : Kind) (code : List Instr) (q : ℕ) where
   start_under true e z = (entry kind, refl, same_note (entry kind))
   start_under false e z = absurd (cc (sym (eq-eqb q 0 z), e))
 
-  under_start : (k : ℕ) → q ≡ 0 → Under (entry kind) (arrived kind code k q)
+  under_start : (k : ℕ) → q ≡ 0 → Under (entry kind) (incoming kind code k q)
   under_start zero z = start_under (nat_eq q 0) refl z
-  under_start (suc k) z = under_edges (entry kind) k (arrived kind code k k) (slice_get code k) q (arrived kind code k q) (under_start k z)
+  under_start (suc k) z = under_edges (entry kind) k (incoming kind code k k) (slice_get code k) q (incoming kind code k q) (under_start k z)
 
-  under_sent : (k p : ℕ) (n : Note) → p < k → Sends kind code p q n → Under n (arrived kind code k q)
+  under_sent : (k p : ℕ) (n : Note) → p < k → Sends kind code p q n → Under n (incoming kind code k q)
   under_sent zero p n lt s = absurd (omega arith)
   under_sent (suc k) p n lt s =
       elim (cases_lt p k) [
-        | inl less ↦ under_edges n k (arrived kind code k k) (slice_get code k) q (arrived kind code k q) (under_sent k p n less s)
+        | inl less ↦ under_edges n k (incoming kind code k k) (slice_get code k) q (incoming kind code k q) (under_sent k p n less s)
         | inr ge ↦ let e : p ≡ k = omega arith in here (subst (λ z. Sends kind code z q n) e s)
       ]
     where
-      here : Sends kind code k q n → Under n (arrived kind code (suc k) q)
+      here : Sends kind code k q n → Under n (incoming kind code (suc k) q)
       here s = rw (s.noted, s.stands) (elim s.sent [
-        | inl falls ↦ under_old n (with_edge (arrived kind code k q) (fall_to k s.before s.instr q)) (jump_to s.before s.instr q) (rw falls (under_new n (arrived kind code k q)))
-        | inr jumps ↦ rw jumps (under_new n (with_edge (arrived kind code k q) (fall_to k s.before s.instr q)))
+        | inl falls ↦ under_old n (add_note (incoming kind code k q) (next_note_to k s.before s.instr q)) (jump_note_to s.before s.instr q) (rw falls (under_new n (incoming kind code k q)))
+        | inr jumps ↦ rw jumps (under_new n (add_note (incoming kind code k q) (next_note_to k s.before s.instr q)))
       ])
 
   -- and no weaker than a note that is no stronger than all that was sent
-  over_edge : (l : Note) (old new : Option Note) → IfSome old (NoStronger l) → IfSome new (NoStronger l) → IfSome (with_edge old new) (NoStronger l)
+  over_edge : (l : Note) (old new : Option Note) → IfSome old (IsNoStronger l) → IfSome new (IsNoStronger l) → IfSome (add_note old new) (IsNoStronger l)
   over_edge l old None h k = h
   over_edge l None (Some n) h k = join_most l n n k k
   over_edge l (Some m) (Some n) h k = join_most l m n h k
 
-  over_sent : (l : Note) → ((n : Note) → IsSent kind code q n → NoStronger l n) → (k : ℕ) → k ≤ q → IfSome (arrived kind code k q) (NoStronger l)
+  over_sent : (l : Note) → ((n : Note) → IsSent kind code q n → IsNoStronger l n) → (k : ℕ) → k ≤ q → IfSome (incoming kind code k q) (IsNoStronger l)
   over_sent l h zero le = at (nat_eq q 0) refl
     where
-      at : (b : Bool) → nat_eq q 0 ≡ b → IfSome (if_here b (Some (entry kind))) (NoStronger l)
+      at : (b : Bool) → nat_eq q 0 ≡ b → IfSome (if_here b (Some (entry kind))) (IsNoStronger l)
       at true e = h (entry kind) (inl (eqb-true q 0 e, refl))
       at false e = tt
   over_sent l h (suc k) le = at (over_sent l h k (omega arith)) (note_at kind code k) (slice_get code k) refl refl
     where
       edge : (m : Note) (i : Instr) → note_at kind code k ≡ Some m → slice_get code k ≡ Some i → (o : Option Note) →
-          ((n : Note) → o ≡ Some n → (fall_to k m i q ≡ Some n) ⊎ (jump_to m i q ≡ Some n)) → IfSome o (NoStronger l)
+          ((n : Note) → o ≡ Some n → (next_note_to k m i q ≡ Some n) ⊎ (jump_note_to m i q ≡ Some n)) → IfSome o (IsNoStronger l)
       edge m i em ei None s = tt
       edge m i em ei (Some n) s = h n (inr (k, le, record { before = m; instr = i; noted = em; stands = ei; sent = s n refl }))
 
-      at : IfSome (arrived kind code k q) (NoStronger l) → (note : Option Note) (i : Option Instr) → note_at kind code k ≡ note → slice_get code k ≡ i → IfSome (with_edges k note i q (arrived kind code k q)) (NoStronger l)
+      at : IfSome (incoming kind code k q) (IsNoStronger l) → (note : Option Note) (i : Option Instr) → note_at kind code k ≡ note → slice_get code k ≡ i → IfSome (add_notes k note i q (incoming kind code k q)) (IsNoStronger l)
       at so_far None i em ei = so_far
       at so_far (Some m) None em ei = so_far
       at so_far (Some m) (Some i) em ei =
-          over_edge l (with_edge (arrived kind code k q) (fall_to k m i q)) (jump_to m i q)
-          (over_edge l (arrived kind code k q) (fall_to k m i q) so_far (edge m i em ei (fall_to k m i q) (λ n e. inl e)))
-          (edge m i em ei (jump_to m i q) (λ n e. inr e))
+          over_edge l (add_note (incoming kind code k q) (next_note_to k m i q)) (jump_note_to m i q)
+          (over_edge l (incoming kind code k q) (next_note_to k m i q) so_far (edge m i em ei (next_note_to k m i q) (λ n e. inl e)))
+          (edge m i em ei (jump_note_to m i q) (λ n e. inr e))
 
-  at_most : (note sent : Note) → note_at kind code q ≡ Some note → Under sent (note_at kind code q) → NoStronger note sent
-  at_most note sent e (m, f, h) = subst (λ z. NoStronger z sent) (some_is m note (sym f) e) h
+  at_most : (note sent : Note) → note_at kind code q ≡ Some note → Under sent (note_at kind code q) → IsNoStronger note sent
+  at_most note sent e (m, f, h) = subst (λ z. IsNoStronger z sent) (some_is m note (sym f) e) h
     where
       some_is : (a b : Note) → Some a ≡ note_at kind code q → note_at kind code q ≡ Some b → a ≡ b
       some_is a b x y = cc (x, y)
 
-  pub no_stronger : (note sent : Note) → note_at kind code q ≡ Some note → IsSent kind code q sent → NoStronger note sent
+  pub no_stronger : (note sent : Note) → note_at kind code q ≡ Some note → IsSent kind code q sent → IsNoStronger note sent
   no_stronger note sent e (inl (z, s)) = at_most note sent e (subst (λ n. Under n (note_at kind code q)) (sym s) (under_start q z))
   no_stronger note sent e (inr (p, lt, s)) = at_most note sent e (under_sent q p sent lt s)
 
-  pub strongest : (note other : Note) → note_at kind code q ≡ Some note → ((n : Note) → IsSent kind code q n → NoStronger other n) → NoStronger other note
-  strongest note other e h = subst (λ o. IfSome o (NoStronger other)) e (over_sent other h q (omega arith))
+  pub strongest : (note other : Note) → note_at kind code q ≡ Some note → ((n : Note) → IsSent kind code q n → IsNoStronger other n) → IsNoStronger other note
+  strongest note other e h = subst (λ o. IfSome o (IsNoStronger other)) e (over_sent other h q (omega arith))

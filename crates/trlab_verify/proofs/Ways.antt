@@ -7,8 +7,8 @@ use Rattle.std.proofs.lemmas.Option.{slice_get_within}
 use Rattle.trlab_code.specs.declared.instruction.Instr.{Instr}
 use Rattle.trlab_code.specs.declared.instruction.Instr.TheVariants.{Jump, Go, Cross, Stay}
 use Rattle.trlab_code.specs.Flow.{is_end, falls, target}
-use Rattle.trlab_verify.specs.Longest.{Follows, Way, IsLongest, IsForward}
 use Rattle.trlab_notes.specs.Reasons.{on_target}
+use Rattle.trlab_verify.specs.Longest.{Follows, Way, IsLongest, IsForward}
 
 some_is : (a b : Instr) → Some a ≡ Some b → a ≡ b
 some_is a b e = cc e

@@ -12,8 +12,8 @@ abbrev pub Tells : Kind → Program → VerifyFault → Type 0
 Tells kind program (Why at reason) = IsRefused kind program at reason
 Tells kind program Memory = Unit {0}
 
--- Where a program is refused as one of a kind, no table of notes checks for that kind. Nor does one check for the
--- program's own kind, unless the reason is that an instruction is of the wrong kind (2).
+-- Where a program is refused as one of a kind, no table of notes checks for that kind. Nor does one check for
+-- the program's own kind, unless the reason is that an instruction is of the wrong kind (2).
 abbrev pub NoTableChecks : Kind → Program → VerifyFault → Type 0
 NoTableChecks kind program (Why at reason) =
     ¬ (SomeTableChecks kind program) × (reason ≢ 2 → ¬ (SomeTableChecks program.kind program))

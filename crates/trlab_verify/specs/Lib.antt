@@ -1,7 +1,7 @@
 pub mod Longest
-pub mod Checked
-pub mod Arrivals
+pub mod CheckedProgram
+pub mod Incoming
 pub mod Verdict
 pub mod Faults
 pub mod Tables
-pub mod Handed
+pub mod TableForm

@@ -1,5 +1,5 @@
 -- The ways through a program, and the longest of them.
-use Rattle.std.specs.Prelude.{◌≡◌, ℕ, zero, suc, ◌<◌, ◌≤◌, ◌&&◌, ◌||◌, List, length, Bool, false, IsTrue, Option, Some, None, nat_eq, slice_get}
+use Rattle.std.specs.Prelude.{◌≡◌, ℕ, zero, suc, ◌<◌, ◌≤◌, ◌&&◌, ◌||◌, List, length, IsTrue, Some, nat_eq, slice_get}
 use Rattle.trlab_code.specs.declared.instruction.Instr.{Instr}
 use Rattle.trlab_code.specs.Flow.{target, falls, is_end}
 use Rattle.trlab_notes.specs.Reasons.{on_target}

@@ -1,15 +1,16 @@
 -- Tables of notes, one note for each instruction of a program, and which of them check.
-use Rattle.std.specs.Prelude.{◌≡◌, ℕ, suc, ◌<◌, List, length, slice_get, slice_index_or, Option, Some, None, IfSome, false}
+use Rattle.std.specs.Prelude.{◌≡◌, ℕ, suc, ◌<◌, List, length, slice_get, slice_index_or, Some, None, IfSome, false}
 use Rattle.trlab_code.specs.declared.kind.Kind.{Kind}
 use Rattle.trlab_code.specs.declared.instruction.Instr.{Instr}
 use Rattle.trlab_code.specs.Program.{Program}
 use Rattle.trlab_code.specs.Flow.{target}
 use Rattle.trlab_notes.specs.declared.note.Said.TheVariants.{Nothing}
-use Rattle.trlab_notes.specs.Notes.{Note, entry, fall, jump}
-use Rattle.trlab_notes.specs.Order.{NoStronger}
-use Rattle.trlab_notes.specs.Reasons.{tests, first_true}
+use Rattle.trlab_notes.specs.Notes.{Note, entry}
+use Rattle.trlab_notes.specs.Order.{IsNoStronger}
+use Rattle.trlab_notes.specs.Reasons.{reason_against}
+use Rattle.trlab_notes.specs.Transfer.{next_note, jump_note}
 use Rattle.trlab_verify.specs.Longest.{Follows}
-use Rattle.trlab_verify.specs.Arrivals.{note_at}
+use Rattle.trlab_verify.specs.Incoming.{note_at}
 
 -- a note that says nothing
 abbrev pub blank : Note
@@ -23,14 +24,15 @@ note_in table pc = slice_index_or table pc blank
 -- first; there is no reason to refuse it; no note that it leads to is stronger than what comes there from it.
 pub record ChecksAt (kind : Kind) (program : Program) (note : ℕ → Note) (pc : ℕ) (i : Instr) : Type 0 where
   pub reached : 0 < pc → (p : ℕ) × Follows program.instrs p pc
-  pub clear : first_true 2 (tests kind program.kind (length program.instrs) pc (note pc) i) ≡ None
-  pub falls : suc pc < length program.instrs → IfSome (fall (note pc) i) (NoStronger (note (suc pc)))
-  pub jumps : (t : ℕ) → target i ≡ Some t → t < length program.instrs → NoStronger (note t) (jump (note pc) i)
+  pub clear : reason_against kind program.kind (length program.instrs) pc (note pc) i ≡ None
+  pub falls : suc pc < length program.instrs → IfSome (next_note (note pc) i) (IsNoStronger (note (suc pc)))
+  pub jumps : (t : ℕ) → target i ≡ Some t → t < length program.instrs
+      → IsNoStronger (note t) (jump_note (note pc) i)
 
 -- a table checks: the first note is no stronger than that of the entry, and all is well at each instruction
 pub record Checks (kind : Kind) (program : Program) (table : List Note) : Type 0 where
   pub one_each : length table ≡ length program.instrs
-  pub first : NoStronger (note_in table 0) (entry kind)
+  pub first : IsNoStronger (note_in table 0) (entry kind)
   pub each : (pc : ℕ) (i : Instr) → slice_get program.instrs pc ≡ Some i
       → ChecksAt kind program (note_in table) pc i
 
@@ -39,11 +41,11 @@ abbrev pub SomeTableChecks : Kind → Program → Type 0
 SomeTableChecks kind program = (table : List Note) × Checks kind program table
 
 -- the notes with which the verdict judges a program, as a table
-pub record IsJudgedBy (kind : Kind) (program : Program) (table : List Note) : Type 0 where
+pub record AreVerdictNotes (kind : Kind) (program : Program) (table : List Note) : Type 0 where
   pub one_each : length table ≡ length program.instrs
   pub each : (pc : ℕ) → pc < length program.instrs → note_at kind program.instrs pc ≡ Some (note_in table pc)
 
 -- the note with which the verdict judges the instruction at pc is at least as strong as this one
-abbrev pub AtLeast : Kind → Program → ℕ → Note → Type 0
-AtLeast kind program pc note =
-    (best : Note) × (note_at kind program.instrs pc ≡ Some best) × NoStronger note best
+abbrev pub IsNoStrongerAt : Kind → Program → ℕ → Note → Type 0
+IsNoStrongerAt kind program pc note =
+    (best : Note) × (note_at kind program.instrs pc ≡ Some best) × IsNoStronger note best

@@ -1,23 +1,27 @@
--- Which programs the verifier refuses, where and why.
-use Rattle.std.specs.Prelude.{◌≡◌, ℕ, ◌<◌, List, length, Option, Some, None, slice_get}
+-- The verdict: which programs the verifier refuses, where and why.
+use Rattle.std.specs.Prelude.{◌≡◌, ℕ, ◌<◌, length, Option, Some, None, slice_get}
+use Rattle.std.specs.Option.{option_map}
 use Rattle.trlab_code.specs.declared.kind.Kind.{Kind}
 use Rattle.trlab_code.specs.declared.instruction.Instr.{Instr}
 use Rattle.trlab_code.specs.Program.{Program}
+use Rattle.trlab_notes.specs.declared.reason.Reason.{Reason}
+use Rattle.trlab_notes.specs.declared.reason.Reason.TheVariants.{Unreachable}
 use Rattle.trlab_notes.specs.Notes.{Note}
-use Rattle.trlab_notes.specs.Reasons.{tests, first_true}
-use Rattle.trlab_verify.specs.Arrivals.{note_at}
+use Rattle.trlab_notes.specs.Reasons.{reason_against, reason_number}
+use Rattle.trlab_verify.specs.Incoming.{note_at}
 
--- the least reason to refuse the instruction at pc; 1: no instruction leads to it
-abbrev pub fault_of : Kind → Kind → ℕ → ℕ → Option Note → Option Instr → Option ℕ
-fault_of kind own len pc None i = Some 1
-fault_of kind own len pc (Some m) None = None
-fault_of kind own len pc (Some m) (Some i) = first_true 2 (tests kind own len pc m i)
+-- the least reason to refuse an instruction, by its note; where no note comes, no instruction leads to it
+abbrev pub least_reason : Kind → Kind → ℕ → ℕ → Option Note → Option Instr → Option Reason
+least_reason kind own len pc None i = Some Unreachable
+least_reason kind own len pc (Some m) None = None
+least_reason kind own len pc (Some m) (Some i) = reason_against kind own len pc m i
 
--- the least reason to refuse the instruction of a program at pc, if there is one
+-- the number of the least reason to refuse the instruction of a program at pc, if there is one
 unfoldable pub fault_at : Kind → Program → ℕ → Option ℕ
 fault_at kind program pc =
-    fault_of kind program.kind (length program.instrs) pc
-    (note_at kind program.instrs pc) (slice_get program.instrs pc)
+    let note = note_at kind program.instrs pc in
+    let instr = slice_get program.instrs pc in
+    option_map reason_number (least_reason kind program.kind (length program.instrs) pc note instr)
 
 -- the program is accepted as one of this kind: no instruction has a fault
 abbrev pub IsAccepted : Kind → Program → Type 0

@@ -1,4 +1,5 @@
-//! The longest way through a program.
+//! The budget of a program: its longest way, in instructions, the end counted. Control goes forward, so the longest
+//! ways from later instructions are known first (docs/PROGRAMS.md).
 
 ghost use Rattle.std.specs.Prelude.{◌≡◌, ℕ, ◌+◌, ◌<◌, ◌≤◌, IsTrue, length, slice_index, IfSome, if◌then◌else◌};
 ghost use Rattle.std.specs.Option.{option_map_or};

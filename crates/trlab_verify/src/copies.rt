@@ -1,4 +1,4 @@
-//! Copies of codes, and whether two codes are one.
+//! Codes as values: copies of them, and whether two are one.
 
 ghost use Rattle.std.specs.Prelude.{◌≡◌, ◌↔◌, IsTrue, IfOk};
 

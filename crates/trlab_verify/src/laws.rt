@@ -3,16 +3,16 @@
 //! Each law is the contract of a function with nothing to do.
 
 ghost use Rattle.std.specs.Prelude.{◌≡◌, ◌≢◌, ◌⊎◌, ℕ, ◌<◌, ◌≤◌, List, Some, length};
-ghost use Rattle.trlab_bounds.specs.declared.programs.TheConstants.{PLACES};
+ghost use Rattle.trlab_code.specs.declared.instruction.Place.{Place};
 ghost use Rattle.trlab_code.specs.declared.kind.Kind.{Kind};
 ghost use Rattle.trlab_code.specs.Machine.{IsSafe};
 ghost use Rattle.trlab_code.specs.Program.{Program, IsProgram};
-ghost use Rattle.trlab_notes.specs.Notes.{Note, known};
-ghost use Rattle.trlab_notes.specs.Order.{NoStronger};
-ghost use Rattle.trlab_verify.specs.Arrivals.{IsSent, note_at};
-ghost use Rattle.trlab_verify.specs.Checked.{IsChecked};
+ghost use Rattle.trlab_notes.specs.Notes.{Note, known_level};
+ghost use Rattle.trlab_notes.specs.Order.{IsNoStronger};
+ghost use Rattle.trlab_verify.specs.Incoming.{IsSent, note_at};
+ghost use Rattle.trlab_verify.specs.CheckedProgram.{IsChecked};
 ghost use Rattle.trlab_verify.specs.Longest.{IsLongest};
-ghost use Rattle.trlab_verify.specs.Tables.{AtLeast, Checks, IsJudgedBy, SomeTableChecks, note_in};
+ghost use Rattle.trlab_verify.specs.Tables.{IsNoStrongerAt, Checks, AreVerdictNotes, SomeTableChecks, note_in};
 ghost use Rattle.trlab_verify.specs.Verdict.{IsAccepted, IsRefused};
 
 /// Each program that is accepted as one of a kind is safe within its longest way.
@@ -46,10 +46,10 @@ pub fn accepted_is_checked()
 /// The note of an instruction is the strongest one that is no stronger than each note that is sent to it.
 pub fn note_is_strongest()
     ensures each { (kind : Kind) (program : Program) (pc : ℕ) (note sent : Note) →
-        note_at kind program.instrs pc ≡ Some note → IsSent kind program.instrs pc sent → NoStronger note sent }
+        note_at kind program.instrs pc ≡ Some note → IsSent kind program.instrs pc sent → IsNoStronger note sent }
     ensures most { (kind : Kind) (program : Program) (pc : ℕ) (note other : Note) →
         note_at kind program.instrs pc ≡ Some note →
-        ((sent : Note) → IsSent kind program.instrs pc sent → NoStronger other sent) → NoStronger other note }
+        ((sent : Note) → IsSent kind program.instrs pc sent → IsNoStronger other sent) → IsNoStronger other note }
 {}
 
 /// Where some table of notes checks, the program is accepted, and the verdict's notes are at least as
@@ -59,9 +59,9 @@ pub fn notes_are_best()
     ensures accepted { (kind : Kind) (program : Program) (table : List Note) →
         Checks kind program table → IsAccepted kind program }
     ensures best { (kind : Kind) (program : Program) (table : List Note) (pc : ℕ) →
-        Checks kind program table → pc < length program.instrs → AtLeast kind program pc (note_in table pc) }
+        Checks kind program table → pc < length program.instrs → IsNoStrongerAt kind program pc (note_in table pc) }
     ensures checks { (kind : Kind) (program : Program) → IsAccepted kind program →
-        (table : List Note) × IsJudgedBy kind program table × Checks kind program table }
+        (table : List Note) × AreVerdictNotes kind program table × Checks kind program table }
 {}
 
 /// A program is refused as one of a kind only where no table of notes checks for that kind. Nor does
@@ -75,7 +75,7 @@ pub fn refused_without_notes()
 
 /// In a table that checks no two places have a level above 2.
 pub fn levels_are_at_most_two()
-    ensures { (kind : Kind) (program : Program) (table : List Note) (pc x y : ℕ) →
-        Checks kind program table → pc < length program.instrs → x < PLACES → y < PLACES →
-        known (note_in table pc) x y ≤ 2 }
+    ensures { (kind : Kind) (program : Program) (table : List Note) (pc : ℕ) (x y : Place) →
+        Checks kind program table → pc < length program.instrs →
+        known_level (note_in table pc) x y ≤ 2 }
 {}

@@ -1,19 +1,18 @@
-//! The verifier of driver programs: what it accepts ends untrapped within its budget.
+//! The verifier of driver programs: what it accepts ends untrapped within its budget, for every view and all random
+//! words. It goes once through the instructions, each by the join of its incoming notes; docs/PROGRAMS.md says how.
 #![tactic(auto)]
 
-mod arrivals;
 mod budget;
-mod change;
 mod copies;
 mod fault;
+mod incoming;
 pub mod laws;
-mod motion;
+mod program;
 mod table;
 mod verdict;
 mod verify;
 
-pub use change::Change;
 pub use fault::VerifyFault;
-pub use motion::Motion;
+pub use program::{AcceptedProgram, Change, ChangeKind, Motion, MotionKind, ProgramKind};
 pub use table::{Mark, Note, NotesFault, check_notes, notes};
 pub use verify::{verify_change, verify_motion};

@@ -1,46 +1,49 @@
-//! The verdict on a program: which instruction is refused first, and why.
+//! The verdict on a program: which instruction is refused first, and why. The instructions are judged in turn, each
+//! by the join of its incoming notes (docs/PROGRAMS.md).
 
 ghost use Rattle.std.specs.Prelude.{◌≡◌, ℕ, ◌<◌, ◌≤◌, length, All, IfOk, MatchOption, None};
 ghost use Rattle.trlab_code.specs.Program.{Program, InRange};
-ghost use Rattle.trlab_verify.specs.Arrivals.{arrived, note_at};
-ghost use Rattle.trlab_notes.specs.Noted.{maybe_settled, notes_of};
+ghost use Rattle.trlab_verify.specs.Incoming.{incoming, note_at};
+ghost use Rattle.trlab_notes.specs.Notes.{maybe_closure};
+ghost use Rattle.trlab_notes.specs.Reasons.{reason_number};
+ghost use Rattle.trlab_notes.specs.Stored.{notes_of};
 ghost use Rattle.trlab_verify.specs.Verdict.{IsAccepted, IsRefused};
 
-use crate::arrivals::pass_on;
+use crate::incoming::send;
 use std::alloc::{AllocError, Global};
 use trlab_code::{Code, Instr, Kind, MOST_INSTRUCTIONS};
-use trlab_notes::{Noted, reason_against};
+use trlab_notes::{Reason, Stored, reason_against};
 
 /// The first instruction that is refused, and the least reason there.
 #[derive(Clone, Copy, Debug, PartialEq, Eq)]
 pub struct Refusal {
     pub at: u32,
-    pub reason: u32,
+    pub reason: Reason,
 }
 
-/// Judges each instruction in turn, with the notes that have come to it.
+/// Judges each instruction in turn by the join of its incoming notes, and sends notes on from it.
 pub fn judge(
     kind: Kind,
     own: Kind,
     instrs: &[Instr],
-    notes: &mut [Option<Noted>],
+    notes: &mut [Option<Stored>],
 ) -> Option<Refusal>
     requires few { length instrs.now ≤ MOST_INSTRUCTIONS }
     requires in_range { All InRange instrs.now }
     requires one_each { length notes.old ≡ length instrs.now }
     requires begins { (q : ℕ) → q < length instrs.now →
-        notes_of notes.old q ≡ maybe_settled (arrived kind instrs.now 0 q) }
-    ensures judged { let program : Program = record { kind = own; instrs = instrs.now } in
-        MatchOption result (IsAccepted kind program) (λ no. IsRefused kind program no.at no.reason) }
-    ensures kept { result ≡ None → (q : ℕ) → q < length instrs.now →
-        notes_of notes.new q ≡ maybe_settled (note_at kind instrs.now q) }
+        notes_of notes.old q ≡ maybe_closure (incoming kind instrs.now 0 q) }
+    ensures verdict { let program : Program = record { kind = own; instrs = instrs.now } in
+        MatchOption result (IsAccepted kind program) (λ no. IsRefused kind program no.at (reason_number no.reason)) }
+    ensures stored { result ≡ None → (q : ℕ) → q < length instrs.now →
+        notes_of notes.new q ≡ maybe_closure (note_at kind instrs.now q) }
 {
     for pc in 0..instrs.len() {
         let instr = instrs[pc];
         let Some(note) = notes[pc] else {
             return Some(Refusal {
                 at: pc as u32,
-                reason: 1,
+                reason: Reason::Unreachable,
             });
         };
         if let Some(reason) = reason_against(kind, own, instrs.len(), pc, &note, instr) {
@@ -49,7 +52,7 @@ pub fn judge(
                 reason,
             });
         }
-        pass_on(notes, pc, &note, instr);
+        send(notes, pc, &note, instr);
     }
     None
 }
@@ -57,10 +60,11 @@ pub fn judge(
 /// The refusal of a program as one of this kind, or nothing where it is accepted.
 pub fn verdict(alloc: Global, kind: Kind, code: &Code) -> Result<Option<Refusal>, AllocError>
     ensures { IfOk result (λ refusal.
-        MatchOption refusal (IsAccepted kind code.now) (λ no. IsRefused kind code.now no.at no.reason)) }
+        MatchOption refusal (IsAccepted kind code.now)
+        (λ no. IsRefused kind code.now no.at (reason_number no.reason))) }
 {
     let instrs = code.instrs();
     let mut notes = vec![in alloc; None; instrs.len()]?;
-    notes[0] = Some(Noted::entry(kind));
+    notes[0] = Some(Stored::entry(kind));
     Ok(judge(kind, code.kind(), instrs, &mut notes))
 }

@@ -13,8 +13,8 @@ pub struct Key(pub [u8; 32]);
 
 /// The sixteen random words of a car in a step of a road.
 ///
-/// They are one block of the ChaCha20 key stream (RFC 8439): its stream is that of the road
-/// and the car, and its place is the step's.
+/// They are one block of the ChaCha20 key stream (RFC 8439) under the key: its stream is numbered by the
+/// road and the car, and its position by the step.
 pub fn words(key: &Key, road: u32, car: u32, step: u32) -> [u32; 16]
     ensures { result ≡ random_words key.now.0 road car step }
 {

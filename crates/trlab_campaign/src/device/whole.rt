@@ -1,4 +1,4 @@
-//! Whole texts, read and written.
+//! Whole texts: one is read to its end, or written piece by piece until nothing is owed.
 
 ghost use Rattle.std.specs.Prelude.{◌≡◌, ◌+◌, ◌≤◌, ◌<◌, ◌||◌, ◌↔◌, length, false, true, IfOk, OnOk, OnErr, IfErr, IfSome, is_err};
 ghost use Rattle.std.specs.Io.KnownBytes.{Appends, Consumes, IsAtEnd};
@@ -20,6 +20,10 @@ pub enum ReadFault {
 }
 
 /// Reads a text to its end, of which at most one byte more is taken than a text may have.
+///
+/// # Errors
+///
+/// `TooBig` where that byte has come, and else want of memory or a failed reader.
 #[tactic(auto, using(crate::proofs::KnownBytes::consumes_more, crate::proofs::KnownBytes::consumes_kept, crate::proofs::KnownBytes::consumes_length, crate::proofs::KnownBytes::consumes_none))]
 pub fn read_text<S: Source>(alloc: Global, reader: &mut S) -> Result<Vec<u8>, ReadFault>
     requires { S.failed reader.old ≡ false }
@@ -52,6 +56,10 @@ pub fn read_text<S: Source>(alloc: Global, reader: &mut S) -> Result<Vec<u8>, Re
 }
 
 /// Writes a whole text.
+///
+/// # Errors
+///
+/// `DeviceError` where the writer failed: a front of the text was written.
 #[tactic(auto, using(crate::proofs::KnownBytes::appends_part))]
 pub fn write_text<K: Sink>(writer: &mut K, text: &[u8]) -> Result<(), DeviceError>
     ensures whole { OnOk result
@@ -70,6 +78,10 @@ pub fn write_text<K: Sink>(writer: &mut K, text: &[u8]) -> Result<(), DeviceErro
 }
 
 /// Writes a whole text, and hands it on.
+///
+/// # Errors
+///
+/// Those of `write_text`, also where all was written and not handed on.
 #[tactic(auto, using(crate::proofs::KnownBytes::appends_kept, crate::proofs::KnownBytes::front_kept))]
 pub fn write_last<K: Sink>(writer: &mut K, text: &[u8]) -> Result<(), DeviceError>
     ensures whole { OnOk result

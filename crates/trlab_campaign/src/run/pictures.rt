@@ -1,9 +1,9 @@
-//! The pictures of a run.
+//! The pictures of a run: each is written as soon as its road is there.
 
 ghost use Rattle.std.specs.Prelude.{◌≡◌, ◌↔◌, true, false, OnOk, OnErr, IfErr};
 ghost use Rattle.std.specs.Io.KnownBytes.{Appends};
 ghost use Rattle.trlab_jobs.specs.Job.{seed_of, sheet_of};
-ghost use Rattle.trlab_run.specs.Reached.{at_start};
+ghost use Rattle.trlab_run.specs.Progress.{at_start};
 ghost use Rattle.trlab_campaign.specs.Device.{AppendsFront};
 ghost use Rattle.trlab_campaign.specs.Ending.{JobEnds, OnWhole, WrotePictures, WroteSome};
 ghost use Rattle.trlab_campaign.specs.Output.{step_text};

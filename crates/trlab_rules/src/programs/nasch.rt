@@ -10,7 +10,11 @@ use trlab_code::Instr::{self, Add, Draw, Get, Go, JumpFalse, Min, Num, Sub};
 use trlab_code::Register::{R0, R1, R2, R3};
 use trlab_words::Chance;
 
-/// The motion of 1992, which brakes with the chance `p`.
+/// The instructions of the motion of 1992, which brakes with the chance `p`.
+///
+/// # Errors
+///
+/// Where memory runs out.
 pub fn nasch_instrs(alloc: Global, p: Chance) -> Result<Vec<Instr>, AllocError>
     ensures value { IfOk result (λ instrs. instrs.items ≡ (nasch_program p).instrs) }
     ensures program { IsProgram (nasch_program p) }

@@ -10,7 +10,11 @@ use trlab_code::Instr::{self, Add, Cross, Draw, Get, JumpAtMost, JumpFalse, Num,
 use trlab_code::Register::{R0, R1, R2, R3};
 use trlab_words::Chance;
 
-/// The exchange of lanes of 1996, with the chance `c`.
+/// The instructions of the lane change of 1996, with the chance `c`.
+///
+/// # Errors
+///
+/// Where memory runs out.
 pub fn rickert_instrs(alloc: Global, c: Chance) -> Result<Vec<Instr>, AllocError>
     ensures value { IfOk result (λ instrs. instrs.items ≡ (rickert_program c).instrs) }
     ensures program { IsProgram (rickert_program c) }

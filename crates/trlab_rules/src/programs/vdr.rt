@@ -10,7 +10,12 @@ use trlab_code::Instr::{self, Add, Draw, Get, Go, Jump, JumpAtMost, JumpFalse, M
 use trlab_code::Register::{R0, R1, R2, R3};
 use trlab_words::Chance;
 
-/// The motion of 1998, which brakes with the chance `p0` where the car stands, and with `p` where it moves.
+/// The instructions of the motion of 1998, which brakes with the chance `p0` where the car is stopped,
+/// and with `p` where it moves.
+///
+/// # Errors
+///
+/// Where memory runs out.
 pub fn vdr_instrs(alloc: Global, p: Chance, p0: Chance) -> Result<Vec<Instr>, AllocError>
     ensures value { IfOk result (λ instrs. instrs.items ≡ (vdr_program p p0).instrs) }
     ensures program { IsProgram (vdr_program p p0) }

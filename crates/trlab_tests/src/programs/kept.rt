@@ -4,7 +4,7 @@ use super::{change, motion, program};
 use std::alloc::Global;
 use trlab_asm::disassemble;
 use trlab_code::{Code, Kind};
-use trlab_verify::{VerifyFault, verify_change, verify_motion};
+use trlab_verify::{AcceptedProgram, ProgramKind, VerifyFault, verify_change, verify_motion};
 
 const STANDING: &[u8] = b"num r0, 0\ngo r0\n";
 
@@ -37,43 +37,47 @@ fn hands_back_the_code(rt: HostRuntime) {
     );
 }
 
-/// Whether a motion program keeps its code and this budget.
-fn keeps_motion(alloc: Global, text: &[u8], budget: u32) -> Option<bool> {
-    let motion = motion(alloc, text)?;
-    Some(motion.budget() == budget && spells(alloc, motion.code(), text)?)
+/// Whether an accepted program keeps its code and this budget.
+fn keeps<K: ProgramKind>(
+    alloc: Global,
+    accepted: &AcceptedProgram<K>,
+    text: &[u8],
+    budget: u32,
+) -> Option<bool> {
+    Some(accepted.budget() == budget && spells(alloc, accepted.code(), text)?)
 }
 
-/// Whether a motion program has the same budget as its copy, and equals it but not another program.
-fn copies_motion(alloc: Global, text: &[u8], other: &[u8]) -> Option<bool> {
+/// Whether an accepted program has the same budget as its copy, and equals it but not another one.
+fn copies<K: ProgramKind>(
+    alloc: Global,
+    accepted: &AcceptedProgram<K>,
+    other: &AcceptedProgram<K>,
+) -> Option<bool> {
+    let copy = accepted.copy(alloc).ok()?;
+    Some(copy.budget() == accepted.budget() && copy.equals(accepted) && !copy.equals(other))
+}
+
+/// Whether a motion program is kept and copied, beside another one.
+fn keeps_motion(alloc: Global, text: &[u8], budget: u32, other: &[u8]) -> Option<bool> {
     let (motion, other) = (motion(alloc, text)?, motion(alloc, other)?);
-    let copy = motion.copy(alloc).ok()?;
-    Some(copy.budget() == motion.budget() && copy.equals(&motion) && !copy.equals(&other))
+    Some(keeps(alloc, &motion, text, budget)? && copies(alloc, &motion, &other)?)
 }
 
 #[test]
 fn keeps_motions(rt: HostRuntime) {
-    assert_eq!(rt; keeps_motion(rt.alloc(), STANDING, 2), Some(true));
     assert_eq!(rt;
-        copies_motion(rt.alloc(), STANDING, b"num r1, 0\ngo r1\n"),
+        keeps_motion(rt.alloc(), STANDING, 2, b"num r1, 0\ngo r1\n"),
         Some(true)
     );
 }
 
-/// Whether a change program keeps its code and this budget.
-fn keeps_change(alloc: Global, text: &[u8], budget: u32) -> Option<bool> {
-    let change = change(alloc, text)?;
-    Some(change.budget() == budget && spells(alloc, change.code(), text)?)
-}
-
-/// Whether a change program has the same budget as its copy, and equals it but not another program.
-fn copies_change(alloc: Global, text: &[u8], other: &[u8]) -> Option<bool> {
+/// Whether a change program is kept and copied, beside another one.
+fn keeps_change(alloc: Global, text: &[u8], budget: u32, other: &[u8]) -> Option<bool> {
     let (change, other) = (change(alloc, text)?, change(alloc, other)?);
-    let copy = change.copy(alloc).ok()?;
-    Some(copy.budget() == change.budget() && copy.equals(&change) && !copy.equals(&other))
+    Some(keeps(alloc, &change, text, budget)? && copies(alloc, &change, &other)?)
 }
 
 #[test]
 fn keeps_changes(rt: HostRuntime) {
-    assert_eq!(rt; keeps_change(rt.alloc(), STAYING, 2), Some(true));
-    assert_eq!(rt; copies_change(rt.alloc(), STAYING, b"stay\n"), Some(true));
+    assert_eq!(rt; keeps_change(rt.alloc(), STAYING, 2, b"stay\n"), Some(true));
 }

@@ -1,7 +1,7 @@
-//! Programs in the hexadecimal digits of their bytes.
+//! Programs on one line `code X`: X is their bytes in hexadecimal digits of either case.
 
 ghost use Rattle.std.specs.Prelude.{◌≡◌};
-ghost use Rattle.trlab_texts.specs.Reading.{ToldOfLine};
+ghost use Rattle.trlab_texts.specs.Reading.{ReportsLine};
 ghost use Rattle.trlab_texts.specs.Programs.{BytesSay, code_line, code_line_of};
 
 use crate::fault::{Cause, LineFault};
@@ -12,7 +12,7 @@ use trlab_code::{Code, CodeFault, Kind, decode};
 
 /// The program of either kind that bytes spell.
 fn code_of_bytes(alloc: Global, bytes: &[u8]) -> Result<Code, LineFault>
-    ensures { ToldOfLine (BytesSay bytes.now) result }
+    ensures { ReportsLine (BytesSay bytes.now) result }
 {
     match decode(alloc, bytes) {
         Ok(code) => Ok(code),
@@ -23,8 +23,13 @@ fn code_of_bytes(alloc: Global, bytes: &[u8]) -> Result<Code, LineFault>
 
 /// The line `code X`, where X is the bytes of a program of either kind in hexadecimal digits of
 /// either case.
+///
+/// # Errors
+///
+/// `Cause::Line` for other lines, `Cause::Hex`, or `Cause::Code` with the first fault of the bytes; or
+/// want of memory.
 pub fn code_line(alloc: Global, line: &[u8]) -> Result<Code, LineFault>
-    ensures { ToldOfLine (code_line line.now) result }
+    ensures { ReportsLine (code_line line.now) result }
 {
     let digits = match word_behind(b"code ", line) {
         Ok(digits) => digits,
@@ -38,8 +43,12 @@ pub fn code_line(alloc: Global, line: &[u8]) -> Result<Code, LineFault>
 }
 
 /// The line `code X` of a program of a kind.
+///
+/// # Errors
+///
+/// Those of `code_line`, and `CodeFault::Kind` for a program of the other kind.
 pub fn code_line_of(alloc: Global, kind: Kind, line: &[u8]) -> Result<Code, LineFault>
-    ensures { ToldOfLine (code_line_of kind line.now) result }
+    ensures { ReportsLine (code_line_of kind line.now) result }
 {
     match code_line(alloc, line) {
         Ok(code) => {

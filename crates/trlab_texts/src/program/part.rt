@@ -1,19 +1,20 @@
-//! Programs in lines of their own, and the program parts of a text.
+//! Program parts: a block of lines from `motion` or `change` to `end`, or a line `code X`, of a
+//! program that the verifier accepts.
 
 ghost use Rattle.std.specs.Prelude.{◌≡◌, ◌+◌, ◌<◌, ◌^◌, length, Err};
 ghost use Rattle.std.specs.Str.{bytes_eq};
 ghost use Rattle.trlab_code.specs.declared.kind.Kind.{Kind};
 ghost use Rattle.trlab_code.specs.declared.kind.Kind.TheVariants.{Motion as OfMotion, Change as OfChange};
 ghost use Rattle.trlab_code.specs.Program.{Program};
-ghost use Rattle.trlab_verify.specs.Checked.{Checked};
+ghost use Rattle.trlab_verify.specs.CheckedProgram.{CheckedProgram};
 ghost use Rattle.trlab_verify.specs.Faults.{Tells};
 ghost use Rattle.trlab_asm.specs.Lines.{lines_of};
-ghost use Rattle.trlab_texts.specs.Reading.{Told};
+ghost use Rattle.trlab_texts.specs.Reading.{Reports};
 ghost use Rattle.trlab_texts.specs.Programs.{VerdictSays, heading, part, program_behind, program_part};
 
 use crate::fault::{Cause, TextFault};
-use crate::place::Place;
 use crate::program::code::code_line_of;
+use crate::rest::Rest;
 use std::alloc::Global;
 use trlab_asm::{Why, assemble};
 use trlab_code::{Code, Kind};
@@ -30,9 +31,13 @@ pub fn heads(kind: Kind, line: &[u8]) -> bool
 }
 
 /// The program of a kind whose lines stand behind the line `first`.
+///
+/// # Errors
+///
+/// The first fault of these lines, at its line of the whole text; or want of memory.
 pub fn program_behind(alloc: Global, kind: Kind, first: u32, text: &[u8]) -> Result<Code, TextFault>
     requires { first + length (lines_of text.now) < 2 ^ 32 }
-    ensures { Told (λ says. says ≡ program_behind kind first (lines_of text.now)) result }
+    ensures { Reports (λ says. says ≡ program_behind kind first (lines_of text.now)) result }
 {
     match assemble(alloc, kind, text) {
         Ok(code) => Ok(code),
@@ -47,11 +52,11 @@ pub fn program_behind(alloc: Global, kind: Kind, first: u32, text: &[u8]) -> Res
 }
 
 /// The program of a kind: a block of its lines, or the line `code X`.
-fn program_part(alloc: Global, kind: Kind, place: Place<'_>) -> Result<(Code, Place<'_>), TextFault>
-    ensures { Told (program_part kind place.entry) result }
+fn program_part(alloc: Global, kind: Kind, rest: Rest<'_>) -> Result<(Code, Rest<'_>), TextFault>
+    ensures { Reports (program_part kind rest.entry) result }
 {
-    let first = place.number();
-    let (line, after) = place.next_line()?;
+    let first = rest.number();
+    let (line, after) = rest.next_line()?;
     if heads(kind, line) {
         let (lines, after) = after.part()?;
         let code = program_behind(alloc, kind, first, lines)?;
@@ -66,7 +71,7 @@ fn program_part(alloc: Global, kind: Kind, place: Place<'_>) -> Result<(Code, Pl
 /// Why the verifier accepts no program of a part whose first line is `first`.
 fn verdict_fault(first: u32, fault: VerifyFault) -> TextFault
     ensures { (kind : Kind) (program : Program) → Tells kind program fault
-        → Told {A = Checked} (VerdictSays kind first program) (Err result) }
+        → Reports {A = CheckedProgram} (VerdictSays kind first program) (Err result) }
 {
     match fault {
         VerifyFault::Why { reason, .. } => TextFault::At {
@@ -79,7 +84,7 @@ fn verdict_fault(first: u32, fault: VerifyFault) -> TextFault
 
 /// A motion program whose first line is `first`, where the verifier accepts it.
 fn accepted_motion(alloc: Global, first: u32, code: Code) -> Result<Motion, TextFault>
-    ensures { Told (VerdictSays OfMotion first code) result }
+    ensures { Reports (VerdictSays OfMotion first code) result }
 {
     match verify_motion(alloc, code) {
         Ok(motion) => Ok(motion),
@@ -89,7 +94,7 @@ fn accepted_motion(alloc: Global, first: u32, code: Code) -> Result<Motion, Text
 
 /// A change program whose first line is `first`, where the verifier accepts it.
 fn accepted_change(alloc: Global, first: u32, code: Code) -> Result<Change, TextFault>
-    ensures { Told (VerdictSays OfChange first code) result }
+    ensures { Reports (VerdictSays OfChange first code) result }
 {
     match verify_change(alloc, code) {
         Ok(change) => Ok(change),
@@ -97,24 +102,32 @@ fn accepted_change(alloc: Global, first: u32, code: Code) -> Result<Change, Text
     }
 }
 
-/// The part of a motion program, which the verifier accepts.
-pub fn motion(alloc: Global, place: Place<'_>) -> Result<(Motion, Place<'_>), TextFault>
-    ensures { Told (part OfMotion place.entry) result }
+/// The part of a motion program, which the verifier accepts, and the rest behind it.
+///
+/// # Errors
+///
+/// The first fault of the part, or the verifier's refusal at its first line; or want of memory.
+pub fn motion(alloc: Global, rest: Rest<'_>) -> Result<(Motion, Rest<'_>), TextFault>
+    ensures { Reports (part OfMotion rest.entry) result }
 {
-    let first = place.number();
-    let (code, after) = program_part(alloc, Kind::Motion, place)?;
+    let first = rest.number();
+    let (code, after) = program_part(alloc, Kind::Motion, rest)?;
     match accepted_motion(alloc, first, code) {
         Ok(motion) => Ok((motion, after)),
         Err(fault) => Err(fault),
     }
 }
 
-/// The part of a change program, which the verifier accepts.
-pub fn change(alloc: Global, place: Place<'_>) -> Result<(Change, Place<'_>), TextFault>
-    ensures { Told (part OfChange place.entry) result }
+/// The part of a change program, which the verifier accepts, and the rest behind it.
+///
+/// # Errors
+///
+/// Those of `motion`.
+pub fn change(alloc: Global, rest: Rest<'_>) -> Result<(Change, Rest<'_>), TextFault>
+    ensures { Reports (part OfChange rest.entry) result }
 {
-    let first = place.number();
-    let (code, after) = program_part(alloc, Kind::Change, place)?;
+    let first = rest.number();
+    let (code, after) = program_part(alloc, Kind::Change, rest)?;
     match accepted_change(alloc, first, code) {
         Ok(change) => Ok((change, after)),
         Err(fault) => Err(fault),

@@ -1,21 +1,22 @@
-//! Whether a table of notes that is handed in checks.
+//! Checks a table of notes that is handed in, one instruction at a time and with no memory: what the notes say is
+//! tested, and nothing is found out (docs/PROGRAMS.md).
 
 ghost use Rattle.std.specs.Prelude.{◌≡◌, ◌↔◌, ℕ, suc, ◌<◌, ◌≤◌, ◌||◌, ◌&&◌, All, IfSome, IsTrue, Some, false, length, nat_eq, slice_get};
 ghost use Rattle.trlab_code.specs.declared.instruction.Instr.{Instr as AnInstr};
 ghost use Rattle.trlab_code.specs.Flow.{falls, target};
 ghost use Rattle.trlab_code.specs.Machine.{IsSafe};
 ghost use Rattle.trlab_code.specs.Program.{InRange};
-ghost use Rattle.trlab_notes.specs.Noted.{note_of};
-ghost use Rattle.trlab_notes.specs.Notes.{fall, jump};
-ghost use Rattle.trlab_notes.specs.Order.{NoStronger};
-ghost use Rattle.trlab_notes.specs.Reasons.{on_target, too_large};
-ghost use Rattle.trlab_verify.specs.Handed.{HasLevels, written, written_at, written_table};
+ghost use Rattle.trlab_notes.specs.Stored.{note_of};
+ghost use Rattle.trlab_notes.specs.Transfer.{next_note, jump_note};
+ghost use Rattle.trlab_notes.specs.Order.{IsNoStronger};
+ghost use Rattle.trlab_notes.specs.Reasons.{on_target, may_be_too_large};
+ghost use Rattle.trlab_verify.specs.TableForm.{HasLevels, meaning, meaning_at, table_of};
 ghost use Rattle.trlab_verify.specs.Longest.{Follows, IsLongest};
 ghost use Rattle.trlab_verify.specs.Tables.{Checks, ChecksAt};
 
 use super::note::{Note, read};
 use trlab_code::{Code, Instr, Kind, MOST_INSTRUCTIONS};
-use trlab_notes::{Noted, fall_note, is_no_stronger, jump_note, reason_against};
+use trlab_notes::{Stored, is_no_stronger, jump_note, next_note, reason_against};
 
 /// Whether the instruction at q may come after the one at pc.
 fn follows(instr: Instr, pc: usize, q: usize) -> bool
@@ -38,38 +39,38 @@ fn is_reached(instrs: &[Instr], q: usize) -> bool
     false
 }
 
-/// Whether a note that is handed in is no stronger than another.
-fn is_within(kind: Kind, handed: &Note, note: &Noted) -> bool
-    ensures { IsTrue result ↔ NoStronger (written kind handed.now) (note_of note.now) }
+/// Whether the note that a form means is no stronger than another.
+fn is_within(kind: Kind, form: &Note, note: &Stored) -> bool
+    ensures { IsTrue result ↔ IsNoStronger (meaning kind form.now) (note_of note.now) }
 {
-    match read(kind, handed) {
-        Some(kept) => is_no_stronger(&kept, note),
+    match read(kind, form) {
+        Some(stored) => is_no_stronger(&stored, note),
         None => false,
     }
 }
 
 /// Whether the note at the next instruction is no stronger than what comes to it from the one at `pc`.
-fn fall_checks(kind: Kind, table: &[Note], pc: usize, note: &Noted, instr: Instr) -> bool
+fn fall_checks(kind: Kind, table: &[Note], pc: usize, note: &Stored, instr: Instr) -> bool
     requires inside { pc < length table.now }
     requires in_range { InRange instr }
-    requires fits { too_large (note_of note.now) instr ≡ false }
+    requires fits { may_be_too_large (note_of note.now) instr ≡ false }
     ensures { IsTrue result ↔ (suc pc < length table.now →
-        IfSome (fall (note_of note.now) instr) (NoStronger (written_at kind table.now (suc pc)))) }
+        IfSome (next_note (note_of note.now) instr) (IsNoStronger (meaning_at kind table.now (suc pc)))) }
 {
     let next = pc + 1;
     if next >= table.len() {
         return true;
     }
-    match fall_note(note, instr) {
+    match next_note(note, instr) {
         Some(falling) => is_within(kind, &table[next], &falling),
         None => true,
     }
 }
 
 /// Whether the note at a jump's target is no stronger than what comes to it.
-fn jump_checks(kind: Kind, table: &[Note], note: &Noted, instr: Instr) -> bool
+fn jump_checks(kind: Kind, table: &[Note], note: &Stored, instr: Instr) -> bool
     ensures { IsTrue result ↔ ((t : ℕ) → target instr ≡ Some t → t < length table.now →
-        NoStronger (written_at kind table.now t) (jump (note_of note.now) instr)) }
+        IsNoStronger (meaning_at kind table.now t) (jump_note (note_of note.now) instr)) }
 {
     let Some(target) = instr.target() else {
         return true;
@@ -84,8 +85,9 @@ fn checks_at(kind: Kind, instrs: &[Instr], table: &[Note], pc: usize) -> bool
     requires few { length instrs.now ≤ MOST_INSTRUCTIONS }
     requires in_range { All InRange instrs.now }
     requires one_each { length table.now ≡ length instrs.now }
-    ensures { IsTrue result ↔ (HasLevels (written_at kind table.now pc) × ((i : AnInstr) → slice_get instrs.now pc ≡ Some i →
-        ChecksAt kind (record { kind = kind; instrs = instrs.now }) (written_at kind table.now) pc i)) }
+    ensures { IsTrue result ↔ (HasLevels (meaning_at kind table.now pc)
+        × ((i : AnInstr) → slice_get instrs.now pc ≡ Some i →
+        ChecksAt kind (record { kind = kind; instrs = instrs.now }) (meaning_at kind table.now) pc i)) }
 {
     let instr = instrs[pc];
     let Some(note) = read(kind, &table[pc]) else {
@@ -110,7 +112,7 @@ fn checks_at(kind: Kind, instrs: &[Instr], table: &[Note], pc: usize) -> bool
 /// none does in which a level above 2 is looked at.
 pub fn check_notes(code: &Code, table: &[Note]) -> bool
     ensures exact { IsTrue result ↔
-        Checks code.now.kind code.now (written_table code.now.kind table.now) }
+        Checks code.now.kind code.now (table_of code.now.kind table.now) }
     ensures safe { IsTrue result → (budget : ℕ) →
         IsLongest code.now.instrs 0 budget → IsSafe code.now.kind code.now.instrs budget }
 {
@@ -119,7 +121,7 @@ pub fn check_notes(code: &Code, table: &[Note]) -> bool
     if table.len() != instrs.len() {
         return false;
     }
-    if !is_within(kind, &table[0], &Noted::entry(kind)) {
+    if !is_within(kind, &table[0], &Stored::entry(kind)) {
         return false;
     }
     for pc in 0..instrs.len() {

@@ -1,14 +1,15 @@
-//! Notes as callers write and read them.
+//! The form in which callers write and read notes: marks of the registers, and levels by the numbers of places. Of
+//! the inputs a form says nothing, since their ranges are known (docs/PROGRAMS.md).
 
-ghost use Rattle.std.specs.Prelude.{◌≡◌, ◌↔◌, ℕ, ◌<◌, ◌≤◌, IfSome, IsTrue, None, slice_index, slice_index_or};
-ghost use Rattle.trlab_notes.specs.declared.note.Said.TheVariants.{Nothing};
-ghost use Rattle.trlab_notes.specs.Kept.{AreLevels, known_with};
-ghost use Rattle.trlab_notes.specs.Noted.{note_of, settled};
-ghost use Rattle.trlab_notes.specs.Notes.{entry, known};
-ghost use Rattle.trlab_verify.specs.Handed.{said_of, written, HasLevels, SaysRanges};
+ghost use Rattle.std.specs.Prelude.{◌≡◌, ◌↔◌, ℕ, ◌<◌, ◌≤◌, IfSome, IsTrue, None, slice_index};
+ghost use Rattle.trlab_code.specs.declared.instruction.Place.{Place as APlace};
+ghost use Rattle.trlab_notes.specs.Notes.{closure, entry};
+ghost use Rattle.trlab_notes.specs.Rows.{AreLevels, known_with, said_in};
+ghost use Rattle.trlab_notes.specs.Stored.{note_of};
+ghost use Rattle.trlab_verify.specs.TableForm.{form_said, said_of, meaning, HasLevels, SaysRanges};
 
 use trlab_code::{Kind, PLACES};
-use trlab_notes::{Noted, Said, entry_levels, entry_said, known_level};
+use trlab_notes::{Said, Stored, entry_levels, entry_said, level_between};
 
 /// What a note says of a register.
 #[derive(Clone, Copy, Debug, PartialEq, Eq)]
@@ -58,25 +59,25 @@ fn mark_of(said: Said) -> Mark
     }
 }
 
-/// What a note that is handed in says of the places.
-fn places(kind: Kind, note: &Note) -> [Said; PLACES]
-    ensures { (x : ℕ) → slice_index_or result x Nothing ≡ (written kind note.now).said x }
+/// What a form says of the places, in the order of their numbers.
+fn places(kind: Kind, form: &Note) -> [Said; PLACES]
+    ensures { (x : APlace) → said_in result x ≡ form_said kind form.now x }
 {
     let mut places = entry_said(kind);
     for x in 0..8 {
-        places[x] = said_by(note.regs[x]);
+        places[x] = said_by(form.regs[x]);
     }
     places
 }
 
-/// Whether no level of the place x that is looked at is above 2.
+/// Whether no level of the place with the number x that is looked at is above 2.
 fn has_levels_from(said: &[Said; PLACES], levels: &[u8; PLACES], x: usize) -> bool
     requires { x < PLACES }
     ensures { IsTrue result ↔ ((y : ℕ) → y < PLACES →
         known_with said.now x y (slice_index levels.now y) ≤ 2) }
 {
     for y in 0..PLACES {
-        if known_level(said[x], said[y], x == y, levels[y]) > 2 {
+        if level_between(said[x], said[y], x == y, levels[y]) > 2 {
             return false;
         }
     }
@@ -95,56 +96,40 @@ fn has_levels(said: &[Said; PLACES], levels: &[[u8; PLACES]; PLACES]) -> bool
     true
 }
 
-/// A note that is handed in, as the verifier keeps it; there is none where a level above 2 is looked at.
-pub fn read(kind: Kind, note: &Note) -> Option<Noted>
-    ensures none { result ≡ None → ¬ (HasLevels (written kind note.now)) }
-    ensures some { IfSome result (λ kept. HasLevels (written kind note.now)) }
-    ensures kept { IfSome result (λ kept. note_of kept ≡ settled (written kind note.now)) }
+/// The note that a form means, stored; there is none where a level above 2 is looked at.
+pub fn read(kind: Kind, form: &Note) -> Option<Stored>
+    ensures none { result ≡ None → ¬ (HasLevels (meaning kind form.now)) }
+    ensures some { IfSome result (λ stored. HasLevels (meaning kind form.now)) }
+    ensures stored { IfSome result (λ stored. note_of stored ≡ closure (meaning kind form.now)) }
 {
-    let said = places(kind, note);
-    if !has_levels(&said, &note.levels) {
+    let said = places(kind, form);
+    if !has_levels(&said, &form.levels) {
         return None;
     }
-    Some(Noted::new(said, &note.levels, note.side))
+    Some(Stored::new(said, &form.levels, form.side))
 }
 
-/// The levels of a place to each.
-fn level_row(noted: &Noted, x: usize) -> [u8; PLACES]
-    requires { x < PLACES }
-    ensures { (y : ℕ) → y < PLACES → slice_index result y ≡ known (note_of noted.now) x y }
-{
-    let mut row = [0; PLACES];
-    for y in 0..PLACES {
-        row[y] = noted.known(x, y);
-    }
-    row
-}
-
-/// A note of the verifier, as it is handed out.
-pub fn write(kind: Kind, noted: &Noted) -> Note
-    requires { SaysRanges kind (note_of noted.now) }
-    ensures { written kind result ≡ note_of noted.now }
+/// The form of a note that says of the inputs their ranges.
+pub fn write(kind: Kind, note: &Stored) -> Note
+    requires { SaysRanges kind (note_of note.now) }
+    ensures { meaning kind result ≡ note_of note.now }
 {
     let mut regs = [Mark::Unset; 8];
     for x in 0..8 {
-        regs[x] = mark_of(noted.said[x]);
-    }
-    let mut levels = [[0; PLACES]; PLACES];
-    for x in 0..PLACES {
-        levels[x] = level_row(noted, x);
+        regs[x] = mark_of(note.said[x]);
     }
     Note {
         regs,
-        levels,
-        side: noted.side,
+        levels: note.levels(),
+        side: note.side,
     }
 }
 
-/// The note of the first instruction, as it is handed out: of the order it says what holds at the start.
+/// The form of the first instruction's note: of the order it says what holds at the start.
 pub fn first_note(kind: Kind) -> Note
-    ensures { written kind result ≡ entry kind }
+    ensures { meaning kind result ≡ entry kind }
 {
-    let mut note = write(kind, &Noted::entry(kind));
+    let mut note = write(kind, &Stored::entry(kind));
     let levels = entry_levels();
     note.levels = levels;
     note

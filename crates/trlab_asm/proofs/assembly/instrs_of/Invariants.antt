@@ -1,6 +1,6 @@
 use Rattle.std.proofs.Common.{◌≡◌, length, drop, All}
 use Rattle.trlab_code.specs.Program.{InRange}
-use Rattle.trlab_asm.specs.Held.{pcs}
+use Rattle.trlab_asm.specs.Stored.{pcs}
 use Rattle.trlab_asm.specs.Assembly.{second_pass}
 use Rattle.trlab_asm.proofs.Passes.{following}
 use Rattle.trlab_asm.proofs.assembly.instrs_of.Given as goal

@@ -1,7 +1,7 @@
 use Rattle.std.proofs.Common.{◌≡◌, sym, ◌∙◌, arith, inl}
 use Rattle.std.specs.Prelude.{Err}
 use Rattle.std.proofs.lemmas.Grind.{common_steps}
-use Rattle.trlab_asm.specs.Held.{parts_held}
+use Rattle.trlab_asm.specs.Stored.{stored_parts}
 use Rattle.trlab_asm.specs.Assembly.{with_line}
 use Rattle.trlab_asm.proofs.Passes.{first_next, first_fault, first_end}
 use Rattle.trlab_asm.proofs.assembly.read_parts.Goals as goal
@@ -9,19 +9,19 @@ use Rattle.trlab_asm.proofs.assembly.read_parts.Goals as goal
 pub returns-in_err-said : goal.returns-in_err-said
 returns-in_err-said c =
     let says = rw c.in-Some.ensures.lines at c.loop-line.invariant.says in
-    let told = first_fault (parts_held c.loop-line.parts) c.loop-line.number _ _ c.in_err-said.field-0.0 c.in_err-said.ensures.value in
+    let told = first_fault (stored_parts c.loop-line.parts) c.loop-line.number _ _ c.in_err-said.field-0.0 c.in_err-said.ensures.value in
     let fault : c.from_residual.result ≡ Err c.in_err-said.field-0.0 = grind (arith, common_steps) in
     rw fault (inl (sym says ∙ told))
 
 pub loop-line-preserved : goal.loop-line-preserved
 loop-line-preserved c =
     let says = rw c.in-Some.ensures.lines at c.loop-line.invariant.says in
-    let next = first_next (parts_held c.loop-line.parts) c.loop-line.number _ _ _ c.in_ok-said.ensures.value in
-    let added : parts_held c.add.new.self ≡ with_line (parts_held c.loop-line.parts) c.loop-line.number c.in_ok-said.said = c.in_ok-add.ensures in
+    let next = first_next (stored_parts c.loop-line.parts) c.loop-line.number _ _ _ c.in_ok-said.ensures.value in
+    let added : stored_parts c.add.new.self ≡ with_line (stored_parts c.loop-line.parts) c.loop-line.number c.in_ok-said.said = c.in_ok-add.ensures in
     record {
       says = rw added (sym next ∙ says);
       number = omega (arith, c.in-Some.ensures.shorter);
     }
 
 pub returns : goal.returns
-returns c = sym (rw c.in_default.ensures.lines at c.loop-line.invariant.says) ∙ first_end (parts_held c.loop-line.parts) _
+returns c = sym (rw c.in_default.ensures.lines at c.loop-line.invariant.says) ∙ first_end (stored_parts c.loop-line.parts) _

@@ -2,7 +2,7 @@ use Rattle.std.proofs.Common.{◌≡◌, rules, arith}
 use Rattle.std.proofs.lemmas.Result.{err_from_is_err_and}
 use Rattle.trlab_code.specs.Program.{IsProgram}
 use Rattle.trlab_code.specs.Spelling.{spelling}
-use Rattle.trlab_code.specs.Faults.{FirstFault}
+use Rattle.trlab_code.specs.Faults.{IsFirstFault}
 use Rattle.trlab_code.specs.declared.fault.CodeFault.TheVariants as fault
 use Rattle.trlab_code.proofs.Whole.{spelling_of_parts, found_fault, told_fault, found_program, told_program}
 use Rattle.trlab_code.proofs.decoding.decode.Goals as goal
@@ -20,7 +20,7 @@ returns-in_err-instrs-clause-found c = let p = err_from_is_err_and c.from_residu
 pub returns-in_err-instrs-clause-told : goal.returns-in_err-instrs-clause-told
 returns-in_err-instrs-clause-told c = let p = err_from_is_err_and c.from_residual-in_err-instrs.result c.from_residual-in_err-instrs.ensures.1 in rw (p.1, p.2) (told_fault _ _ c.in_err-instrs.ensures.fault)
 
-trailing : (c : After-drop-instrs) → FirstFault c.args.bytes.now fault.Trailing
+trailing : (c : After-drop-instrs) → IsFirstFault c.args.bytes.now fault.Trailing
 trailing c = (rw c.in_ok-header.ensures.count c.in_ok-instrs.ensures.rows, omega (arith, c.in_ok-header.ensures.count))
 
 pub returns-then-header-bytes-clause-found : goal.returns-then-header-bytes-clause-found

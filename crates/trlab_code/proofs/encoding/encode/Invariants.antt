@@ -1,8 +1,9 @@
 use Rattle.std.proofs.Common.{◌≡◌, ◌++◌, take, length}
 use Rattle.std.specs.List.{flat_map}
+use Rattle.trlab_code.specs.Program.{version_of}
 use Rattle.trlab_code.specs.Spelling.{header, instr_bytes}
 use Rattle.trlab_code.proofs.encoding.encode.Given as goal
 
 abbrev pub invariant-loop-instr : goal.invariant-loop-instr
 invariant-loop-instr l =
-    l.bytes.items ≡ header l.code.kind (length l.code.instrs) ++ flat_map instr_bytes (take l.instr-index l.instrs)
+    l.bytes.items ≡ header (version_of l.code) l.code.kind (length l.code.instrs) ++ flat_map instr_bytes (take l.instr-index l.instrs)

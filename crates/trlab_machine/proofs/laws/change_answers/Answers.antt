@@ -1,4 +1,4 @@
-use Rattle.trlab_machine.proofs.Choices.{change_answers}
+use Rattle.trlab_machine.proofs.Crossings.{change_answers}
 use Rattle.trlab_machine.proofs.laws.change_answers.Goals as goal
 
 pub returns : goal.returns

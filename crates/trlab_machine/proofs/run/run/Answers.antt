@@ -1,4 +1,5 @@
 use Rattle.std.proofs.Common.{rules, ◌+◌, ◌*◌, ◌<◌, ◌≤◌, length, arith, sym, ◌∙◌, add-one}
+use Rattle.std.proofs.lemmas.Bool.{eq-eqb, ne_eqb}
 use Rattle.trlab_machine.proofs.Underway.{inside}
 use Rattle.trlab_machine.proofs.OnWay.{starts, wrote, fell, jumped, ended}
 use Rattle.trlab_machine.proofs.Stores.{at_written, at_others}
@@ -22,21 +23,27 @@ overflow_add-pc c =
     let few : c.run.pc + 1 ≤ 128 = omega (arith, c.requires.few) in
     grind (arith, few)
 
-pub run-preserved-in-Write : goal.run-preserved-in-Write
-run-preserved-in-Write c = record {
+pub run-preserved-in-Writes : goal.run-preserved-in-Writes
+run-preserved-in-Writes c = record {
   eight = search rules;
   car =
-      let in_range : c.index.result < length c.run.registers = omega (arith, c.index.ensures.in_range, c.run.invariant.eight) in
-      rw add-one (wrote c.run.invariant.car _ _ c.in-Write.register c.in-Write.number (sym c.act.ensures ∙ c.in-Write.is)
-      (at_written c.run.registers c.in-Write.register c.index.result c.in-Write.number c.index.ensures.value in_range)
-      (at_others c.run.registers c.in-Write.register c.index.result c.in-Write.number c.index.ensures.value));
+      let in_range : c.number.result < length c.run.registers = omega (arith, c.number.ensures.in_range, c.run.invariant.eight) in
+      rw add-one (wrote c.run.invariant.car _ _ c.in-Writes.register (sym c.role_of.ensures ∙ c.in-Writes.is)
+      (at_written c.run.registers c.in-Writes.register c.number.result c.result_number-number.result c.number.ensures.value in_range ∙ c.result_number-number.ensures)
+      (at_others c.run.registers c.in-Writes.register c.number.result c.result_number-number.result c.number.ensures.value));
 }
 
-pub run-preserved-in-Fall : goal.run-preserved-in-Fall
-run-preserved-in-Fall c = record { eight = c.run.invariant.eight; car = rw add-one (fell c.run.invariant.car _ (sym c.act.ensures ∙ c.in-Fall.is)) }
+pub run-preserved-then-number-eq1 : goal.run-preserved-then-number-eq1
+run-preserved-then-number-eq1 c = record {
+  eight = c.run.invariant.eight;
+  car = jumped c.run.invariant.car _ c.in-Jumps.target (sym c.role_of.ensures ∙ c.in-Jumps.is) (rw (← c.result_number-number.ensures) (eq-eqb _ 1 c.if-number-eq1.true));
+}
 
 pub run-preserved : goal.run-preserved
-run-preserved c = record { eight = c.run.invariant.eight; car = jumped c.run.invariant.car _ c.in-Jump.target (sym c.act.ensures ∙ c.in-Jump.is) }
+run-preserved c = record {
+  eight = c.run.invariant.eight;
+  car = rw add-one (fell c.run.invariant.car _ c.in-Jumps.target (sym c.role_of.ensures ∙ c.in-Jumps.is) (rw (← c.result_number-number.ensures) (ne_eqb _ 1 c.if-number-eq1.false)));
+}
 
-pub returns-in-End-clause-ends : goal.returns-in-End-clause-ends
-returns-in-End-clause-ends c = (ended c.run.invariant.car _ c.in-End.answer (sym c.act.ensures ∙ c.in-End.is)).0
+pub returns-in-Ends-clause-ends : goal.returns-in-Ends-clause-ends
+returns-in-Ends-clause-ends c = rw c.result_number-number.ensures (ended c.run.invariant.car _ (sym c.role_of.ensures ∙ c.in-Ends.is)).0

@@ -1,5 +1,5 @@
 use Rattle.std.proofs.Common.{◌≡◌, take}
-use Rattle.trlab_road.specs.Lists.{lists_of}
+use Rattle.trlab_road.specs.Stored.{lists_of}
 use Rattle.trlab_road.proofs.lanes.copy_lanes.Given as goal
 
 -- the first lanes are copied

@@ -1,6 +1,6 @@
 use Rattle.std.proofs.Common.{◌≡◌, ◌≤◌, ◌*◌, length, take}
 use Rattle.std.specs.Prelude.{sum_by}
-use Rattle.trlab_road.specs.Lists.{lists_of}
+use Rattle.trlab_road.specs.Stored.{lists_of}
 use Rattle.trlab_road.proofs.lanes.count_cars.Given as goal
 
 -- the cars of the first lists

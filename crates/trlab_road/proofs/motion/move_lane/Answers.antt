@@ -1,7 +1,7 @@
-use Rattle.std.proofs.Common.{◌≡◌, ◌+◌, ◌<◌, ◌-◌, ℕ, [], ◌∷◌, ◌++◌, List, length, vec_len, vec_capacity, get_or, sym, ◌∙◌, ap, refl, subst, arith}
+use Rattle.std.proofs.Common.{◌≡◌, ◌+◌, ◌<◌, ℕ, [], ◌∷◌, List, length, vec_len, vec_capacity, get_or, sym, ◌∙◌, ap, refl, arith}
 use Rattle.trlab_road.specs.declared.lane_car.LaneCar.{LaneCar}
-use Rattle.trlab_road.specs.Lists.{cells_of, no_car, place_of}
-use Rattle.trlab_road.specs.Motion.{LaneMoves, lane_answer}
+use Rattle.trlab_road.specs.Stored.{cells_of, place_of, lane_answer}
+use Rattle.trlab_road.specs.Motion.{LaneMoves}
 use Rattle.trlab_road.proofs.ListMotion.{answer_kth, reach_fits, last_kth, size_whole, led_none, led_kth, led_short, led_more, led_straight, led_round, Moved, moved_all, moved_none, led_moved}
 use Rattle.trlab_road.proofs.motion.move_lane.Goals as goal
 

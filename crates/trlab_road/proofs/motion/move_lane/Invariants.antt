@@ -1,6 +1,5 @@
 use Rattle.std.proofs.Common.{◌≡◌, vec_capacity}
-use Rattle.trlab_road.specs.Lists.{cells_of}
-use Rattle.trlab_road.specs.Motion.{lane_answer}
+use Rattle.trlab_road.specs.Stored.{cells_of, lane_answer}
 use Rattle.trlab_road.proofs.ListMotion.{Led}
 use Rattle.trlab_road.proofs.motion.move_lane.Given as goal
 

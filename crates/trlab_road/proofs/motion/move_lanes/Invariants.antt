@@ -2,7 +2,7 @@ use Rattle.std.proofs.Common.{◌≡◌, ◌<◌, ◌≤◌, ℕ, take}
 use Rattle.std.specs.Prelude.{sum_by}
 use Rattle.trlab_road.specs.Cells.{lane_cars}
 use Rattle.trlab_road.specs.Motion.{LaneMoves}
-use Rattle.trlab_road.specs.Lists.{Rises, lanes_from, cells_of, list_at, list_answer}
+use Rattle.trlab_road.specs.Stored.{Rises, lanes_from, cells_of, list_at, list_answer}
 use Rattle.trlab_road.proofs.motion.move_lanes.Given as goal
 
 -- the cars of the first lanes have moved, and the others stand yet

@@ -3,8 +3,8 @@ use Rattle.std.proofs.lemmas.List.{length-map, length_push, map-append}
 use Rattle.trlab_bounds.specs.declared.roads.TheConstants.{GREATEST_LENGTH}
 use Rattle.trlab_road.specs.declared.lane_car.LaneCar.{LaneCar}
 use Rattle.trlab_road.specs.Cells.{Lane, lane_cars}
-use Rattle.trlab_road.specs.Lists.{Rises, cells_of, lanes_from}
-use Rattle.trlab_road.specs.Pictures.{ShowsCell, picture_at, byte_at, drawn_lane, drawn_lanes}
+use Rattle.trlab_road.specs.Stored.{Rises, cells_of, lanes_from, lane_of_picture, lanes_of_pictures}
+use Rattle.trlab_road.specs.Pictures.{ShowsCell, picture_at, character_at}
 use Rattle.trlab_road.proofs.PictureLaws.{picture_read, drawn_few}
 use Rattle.trlab_road.proofs.Lists.{cars_of_list}
 use Rattle.trlab_road.proofs.ListRoads.{one_more}
@@ -17,31 +17,31 @@ draw_lane-requires-clause-shown c =
     let size = length-map c.args.pictures.now (λ s. s.now) in
     let on : i < length ps = rw size c.loop-picture-test.true in
     let read = picture_read c.args.pictures.now i in
-    let all : (x : ℕ) → x < length (picture_at ps i) → ShowsCell 9 (byte_at ps i x) = λ x h. c.requires.good.cells i x on h in
+    let all : (x : ℕ) → x < length (picture_at ps i) → ShowsCell 9 (character_at ps i x) = λ x h. c.requires.good.cells i x on h in
     rw read at all
 
 pub draw_lane-requires-clause-small : goal.draw_lane-requires-clause-small
 draw_lane-requires-clause-small c =
     let i = c.loop-picture.picture-index in
     let size = length-map c.args.pictures.now (λ s. s.now) in
-    let same = c.requires.good.equal.equal_lanes i (rw size c.loop-picture-test.true) in
+    let same = c.requires.good.shape.lengths.equal i (rw size c.loop-picture-test.true) in
     let read = ap length (picture_read c.args.pictures.now i) in
-    let high = c.requires.good.equal.cells_high in
+    let high = c.requires.good.shape.lengths.cells.few_cells in
     omega (arith, same, read, high)
 
 -- a lane that was drawn: its list is sorted, and it has few cars
 record LaneDrawn (n number : ℕ) (bytes : List ℕ) (cars : List LaneCar) : Type 0 where
   pub rises : Rises 0 n cars
-  pub is : cells_of n cars ≡ drawn_lane number bytes
+  pub is : cells_of n cars ≡ lane_of_picture number bytes
   pub few : length cars ≤ GREATEST_LENGTH
-  pub counted : length cars ≡ lane_cars (drawn_lane number bytes)
+  pub counted : length cars ≡ lane_cars (lane_of_picture number bytes)
 
 one_drawn : (n number : ℕ) (bytes now : List ℕ) (cars : List LaneCar) → bytes ≡ now → length bytes ≡ n → n ≤ GREATEST_LENGTH
-    → Rises 0 (length now) cars → cells_of (length now) cars ≡ drawn_lane number now → LaneDrawn n number bytes cars
+    → Rises 0 (length now) cars → cells_of (length now) cars ≡ lane_of_picture number now → LaneDrawn n number bytes cars
 one_drawn n number bytes now cars read size small rises is =
     let e : length now ≡ n = sym (ap length read) ∙ size in
     let r : Rises 0 n cars = subst (λ k. Rises 0 k cars) e rises in
-    let d : cells_of n cars ≡ drawn_lane number bytes = subst (λ k. cells_of k cars ≡ drawn_lane number bytes) e (is ∙ ap (drawn_lane number) (sym read)) in
+    let d : cells_of n cars ≡ lane_of_picture number bytes = subst (λ k. cells_of k cars ≡ lane_of_picture number bytes) e (is ∙ ap (lane_of_picture number) (sym read)) in
     let counted = sym (cars_of_list n cars r) ∙ ap lane_cars d in
     let few = drawn_few number bytes in
     record { rises = r; is = d; few = omega (arith, few, counted, size, small); counted = counted }
@@ -51,16 +51,16 @@ cons_path e f = cc
 
 -- one more lane
 more_drawn : (cells : ℕ) (lanes : List (Vec LaneCar Global)) (v : Vec LaneCar Global) (ps : List (List ℕ)) (i n k : ℕ) (whole : List Lane)
-    → i < length ps → cells_of cells v.items ≡ drawn_lane n (picture_at ps i) → k ≡ lane_cars (drawn_lane n (picture_at ps i))
-    → lanes_from cells lanes ++ drawn_lanes n (drop i ps) ≡ whole → lanes_from cells (lanes ++ v ∷ []) ++ drawn_lanes (n + k) (drop (i + 1) ps) ≡ whole
+    → i < length ps → cells_of cells v.items ≡ lane_of_picture n (picture_at ps i) → k ≡ lane_cars (lane_of_picture n (picture_at ps i))
+    → lanes_from cells lanes ++ lanes_of_pictures n (drop i ps) ≡ whole → lanes_from cells (lanes ++ v ∷ []) ++ lanes_of_pictures (n + k) (drop (i + 1) ps) ≡ whole
 more_drawn cells lanes v ps i n k whole on drawn counted before =
     let rest = drop (i + 1) ps in
     let bytes = picture_at ps i in
     let parts : drop i ps ≡ bytes ∷ rest = rw (add-one, drop-cons ps i []) refl in
-    let e : cells_of cells v.items ∷ drawn_lanes (n + k) rest ≡ drawn_lanes n (drop i ps) =
-    cons_path drawn (ap (λ q. drawn_lanes (n + q) rest) counted) ∙ sym (ap (drawn_lanes n) parts) in
-    ap (λ xs. xs ++ drawn_lanes (n + k) rest) (map-append (λ (w : Vec LaneCar Global). cells_of cells w.items) lanes (v ∷ []))
-    ∙ append_assoc (lanes_from cells lanes) (cells_of cells v.items ∷ []) (drawn_lanes (n + k) rest) ∙ ap (λ r. lanes_from cells lanes ++ r) e ∙ before
+    let e : cells_of cells v.items ∷ lanes_of_pictures (n + k) rest ≡ lanes_of_pictures n (drop i ps) =
+    cons_path drawn (ap (λ q. lanes_of_pictures (n + q) rest) counted) ∙ sym (ap (lanes_of_pictures n) parts) in
+    ap (λ xs. xs ++ lanes_of_pictures (n + k) rest) (map-append (λ (w : Vec LaneCar Global). cells_of cells w.items) lanes (v ∷ []))
+    ∙ append_assoc (lanes_from cells lanes) (cells_of cells v.items ∷ []) (lanes_of_pictures (n + k) rest) ∙ ap (λ r. lanes_from cells lanes ++ r) e ∙ before
 
 pub overflow_cast-number : goal.overflow_cast-number
 overflow_cast-number c =
@@ -68,9 +68,9 @@ overflow_cast-number c =
     let ps = map (λ s. s.now) c.args.pictures.now in
     let count = length-map c.args.pictures.now (λ s. s.now) in
     let on : i < length ps = rw count c.loop-picture-test.true in
-    let same = c.requires.good.equal.equal_lanes i on in
+    let same = c.requires.good.shape.lengths.equal i on in
     let first = c.requires.first in
-    let high = c.requires.good.equal.cells_high in
+    let high = c.requires.good.shape.lengths.cells.few_cells in
     let lane = one_drawn c.args.cells c.loop-picture.number (picture_at ps i) _ c.in_ok-cars.cars.items (picture_read c.args.pictures.now i)
     (omega (arith, same, first)) (omega (arith, high, first)) c.in_ok-cars.ensures.rises c.in_ok-cars.ensures.drawn in
     let whole = c.in_ok-cars.cars.ok.0 in
@@ -84,16 +84,16 @@ overflow_add-number c =
     let ps = map (λ s. s.now) c.args.pictures.now in
     let count = length-map c.args.pictures.now (λ s. s.now) in
     let on : i < length ps = rw count c.loop-picture-test.true in
-    let same = c.requires.good.equal.equal_lanes i on in
+    let same = c.requires.good.shape.lengths.equal i on in
     let first = c.requires.first in
-    let high = c.requires.good.equal.cells_high in
+    let high = c.requires.good.shape.lengths.cells.few_cells in
     let lane = one_drawn c.args.cells c.loop-picture.number (picture_at ps i) _ c.in_ok-cars.cars.items (picture_read c.args.pictures.now i)
     (omega (arith, same, first)) (omega (arith, high, first)) c.in_ok-cars.ensures.rises c.in_ok-cars.ensures.drawn in
     let whole = c.in_ok-cars.cars.ok.0 in
     let size = c.len.ensures in
     let few = lane.few in
     let before = c.loop-picture.invariant.few in
-    let two = c.requires.good.few.two_lanes in
+    let two = c.requires.good.shape.lanes.few_lanes in
     let test = c.loop-picture-test.true in
     omega (arith, few, size, whole, before, two, test, count)
 
@@ -103,9 +103,9 @@ loop-picture-preserved c =
     let ps = map (λ s. s.now) c.args.pictures.now in
     let count = length-map c.args.pictures.now (λ s. s.now) in
     let on : i < length ps = rw count c.loop-picture-test.true in
-    let same = c.requires.good.equal.equal_lanes i on in
+    let same = c.requires.good.shape.lengths.equal i on in
     let first = c.requires.first in
-    let high = c.requires.good.equal.cells_high in
+    let high = c.requires.good.shape.lengths.cells.few_cells in
     let lane = one_drawn c.args.cells c.loop-picture.number (picture_at ps i) _ c.in_ok-cars.cars.items (picture_read c.args.pictures.now i)
     (omega (arith, same, first)) (omega (arith, high, first)) c.in_ok-cars.ensures.rises c.in_ok-cars.ensures.drawn in
     let whole = c.in_ok-cars.cars.ok.0 in

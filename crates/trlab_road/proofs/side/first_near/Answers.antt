@@ -1,5 +1,5 @@
 use Rattle.std.proofs.Common.{◌<◌, ◌≤◌, ◌-◌, arith, length}
-use Rattle.trlab_road.specs.Lists.{place_of}
+use Rattle.trlab_road.specs.Stored.{place_of}
 use Rattle.trlab_road.proofs.Lists.{rises_weakly}
 use Rattle.trlab_road.proofs.side.first_near.Goals as goal
 

@@ -1,5 +1,5 @@
 use Rattle.std.proofs.Common.{ℕ, ◌<◌, length}
-use Rattle.trlab_road.specs.Lists.{place_of}
+use Rattle.trlab_road.specs.Stored.{place_of}
 use Rattle.trlab_road.proofs.side.first_near.Given as goal
 
 abbrev pub invariant-loop-next : goal.invariant-loop-next

@@ -1,5 +1,5 @@
 use Rattle.std.proofs.Common.{◌≢◌, ◌<◌, ◌∙◌, length, sym, arith}
-use Rattle.trlab_road.specs.Lists.{place_of}
+use Rattle.trlab_road.specs.Stored.{place_of}
 use Rattle.trlab_road.proofs.ListSides.{taken, taken_ahead, taken_behind, free, free_ahead, free_behind, free_parted, free_past}
 use Rattle.trlab_road.proofs.side.look_beside.Goals as goal
 use Rattle.trlab_road.proofs.side.look_beside.Goals.{else-next-cars-via-then-next-cars+else-cars-next, else-next-cars-via-else-next-cars}

@@ -1,7 +1,7 @@
 use Rattle.std.proofs.Common.{◌≡◌, ◌≢◌, ◌*◌, ◌/◌, ◌<◌, ◌≤◌, mod-lt, ℕ, zero, suc, [], ◌∷◌, Vec, Global, refl, arith}
 use Rattle.trlab_road.specs.declared.lane_car.LaneCar.{LaneCar}
-use Rattle.trlab_road.specs.Spreading.{LaneEven, even_lane}
-use Rattle.trlab_road.specs.Lists.{cells_of, list_at}
+use Rattle.trlab_road.specs.Spreading.{IsEvenLane, even_lane}
+use Rattle.trlab_road.specs.Stored.{cells_of, list_at}
 use Rattle.trlab_road.proofs.EvenLanes.{even_all}
 use Rattle.trlab_road.proofs.ListEven.{EvenList, list_none, list_skip, list_more}
 use Rattle.trlab_road.proofs.spreading.even_lanes.Goals as goal
@@ -46,7 +46,7 @@ loop-number-preserved c =
 
 -- where all cars stand, the lanes are even
 two_even : (lanes cells n i : ℕ) (a b : Vec LaneCar Global) → n ≤ i → i ≤ n → lanes ≤ 2 → EvenList lanes cells n 0 i a.items → EvenList lanes cells n 1 i b.items
-    → (l : ℕ) → l < lanes → LaneEven lanes cells n l (cells_of cells (list_at (a ∷ b ∷ []) l))
+    → (l : ℕ) → l < lanes → IsEvenLane lanes cells n l (cells_of cells (list_at (a ∷ b ∷ []) l))
 two_even lanes cells n i a b whole within few first second zero h = even_all lanes cells n 0 i _ whole within first.even
 two_even lanes cells n i a b whole within few first second (suc zero) h = even_all lanes cells n 1 i _ whole within second.even
 two_even lanes cells n i a b whole within few first second (suc (suc l)) h = absurd (omega (arith, few, h))

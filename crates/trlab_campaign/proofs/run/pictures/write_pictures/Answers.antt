@@ -1,7 +1,7 @@
 use Rattle.std.proofs.Common.{◌≡◌, ◌+◌, ◌-◌, ap, arith}
 use Rattle.std.proofs.lemmas.Result.{err_from_is_err_and}
 use Rattle.trlab_jobs.specs.Job.{Job}
-use Rattle.trlab_jobs.specs.Plain.{IsPlain}
+use Rattle.trlab_jobs.specs.Stored.{IsStored}
 use Rattle.trlab_campaign.proofs.Running.{begin, begin_run, drive_on, driven_road, wrote, went_on, stop_within, stop_behind, last_whole, last_front}
 use Rattle.trlab_campaign.proofs.run.pictures.write_pictures.Goals as goal
 
@@ -9,7 +9,7 @@ pub loop-step-init : goal.loop-step-init
 loop-step-init g c =
     let steps : c.job.inside.steps ≡ c.args.job.steps = ap (λ (job : Job). job.steps) c.job.view_is in
     let all : c.job.inside.steps - 0 ≡ c.args.job.steps = omega arith in
-    let plain : IsPlain c.args.job = rw (← c.job.view_is) c.job.invariant in
+    let plain : IsStored c.args.job = rw (← c.job.view_is) c.job.invariant in
     record {
       underway = rw all (begin c.args.job _ plain);
       drives = rw c.run_of-run.ensures (begin_run c.args.job);

@@ -2,7 +2,7 @@ use Rattle.std.proofs.Common.{◌≡◌, ◌<◌, ◌-◌, ◌∙◌, ℕ, false
 use Rattle.trlab_road.specs.declared.lane_car.LaneCar.{LaneCar}
 use Rattle.trlab_road.specs.Cells.{Lane}
 use Rattle.trlab_road.specs.Gaps.{side, sideback, sidegap}
-use Rattle.trlab_road.specs.Lists.{FoundAt, cells_of, lanes_from, list_at, place_of}
+use Rattle.trlab_road.specs.Stored.{IsFoundAt, cells_of, lanes_from, list_at, place_of}
 use Rattle.trlab_road.proofs.ListRoads.{below_counted, few_cells, found_by, found_in_order, found_inside, lane_from, lanes_count, length_first}
 use Rattle.trlab_road.proofs.road.Road.beside.Goals as goal
 
@@ -17,7 +17,7 @@ look_beside-requires-clause-small c = few_cells c.self.inside.cells c.self.insid
 pub look_beside-requires-clause-inside : goal.look_beside-requires-clause-inside
 look_beside-requires-clause-inside c =
     let n = c.self.inside.cells in
-    let f = subst (λ (ls : List (Vec LaneCar Global)). FoundAt ls c.args.k c.find-lane.result.0 c.find-lane.result.1) c.deref.ensures.value c.find-lane.ensures in
+    let f = subst (λ (ls : List (Vec LaneCar Global)). IsFoundAt ls c.args.k c.find-lane.result.0 c.find-lane.result.1) c.deref.ensures.value c.find-lane.ensures in
     rw (c.list_of.ensures, c.deref-2.ensures.value) (found_inside n c.self.inside.lanes.items c.self.inside.limit _ _ _ c.self.invariant.sorted f)
 
 -- what was told of the lane that was looked at is told of the lane beside
@@ -32,7 +32,7 @@ pub returns-clause-value : goal.returns-clause-value
 returns-clause-value c =
     let n = c.self.inside.cells in
     let lists = c.self.inside.lanes.items in
-    let f = subst (λ (ls : List (Vec LaneCar Global)). FoundAt ls c.args.k c.find-lane.result.0 c.find-lane.result.1) c.deref.ensures.value c.find-lane.ensures in
+    let f = subst (λ (ls : List (Vec LaneCar Global)). IsFoundAt ls c.args.k c.find-lane.result.0 c.find-lane.result.1) c.deref.ensures.value c.find-lane.ensures in
     let two = rw (← c.self.view_is) at c.requires.two in
     let count = lanes_count n lists c.self.inside.limit c.self.invariant in
     rw (← c.self.view_is) (found_in_order (λ l x. side (get_or (lanes_from n lists) (1 - l) []) x) n lists c.self.inside.limit _ _ _ c.self.invariant.sorted f c.look_beside.result.is_empty
@@ -42,7 +42,7 @@ pub returns-clause-empty : goal.returns-clause-empty
 returns-clause-empty c =
     let n = c.self.inside.cells in
     let lists = c.self.inside.lanes.items in
-    let f = subst (λ (ls : List (Vec LaneCar Global)). FoundAt ls c.args.k c.find-lane.result.0 c.find-lane.result.1) c.deref.ensures.value c.find-lane.ensures in
+    let f = subst (λ (ls : List (Vec LaneCar Global)). IsFoundAt ls c.args.k c.find-lane.result.0 c.find-lane.result.1) c.deref.ensures.value c.find-lane.ensures in
     let two = rw (← c.self.view_is) at c.requires.two in
     let count = lanes_count n lists c.self.inside.limit c.self.invariant in
     rw (← c.self.view_is) (found_by (λ l x. side (get_or (lanes_from n lists) (1 - l) []) x) n lists c.self.inside.limit _ _ _ c.self.invariant.sorted f c.look_beside.result.is_empty
@@ -52,7 +52,7 @@ pub returns-clause-ahead : goal.returns-clause-ahead
 returns-clause-ahead c =
     let n = c.self.inside.cells in
     let lists = c.self.inside.lanes.items in
-    let f = subst (λ (ls : List (Vec LaneCar Global)). FoundAt ls c.args.k c.find-lane.result.0 c.find-lane.result.1) c.deref.ensures.value c.find-lane.ensures in
+    let f = subst (λ (ls : List (Vec LaneCar Global)). IsFoundAt ls c.args.k c.find-lane.result.0 c.find-lane.result.1) c.deref.ensures.value c.find-lane.ensures in
     let two = rw (← c.self.view_is) at c.requires.two in
     let count = lanes_count n lists c.self.inside.limit c.self.invariant in
     rw (← c.self.view_is) (found_by (λ l x. sidegap (get_or (lanes_from n lists) (1 - l) []) x) n lists c.self.inside.limit _ _ _ c.self.invariant.sorted f c.look_beside.result.ahead
@@ -62,7 +62,7 @@ pub returns-clause-behind : goal.returns-clause-behind
 returns-clause-behind c =
     let n = c.self.inside.cells in
     let lists = c.self.inside.lanes.items in
-    let f = subst (λ (ls : List (Vec LaneCar Global)). FoundAt ls c.args.k c.find-lane.result.0 c.find-lane.result.1) c.deref.ensures.value c.find-lane.ensures in
+    let f = subst (λ (ls : List (Vec LaneCar Global)). IsFoundAt ls c.args.k c.find-lane.result.0 c.find-lane.result.1) c.deref.ensures.value c.find-lane.ensures in
     let two = rw (← c.self.view_is) at c.requires.two in
     let count = lanes_count n lists c.self.inside.limit c.self.invariant in
     rw (← c.self.view_is) (found_by (λ l x. sideback (get_or (lanes_from n lists) (1 - l) []) x) n lists c.self.inside.limit _ _ _ c.self.invariant.sorted f c.look_beside.result.behind

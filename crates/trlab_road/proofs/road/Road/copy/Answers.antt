@@ -1,6 +1,6 @@
 use Rattle.std.proofs.Common.{◌∙◌, ap, refl, sym, subst}
-use Rattle.trlab_road.specs.Lists.{lists_of}
-use Rattle.trlab_road.specs.Legal.{Legal}
+use Rattle.trlab_road.specs.Stored.{lists_of}
+use Rattle.trlab_road.specs.Legal.{IsLegal}
 use Rattle.trlab_road.proofs.SameLists.{same_road, same_sorted}
 use Rattle.trlab_road.proofs.road.Road.copy.Goals as goal
 
@@ -8,7 +8,7 @@ pub invariant_of-result : goal.invariant_of-result
 invariant_of-result c =
     let same = c.in_ok-lanes.ensures ∙ ap lists_of c.deref.ensures.value in
     record {
-      legal = subst Legal (sym (same_road c.self.inside.limit c.self.inside.limit c.self.inside.cells c.self.inside.cells c.in_ok-lanes.lanes.items c.self.inside.lanes.items refl refl same)) c.self.invariant.legal;
+      legal = subst IsLegal (sym (same_road c.self.inside.limit c.self.inside.limit c.self.inside.cells c.self.inside.cells c.in_ok-lanes.lanes.items c.self.inside.lanes.items refl refl same)) c.self.invariant.legal;
       sorted = same_sorted c.self.inside.cells c.in_ok-lanes.lanes.items c.self.inside.lanes.items same c.self.invariant.sorted;
     }
 

@@ -1,6 +1,6 @@
 use Rattle.std.proofs.Common.{◌≡◌, ◌∙◌, sym, ap}
 use Rattle.std.proofs.lemmas.Bool.{eqb-true, eq-eqb}
-use Rattle.trlab_road.specs.Lists.{lists_of}
+use Rattle.trlab_road.specs.Stored.{lists_of}
 use Rattle.trlab_road.proofs.SameLists.{same_road, told_limit, told_length, told_road}
 use Rattle.trlab_road.proofs.road.Road.equals.Goals as goal
 use Rattle.trlab_road.proofs.road.Road.equals.Goals.{then-self-other, else-self-other}

@@ -1,4 +1,3 @@
-use Rattle.std.proofs.Common.{sym, ◌∙◌}
 use Rattle.trlab_road.proofs.MotionInOrder.{moves_in_order, allowed_legal, allowed_clean}
 use Rattle.trlab_road.proofs.ListRoads.{lists_fit, lists_move, allowed_count, few_cells, all_written}
 use Rattle.trlab_road.proofs.road.Road.move_cars.Goals as goal

@@ -1,17 +1,18 @@
 use Rattle.std.proofs.Common.{◌≡◌, ℕ, List, sym, subst}
 use Rattle.std.proofs.lemmas.Result.{err_from_is_err_and}
 use Rattle.trlab_road.specs.Cells.{Lane, Cells}
-use Rattle.trlab_road.specs.Legal.{Legal}
-use Rattle.trlab_road.specs.Pictures.{GoodPictures, Shows, drawn_lanes}
+use Rattle.trlab_road.specs.Legal.{IsLegal}
+use Rattle.trlab_road.specs.Pictures.{AreGoodPictures, Shows}
 use Rattle.trlab_road.proofs.PictureLaws.{draws, shown_legal, one_shown}
 use Rattle.trlab_road.proofs.PictureFaults.{no_fault_shown, told_fault, told_road}
 use Rattle.trlab_road.proofs.road.Road.parse.Goals as goal
+use Rattle.trlab_road.specs.Stored.{lanes_of_pictures}
 
 -- what was drawn shows, and is legal
-shows : (limit : ℕ) (ps : List (List ℕ)) (lanes : List Lane) → GoodPictures limit ps → lanes ≡ drawn_lanes 0 ps → Shows limit ps (record { limit = limit; lanes = lanes })
+shows : (limit : ℕ) (ps : List (List ℕ)) (lanes : List Lane) → AreGoodPictures limit ps → lanes ≡ lanes_of_pictures 0 ps → Shows limit ps (record { limit = limit; lanes = lanes })
 shows limit ps lanes good is = subst (λ (xs : List Lane). Shows limit ps (record { limit = limit; lanes = xs })) (sym is) (draws limit ps good)
 
-legal : (limit : ℕ) (ps : List (List ℕ)) (lanes : List Lane) → GoodPictures limit ps → lanes ≡ drawn_lanes 0 ps → Legal (record { limit = limit; lanes = lanes })
+legal : (limit : ℕ) (ps : List (List ℕ)) (lanes : List Lane) → AreGoodPictures limit ps → lanes ≡ lanes_of_pictures 0 ps → IsLegal (record { limit = limit; lanes = lanes })
 legal limit ps lanes good is = shown_legal limit ps _ good (shows limit ps lanes good is)
 
 pub invariant_of-result : goal.invariant_of-result
@@ -27,7 +28,7 @@ pub returns-clause-legal : goal.returns-clause-legal
 returns-clause-legal c = legal c.args.limit _ _ c.in_ok-check_pictures.ensures c.in_ok-lanes.ensures.drawn
 
 same_road : (limit : ℕ) (ps : List (List ℕ)) (next : Cells) → Shows limit ps next → (road : Cells)
-    → Legal road → Shows limit ps road → next ≡ road
+    → IsLegal road → Shows limit ps road → next ≡ road
 same_road limit ps next s road legal other = one_shown limit ps next road s other
 
 pub returns-clause-back : goal.returns-clause-back

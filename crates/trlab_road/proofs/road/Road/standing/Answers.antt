@@ -1,6 +1,6 @@
 use Rattle.std.proofs.Common.{List, Vec, Global, subst}
 use Rattle.trlab_road.specs.declared.lane_car.LaneCar.{LaneCar}
-use Rattle.trlab_road.specs.Lists.{FoundAt}
+use Rattle.trlab_road.specs.Stored.{IsFoundAt}
 use Rattle.trlab_road.proofs.ListRoads.{below_counted, found_standing, found_cell, found_inside, length_first}
 use Rattle.trlab_road.proofs.road.Road.standing.Goals as goal
 
@@ -12,17 +12,17 @@ find-lane-requires-clause-below c =
 pub returns-clause-order : goal.returns-clause-order
 returns-clause-order c =
     let n = c.self.inside.cells in
-    let f = subst (λ (ls : List (Vec LaneCar Global)). FoundAt ls c.args.k c.find-lane.result.0 c.find-lane.result.1) c.deref.ensures.value c.find-lane.ensures in
+    let f = subst (λ (ls : List (Vec LaneCar Global)). IsFoundAt ls c.args.k c.find-lane.result.0 c.find-lane.result.1) c.deref.ensures.value c.find-lane.ensures in
     rw (← c.self.view_is, c.car_of.ensures, c.deref-2.ensures.value) (found_standing n c.self.inside.lanes.items c.self.inside.limit _ _ _ c.self.invariant.sorted f)
 
 pub returns-clause-cell : goal.returns-clause-cell
 returns-clause-cell c =
     let n = c.self.inside.cells in
-    let f = subst (λ (ls : List (Vec LaneCar Global)). FoundAt ls c.args.k c.find-lane.result.0 c.find-lane.result.1) c.deref.ensures.value c.find-lane.ensures in
+    let f = subst (λ (ls : List (Vec LaneCar Global)). IsFoundAt ls c.args.k c.find-lane.result.0 c.find-lane.result.1) c.deref.ensures.value c.find-lane.ensures in
     rw (← c.self.view_is, c.car_of.ensures, c.deref-2.ensures.value) (found_cell n c.self.inside.lanes.items c.self.inside.limit _ _ _ c.self.invariant.sorted f)
 
 pub returns-clause-place : goal.returns-clause-place
 returns-clause-place c =
     let n = c.self.inside.cells in
-    let f = subst (λ (ls : List (Vec LaneCar Global)). FoundAt ls c.args.k c.find-lane.result.0 c.find-lane.result.1) c.deref.ensures.value c.find-lane.ensures in
+    let f = subst (λ (ls : List (Vec LaneCar Global)). IsFoundAt ls c.args.k c.find-lane.result.0 c.find-lane.result.1) c.deref.ensures.value c.find-lane.ensures in
     rw (← c.self.view_is, c.car_of.ensures, c.deref-2.ensures.value, length_first n c.self.inside.lanes.items c.self.inside.limit c.self.invariant) (found_inside n c.self.inside.lanes.items c.self.inside.limit _ _ _ c.self.invariant.sorted f)

@@ -1,13 +1,23 @@
-use Rattle.std.proofs.Common.{◌≡◌, ◌∙◌, ap, arith, add-one}
-use Rattle.std.specs.Prelude.{Err}
-use Rattle.trlab_step.specs.declared.fault.StepFault.TheVariants.{LanesMismatch}
-use Rattle.trlab_run.specs.Reached.{Reached}
+use Rattle.std.proofs.Common.{◌≡◌, ◌∙◌, ℕ, List, ap, arith, add-one, subst}
+use Rattle.trlab_run.specs.Progress.{Progress}
 use Rattle.trlab_run.proofs.OnTheWay.{rule_here, room_for}
 use Rattle.std.proofs.lemmas.Bool.{le-leb, lt-leb}
 use Rattle.std.specs.Prelude.{nat_le, if◌then◌else◌}
 use Rattle.trlab_step.specs.Run.{tally_sum}
+use Rattle.trlab_machine.specs.declared.dice.Dice.{Dice}
+use Rattle.trlab_road.specs.Cells.{Cells}
+use Rattle.trlab_rules.specs.Rules.{Programs}
+use Rattle.trlab_step.specs.Answers.{dice_of}
+use Rattle.trlab_step.specs.declared.tally.StepTally.{StepTally}
+use Rattle.trlab_step.specs.Next.{IsNext}
+use Rattle.trlab_step.proofs.AskedCars.{same_dice}
 use Rattle.trlab_run.proofs.run.Run.advance.Goals.{then-self, else-self}
 use Rattle.trlab_run.proofs.run.Run.advance.Goals as goal
+
+-- the step by the dice of the run
+by_dice_of : (dice : Dice) (key : List ℕ) (number step : ℕ) (rule : Programs) (road next : Cells) (tally : StepTally) → dice.key ≡ key → dice.road ≡ number → dice.step ≡ step
+    → IsNext rule dice road next tally → IsNext rule (dice_of key number step) road next tally
+by_dice_of dice key number step rule road next tally a b d is = subst (λ (one : Dice). IsNext rule one road next tally) (same_dice dice key number step a b d) is
 
 pub take_step-requires : goal.take_step-requires
 take_step-requires g c =
@@ -17,27 +27,27 @@ take_step-requires g c =
 pub tally_sum-self-inside-requires-clause-distance :
     goal.tally_sum-self-inside-requires-clause-distance
 tally_sum-self-inside-requires-clause-distance g c =
-    let room = room_for _ c.in_force.result.now c.take_step.new.road c.in_ok-tally.tally c.self.invariant c.in_ok-tally.ensures.legal c.in_ok-tally.ensures.next in
+    let room = room_for _ c.in_force.result.now c.take_step.new.road c.in_ok-tally.tally c.self.invariant c.in_ok-tally.ensures.legal (by_dice_of c.new-dice.result c.self.inside.key.0 c.self.inside.number c.self.inside.step c.in_force.result.now c.self.inside.road c.take_step.new.road c.in_ok-tally.tally c.new-dice.ensures.key c.new-dice.ensures.road c.new-dice.ensures.step c.in_ok-tally.ensures.next) in
     let few = room.distance in
-    let same : c.self.inside.step ≡ c.args.self.now.step = ap (λ (run : Reached). run.step) c.self.view_is in
+    let same : c.self.inside.step ≡ c.args.self.now.step = ap (λ (run : Progress). run.step) c.self.view_is in
     let early = c.requires in
     omega arith
 
 pub tally_sum-self-inside-requires-clause-stopped :
     goal.tally_sum-self-inside-requires-clause-stopped
 tally_sum-self-inside-requires-clause-stopped g c =
-    let room = room_for _ c.in_force.result.now c.take_step.new.road c.in_ok-tally.tally c.self.invariant c.in_ok-tally.ensures.legal c.in_ok-tally.ensures.next in
+    let room = room_for _ c.in_force.result.now c.take_step.new.road c.in_ok-tally.tally c.self.invariant c.in_ok-tally.ensures.legal (by_dice_of c.new-dice.result c.self.inside.key.0 c.self.inside.number c.self.inside.step c.in_force.result.now c.self.inside.road c.take_step.new.road c.in_ok-tally.tally c.new-dice.ensures.key c.new-dice.ensures.road c.new-dice.ensures.step c.in_ok-tally.ensures.next) in
     let few = room.stopped in
-    let same : c.self.inside.step ≡ c.args.self.now.step = ap (λ (run : Reached). run.step) c.self.view_is in
+    let same : c.self.inside.step ≡ c.args.self.now.step = ap (λ (run : Progress). run.step) c.self.view_is in
     let early = c.requires in
     omega arith
 
 pub tally_sum-self-inside-requires-clause-changes :
     goal.tally_sum-self-inside-requires-clause-changes
 tally_sum-self-inside-requires-clause-changes g c =
-    let room = room_for _ c.in_force.result.now c.take_step.new.road c.in_ok-tally.tally c.self.invariant c.in_ok-tally.ensures.legal c.in_ok-tally.ensures.next in
+    let room = room_for _ c.in_force.result.now c.take_step.new.road c.in_ok-tally.tally c.self.invariant c.in_ok-tally.ensures.legal (by_dice_of c.new-dice.result c.self.inside.key.0 c.self.inside.number c.self.inside.step c.in_force.result.now c.self.inside.road c.take_step.new.road c.in_ok-tally.tally c.new-dice.ensures.key c.new-dice.ensures.road c.new-dice.ensures.step c.in_ok-tally.ensures.next) in
     let few = room.changes in
-    let same : c.self.inside.step ≡ c.args.self.now.step = ap (λ (run : Reached). run.step) c.self.view_is in
+    let same : c.self.inside.step ≡ c.args.self.now.step = ap (λ (run : Progress). run.step) c.self.view_is in
     let early = c.requires in
     omega arith
 
@@ -56,6 +66,6 @@ invariant_of-self-2 g c =
         c.in_force.result.now,
         c.in_ok-tally.tally,
         c.self.invariant.comes,
-        record { under = c.in_force.ensures; next = c.in_ok-tally.ensures.next; counted = counted },
+        record { under = c.in_force.ensures; next = by_dice_of c.new-dice.result c.self.inside.key.0 c.self.inside.number c.self.inside.step c.in_force.result.now c.self.inside.road c.take_step.new.road c.in_ok-tally.tally c.new-dice.ensures.key c.new-dice.ensures.road c.new-dice.ensures.step c.in_ok-tally.ensures.next; counted = counted },
       );
     }

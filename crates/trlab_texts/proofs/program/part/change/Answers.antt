@@ -4,10 +4,10 @@ use Rattle.trlab_texts.proofs.program.part.change.Goals as goal
 
 pub returns-in-Ok : goal.returns-in-Ok
 returns-in-Ok c =
-    verdict_behind Change c.args.place c.in_ok-code.after c.in_ok-code.code c.in-Ok.change c.in_ok-code.ensures
+    verdict_behind Change c.args.rest c.in_ok-code.after c.in_ok-code.code c.in-Ok.change c.in_ok-code.ensures
     c.in-Ok.ensures
 
 pub returns-in-Err : goal.returns-in-Err
 returns-in-Err c =
-    refusal_behind Change c.args.place c.in_ok-code.after c.in_ok-code.code c.number-first.result c.in-Err.fault c.in_ok-code.ensures c.number-first.ensures
+    refusal_behind Change c.args.rest c.in_ok-code.after c.in_ok-code.code c.number-first.result c.in-Err.fault c.in_ok-code.ensures c.number-first.ensures
     c.in-Err.ensures

@@ -3,19 +3,20 @@ use Rattle.std.specs.Option.{is_some}
 use Rattle.std.proofs.lemmas.Option.{slice_get-get_or}
 use Rattle.trlab_code.specs.declared.instruction.Instr.TheVariants.{Num}
 use Rattle.trlab_code.specs.declared.instruction.Register.TheVariants.{R0}
+use Rattle.trlab_notes.specs.Stored.{note_of}
 use Rattle.trlab_verify.specs.Longest.{Follows}
-use Rattle.trlab_notes.specs.Noted.{note_of}
-use Rattle.trlab_verify.specs.Handed.{written_at}
+use Rattle.trlab_verify.specs.TableForm.{meaning_at}
+use Rattle.trlab_notes.specs.declared.reason.Reason.{Reason}
 use Rattle.trlab_notes.proofs.Steps.{clear}
-use Rattle.trlab_verify.proofs.HandedIn.{shown, checked_at}
+use Rattle.trlab_verify.proofs.Forms.{shown, checked_at}
 use Rattle.trlab_verify.proofs.table.check.checks_at.Goals as goal
 use Rattle.trlab_verify.proofs.table.check.checks_at.Goals.{else-pc-gt0-via-then-pc-gt0+else-not-is_reached, else-pc-gt0-via-else-pc-gt0}
 
-none_is : (o : Option ℕ) → false ≡ is_some o → o ≡ None
+none_is : (o : Option Reason) → false ≡ is_some o → o ≡ None
 none_is None e = refl
 none_is (Some n) e = absurd (cc e)
 
-some_is_not : (o : Option ℕ) → o ≡ None → true ≡ is_some o → ⊥
+some_is_not : (o : Option Reason) → o ≡ None → true ≡ is_some o → ⊥
 some_is_not None e f = absurd (cc f)
 some_is_not (Some n) e f = absurd (cc e)
 
@@ -30,7 +31,7 @@ returns-then-not-is_reached c =
 pub returns-then-is_some : goal.returns-then-is_some
 returns-then-is_some c =
     let ei = slice_get-get_or c.args.instrs.now c.args.pc (Num R0 0) c.requires.inside in
-    (λ e. absurd (cc e), λ h. absurd (let s = shown c.args.kind c.args.instrs.now (length c.args.table.now) (written_at c.args.kind c.args.table.now) c.args.pc (note_of c.in-Some.note) (get_or c.args.instrs.now c.args.pc (Num R0 0)) c.requires.one_each c.in-Some.ensures.kept ei h.1 in some_is_not c.reason_against.result (c.reason_against.ensures ∙ s.clear) (sym c.if-is_some.true ∙ c.is_some.ensures)))
+    (λ e. absurd (cc e), λ h. absurd (let s = shown c.args.kind c.args.instrs.now (length c.args.table.now) (meaning_at c.args.kind c.args.table.now) c.args.pc (note_of c.in-Some.note) (get_or c.args.instrs.now c.args.pc (Num R0 0)) c.requires.one_each c.in-Some.ensures.stored ei h.1 in some_is_not c.reason_against.result (c.reason_against.ensures ∙ s.clear) (sym c.if-is_some.true ∙ c.is_some.ensures)))
 
 pub returns-then-fall_checks : goal.returns-then-fall_checks
 returns-then-fall_checks c =
@@ -43,20 +44,20 @@ returns-then-fall_checks c =
     ] in (
       λ e. (
         c.in-Some.ensures.some,
-        checked_at c.args.kind c.args.instrs.now (length c.args.table.now) (written_at c.args.kind c.args.table.now) c.args.pc m i c.requires.one_each c.in-Some.ensures.kept ei (record {
+        checked_at c.args.kind c.args.instrs.now (length c.args.table.now) (meaning_at c.args.kind c.args.table.now) c.args.pc m i c.requires.one_each c.in-Some.ensures.stored ei (record {
           reached = reached;
           clear = sym c.reason_against.ensures ∙ none_is c.reason_against.result (sym c.if-is_some.false ∙ c.is_some.ensures);
           falls = c.fall_checks.ensures.0 c.if-fall_checks.true;
           jumps = c.jump_checks.ensures.0 e;
         }),
       ),
-      λ h. c.jump_checks.ensures.1 (shown c.args.kind c.args.instrs.now (length c.args.table.now) (written_at c.args.kind c.args.table.now) c.args.pc m i c.requires.one_each c.in-Some.ensures.kept ei h.1).jumps,
+      λ h. c.jump_checks.ensures.1 (shown c.args.kind c.args.instrs.now (length c.args.table.now) (meaning_at c.args.kind c.args.table.now) c.args.pc m i c.requires.one_each c.in-Some.ensures.stored ei h.1).jumps,
     )
 
 pub returns-else-fall_checks : goal.returns-else-fall_checks
 returns-else-fall_checks c =
     let ei = slice_get-get_or c.args.instrs.now c.args.pc (Num R0 0) c.requires.inside in
-    (λ e. absurd (both_false c.fall_checks.result e c.if-fall_checks.false), λ h. c.fall_checks.ensures.1 (shown c.args.kind c.args.instrs.now (length c.args.table.now) (written_at c.args.kind c.args.table.now) c.args.pc (note_of c.in-Some.note) (get_or c.args.instrs.now c.args.pc (Num R0 0)) c.requires.one_each c.in-Some.ensures.kept ei h.1).falls)
+    (λ e. absurd (both_false c.fall_checks.result e c.if-fall_checks.false), λ h. c.fall_checks.ensures.1 (shown c.args.kind c.args.instrs.now (length c.args.table.now) (meaning_at c.args.kind c.args.table.now) c.args.pc (note_of c.in-Some.note) (get_or c.args.instrs.now c.args.pc (Num R0 0)) c.requires.one_each c.in-Some.ensures.stored ei h.1).falls)
 
 pub fall_checks-requires-clause-fits : goal.fall_checks-requires-clause-fits
 fall_checks-requires-clause-fits c =

@@ -1,0 +1,16 @@
+-- How the code keeps what the first pass has read: labels in a map, instructions in a list.
+use Rattle.std.specs.Ordering.{nat_cmp}
+use Rattle.std.specs.Cmp.Lexicographic.{slice_cmp}
+use Rattle.std.specs.BTreeMap as tree
+use Rattle.trlab_asm.specs.Reading.{Labels}
+use Rattle.trlab_asm.specs.Assembly.{Parts}
+use Rattle.trlab_asm.specs.declared.labels.Labels.{Labels as Map}
+use Rattle.trlab_asm.specs.declared.parts.Parts.{Parts as Lists}
+
+-- the pc of each name that a map has as a key
+abbrev pub pcs : Map → Labels
+pcs map name = tree.get_by (λ key. slice_cmp nat_cmp name key.now) map.pcs
+
+-- the labels and the instructions that were read
+abbrev pub stored_parts : Lists → Parts
+stored_parts lists = record { labels = pcs lists.labels; reads = lists.reads.items }

@@ -1,7 +1,0 @@
-use Rattle.trlab_campaign.proofs.Endings.{check_refusal_ends}
-use Rattle.trlab_campaign.proofs.check.check_whole.Goals as goal
-
-pub returns-in-Err-At-clause-answer : goal.returns-in-Err-At-clause-answer
-returns-in-Err-At-clause-answer g c =
-    let told = rw c.in-Err-At.field-0-is at c.in-Err-At.ensures in
-    check_refusal_ends c.refuse.result c.args.text.now (record { line = c.in-Err-At.line; cause = c.in-Err-At.cause }) _ _ told c.refuse.ensures.answer

@@ -1,0 +1,7 @@
+use Rattle.trlab_campaign.proofs.Endings.{refusal_ends}
+use Rattle.trlab_campaign.proofs.run.DriverEngine.write.Goals as goal
+
+pub returns-in-Err-At-clause-answer : goal.returns-in-Err-At-clause-answer
+returns-in-Err-At-clause-answer g c =
+    let told = rw c.in-Err-At.field-0-is at c.in-Err-At.ensures.told in
+    refusal_ends c.refuse.result c.args.text.now (record { line = c.in-Err-At.line; cause = c.in-Err-At.cause }) _ _ told c.refuse.ensures.answer

@@ -1,0 +1,57 @@
+//! Engines: each makes outputs of texts. A text is read whole before its engine begins.
+
+ghost use Rattle.std.specs.Prelude.{◌≡◌, ◌+◌, ◌<◌, ◌||◌, ◌↔◌, ℕ, List, length, true, false, IfSome};
+ghost use Rattle.std.specs.Io.KnownBytes.{Keeps};
+ghost use Rattle.trlab_bounds.specs.declared.texts.TheConstants.{TEXT_LIMIT};
+ghost use Rattle.trlab_campaign.specs.Device.{ConsumesUpTo};
+ghost use Rattle.trlab_campaign.specs.Ending.{EndsSo, OnWhole};
+ghost use Rattle.trlab_campaign.specs.Refusal.{Outputs, too_big_line};
+ghost use Rattle.trlab_campaign.specs.declared.end.End.TheVariants.{DeviceFault};
+
+use crate::device::{ReadFault, Sink, Source, read_text};
+use crate::end::End;
+use crate::refusal::refuse;
+use std::alloc::Global;
+use trlab_texts::Cause;
+
+/// What makes the output of a text.
+pub trait Engine: Drop {
+    // The whole outputs that there may be for a text.
+    ghost outputs: { Self → List ℕ → Outputs };
+
+    /// Writes the output of a text, and hands it on.
+    fn write<K: Sink>(self, alloc: Global, text: &[u8], writer: &mut K) -> End
+        requires { K.failed writer.old ≡ false }
+        ensures answer { EndsSo (outputs self text.now) result
+            (K.written writer.old) (K.written writer.new) }
+        ensures handed { OnWhole result (K.handed_on writer.new ≡ true) }
+        ensures device { (result ≡ DeviceFault) ↔ (K.failed writer.new ≡ true) };
+
+    // A text that is too long is refused for that alone.
+    ghost too_big: { (engine : Self) (text : List ℕ)
+        → TEXT_LIMIT < length text → outputs engine text true too_big_line };
+}
+
+/// Reads a text, and lets an engine write its output.
+pub fn run_engine<E: Engine, S: Source, K: Sink>(
+    alloc: Global,
+    engine: E,
+    reader: &mut S,
+    writer: &mut K,
+) -> End
+    requires reader_works { S.failed reader.old ≡ false }
+    requires writer_works { K.failed writer.old ≡ false }
+    ensures answer { IfSome (S.left reader.old)
+        (λ text. EndsSo (E.outputs engine text) result (K.written writer.old) (K.written writer.new)) }
+    ensures silent { S.failed reader.new ≡ true → Keeps (K.written writer.old) (K.written writer.new) }
+    ensures handed { OnWhole result (K.handed_on writer.new ≡ true) }
+    ensures device { (result ≡ DeviceFault) ↔ ((S.failed reader.new || K.failed writer.new) ≡ true) }
+    ensures read { ConsumesUpTo (TEXT_LIMIT + 1) (S.left reader.old) (S.left reader.new) }
+{
+    match read_text(alloc, reader) {
+        Ok(text) => engine.write(alloc, &text, writer),
+        Err(ReadFault::TooBig) => refuse(alloc, 0, Cause::TooBig, writer),
+        Err(ReadFault::Memory) => End::Memory,
+        Err(ReadFault::Device) => End::DeviceFault,
+    }
+}

@@ -1,0 +1,18 @@
+-- Laws of tables.
+use Rattle.std.specs.Prelude.{◌≡◌, ◌<◌, ◌^◌, List, All}
+use Rattle.trlab_diagram.specs.declared.point.Point.{Point}
+use Rattle.trlab_diagram.specs.Table.{points_text}
+
+-- each count is a number of 64 bits
+pub record HasCounts (point : Point) : Type 0 where
+  pub cars : point.cars < 2 ^ 64
+  pub cells : point.cells < 2 ^ 64
+  pub steps : point.steps < 2 ^ 64
+  pub distance : point.distance < 2 ^ 64
+  pub stopped : point.stopped < 2 ^ 64
+  pub changes : point.changes < 2 ^ 64
+
+-- points with the same table are the same points
+abbrev pub TableTellsPoints : Type 0
+TableTellsPoints = (points others : List Point) → All HasCounts points → All HasCounts others
+    → points_text points ≡ points_text others → points ≡ others

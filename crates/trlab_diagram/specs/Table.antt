@@ -1,0 +1,31 @@
+-- The table of some points, in comma-separated values.
+use Rattle.std.specs.Prelude.{ℕ, List, [], ◌∷◌, ◌++◌, map, flat_map, decimal, codes}
+use Rattle.std.specs.List.{join_with_byte}
+use Rattle.trlab_diagram.specs.declared.point.Point.{Point}
+use Rattle.trlab_diagram.specs.Flow.{flow_of}
+
+-- the first line, which names the columns
+abbrev pub heading : List ℕ
+heading = codes "cars,cells,steps,distance,stopped,changes,flow"
+
+-- what the columns have of a point
+abbrev pub numbers : Point → List ℕ
+numbers point =
+    point.cars ∷ point.cells ∷ point.steps
+    ∷ point.distance ∷ point.stopped ∷ point.changes ∷ flow_of point ∷ []
+
+-- the line of a point: these numbers in decimal digits, with a comma between each two
+abbrev pub point_line : Point → List ℕ
+point_line point = join_with_byte 44 (map decimal (numbers point))
+
+-- the lines of the table
+abbrev pub table_lines : List Point → List (List ℕ)
+table_lines points = heading ∷ map point_line points
+
+-- a line, and the LF that ends it
+abbrev pub line_text : List ℕ → List ℕ
+line_text line = line ++ (10 ∷ [])
+
+-- the text of the table
+abbrev pub points_text : List Point → List ℕ
+points_text points = flat_map line_text (table_lines points)

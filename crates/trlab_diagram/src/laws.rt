@@ -1,0 +1,10 @@
+//! Laws of tables, whichever code writes them.
+//!
+//! Each law is the contract of a function with nothing to do.
+
+ghost use Rattle.trlab_diagram.specs.Laws.{TableTellsPoints};
+
+/// A table tells its points: no two lists of points have the same table.
+pub fn table_tells_points()
+    ensures { TableTellsPoints }
+{}

@@ -1,0 +1,34 @@
+//! Points of the diagram, and the flow at each.
+
+ghost use Rattle.std.specs.Prelude.{◌≡◌};
+ghost use Rattle.trlab_diagram.specs.Flow.{IsMeasured, flow_of};
+
+/// A point of the fundamental diagram: what was counted on a road over some steps.
+///
+/// The density, in cars a cell, is `cars / cells`; `flow` tells the flow.
+#[derive(Clone, Copy, Debug, PartialEq, Eq)]
+pub struct Point {
+    /// The cars on the road.
+    pub cars: u64,
+    /// The cells of the road: the length of a lane, times the number of lanes.
+    pub cells: u64,
+    /// The steps over which was counted.
+    pub steps: u64,
+    /// The sum of the speeds of all cars in all these steps, in cells.
+    pub distance: u64,
+    /// How many times a car had speed 0, over all these steps.
+    pub stopped: u64,
+    /// How many times a car crossed to the other lane, over all these steps.
+    pub changes: u64,
+}
+
+/// The flow at a point: how many cars pass a cell in a step, in millionths, rounded down.
+///
+/// This is the density times the mean speed, which Greenshields (1935) measured on roads and
+/// Nagel and Schreckenberg (1992) on roads of cells. There must be at least one cell and one step.
+pub fn flow(point: &Point) -> u128
+    requires { IsMeasured point.now }
+    ensures { result ≡ flow_of point.now }
+{
+    u128::from(point.distance) * 1000000 / (u128::from(point.cells) * u128::from(point.steps))
+}

@@ -1,0 +1,69 @@
+//! The table of some points, as comma-separated values (RFC 4180, with LF for CRLF).
+
+ghost use Rattle.std.specs.Prelude.{◌≡◌, All, IfOk};
+ghost use Rattle.csv.specs.Records.{fields_of};
+ghost use Rattle.csv.specs.Writing.{default_writer, row_text};
+ghost use Rattle.trlab_diagram.specs.Flow.{IsMeasured};
+ghost use Rattle.trlab_diagram.specs.Table.{heading, line_text, point_line, points_text};
+
+use crate::{DiagramFault, Point, flow};
+use csv::{ByteRecord, Writer};
+use std::alloc::{AllocError, Global};
+
+// The fields of the first line.
+fn heading_row(alloc: Global) -> Result<ByteRecord, AllocError>
+    ensures { IfOk result (λ row. row_text default_writer (fields_of row) ≡ line_text heading) }
+{
+    let mut row = ByteRecord::new(alloc);
+    for name in [
+        "cars", "cells", "steps", "distance", "stopped", "changes", "flow",
+    ] {
+        row.push_field(name.as_bytes())?;
+    }
+    Ok(row)
+}
+
+// The fields of a point's line.
+fn point_row(alloc: Global, point: &Point) -> Result<ByteRecord, DiagramFault>
+    requires { IsMeasured point.now }
+    ensures { IfOk result (λ row. row_text default_writer (fields_of row) ≡ line_text (point_line point.now)) }
+{
+    let counts = [
+        point.cars,
+        point.cells,
+        point.steps,
+        point.distance,
+        point.stopped,
+        point.changes,
+    ];
+    let mut row = ByteRecord::new(alloc);
+    for count in counts {
+        row.push_field(count.to_string(alloc)?.as_bytes())?;
+    }
+    row.push_field(flow(point).to_string(alloc)?.as_bytes())?;
+    Ok(row)
+}
+
+/// The table of some points, in bytes: the heading
+/// `cars,cells,steps,distance,stopped,changes,flow`, then a line for each point with these
+/// numbers in decimal digits. An LF ends each line.
+///
+/// Each point must have at least one cell and one step.
+///
+/// # Errors
+///
+/// `Memory` where memory runs out.
+pub fn points_text(alloc: Global, points: &[Point]) -> Result<Vec<u8>, DiagramFault>
+    requires { All IsMeasured points.now }
+    ensures { IfOk result (λ text. text.items ≡ points_text points.now) }
+{
+    let mut writer = Writer::from_writer(Vec::new(alloc));
+    writer.write_byte_record(&heading_row(alloc)?)?;
+    for point in points {
+        writer.write_byte_record(&point_row(alloc, point)?)?;
+    }
+    match writer.into_inner() {
+        Ok(text) => Ok(text),
+        Err(_) => Err(DiagramFault::Memory),
+    }
+}

@@ -1,6 +1,0 @@
-use Rattle.std.proofs.Common.{arith}
-use Rattle.trlab_texts.proofs.Cuts.{few_lines}
-use Rattle.trlab_jobs.proofs.check.read_lines.Goals as goal
-
-pub program_behind-requires : goal.program_behind-requires
-program_behind-requires c = omega (arith, few_lines c.in-Some.rest.now, c.in-Some.ensures.shorter, c.requires)

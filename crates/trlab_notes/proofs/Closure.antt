@@ -1,0 +1,184 @@
+-- The closure of a note is as strong as the note: nothing that is made of it differs.
+use Rattle.std.proofs.Common.{◌≡◌, ◌∙◌, ℕ, ◌-◌, ◌&&◌, refl, sym, ap, subst, arith, min, max, [], ◌∷◌, ◌++◌, Bool, true, false, Option, Some, None, nat_eq, cond}
+use mathlib.Core.Path.{fun_ext}
+use Rattle.trlab_code.specs.declared.kind.Kind.{Kind}
+use Rattle.trlab_code.specs.declared.instruction.Input.TheVariants.{Limit, Gap}
+use Rattle.trlab_code.specs.declared.instruction.Instr.{Instr}
+use Rattle.trlab_code.specs.declared.instruction.Instr.TheVariants.{Get, Copy, Add, Sub, Div, Min, Max, JumpLess, JumpAtMost, JumpTrue, JumpFalse, Go}
+use Rattle.trlab_code.specs.declared.instruction.Register.{Register}
+use Rattle.trlab_code.specs.declared.instruction.Input.{Input}
+use Rattle.trlab_code.specs.declared.instruction.Place.{Place}
+use Rattle.trlab_code.specs.declared.instruction.Place.TheVariants as place
+use Rattle.trlab_code.specs.Machine.{update}
+use Rattle.trlab_code.specs.Flow.{destination}
+use Rattle.trlab_notes.specs.declared.reason.Reason.TheVariants as why
+use Rattle.trlab_notes.specs.declared.note.Said.{Said}
+use Rattle.trlab_notes.specs.declared.note.Said.TheVariants.{Nothing, Between, Implies}
+use Rattle.trlab_notes.specs.Notes.{Note, same_place, low, high, said_with_side, level_between, known_level, closure, maybe_closure}
+use Rattle.trlab_notes.specs.Transfer.{assign_any, sharpen, slacken, least_difference, assign, assign_result, result_said, result_to, to_result, chain, refine_order, refine_flag, next_note, jump_note}
+use Rattle.trlab_notes.specs.Order.{join, join_said, IsNoStronger, SaysNoMore}
+use Rattle.trlab_notes.specs.Reasons.{form_checks, first_reason, reason_against, may_be_too_large, may_be_below_zero, may_be_above, may_be_occupied}
+use Rattle.trlab_notes.proofs.Order.{same_note}
+use Rattle.trlab_notes.proofs.Tables.{note_same, level_same, known_twice, both_known, known_unfolds}
+
+pub known_settled : (m : Note) (x y : Place) → known_level (closure m) x y ≡ known_level m x y
+unfolding known_level closure
+known_settled m x y = known_twice (m.said x) (m.said y) (same_place x y) (m.level x y)
+
+pub told_settled : (m : Note) (x : Place) → said_with_side (closure m) x ≡ said_with_side m x
+unfolding said_with_side closure
+told_settled m x = refl
+
+pub said_same : (m : Note) → (closure m).said ≡ m.said
+unfolding closure
+said_same m = refl
+
+pub side_same : (m : Note) → (closure m).side ≡ m.side
+unfolding closure
+side_same m = refl
+
+settled_same : (m n : Note) → m.said ≡ n.said → ((x y : Place) → known_level m x y ≡ known_level n x y) → m.side ≡ n.side → closure m ≡ closure n
+unfolding closure
+settled_same m n s h e = note_same _ _ s (level_same _ _ h) e
+
+pub settled_twice : (m : Note) → closure (closure m) ≡ closure m
+settled_twice m = settled_same (closure m) m (said_same m) (known_settled m) (side_same m)
+
+-- it is no stronger, nor is the note
+pub settled_less : (m : Note) → IsNoStronger (closure m) m
+settled_less m = let f = same_note m in record {
+  said = λ x. subst (λ s. SaysNoMore s (said_with_side m x)) (sym (told_settled m x)) (f.said x);
+  order = λ x y. let e = known_settled m x y in omega (arith, e);
+  beside = λ h. sym (side_same m) ∙ h;
+}
+
+pub settled_more : (m : Note) → IsNoStronger m (closure m)
+settled_more m = let f = same_note m in record {
+  said = λ x. subst (λ s. SaysNoMore (said_with_side m x) s) (sym (told_settled m x)) (f.said x);
+  order = λ x y. let e = known_settled m x y in omega (arith, e);
+  beside = λ h. side_same m ∙ h;
+}
+
+-- a join knows of a note no more than what it knows
+pub joined_settled : (m n : Note) → join m (closure n) ≡ join m n
+unfolding join
+joined_settled m n =
+    note_same _ _ (fun_ext (λ x. ap (join_said (said_with_side m x)) (told_settled n x))) (level_same _ _ (λ x y. ap (min (known_level m x y)) (known_settled n x y))) (ap (λ b. m.side && b) (side_same n))
+
+pub settled_joins : (m n : Note) → join (closure m) n ≡ join m n
+unfolding join
+settled_joins m n =
+    note_same _ _ (fun_ext (λ x. ap (λ s. join_said s (said_with_side n x)) (told_settled m x))) (level_same _ _ (λ x y. ap (λ k. min k (known_level n x y)) (known_settled m x y))) (ap (λ b. b && n.side) (side_same m))
+
+-- a join has all that it knows in its levels
+pub join_is_settled : (m n : Note) → closure (join m n) ≡ join m n
+unfolding join closure said_with_side known_level
+join_is_settled m n =
+    note_same _ _ refl (level_same _ _ (λ x y. (both_known (m.said x) (n.said x) (m.said y) (n.said y) m.side n.side (same_place x y) (level_between (m.said x) (m.said y) (same_place x y) (m.level x y)) (level_between (n.said x) (n.said y) (same_place x y) (n.level x y)) (known_twice (m.said x) (m.said y) (same_place x y) (m.level x y)) (known_twice (n.said x) (n.said y) (same_place x y) (n.level x y))))) refl
+
+-- the same instruction makes of both what is the same once it is settled
+module _ (m : Note) where
+  written_settled : (d : Register) (s t : Said) (to below from above : Place → ℕ) → s ≡ t → ((y : Place) → to y ≡ below y) →
+      ((x : Place) → from x ≡ above x) → closure (assign (closure m) d s to from) ≡ closure (assign m d t below above)
+  unfolding assign closure known_level update
+  written_settled d s t to below from above es et ef =
+      note_same _ _ (λ i x. cond (same_place x (place.Register d)) (es i) (m.said x)) (level_same _ _ (λ x y. (at x y (same_place x (place.Register d)) (same_place y (place.Register d))))) refl
+    where
+      at : (x y : Place) → (b c : Bool) →
+          level_between (cond b s (m.said x)) (cond c s (m.said y)) (same_place x y) (cond b (to y) (cond c (from x) (level_between (m.said x) (m.said y) (same_place x y) (m.level x y))))
+          ≡ level_between (cond b t (m.said x)) (cond c t (m.said y)) (same_place x y) (cond b (below y) (cond c (above x) (m.level x y)))
+      at x y true c = λ i. level_between (es i) (cond c (es i) (m.said y)) (same_place x y) (et y i)
+      at x y false true = λ i. level_between (m.said x) (es i) (same_place x y) (ef x i)
+      at x y false false = known_twice (m.said x) (m.said y) (same_place x y) (m.level x y)
+
+  known_more : (s t : Said) (same : Bool) (l c : ℕ) → level_between s t same (max (level_between s t same l) c) ≡ level_between s t same (max l c)
+  known_more (Between a b) (Between u v) true l c = refl
+  known_more (Between a b) (Between u v) false l c = omega arith
+  known_more (Between a b) Nothing same l c = refl
+  known_more (Between a b) (Implies i) same l c = refl
+  known_more Nothing t same l c = refl
+  known_more (Implies i) t same l c = refl
+
+  learnt_settled : (p q : Place) (k : ℕ) → closure (refine_order (closure m) p q k) ≡ closure (refine_order m p q k)
+  unfolding refine_order closure
+  learnt_settled p q k =
+      settled_same (refine_order (closure m) p q k) (refine_order m p q k) (said_same m) (λ x y. known_unfolds (refine_order (closure m) p q k) x y ∙ (at x y) ∙ sym (known_unfolds (refine_order m p q k) x y)) (side_same m)
+    where
+      at : (x y : Place) →
+          level_between (m.said x) (m.said y) (same_place x y) (max (known_level m x y) (chain (known_level (closure m) x p) k (known_level (closure m) q y)))
+          ≡ level_between (m.said x) (m.said y) (same_place x y) (max (m.level x y) (chain (known_level m x p) k (known_level m q y)))
+      at x y =
+          ap (λ l. level_between (m.said x) (m.said y) (same_place x y) (max l (chain (known_level (closure m) x p) k (known_level (closure m) q y)))) (known_unfolds m x y)
+          ∙ known_more (m.said x) (m.said y) (same_place x y) (m.level x y) _
+          ∙ (λ i. level_between (m.said x) (m.said y) (same_place x y) (max (m.level x y) (chain (known_settled m x p i) k (known_settled m q y i))))
+
+  trusted_settled : (a : Register) → closure (refine_flag (closure m) a) ≡ closure (refine_flag m a)
+  unfolding refine_flag closure known_level
+  trusted_settled a = note_same _ _ refl (level_same _ _ (λ x y. (known_twice (m.said x) (m.said y) (same_place x y) (m.level x y)))) refl
+
+  same : (x y : Place) → known_level (closure m) x y ≡ known_level m x y
+  same = known_settled m
+
+  said_of_result : (i : Instr) → result_said (closure m) i ≡ result_said m i
+  unfolding closure said_with_side
+  said_of_result (Sub d a b) = λ z. Between (max (low (m.said (place.Register a)) - high (m.said (place.Register b))) (least_difference (same (place.Register b) (place.Register a) z))) (high (m.said (place.Register a)) - low (m.said (place.Register b)))
+  said_of_result i = refl
+
+  from_result : (i : Instr) (y : Place) → result_to (closure m) i y ≡ result_to m i y
+  unfolding closure
+  from_result (Get d k) y = same (place.Input k) y
+  from_result (Copy d a) y = same (place.Register a) y
+  from_result (Div d a n) y = same (place.Register a) y
+  from_result (Add d a b) y = λ z. max (slacken (same (place.Register a) y z) (high (m.said (place.Register b)))) (slacken (same (place.Register b) y z) (high (m.said (place.Register a))))
+  from_result (Sub d a b) y = λ z. sharpen (same (place.Register a) y z) (low (m.said (place.Register b)))
+  from_result (Min d a b) y = λ z. max (same (place.Register a) y z) (same (place.Register b) y z)
+  from_result (Max d a b) y = λ z. min (same (place.Register a) y z) (same (place.Register b) y z)
+  from_result i y = refl
+
+  into_result : (i : Instr) (y : Place) → to_result (closure m) i y ≡ to_result m i y
+  unfolding closure
+  into_result (Get d k) y = same y (place.Input k)
+  into_result (Copy d a) y = same y (place.Register a)
+  into_result (Add d a b) y = λ z. max (sharpen (same y (place.Register a) z) (low (m.said (place.Register b)))) (sharpen (same y (place.Register b) z) (low (m.said (place.Register a))))
+  into_result (Min d a b) y = λ z. min (same y (place.Register a) z) (same y (place.Register b) z)
+  into_result (Max d a b) y = λ z. max (same y (place.Register a) z) (same y (place.Register b) z)
+  into_result i y = refl
+
+  after_settled : (d : Register) (i : Instr) → Some (closure (assign_result (closure m) d i)) ≡ Some (closure (assign_result m d i))
+  after_settled d i = ap Some (written_settled d _ _ _ _ _ _ (said_of_result i) (from_result i) (into_result i))
+
+  any_settled : (o : Option Register) (i : Instr) → maybe_closure (assign_any (closure m) i o) ≡ maybe_closure (assign_any m i o)
+  any_settled None i = refl
+  any_settled (Some d) i = after_settled d i
+
+  pub fall_settled : (i : Instr) → maybe_closure (next_note (closure m) i) ≡ maybe_closure (next_note m i)
+  fall_settled (JumpLess a b t) = ap Some (learnt_settled (place.Register b) (place.Register a) 1)
+  fall_settled (JumpAtMost a b t) = ap Some (learnt_settled (place.Register b) (place.Register a) 2)
+  fall_settled (JumpTrue a t) = ap Some (settled_twice m)
+  fall_settled (JumpFalse a t) = ap Some (trusted_settled a)
+  fall_settled i = any_settled (destination i) i
+
+  pub jump_settled : (i : Instr) → closure (jump_note (closure m) i) ≡ closure (jump_note m i)
+  jump_settled (JumpLess a b t) = learnt_settled (place.Register a) (place.Register b) 2
+  jump_settled (JumpAtMost a b t) = learnt_settled (place.Register a) (place.Register b) 1
+  jump_settled (JumpTrue a t) = trusted_settled a
+  jump_settled i = settled_twice m
+
+  -- and there are the same reasons against it
+  below_same : (i : Instr) → may_be_below_zero (closure m) i ≡ may_be_below_zero m i
+  below_same (Sub d a b) = ap (λ k. nat_eq k 0) (same (place.Register b) (place.Register a))
+  below_same i = refl
+
+  pass_same : (k : Input) (i : Instr) → may_be_above k (closure m) i ≡ may_be_above k m i
+  pass_same k (Go a) = ap (λ l. nat_eq l 0) (same (place.Register a) (place.Input k))
+  pass_same k i = refl
+
+  pub reason_settled : (kind own : Kind) (len pc : ℕ) (i : Instr) → reason_against kind own len pc (closure m) i ≡ reason_against kind own len pc m i
+  unfolding closure
+  reason_settled kind own len pc i = λ z. first_reason (form_checks kind own len pc m i ++ (
+      record { reason = why.MaybeTooLarge; holds = may_be_too_large m i }
+      ∷ record { reason = why.MaybeBelowZero; holds = below_same i z }
+      ∷ record { reason = why.MaybeAboveGap; holds = pass_same Gap i z }
+      ∷ record { reason = why.MaybeAboveLimit; holds = pass_same Limit i z }
+      ∷ record { reason = why.MaybeOccupied; holds = may_be_occupied m i }
+      ∷ []))

@@ -1,0 +1,11 @@
+use Rattle.trlab_notes.proofs.Tables.{join_itself_is, join_itself_tells}
+use Rattle.trlab_notes.proofs.joins.join_itself.Goals as goal
+
+pub invariant_of-result : goal.invariant_of-result
+invariant_of-result c = record {
+  ranges = join_itself_tells c.args.note.now c.places_with_side.result c.places_with_side.ensures;
+  transposed = c.args.note.now.transposed;
+}
+
+pub returns : goal.returns
+returns c = join_itself_is c.args.note.now c.places_with_side.result c.places_with_side.ensures

@@ -1,9 +1,0 @@
-use Rattle.trlab_notes.proofs.Tables.{trust_is}
-use Rattle.trlab_notes.proofs.kept.Noted.trust.Goals as goal
-use Rattle.trlab_notes.proofs.kept.Noted.trust.Goals.{then-self, else-self}
-
-pub returns : goal.returns
-returns c = trust_is c.args.self.now c.args.a c.if-self.result (elim c.if-self.branch [
-  | then-self w ↦ cc (w.result-is, w.if-self.true)
-  | else-self w ↦ cc (w.result-is, w.if-self.false, w.implies.ensures)
-])

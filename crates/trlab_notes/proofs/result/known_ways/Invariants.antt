@@ -1,0 +1,13 @@
+use Rattle.std.proofs.Common.{◌≡◌, ℕ, ◌<◌, nat_eq, get_or}
+use Rattle.trlab_notes.specs.declared.note.Said.TheVariants.{Nothing}
+use Rattle.trlab_notes.specs.Notes.{level_between}
+use Rattle.trlab_notes.specs.Rows.{level_in}
+use Rattle.trlab_notes.proofs.result.known_ways.Given as goal
+
+abbrev pub invariant-loop-x : goal.invariant-loop-x
+invariant-loop-x l = record {
+  to : (k : ℕ) → k < l.x → level_in l.row k ≡
+      level_between (get_or l.said l.fn.place Nothing) (get_or l.said k Nothing) (nat_eq l.fn.place k) (level_in l.fn.to k);
+  from : (k : ℕ) → k < l.x → level_in l.column k ≡
+      level_between (get_or l.said k Nothing) (get_or l.said l.fn.place Nothing) (nat_eq k l.fn.place) (level_in l.fn.from k);
+}

@@ -1,0 +1,23 @@
+-- How the code keeps notes.
+use Rattle.std.specs.Prelude.{ℕ, List, Option, Some, None, slice_index_or}
+use Rattle.trlab_code.specs.Machine.{place_number}
+use Rattle.trlab_notes.specs.declared.stored.Stored.{Stored}
+use Rattle.trlab_notes.specs.Notes.{Note}
+use Rattle.trlab_notes.specs.Rows.{level_of, said_in}
+
+-- the note that is stored
+abbrev pub note_of : Stored → Note
+note_of stored = record {
+  said = said_in stored.said;
+  level = λ x y. level_of stored.rows (place_number x) (place_number y);
+  side = stored.side;
+}
+
+-- the note that is stored, if there is one
+abbrev pub maybe_note : Option Stored → Option Note
+maybe_note None = None
+maybe_note (Some stored) = Some (note_of stored)
+
+-- the note that has come to q, if there is one
+abbrev pub notes_of : List (Option Stored) → ℕ → Option Note
+notes_of notes q = maybe_note (slice_index_or notes q None)

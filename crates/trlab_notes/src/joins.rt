@@ -1,0 +1,74 @@
+//! Joins: what two notes agree on, where two ways meet.
+
+ghost use Rattle.std.specs.Prelude.{◌≡◌, ℕ, ◌<◌, slice_index_or};
+ghost use Rattle.trlab_notes.specs.declared.note.Said.TheVariants.{Nothing};
+ghost use Rattle.trlab_notes.specs.Notes.{with_side};
+ghost use Rattle.trlab_notes.specs.Order.{join, join_said};
+ghost use Rattle.trlab_notes.specs.Stored.{note_of};
+
+use crate::note::Said;
+use crate::rows::join_rows;
+use crate::stored::Stored;
+use trlab_code::PLACES;
+
+/// What both say of a value.
+fn join_said(a: Said, b: Said) -> Said
+    ensures { result ≡ join_said a b }
+{
+    match (a, b) {
+        (Said::Between(low, high), Said::Between(other_low, other_high)) => {
+            Said::Between(low.min(other_low), high.max(other_high))
+        }
+        (Said::Implies(p), Said::Implies(q)) => Said::Implies(p && q),
+        _ => Said::Nothing,
+    }
+}
+
+/// What both notes say of each place.
+fn join_places(a: &Stored, b: &Stored) -> [Said; PLACES]
+    ensures { (x : ℕ) → x < PLACES → slice_index_or result x Nothing ≡ join_said
+        (with_side a.now.side (slice_index_or a.now.said x Nothing))
+        (with_side b.now.side (slice_index_or b.now.said x Nothing)) }
+{
+    let mut said = [Said::Nothing; PLACES];
+    for x in 0..PLACES {
+        said[x] = join_said(a.said_at(x), b.said_at(x));
+    }
+    said
+}
+
+/// The strongest note that is no stronger than either of two.
+pub fn join(a: &Stored, b: &Stored) -> Stored
+    ensures { note_of result ≡ join (note_of a.now) (note_of b.now) }
+{
+    Stored {
+        said: join_places(a, b),
+        rows: join_rows(&a.rows, &b.rows),
+        columns: join_rows(&a.columns, &b.columns),
+        side: a.side && b.side,
+    }
+}
+
+/// What a note says of each place, the side cell considered.
+fn places_with_side(note: &Stored) -> [Said; PLACES]
+    ensures { (x : ℕ) → x < PLACES →
+        slice_index_or result x Nothing ≡ with_side note.now.side (slice_index_or note.now.said x Nothing) }
+{
+    let mut said = [Said::Nothing; PLACES];
+    for x in 0..PLACES {
+        said[x] = note.said_at(x);
+    }
+    said
+}
+
+/// The join of a note with itself: all that it says of each place.
+pub fn join_itself(note: &Stored) -> Stored
+    ensures { note_of result ≡ join (note_of note.now) (note_of note.now) }
+{
+    Stored {
+        said: places_with_side(note),
+        rows: note.rows,
+        columns: note.columns,
+        side: note.side,
+    }
+}

@@ -1,0 +1,40 @@
+//! What a jump's test teaches on each of its two ways: the refinement of a note by a condition.
+
+ghost use Rattle.std.specs.Prelude.{◌≡◌, ◌≤◌};
+ghost use Rattle.trlab_notes.specs.Notes.{closure};
+ghost use Rattle.trlab_notes.specs.Stored.{note_of};
+ghost use Rattle.trlab_notes.specs.Transfer.{refine_flag, refine_order};
+
+use crate::rows::refine_rows;
+use crate::stored::Stored;
+use trlab_code::{Place, Register};
+
+impl Stored {
+    /// The note once p is known to have this level to q, `AT_MOST` or `BELOW`.
+    pub(crate) fn refine_order(&self, p: Place, q: Place, level: u8) -> Stored
+        requires level_from { 1 ≤ level }
+        requires level_to { level ≤ 2 }
+        ensures { note_of result ≡ closure (refine_order (note_of self.now) p q level) }
+    {
+        let (first, last) = (self.columns[p.number()], self.rows[q.number()]);
+        Stored {
+            said: self.said,
+            rows: refine_rows(&self.rows, first, level, last),
+            columns: refine_rows(&self.columns, last, level, first),
+            side: self.side,
+        }
+    }
+
+    /// The note once the flag in a register is known to be true.
+    pub fn refine_flag(&self, register: Register) -> Stored
+        ensures { note_of result ≡ closure (refine_flag (note_of self.now) register) }
+    {
+        let said = self.said[Place::Register(register).number()];
+        Stored {
+            said: self.said,
+            rows: self.rows,
+            columns: self.columns,
+            side: self.side || said.implies(),
+        }
+    }
+}

@@ -1,0 +1,100 @@
+-- The lane change, the first phase of a step on two lanes (Rickert, Nagel, Schreckenberg and Latour
+-- 1996): all cars that cross do so at once. Answers are functions of a lane and a place: does the
+-- car that stands there cross?
+use Rattle.std.specs.Prelude.{◌≡◌, ℕ, ◌-◌, ◌<◌, Bool, true, false, cond, Some, None, List, length, map, slice_index_or}
+use Rattle.std.specs.List.{range_with_len}
+use Rattle.std.specs.Option.{option_or}
+use Rattle.trlab_road.specs.declared.car.Car.{Car}
+use Rattle.trlab_road.specs.Cells.{Cell, Lane, Cells, IsAt, at, cell, lane_of, cars}
+use Rattle.trlab_road.specs.Gaps.{side}
+use Rattle.trlab_road.specs.Motion.{in_order}
+use Rattle.trlab_road.specs.Standing.{IsStanding, rank}
+
+-- the other of two lanes
+abbrev pub other_lane : ℕ → ℕ
+other_lane l = 1 - l
+
+-- a cell after the lane change: its own car if that stays, else the car beside if that crosses
+abbrev pub cell_after_change : Bool → Bool → Cell → Cell → Cell
+cell_after_change own_crosses beside_crosses own beside =
+    option_or (cond own_crosses None own) (cond beside_crosses beside None)
+
+-- the lane change of one lane, beside another
+pub record LaneCrosses (own_crosses beside_crosses : ℕ → Bool) (own beside new : Lane) : Type 0 where
+  pub same_length : length new ≡ length own
+  pub each_cell : (x : ℕ) → x < length own
+      → at new x ≡ cell_after_change (own_crosses x) (beside_crosses x) (at own x) (at beside x)
+
+-- the lane change of a road
+pub record Crosses (crosses : ℕ → ℕ → Bool) (old new : Cells) : Type 0 where
+  pub same_limit : new.limit ≡ old.limit
+  pub same_lanes : length new.lanes ≡ length old.lanes
+  pub each_lane : (l : ℕ) → l < length old.lanes
+      → LaneCrosses (crosses l) (crosses (other_lane l))
+      (lane_of old l) (lane_of old (other_lane l)) (lane_of new l)
+
+-- a lane after the lane change, cell by cell
+abbrev pub lane_after_change : (ℕ → ℕ → Bool) → Cells → ℕ → Lane
+lane_after_change crosses road l =
+    let m = other_lane l in
+    let places = range_with_len 0 (length (lane_of road l)) in
+    map (λ x. cell_after_change (crosses l x) (crosses m x) (cell road l x) (cell road m x)) places
+
+-- the road after the lane change, lane by lane
+abbrev pub road_after_change : (ℕ → ℕ → Bool) → Cells → Cells
+road_after_change crosses road =
+    let lanes = range_with_len 0 (length road.lanes) in
+    record { limit = road.limit; lanes = map (lane_after_change crosses road) lanes }
+
+-- two lanes, and a car crosses only where the cell beside it is empty
+pub record CrossesFree (crosses : ℕ → ℕ → Bool) (road : Cells) : Type 0 where
+  pub two_lanes : length road.lanes ≡ 2
+  pub side_empty : (car : Car) → IsAt road car → crosses car.lane car.place ≡ true
+      → cell road (other_lane car.lane) car.place ≡ None
+
+-- a car beside where it was, on the other lane
+abbrev pub car_beside : Car → Car
+car_beside car = record {
+  number = car.number;
+  lane = other_lane car.lane;
+  place = car.place;
+  speed = car.speed;
+}
+
+-- a car stayed where it was, or crossed to the cell beside, which was empty; its speed stays
+pub data StaysOrCrosses (old new : Cells) (car : Car) : Type 0 where
+  on_own_lane : IsAt new car → StaysOrCrosses old new car
+  on_other_lane : cell old (other_lane car.lane) car.place ≡ None → IsAt new (car_beside car)
+      → StaysOrCrosses old new car
+
+-- as many cars as before, each stayed or crossed to an empty cell, and no cell holds anything else
+pub record CleanLaneChange (old new : Cells) : Type 0 where
+  pub same_count : cars new ≡ cars old
+  pub none_lost : (car : Car) → IsAt old car → StaysOrCrosses old new car
+  pub none_made : (car : Car) → IsAt new car
+      → (l : ℕ) × (cell old l car.place ≡ Some (car.number, car.speed))
+
+-- what a function of a lane and a place gives beside the k-th car in standing order, on the other lane
+abbrev pub IsBeside : {X : Type 0} → (Lane → ℕ → X) → Cells → ℕ → X → Type 0
+IsBeside look road k value = (car : Car) → IsStanding road k car
+    → value ≡ look (lane_of road (other_lane car.lane)) car.place
+
+-- a gap beside the k-th car in standing order, on the other lane; it is below the length of a lane
+pub record IsGapBeside (look : Lane → ℕ → ℕ) (road : Cells) (k gap : ℕ) : Type 0 where
+  pub of_car : IsBeside look road k gap
+  pub below : gap < length (lane_of road 0)
+
+-- in standing order: is the side cell of each car empty?
+abbrev pub sides : Cells → List Bool
+sides road = in_order (λ l x. side (lane_of road (other_lane l)) x) road
+
+-- does the car at a lane and a place cross, where answers stand in standing order?
+abbrev pub crosses_at : Cells → List Bool → ℕ → ℕ → Bool
+crosses_at road answers l x = slice_index_or answers (rank road l x) false
+
+-- two lanes and one answer for each car, which crosses only where its side cell is empty
+pub record MayCross (road : Cells) (answers : List Bool) : Type 0 where
+  pub two_lanes : length road.lanes ≡ 2
+  pub one_each : length answers ≡ cars road
+  pub side_empty : (k : ℕ) → k < cars road
+      → slice_index_or answers k false ≡ true → slice_index_or (sides road) k false ≡ true

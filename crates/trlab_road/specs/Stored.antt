@@ -1,0 +1,128 @@
+-- How the code keeps a road: a lane as the list of its cars by rising place.
+use Rattle.std.specs.Prelude.{◌≡◌, ℕ, suc, ◌+◌, ◌<◌, ◌≤◌, cond, sum_by, take, Some, None, List, [], ◌∷◌, length, map, nat_eq, slice_index, slice_index_or, false, Bool, Vec, ◌-◌}
+use Rattle.std.specs.Global.{Global}
+use Rattle.std.specs.List.{range_with_len}
+use Rattle.trlab_road.specs.declared.car.Car.{Car}
+use Rattle.trlab_road.specs.declared.lane_car.LaneCar.{LaneCar}
+use Rattle.trlab_road.specs.Cells.{Cell, Lane, Cells, at, lane_cars}
+use Rattle.trlab_road.specs.Legal.{IsLegal}
+use Rattle.trlab_road.specs.Motion.{LaneFits, LaneMoves}
+use Rattle.trlab_road.specs.Pictures.{point}
+
+-- what a list of cars has at a place
+abbrev pub cell_at : List LaneCar → ℕ → Cell
+cell_at [] x = None
+cell_at (car ∷ cars) x = cond (nat_eq car.place x) (Some (car.number, car.speed)) (cell_at cars x)
+
+-- the lane of so many cells on which these cars stand
+abbrev pub cells_of : ℕ → List LaneCar → Lane
+cells_of n cars = map (cell_at cars) (range_with_len 0 n)
+
+-- the places of the cars rise, from a place on and below the end
+abbrev pub Rises : ℕ → ℕ → List LaneCar → Type 0
+Rises x n [] = Unit {0}
+Rises x n (car ∷ cars) = (x ≤ car.place) × (car.place < n) × Rises (suc car.place) n cars
+
+-- the places of the cars rise, below some end
+abbrev pub IsRising : List LaneCar → Type 0
+IsRising cars = (n : ℕ) × Rises 0 n cars
+
+-- what stands for a car past the end of a list
+abbrev pub no_car : LaneCar
+no_car = record { number = 0; place = 0; speed = 0 }
+
+-- the place of the k-th car
+abbrev pub place_of : List LaneCar → ℕ → ℕ
+place_of cars k = (slice_index_or cars k no_car).place
+
+-- the cars before an index stand at most at a place, those from the index on stand past it
+pub record IsParted (cars : List LaneCar) (x next : ℕ) : Type 0 where
+  pub before : (k : ℕ) → k < next → k < length cars → place_of cars k ≤ x
+  pub after : (k : ℕ) → next ≤ k → k < length cars → x < place_of cars k
+
+-- a car of a list as it stands on a lane of the road
+abbrev pub car_on : ℕ → LaneCar → Car
+car_on l car = record { number = car.number; lane = l; place = car.place; speed = car.speed }
+
+-- the lists that vectors of cars are
+abbrev pub lists_of : List (Vec LaneCar Global) → List (List LaneCar)
+lists_of lists = map (λ (v : Vec LaneCar Global). v.items) lists
+
+-- the lanes of so many cells on which the cars of these lists stand
+abbrev pub lanes_from : ℕ → List (Vec LaneCar Global) → List Lane
+lanes_from n lists = map (λ (v : Vec LaneCar Global). cells_of n v.items) lists
+
+-- the list of lane l
+abbrev pub list_at : List (Vec LaneCar Global) → ℕ → List LaneCar
+list_at lists l = slice_index_or (lists_of lists) l []
+
+-- each list is sorted
+pub record AreSorted (n : ℕ) (lists : List (Vec LaneCar Global)) : Type 0 where
+  pub rises : (l : ℕ) → l < length lists → Rises 0 n (list_at lists l)
+
+-- what a `Road` keeps: its cells are legal, and the lists of its lanes are sorted
+pub record Stored (n : ℕ) (lists : List (Vec LaneCar Global)) (road : Cells) : Type 0 where
+  pub legal : IsLegal road
+  pub sorted : AreSorted n lists
+
+-- the k-th car in standing order is one of lane l, at an index of its list
+pub record IsFoundAt (lists : List (Vec LaneCar Global)) (k l i : ℕ) : Type 0 where
+  pub on_lane : l < length lists
+  pub low : i < length (list_at lists l)
+  pub order : k ≡ sum_by length (take l (lists_of lists)) + i
+
+-- the first car from a place on stands at an index
+pub record IsFirstFrom (cars : List LaneCar) (x index : ℕ) : Type 0 where
+  pub within : index ≤ length cars
+  pub before : (k : ℕ) → k < index → k < length cars → place_of cars k < x
+  pub from : (k : ℕ) → index ≤ k → k < length cars → x ≤ place_of cars k
+
+-- the cars of a lane that cross, where they stood, and no others
+pub record LaneLeaves (crosses : ℕ → Bool) (old leaving : Lane) : Type 0 where
+  pub same_length : length leaving ≡ length old
+  pub each_cell : (x : ℕ) → x < length old → at leaving x ≡ cond (crosses x) (at old x) None
+
+-- the answer of the car at a place of a lane, whose cars' answers stand from an index on
+abbrev pub lane_answer : Lane → List ℕ → ℕ → ℕ → ℕ
+lane_answer lane answers from x = slice_index answers (from + lane_cars (take x lane))
+
+-- does the car at a place of a lane cross, where the answers of the lane's cars stand from an index on?
+abbrev pub lane_crosses_at : Lane → List Bool → ℕ → ℕ → Bool
+lane_crosses_at lane answers from x = slice_index_or answers (from + lane_cars (take x lane)) false
+
+-- the answers of the cars of lane l, where answers stand in standing order
+abbrev pub list_answer : ℕ → List (Vec LaneCar Global) → List ℕ → ℕ → ℕ → ℕ
+list_answer n lists answers l =
+    let before = sum_by lane_cars (take l (lanes_from n lists)) in
+    lane_answer (cells_of n (list_at lists l)) answers before
+
+-- each car's answer is at most the gap ahead of it, on each lane
+pub record ListsFit (n : ℕ) (lists : List (Vec LaneCar Global)) (answers : List ℕ) : Type 0 where
+  pub each_lane : (l : ℕ) → l < length lists
+      → LaneFits (list_answer n lists answers l) (cells_of n (list_at lists l))
+
+-- the next lists make the lanes after the motion of each lane
+pub record ListsMove (n : ℕ) (lists next : List (Vec LaneCar Global)) (answers : List ℕ) : Type 0 where
+  pub same_lanes : length next ≡ length lists
+  pub each_lane : (l : ℕ) → l < length lists
+      → LaneMoves (list_answer n lists answers l)
+      (cells_of n (list_at lists l)) (cells_of n (list_at next l))
+
+-- the speed of a digit
+abbrev pub speed_of_digit : ℕ → ℕ
+speed_of_digit character = character - 48
+
+-- the lane that a picture shows, its cars numbered from n on
+abbrev pub lane_of_picture : ℕ → List ℕ → Lane
+lane_of_picture n [] = []
+lane_of_picture n (character ∷ picture) =
+    cond (nat_eq character point)
+    (None ∷ lane_of_picture n picture)
+    (Some (n, speed_of_digit character) ∷ lane_of_picture (suc n) picture)
+
+-- the lanes that pictures show, their cars numbered from n on
+abbrev pub lanes_of_pictures : ℕ → List (List ℕ) → List Lane
+lanes_of_pictures n [] = []
+lanes_of_pictures n (picture ∷ pictures) =
+    let lane = lane_of_picture n picture in
+    lane ∷ lanes_of_pictures (n + lane_cars lane) pictures

@@ -1,0 +1,138 @@
+//! The lane change: the cars of two lanes that cross do so at once. On each lane those that stay are
+//! merged with those that come.
+
+ghost use Rattle.std.specs.Prelude.{◌≡◌, ◌+◌, ◌<◌, ◌≤◌, ℕ, length, sum_by, IfOk, OnOk, true, false, None};
+ghost use Rattle.std.specs.Int.{from_bool};
+ghost use Rattle.trlab_bounds.specs.declared.roads.TheConstants.{GREATEST_LENGTH};
+ghost use Rattle.trlab_road.specs.Cells.{Cells, lane_cars};
+ghost use Rattle.trlab_road.specs.LaneChange.{Crosses, LaneCrosses, crosses_at};
+ghost use Rattle.trlab_road.specs.Stored.{Rises, IsRising, AreSorted, IsFirstFrom, cell_at, cells_of, lanes_from, place_of, LaneLeaves, lane_crosses_at};
+
+use crate::lane_car::LaneCar;
+use crate::lanes::list_of;
+use crate::room::Room;
+use std::alloc::{AllocError, Global};
+
+/// A lane before its cars cross: its list, and the index from which the answers of its cars stand.
+#[derive(Clone, Copy)]
+struct AnsweredLane<'a> {
+    cars: &'a [LaneCar],
+    from: usize,
+}
+
+/// The place of the k-th car, or the end of the lane.
+fn next_place(cars: &[LaneCar], k: usize, cells: u32) -> u32
+    ensures here { k < length cars.now → result ≡ place_of cars.now k }
+    ensures past { length cars.now ≤ k → result ≡ cells }
+{
+    if k < cars.len() { cars[k].place } else { cells }
+}
+
+/// Does the k-th car stand at a place, where it is the first from there on?
+fn stands_at(cars: &[LaneCar], k: usize, place: u32) -> bool
+    requires sorted { IsRising cars.now }
+    requires sought { IsFirstFrom cars.now place k }
+    ensures none { result ≡ false → cell_at cars.now place ≡ None }
+    ensures within { result ≡ true → k < length cars.now }
+    ensures there { result ≡ true → place_of cars.now k ≡ place }
+    ensures past { IsFirstFrom cars.now (place + 1) (k + from_bool result) }
+{
+    k < cars.len() && cars[k].place == place
+}
+
+/// Puts the cars of a lane that cross into a list; only the proof reads how many cells the lane has.
+fn leaving_cars(
+    leaving: &mut Vec<LaneCar>,
+    cells: u32,
+    lane: AnsweredLane,
+    crosses: &[bool],
+) -> Result<(), AllocError>
+    requires sorted { Rises 0 cells lane.cars.now }
+    requires each { lane.from + length lane.cars.now ≤ length crosses.now }
+    ensures rises { OnOk result (Rises 0 cells leaving.new.items) }
+    ensures leaves { OnOk result (
+        let old = cells_of cells lane.entry.cars.now in
+        LaneLeaves (lane_crosses_at old crosses.now lane.entry.from)
+        old (cells_of cells leaving.new.items)) }
+{
+    leaving.clear();
+    for k in 0..lane.cars.len() {
+        if crosses[lane.from + k] {
+            leaving.push(lane.cars[k])?;
+        }
+    }
+    Ok(())
+}
+
+/// Puts the cars of a lane after the lane change, to which these cars come from the other lane, into a
+/// list.
+fn change_lane(
+    next: &mut Vec<LaneCar>,
+    cells: u32,
+    own: AnsweredLane,
+    coming: &[LaneCar],
+    crosses: &[bool],
+) -> Result<(), AllocError>
+    requires small { cells ≤ GREATEST_LENGTH }
+    requires own_sorted { Rises 0 cells own.cars.now }
+    requires coming_sorted { Rises 0 cells coming.now }
+    requires own_each { own.from + length own.cars.now ≤ length crosses.now }
+    ensures rises { OnOk result (Rises 0 cells next.new.items) }
+    ensures crosses { OnOk result (
+        let old = cells_of cells own.entry.cars.now in
+        LaneCrosses (lane_crosses_at old crosses.now own.entry.from) (λ _. true)
+        old (cells_of cells coming.now) (cells_of cells next.new.items)) }
+{
+    next.clear();
+    next.reserve(own.cars.len())?;
+    let mut i = 0;
+    let mut j = 0;
+    let mut place = next_place(own.cars, i, cells).min(next_place(coming, j, cells));
+    while place < cells {
+        let own_here = stands_at(own.cars, i, place);
+        let coming_here = stands_at(coming, j, place);
+        if own_here && !crosses[own.from + i] {
+            next.push(own.cars[i])?;
+        } else if coming_here {
+            next.push(coming[j])?;
+        }
+        i += usize::from(own_here);
+        j += usize::from(coming_here);
+        place = next_place(own.cars, i, cells).min(next_place(coming, j, cells));
+    }
+    Ok(())
+}
+
+/// The two lanes after all cars that cross did so at once, in lists of the room.
+pub fn change_lanes(
+    alloc: Global,
+    room: &mut Room,
+    lanes: &[Vec<LaneCar>],
+    cells: u32,
+    crosses: &[bool],
+) -> Result<Vec<Vec<LaneCar>>, AllocError>
+    requires two { length lanes.now ≡ 2 }
+    requires small { cells ≤ GREATEST_LENGTH }
+    requires sorted { AreSorted cells lanes.now }
+    requires one_each { sum_by lane_cars (lanes_from cells lanes.now) ≤ length crosses.now }
+    ensures sorted { IfOk result (λ next. AreSorted cells next.items) }
+    ensures crosses { IfOk result (λ next. (limit : ℕ)
+        → let old : Cells = record { limit = limit; lanes = lanes_from cells lanes.now } in
+        Crosses (crosses_at old crosses.now) old
+        (record { limit = limit; lanes = lanes_from cells next.items })) }
+{
+    let first = AnsweredLane {
+        cars: list_of(lanes, 0),
+        from: 0,
+    };
+    let second = AnsweredLane {
+        cars: list_of(lanes, 1),
+        from: first.cars.len(),
+    };
+    let mut next = room.two_lists(alloc)?;
+    leaving_cars(&mut room.from_first, cells, first, crosses)?;
+    leaving_cars(&mut room.from_second, cells, second, crosses)?;
+    change_lane(&mut next[0], cells, first, &room.from_second, crosses)?;
+    change_lane(&mut next[1], cells, second, &room.from_first, crosses)?;
+    Ok(next)
+}

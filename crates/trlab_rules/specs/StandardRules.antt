@@ -1,0 +1,51 @@
+-- The standard rules: what each of them is, and why there may be none.
+use Rattle.std.specs.Prelude.{◌≡◌, ℕ, Bool, List, None, MatchOption}
+use Rattle.trlab_code.specs.declared.kind.Kind.{Kind}
+use Rattle.trlab_code.specs.declared.kind.Kind.TheVariants.{Motion, Change}
+use Rattle.trlab_code.specs.declared.view.View.{View}
+use Rattle.trlab_code.specs.Program.{Program}
+use Rattle.trlab_verify.specs.CheckedProgram.{CheckedProgram}
+use Rattle.trlab_verify.specs.Verdict.{IsAccepted, IsRefused}
+use Rattle.trlab_rules.specs.declared.fault.StandardFault.{StandardFault}
+use Rattle.trlab_rules.specs.declared.fault.StandardFault.TheVariants.{Memory, Refused}
+use Rattle.trlab_rules.specs.Rules.{Programs}
+use Rattle.trlab_rules.specs.Published.{nasch_speed, vdr_speed, rickert_crosses}
+use Rattle.trlab_rules.specs.Standard.{nasch_program, vdr_program, rickert_program}
+use Rattle.trlab_rules.specs.Laws.{MovesBy, ChangesBy}
+
+-- this motion program, which is accepted and answers the speed of a rule
+pub record IsMotion (speed : View → List ℕ → ℕ) (program : Program) (motion : CheckedProgram) : Type 0 where
+  pub same : motion.program ≡ program
+  pub accepted : IsAccepted Motion program
+  pub moves : MovesBy speed motion.program
+
+-- this change program, which is accepted and answers who crosses by a rule
+pub record IsChange (crosses : View → List ℕ → Bool) (program : Program) (change : CheckedProgram)
+    : Type 0 where
+  pub same : change.program ≡ program
+  pub accepted : IsAccepted Change program
+  pub changes : ChangesBy crosses change.program
+
+-- the rule of 1992 with the chance p
+pub record IsNasch (p : ℕ) (rule : Programs) : Type 0 where
+  pub motion : IsMotion (nasch_speed p) (nasch_program p) rule.motion
+  pub change : rule.change ≡ None
+
+-- the rule of 1998 with the chance p0 for stopped cars, and p for those that move
+pub record IsVdr (p p0 : ℕ) (rule : Programs) : Type 0 where
+  pub motion : IsMotion (vdr_speed p p0) (vdr_program p p0) rule.motion
+  pub change : rule.change ≡ None
+
+-- the rule of 1996: the motion of 1992 with the chance p, and the lane change with the chance c
+pub record IsRickert (p c : ℕ) (rule : Programs) : Type 0 where
+  pub motion : IsMotion (nasch_speed p) (nasch_program p) rule.motion
+  pub change : MatchOption rule.change ⊥ (IsChange (rickert_crosses c) (rickert_program c))
+
+-- the verifier refuses a program as one of this kind, at some instruction for some reason
+abbrev pub Refuses : Kind → Program → Type 0
+Refuses kind program = (at : ℕ) × (reason : ℕ) × IsRefused kind program at reason
+
+-- the fault Refused tells that a program is refused; want of memory says nothing of any program
+abbrev pub Tells : Type 0 → StandardFault → Type 0
+Tells refused Refused = refused
+Tells refused Memory = Unit {0}

@@ -1,0 +1,31 @@
+-- Runs on their way: which run it is, and what it has come to.
+use Rattle.std.specs.Prelude.{◌≡◌, ℕ, ◌+◌, length}
+use Rattle.trlab_road.specs.Cells.{Cells}
+use Rattle.trlab_road.specs.Legal.{IsLegal}
+use Rattle.trlab_step.specs.Laws.{IsSheetFor}
+use Rattle.trlab_step.specs.Run.{Seed, Sheet, ComesTo, no_tally}
+use Rattle.trlab_step.specs.declared.tally.StepTally.{StepTally}
+
+-- where a run started and its rules, and the step, the road and the sum of tallies to which it has come
+pub record Progress : Type 0 where
+  pub seed : Seed
+  pub sheet : Sheet
+  pub step : ℕ
+  pub road : Cells
+  pub sum : StepTally
+
+-- a run that has not gone on yet
+abbrev pub at_start : Seed → Sheet → Progress
+at_start seed sheet = record { seed = seed; sheet = sheet; step = 0; road = seed.road; sum = no_tally }
+
+-- from a legal road, and under a sheet for its lanes, the run comes to this road and this sum
+pub record IsUnderway (run : Progress) : Type 0 where
+  pub legal : IsLegal run.seed.road
+  pub suits : IsSheetFor (length run.seed.road.lanes) run.sheet
+  pub comes : ComesTo run.seed run.sheet run.step run.road run.sum
+
+-- the same run, one step later
+pub record IsOneStepOn (old new : Progress) : Type 0 where
+  pub same_seed : new.seed ≡ old.seed
+  pub same_sheet : new.sheet ≡ old.sheet
+  pub next_step : new.step ≡ old.step + 1

@@ -1,0 +1,52 @@
+-- What callers see of tickets and drawers.
+use Rattle.std.specs.Prelude.{◌≡◌, ℕ, ◌+◌, ◌<◌, ◌≤◌, Bool, false, List, [], ◌∷◌, ◌++◌}
+use Rattle.trlab_segments.specs.declared.drawer.Tickets.{Tickets}
+use Rattle.trlab_segments.specs.declared.drawer.Drawer.{Drawer}
+
+-- the tickets are the numbers below this
+abbrev pub count_of : Tickets → ℕ
+count_of t = t.plan.count
+
+-- as many drawers can there be
+abbrev pub drawers_of : Tickets → ℕ
+drawers_of t = t.plan.drawers
+
+-- the passes of a drawer
+abbrev pub passes_of : Drawer → ℕ
+passes_of d = d.passes
+
+-- the tickets that the drawer drew, in order
+abbrev pub tickets_of : Drawer → List ℕ
+tickets_of d = d.seat.me.0.tickets
+
+-- no ticket that it draws from now on is below this
+abbrev pub least_of : Drawer → ℕ
+least_of d = d.seat.me.0.least
+
+-- the drawer has found that no ticket is left
+abbrev pub is_ended : Drawer → Bool
+is_ended d = d.ended
+
+-- the drawer came from these tickets
+abbrev pub IsFrom : Tickets → Drawer → Type 0
+IsFrom t d = (d.seat.table_id ≡ t.table.shared.table_id) × (d.seat.me.0.plan ≡ t.plan)
+
+-- the drawer has drawn nothing yet
+abbrev pub IsFresh : Drawer → Type 0
+IsFresh d = (tickets_of d ≡ []) × (is_ended d ≡ false)
+
+-- the drawer has every pass
+abbrev pub HasAll : Tickets → Drawer → Type 0
+HasAll t d = passes_of d ≡ drawers_of t
+
+-- a drawer has drawn one ticket more, which is below the count and above those before
+abbrev pub Draws : Tickets → Drawer → ℕ → Drawer → Type 0
+Draws t old i new =
+    (i < count_of t) × (least_of old ≤ i)
+    × (tickets_of new ≡ tickets_of old ++ i ∷ []) × (least_of new ≡ i + 1) × (is_ended new ≡ false)
+
+-- a drawer that is handed back is the one that came
+abbrev pub IsSame : Drawer → Drawer → Type 0
+IsSame d e =
+    (d.seat.table_id ≡ e.seat.table_id) × (d.seat.me ≡ e.seat.me)
+    × (d.passes ≡ e.passes) × (d.ended ≡ e.ended)

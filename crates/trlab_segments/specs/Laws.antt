@@ -1,0 +1,46 @@
+-- Laws of tickets and segments.
+use Rattle.std.specs.Prelude.{◌≡◌, ℕ, ◌+◌, ◌<◌, ◌≤◌, ◌↔◌, map}
+use Rattle.std.specs.List.{range_with_len, flat_map}
+use mathlib.Core.Option.{some}
+use lib.ListN.{get_elem?}
+use Rattle.atomic_table.specs.Table.{State}
+use Rattle.trlab_bounds.specs.declared.runs.TheConstants.{MOST_WORKERS}
+use Rattle.trlab_segments.specs.declared.stock.Plan.{Plan}
+use Rattle.trlab_segments.specs.declared.stock.Stock.{Stock}
+use Rattle.trlab_segments.specs.Stocks.{IsWhole}
+use Rattle.trlab_segments.specs.Rule.{KeepsTickets, word_of}
+use Rattle.trlab_segments.specs.Segments.{segment_count, first_car, segment}
+
+-- the word is at most the count and as many draws more as there can be drawers
+abbrev pub WordIsBounded : Type 0
+WordIsBounded = (plan : Plan) (s : State ℕ Stock)
+    → KeepsTickets plan s → word_of s ≤ plan.count + MOST_WORKERS
+
+-- a drawer with all passes has every ticket, once, just where the word has come to the count
+abbrev pub AllPassesHaveAllTickets : Type 0
+AllPassesHaveAllTickets = (plan : Plan) (s : State ℕ Stock) (seat : ℕ) (mine : Stock)
+    → KeepsTickets plan s → get_elem? s.views seat ≡ some mine → mine.passes ≡ plan.drawers
+    → IsWhole mine.tickets plan.count ↔ (plan.count ≤ word_of s)
+
+-- segment 0 begins with car 0, and behind the last segment there is no car
+abbrev pub SegmentsBeginAndEnd : Type 0
+SegmentsBeginAndEnd = (cars count : ℕ) → 0 < count
+    → (first_car cars count 0 ≡ 0) × (first_car cars count count ≡ cars)
+
+-- each segment has a car
+abbrev pub SegmentsHaveCars : Type 0
+SegmentsHaveCars = (cars count i : ℕ) → 0 < count → count ≤ cars
+    → first_car cars count i < first_car cars count (i + 1)
+
+-- the segments, one behind the other, are all cars in standing order, each once
+abbrev pub SegmentsAreAllCars : Type 0
+SegmentsAreAllCars = (cars workers : ℕ) → 0 < workers
+    → flat_map (segment cars (segment_count cars workers)) (range_with_len 0 (segment_count cars workers))
+    ≡ range_with_len 0 cars
+
+-- what the cars of each segment answer, one segment behind the other, is what all cars answer
+abbrev pub AnswersJoin : Type 0 → Type 0
+AnswersJoin A = (cars workers : ℕ) (answer : ℕ → A) → 0 < workers
+    → let count = segment_count cars workers in
+    flat_map (λ i. map answer (segment cars count i)) (range_with_len 0 count)
+    ≡ map answer (range_with_len 0 cars)

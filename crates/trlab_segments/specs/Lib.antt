@@ -1,0 +1,5 @@
+pub mod Stocks
+pub mod Rule
+pub mod Drawers
+pub mod Segments
+pub mod Laws

@@ -1,0 +1,17 @@
+-- The cars of a road in standing order, cut into segments that follow on each other. A ticket of a
+-- phase is the number of a segment.
+use Rattle.std.specs.Prelude.{ℕ, ◌+◌, ◌-◌, ◌*◌, ◌/◌, min, List}
+use Rattle.std.specs.List.{range_with_len}
+
+-- how many segments there are: four a worker, but none without a car
+abbrev pub segment_count : ℕ → ℕ → ℕ
+segment_count cars workers = min cars (4 * workers)
+
+-- the first car of segment i, where the cars are cut into so many
+abbrev pub first_car : ℕ → ℕ → ℕ → ℕ
+first_car cars count i = i * cars / count
+
+-- the cars of segment i: from its first car up to the first of the next segment
+abbrev pub segment : ℕ → ℕ → ℕ → List ℕ
+segment cars count i =
+    range_with_len (first_car cars count i) (first_car cars count (i + 1) - first_car cars count i)

@@ -1,0 +1,15 @@
+//! Work that is shared out by numbers: the cars of a road are cut into segments, and whoever is free
+//! draws the number of the next one, its ticket. One word is shared, with no lock, and yet each
+//! ticket is drawn once.
+#![tactic(auto)]
+
+mod drawer;
+mod gate;
+pub mod laws;
+mod segment;
+mod stock;
+mod tickets;
+
+pub use drawer::{Drawer, Tickets};
+pub use gate::{Gate, OpenGate};
+pub use segment::{Segment, segment_count};

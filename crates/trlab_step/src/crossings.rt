@@ -1,0 +1,84 @@
+//! Who crosses in a lane change, as a change program answers the cars of a road: it is run for a block of cars
+//! at a time, and looks on the other lane from where the car before was.
+
+ghost use Rattle.std.specs.Prelude.{◌≡◌, ◌≤◌, IfOk, OnOk, length};
+ghost use Rattle.trlab_road.specs.Cells.{cars};
+ghost use Rattle.trlab_step.specs.Answers.{AnswersCrossingsPart, CrossesFreePart, dice_of};
+
+use crate::block::{BLOCK, ask_block};
+use std::alloc::{AllocError, Global};
+use trlab_code::Kind;
+use trlab_machine::{Dice, Views, run_changes};
+use trlab_road::Road;
+use trlab_verify::Change;
+use trlab_words::Key;
+
+/// Whether the cars of a road of two lanes cross in a step, as a change program answers them, in
+/// standing order from one index up to another, which is not included.
+///
+/// Each car's words go by its own number, the number of the road and that of the step. All cars
+/// are asked on the road as it stands, so parts can be taken in any order, or at the same time.
+///
+/// # Errors
+///
+/// Where an allocation was refused.
+pub fn choose_part(
+    alloc: Global,
+    road: &Road,
+    change: &Change,
+    key: &Key,
+    number: u32,
+    step: u32,
+    from: u32,
+    to: u32,
+) -> Result<Vec<bool>, AllocError>
+    requires rising { from ≤ to }
+    requires within { to ≤ cars road.now }
+    requires two_lanes { length road.now.lanes ≡ 2 }
+    ensures crossings { IfOk result (λ crosses.
+        AnswersCrossingsPart change.now (dice_of key.now.0 number step) road.now from to crosses.items) }
+    ensures free { IfOk result (λ crosses. CrossesFreePart road.now from crosses.items) }
+{
+    let mut crosses = Vec::new(alloc);
+    ask_crossings(
+        &mut crosses,
+        road,
+        change,
+        &Dice::new(key, number, step),
+        from,
+        to,
+    )?;
+    Ok(crosses)
+}
+
+/// Puts the answers that `choose_part` tells into a list, in place of what stands there.
+pub fn ask_crossings(
+    crosses: &mut Vec<bool>,
+    road: &Road,
+    change: &Change,
+    dice: &Dice,
+    from: u32,
+    to: u32,
+) -> Result<(), AllocError>
+    requires rising { from ≤ to }
+    requires within { to ≤ cars road.now }
+    requires two_lanes { length road.now.lanes ≡ 2 }
+    ensures crossings { OnOk result (
+        AnswersCrossingsPart change.now dice.now road.now from to crosses.new.items) }
+    ensures free { OnOk result (CrossesFreePart road.now from crosses.new.items) }
+{
+    let mut near = 0;
+    crosses.clear();
+    crosses.reserve((to - from) as usize)?;
+    let mut views = Views::new();
+    for block in 0..(to - from) / BLOCK + 1 {
+        let begin = from + BLOCK * block;
+        let end = begin + BLOCK.min(to - begin);
+        ask_block(&mut views, Kind::Change, road, begin, end, &mut near);
+        let answers = run_changes(change, &views, dice);
+        for k in begin..end {
+            crosses.push(answers[(k - begin) as usize])?;
+        }
+    }
+    Ok(())
+}

@@ -1,0 +1,80 @@
+//! The speeds that a motion program answers to the cars of a road: it is run for a block of cars at a time.
+
+ghost use Rattle.std.specs.Prelude.{◌≤◌, IfOk, OnOk};
+ghost use Rattle.trlab_road.specs.Cells.{cars};
+ghost use Rattle.trlab_step.specs.Answers.{AnswersSpeedsPart, FitsPart, dice_of};
+
+use crate::block::{BLOCK, ask_block};
+use std::alloc::{AllocError, Global};
+use trlab_code::Kind;
+use trlab_machine::{Dice, Views, run_motions};
+use trlab_road::Road;
+use trlab_verify::Motion;
+use trlab_words::Key;
+
+/// The speeds, in cells a step, that a motion program answers in a step to the cars of a road, in
+/// standing order from one index up to another, which is not included.
+///
+/// Each car's words go by its own number, the number of the road and that of the step. All cars
+/// are asked on the road as it stands, so parts can be taken in any order, or at the same time.
+///
+/// # Errors
+///
+/// Where an allocation was refused.
+pub fn move_part(
+    alloc: Global,
+    road: &Road,
+    motion: &Motion,
+    key: &Key,
+    number: u32,
+    step: u32,
+    from: u32,
+    to: u32,
+) -> Result<Vec<u32>, AllocError>
+    requires rising { from ≤ to }
+    requires within { to ≤ cars road.now }
+    ensures speeds { IfOk result (λ speeds.
+        AnswersSpeedsPart motion.now (dice_of key.now.0 number step) road.now from to speeds.items) }
+    ensures fits { IfOk result (λ speeds. FitsPart road.now from speeds.items) }
+{
+    let mut speeds = Vec::new(alloc);
+    ask_speeds(
+        &mut speeds,
+        road,
+        motion,
+        &Dice::new(key, number, step),
+        from,
+        to,
+    )?;
+    Ok(speeds)
+}
+
+/// Puts the speeds that `move_part` tells into a list, in place of what stands there.
+pub fn ask_speeds(
+    speeds: &mut Vec<u32>,
+    road: &Road,
+    motion: &Motion,
+    dice: &Dice,
+    from: u32,
+    to: u32,
+) -> Result<(), AllocError>
+    requires rising { from ≤ to }
+    requires within { to ≤ cars road.now }
+    ensures speeds { OnOk result (
+        AnswersSpeedsPart motion.now dice.now road.now from to speeds.new.items) }
+    ensures fits { OnOk result (FitsPart road.now from speeds.new.items) }
+{
+    speeds.clear();
+    speeds.reserve((to - from) as usize)?;
+    let mut views = Views::new();
+    for block in 0..(to - from) / BLOCK + 1 {
+        let begin = from + BLOCK * block;
+        let end = begin + BLOCK.min(to - begin);
+        ask_block(&mut views, Kind::Motion, road, begin, end, &mut 0);
+        let answers = run_motions(motion, &views, dice);
+        for k in begin..end {
+            speeds.push(answers[(k - begin) as usize])?;
+        }
+    }
+    Ok(())
+}

@@ -1,0 +1,29 @@
+-- Where an instruction has no fault, its note has no reason against it.
+use Rattle.std.proofs.Common.{◌≡◌, ℕ, refl, subst, length, Option, Some, None}
+use Rattle.std.specs.Prelude.{slice_get}
+use Rattle.std.specs.Option.{option_map}
+use Rattle.trlab_code.specs.declared.kind.Kind.{Kind}
+use Rattle.trlab_code.specs.declared.instruction.Instr.{Instr}
+use Rattle.trlab_code.specs.Program.{Program}
+use Rattle.trlab_notes.specs.declared.reason.Reason.{Reason}
+use Rattle.trlab_notes.specs.Notes.{Note}
+use Rattle.trlab_notes.specs.Reasons.{reason_against, reason_number}
+use Rattle.trlab_verify.specs.Incoming.{note_at}
+use Rattle.trlab_verify.specs.Verdict.{least_reason, fault_at}
+
+no_reason : (o : Option Reason) → option_map reason_number o ≡ None → o ≡ None
+no_reason None h = refl
+no_reason (Some reason) h = absurd (cc h)
+
+noted_reason : (kind own : Kind) (len : ℕ) (note : Option Note) (i : Instr) (pc : ℕ) → least_reason kind own len pc note (Some i) ≡ None →
+    (m : Note) × (note ≡ Some m) × (reason_against kind own len pc m i ≡ None)
+noted_reason kind own len None i pc h = absurd (cc h)
+noted_reason kind own len (Some m) i pc h = (m, refl, h)
+
+-- the note of an instruction with no fault
+pub noted : (kind : Kind) (program : Program) (pc : ℕ) (i : Instr) → slice_get program.instrs pc ≡ Some i → fault_at kind program pc ≡ None →
+    (m : Note) × (note_at kind program.instrs pc ≡ Some m) × (reason_against kind program.kind (length program.instrs) pc m i ≡ None)
+unfolding fault_at
+noted kind program pc i e h =
+    noted_reason kind program.kind (length program.instrs) (note_at kind program.instrs pc) i pc
+    (no_reason _ (subst (λ z. option_map reason_number (least_reason kind program.kind (length program.instrs) pc (note_at kind program.instrs pc) z) ≡ None) e h))

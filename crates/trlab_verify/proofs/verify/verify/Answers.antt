@@ -1,0 +1,33 @@
+use Rattle.trlab_verify.proofs.Accepted.{checked, forward}
+use Rattle.trlab_verify.proofs.Refusals.{called, own}
+use Rattle.trlab_verify.proofs.VerdictChecks.{table_checks}
+use Rattle.trlab_verify.proofs.Runs.{sound}
+use Rattle.trlab_verify.proofs.verify.verify.Goals as goal
+
+pub longest_way-budget-requires-clause-forward : goal.longest_way-budget-requires-clause-forward
+longest_way-budget-requires-clause-forward g c =
+    let accepted = rw (c.in-Ok-None.field-0-is, c.KIND.ensures) at c.in-Ok-None.ensures in
+    rw c.instrs.ensures.value (forward g.K.ProgramKind.KIND c.args.code accepted)
+
+pub new-requires : goal.new-requires
+new-requires g c =
+    let accepted = rw (c.in-Ok-None.field-0-is, c.KIND.ensures) at c.in-Ok-None.ensures in
+    let longest = rw c.instrs.ensures.value at c.longest_way-budget.ensures in
+    checked g.K.ProgramKind.KIND c.args.code c.longest_way-budget.result c.instrs.ensures.program accepted longest
+
+pub returns-in-Ok-None-clause-safe : goal.returns-in-Ok-None-clause-safe
+returns-in-Ok-None-clause-safe g c =
+    let accepted = rw (c.in-Ok-None.field-0-is, c.KIND.ensures) at c.in-Ok-None.ensures in
+    let longest = rw c.instrs.ensures.value at c.longest_way-budget.ensures in
+    rw c.new.ensures.budget (sound g.K.ProgramKind.KIND c.args.code c.longest_way-budget.result accepted longest)
+
+pub returns-in-Ok-None-clause-some_table : goal.returns-in-Ok-None-clause-some_table
+returns-in-Ok-None-clause-some_table g c =
+    let accepted = rw (c.in-Ok-None.field-0-is, c.KIND.ensures) at c.in-Ok-None.ensures in
+    let found = table_checks g.K.ProgramKind.KIND c.args.code accepted in
+    (found.0, found.2)
+
+pub returns-in-Ok-Some-clause-no_table : goal.returns-in-Ok-Some-clause-no_table
+returns-in-Ok-Some-clause-no_table g c =
+    let refused = rw (c.in-Ok-Some.field-0-is, c.KIND.ensures) at c.in-Ok-Some.ensures in
+    rw c.number.ensures.value (called g.K.ProgramKind.KIND c.args.code _ _ refused, own g.K.ProgramKind.KIND c.args.code _ _ refused)

@@ -1,0 +1,20 @@
+-- Programs that the verifier has accepted.
+use Rattle.std.specs.Prelude.{◌≡◌, ℕ}
+use Rattle.trlab_code.specs.declared.kind.Kind.{Kind}
+use Rattle.trlab_code.specs.Program.{Program, IsProgram}
+use Rattle.trlab_code.specs.Machine.{IsSafe}
+use Rattle.trlab_verify.specs.Longest.{IsLongest, IsForward}
+
+-- a program with its budget
+pub record CheckedProgram : Type 0 where
+  pub program : Program
+  pub budget : ℕ
+
+-- what an accepted program of a kind keeps: it is of that kind, its control goes forward, and it is safe
+-- within its budget, which is its longest way
+pub record IsChecked (kind : Kind) (checked : CheckedProgram) : Type 0 where
+  pub program : IsProgram checked.program
+  pub kind_is : checked.program.kind ≡ kind
+  pub forward : IsForward checked.program.instrs
+  pub safe : IsSafe kind checked.program.instrs checked.budget
+  pub longest : IsLongest checked.program.instrs 0 checked.budget

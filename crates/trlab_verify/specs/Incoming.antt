@@ -1,0 +1,62 @@
+-- Incoming notes: what the ways of a program bring to its instructions, joined, as abstract interpretation
+-- joins what meets; docs/PROGRAMS.md says the same in sentences.
+use Rattle.std.specs.Prelude.{◌≡◌, ◌⊎◌, ℕ, zero, suc, ◌<◌, List, Bool, true, false, Option, Some, None, nat_eq, slice_get}
+use Rattle.trlab_code.specs.declared.kind.Kind.{Kind}
+use Rattle.trlab_code.specs.declared.instruction.Instr.{Instr}
+use Rattle.trlab_code.specs.Flow.{target}
+use Rattle.trlab_notes.specs.Notes.{Note, entry}
+use Rattle.trlab_notes.specs.Order.{join}
+use Rattle.trlab_notes.specs.Transfer.{next_note, jump_note}
+
+-- the join of the notes that have come in, with a further one
+abbrev pub add_note : Option Note → Option Note → Option Note
+add_note old None = old
+add_note None (Some n) = Some (join n n)
+add_note (Some m) (Some n) = Some (join m n)
+
+-- a note that comes in here alone
+abbrev pub if_here : Bool → Option Note → Option Note
+if_here true edge = edge
+if_here false edge = None
+
+-- a jump's target is q
+abbrev pub is_target : Option ℕ → ℕ → Bool
+is_target None q = false
+is_target (Some t) q = nat_eq q t
+
+-- the note that the instruction at pc sends to the one at q as the next one
+abbrev pub next_note_to : ℕ → Note → Instr → ℕ → Option Note
+next_note_to pc m i q = if_here (nat_eq q (suc pc)) (next_note m i)
+
+-- the note that an instruction sends to the one at q as its jump's target
+abbrev pub jump_note_to : Note → Instr → ℕ → Option Note
+jump_note_to m i q = if_here (is_target (target i) q) (Some (jump_note m i))
+
+-- the incoming notes of q, with those that the instruction at pc sends there
+abbrev pub add_notes : ℕ → Option Note → Option Instr → ℕ → Option Note → Option Note
+add_notes pc (Some m) (Some i) q old = add_note (add_note old (next_note_to pc m i q)) (jump_note_to m i q)
+add_notes pc _ _ q old = old
+
+-- the join of what the first n instructions send to q, if something comes; to the first comes the entry note
+abbrev pub incoming : Kind → List Instr → ℕ → ℕ → Option Note
+incoming kind code zero q = if_here (nat_eq q 0) (Some (entry kind))
+incoming kind code (suc n) q =
+    add_notes n (incoming kind code n n) (slice_get code n) q (incoming kind code n q)
+
+-- the note of an instruction: the join of what comes in from earlier ones
+abbrev pub note_at : Kind → List Instr → ℕ → Option Note
+note_at kind code pc = incoming kind code pc pc
+
+-- what the instruction at p sends to the one at q, as the next one or as its jump's target
+pub record Sends (kind : Kind) (code : List Instr) (p q : ℕ) (note : Note) : Type 0 where
+  pub before : Note
+  pub instr : Instr
+  pub noted : note_at kind code p ≡ Some before
+  pub stands : slice_get code p ≡ Some instr
+  pub sent : (next_note_to p before instr q ≡ Some note) ⊎ (jump_note_to before instr q ≡ Some note)
+
+-- a note that is sent to the instruction at pc: the entry note to the first, else what an earlier one sends
+abbrev pub IsSent : Kind → List Instr → ℕ → Note → Type 0
+IsSent kind code pc note =
+    ((pc ≡ 0) × (note ≡ entry kind))
+    ⊎ ((p : ℕ) × (p < pc) × Sends kind code p pc note)

@@ -1,0 +1,58 @@
+-- The form of tables: notes as callers write and read them.
+use Rattle.std.specs.Prelude.{◌≡◌, ℕ, ◌≤◌, List, [], map, false, slice_index_or}
+use Rattle.trlab_code.specs.declared.kind.Kind.{Kind}
+use Rattle.trlab_code.specs.declared.instruction.Input.{Input}
+use Rattle.trlab_code.specs.declared.instruction.Place.{Place}
+use Rattle.trlab_code.specs.declared.instruction.Place.TheVariants as place
+use Rattle.trlab_code.specs.Machine.{register_number}
+use Rattle.trlab_code.specs.Program.{Program}
+use Rattle.trlab_notes.specs.declared.note.Said.{Said}
+use Rattle.trlab_notes.specs.declared.note.Said.TheVariants.{Nothing, Between, Implies}
+use Rattle.trlab_notes.specs.Notes.{Note, known_level, entry_said}
+use Rattle.trlab_notes.specs.Rows.{levels_in}
+use Rattle.trlab_verify.specs.declared.table.note.Mark.{Mark}
+use Rattle.trlab_verify.specs.declared.table.note.Mark.TheVariants.{Unset, Num, Flag}
+use Rattle.trlab_verify.specs.declared.table.note.Note.{Note as Form}
+use Rattle.trlab_verify.specs.declared.table.best.NotesFault.{NotesFault}
+use Rattle.trlab_verify.specs.declared.table.best.NotesFault.TheVariants.{Refused, Memory}
+use Rattle.trlab_verify.specs.Verdict.{IsRefused}
+
+-- what a mark says of a register
+abbrev pub said_of : Mark → Said
+said_of Unset = Nothing
+said_of (Num lo hi) = Between lo hi
+said_of (Flag imp) = Implies imp
+
+-- what a form says of a place: of the registers what is marked, of the inputs of a kind their ranges
+abbrev pub form_said : Kind → Form → Place → Said
+form_said kind form (place.Register r) = said_of (slice_index_or form.regs (register_number r) Unset)
+form_said kind form (place.Input k) = entry_said kind (place.Input k)
+
+-- the note that a form means
+abbrev pub meaning : Kind → Form → Note
+meaning kind form = record { said = form_said kind form; level = levels_in form.levels; side = form.side }
+
+-- the table of notes that forms mean
+abbrev pub table_of : Kind → List Form → List Note
+table_of kind forms = map (meaning kind) forms
+
+-- the form of a note that says nothing
+abbrev pub empty_form : Form
+empty_form = record { regs = []; levels = []; side = false }
+
+-- the note that the form for the instruction at pc means
+abbrev pub meaning_at : Kind → List Form → ℕ → Note
+meaning_at kind forms pc = meaning kind (slice_index_or forms pc empty_form)
+
+-- no level that is looked at is above 2
+abbrev pub HasLevels : Note → Type 0
+HasLevels note = (x y : Place) → known_level note x y ≤ 2
+
+-- of the inputs a note says their ranges
+abbrev pub SaysRanges : Kind → Note → Type 0
+SaysRanges kind note = (k : Input) → note.said (place.Input k) ≡ entry_said kind (place.Input k)
+
+-- what a fault tells of a program whose notes were asked for
+abbrev pub HasNoNotes : Program → NotesFault → Type 0
+HasNoNotes program Refused = (at : ℕ) × (reason : ℕ) × IsRefused program.kind program at reason
+HasNoNotes program Memory = Unit {0}

@@ -1,0 +1,116 @@
+//! Programs that the verifier has accepted, with their budgets. A type stands for each kind, so that no motion
+//! program is run as a change program, and all else stands once.
+
+ghost use Rattle.std.specs.Prelude.{◌≡◌, ◌↔◌, IsTrue, IfOk};
+ghost use Rattle.trlab_code.specs.declared.kind.Kind.{Kind as AKind};
+ghost use Rattle.trlab_code.specs.declared.kind.Kind.TheVariants.{Motion as OfMotion, Change as OfChange};
+ghost use Rattle.trlab_verify.specs.CheckedProgram.{IsChecked};
+ghost use Rattle.trlab_verify.specs.Longest.{IsLongest};
+
+use crate::copies::{are_same, copy_of};
+use std::alloc::{AllocError, Global};
+use std::marker::{Model, PhantomData};
+use trlab_code::{Code, Kind};
+
+/// A kind of programs, as a type.
+pub trait ProgramKind {
+    ghost KIND: { AKind };
+
+    /// The kind.
+    const KIND: Kind;
+}
+
+/// The kind of motion programs.
+#[derive(Clone, Copy, Debug)]
+pub struct MotionKind;
+
+/// The kind of change programs.
+#[derive(Clone, Copy, Debug)]
+pub struct ChangeKind;
+
+impl ProgramKind for MotionKind {
+    ghost KIND = { OfMotion };
+
+    const KIND: Kind = Kind::Motion;
+}
+
+impl ProgramKind for ChangeKind {
+    ghost KIND = { OfChange };
+
+    const KIND: Kind = Kind::Change;
+}
+
+/// An accepted program of a kind: safe for every view and all random words within its budget.
+#[derive(Debug, Drop)]
+pub struct AcceptedProgram<K: ProgramKind> {
+    code: Code,
+    budget: u32,
+    kind: PhantomData<K>,
+}
+
+/// An accepted motion program.
+pub type Motion = AcceptedProgram<MotionKind>;
+
+/// An accepted change program.
+pub type Change = AcceptedProgram<ChangeKind>;
+
+impl<K: ProgramKind> Model for AcceptedProgram<K> {
+    ghost use Rattle.trlab_verify.specs.CheckedProgram.{CheckedProgram, IsChecked};
+
+    ghost Value = { CheckedProgram };
+
+    ghost view = { λ accepted. record { program = accepted.code; budget = accepted.budget } };
+
+    ghost invariant = { λ accepted.
+        IsChecked K.KIND (record { program = accepted.code; budget = accepted.budget }) };
+}
+
+impl<K: ProgramKind> AcceptedProgram<K> {
+    /// An accepted program with its longest way.
+    pub(crate) fn new(code: Code, budget: u32) -> AcceptedProgram<K>
+        requires { IsChecked K.KIND (record { program = code; budget = budget }) }
+        ensures program { result.program ≡ code }
+        ensures budget { result.budget ≡ budget }
+    {
+        AcceptedProgram {
+            code,
+            budget,
+            kind: PhantomData,
+        }
+    }
+
+    /// The program.
+    pub fn code(&self) -> &Code
+        ensures value { result.now ≡ self.now.program }
+        ensures checked { IsChecked K.KIND self.now }
+    {
+        &self.code
+    }
+
+    /// How many instructions a run takes at most, the end counted: 1 to `MOST_INSTRUCTIONS`.
+    pub fn budget(&self) -> u32
+        ensures value { result ≡ self.now.budget }
+        ensures longest { IsLongest self.now.program.instrs 0 result }
+    {
+        self.budget
+    }
+
+    /// A copy of the program.
+    ///
+    /// # Errors
+    ///
+    /// Where there is no memory for the instructions.
+    pub fn copy(&self, alloc: Global) -> Result<AcceptedProgram<K>, AllocError>
+        ensures { IfOk result (λ copy. copy ≡ self.now) }
+    {
+        let code = copy_of(alloc, self.code())?;
+        Ok(AcceptedProgram::new(code, self.budget))
+    }
+
+    /// Whether two programs are one: the same instructions.
+    pub fn equals(&self, other: &AcceptedProgram<K>) -> bool
+        ensures { IsTrue result ↔ (self.now ≡ other.now) }
+    {
+        are_same(self.code(), other.code())
+    }
+}
