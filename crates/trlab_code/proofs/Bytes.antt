@@ -7,7 +7,7 @@ use Rattle.trlab_code.specs.declared.kind.Kind.TheVariants.{Motion, Change}
 use Rattle.trlab_code.specs.declared.instruction.Register.{Register}
 use Rattle.trlab_code.specs.declared.instruction.Register.TheVariants.{R0, R1, R2, R3, R4, R5, R6, R7}
 use Rattle.trlab_code.specs.declared.instruction.Input.{Input}
-use Rattle.trlab_code.specs.declared.instruction.Input.TheVariants.{Speed, Limit, Gap, SideGap, SideBack, Lane}
+use Rattle.trlab_code.specs.declared.instruction.Input.TheVariants.{Speed, Limit, Gap, SideGap, SideBack, Lane, Headspeed}
 use Rattle.trlab_code.specs.declared.instruction.Instr.{Instr}
 use Rattle.trlab_code.specs.declared.instruction.Instr.TheVariants.{Num, Get, Side, Draw, Copy, Add, Sub, Mul, Div, Min, Max, Not, And, Or, Jump, JumpLess, JumpAtMost, JumpTrue, JumpFalse, Go, Cross, Stay}
 use Rattle.trlab_bounds.specs.declared.programs.TheConstants.{VERSION}
@@ -46,6 +46,7 @@ input_small Gap = omega arith
 input_small SideGap = omega arith
 input_small SideBack = omega arith
 input_small Lane = omega arith
+input_small Headspeed = omega arith
 
 row_small : (opcode a b c n : ℕ) → opcode < 2 ^ 8 → a < 2 ^ 8 → b < 2 ^ 8 → c < 2 ^ 8 → n < 2 ^ 32 → Small (row_bytes (row opcode a b c n))
 row_small opcode a b c n f g h i small =

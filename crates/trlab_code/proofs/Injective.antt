@@ -6,7 +6,7 @@ use Rattle.trlab_code.specs.declared.kind.Kind.TheVariants.{Motion, Change}
 use Rattle.trlab_code.specs.declared.instruction.Register.{Register}
 use Rattle.trlab_code.specs.declared.instruction.Register.TheVariants.{R0, R1, R2, R3, R4, R5, R6, R7}
 use Rattle.trlab_code.specs.declared.instruction.Input.{Input}
-use Rattle.trlab_code.specs.declared.instruction.Input.TheVariants.{Speed, Limit, Gap, SideGap, SideBack, Lane}
+use Rattle.trlab_code.specs.declared.instruction.Input.TheVariants.{Speed, Limit, Gap, SideGap, SideBack, Lane, Headspeed}
 use Rattle.trlab_code.specs.declared.instruction.Instr.{Instr}
 use Rattle.trlab_code.specs.declared.instruction.Instr.TheVariants.{Num, Get, Side, Draw, Copy, Add, Sub, Mul, Div, Min, Max, Not, And, Or, Jump, JumpLess, JumpAtMost, JumpTrue, JumpFalse, Go, Cross, Stay}
 use Rattle.trlab_code.specs.Program.{Program}
@@ -33,7 +33,7 @@ register_back R6 = refl
 register_back R7 = refl
 
 abbrev input_of : ℕ → Input
-input_of n = get_or (Speed ∷ Limit ∷ Gap ∷ SideGap ∷ SideBack ∷ Lane ∷ []) n Speed
+input_of n = get_or (Speed ∷ Limit ∷ Gap ∷ SideGap ∷ SideBack ∷ Lane ∷ Headspeed ∷ []) n Speed
 
 input_back : (k : Input) → input_of (input_number k) ≡ k
 input_back Speed = refl
@@ -42,6 +42,7 @@ input_back Gap = refl
 input_back SideGap = refl
 input_back SideBack = refl
 input_back Lane = refl
+input_back Headspeed = refl
 
 abbrev number_of : ℕ → ℕ → ℕ → ℕ → ℕ
 number_of low second third high = low + 256 * second + 65536 * third + 16777216 * high

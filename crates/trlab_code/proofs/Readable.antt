@@ -11,7 +11,7 @@ use Rattle.trlab_code.specs.declared.kind.Kind.TheVariants.{Motion, Change}
 use Rattle.trlab_code.specs.declared.instruction.Register.{Register}
 use Rattle.trlab_code.specs.declared.instruction.Register.TheVariants.{R0, R1, R2, R3, R4, R5, R6, R7}
 use Rattle.trlab_code.specs.declared.instruction.Input.{Input}
-use Rattle.trlab_code.specs.declared.instruction.Input.TheVariants.{Speed, Limit, Gap, SideGap, SideBack, Lane}
+use Rattle.trlab_code.specs.declared.instruction.Input.TheVariants.{Speed, Limit, Gap, SideGap, SideBack, Lane, Headspeed}
 use Rattle.trlab_code.specs.declared.instruction.Instr.{Instr}
 use Rattle.trlab_code.specs.declared.instruction.Instr.TheVariants.{Num, Get, Side, Draw, Copy, Add, Sub, Mul, Div, Min, Max, Not, And, Or, Jump, JumpLess, JumpAtMost, JumpTrue, JumpFalse, Go, Cross, Stay}
 use Rattle.trlab_bounds.specs.declared.programs.TheConstants.{MAGIC, VERSION}
@@ -44,7 +44,7 @@ register_back R7 = refl
 
 -- the input of a byte; any input for a byte of none
 input_of : ℕ → Input
-input_of byte = get_or (Speed ∷ Limit ∷ Gap ∷ SideGap ∷ SideBack ∷ Lane ∷ []) byte Speed
+input_of byte = get_or (Speed ∷ Limit ∷ Gap ∷ SideGap ∷ SideBack ∷ Lane ∷ Headspeed ∷ []) byte Speed
 
 input_back : (k : Input) → input_of (input_number k) ≡ k
 unfolding input_of
@@ -54,6 +54,7 @@ input_back Gap = refl
 input_back SideGap = refl
 input_back SideBack = refl
 input_back Lane = refl
+input_back Headspeed = refl
 
 -- the number of four bytes
 number_of : ℕ → ℕ → ℕ → ℕ → ℕ
