@@ -1,5 +1,5 @@
 -- Characters of speeds: no two speeds have one, and none is the point.
-use Rattle.std.proofs.Common.{◌≡◌, ◌≢◌, ℕ, zero, suc, ◌+◌, ◌-◌, ◌<◌, ◌≤◌, eqb, false, ◌⊎◌, refl, sym, ◌∙◌, ap, subst, inl, inr, arith}
+use Rattle.std.proofs.Common.{◌≡◌, ◌≢◌, ℕ, zero, suc, ◌+◌, ◌-◌, ◌<◌, ◌≤◌, eqb, ◌⊎◌, refl, sym, ◌∙◌, ap, inl, inr, arith}
 use Rattle.std.proofs.lemmas.Bool.{cases_lt, cases_eq, cond_above, cond_below, eq-eqb, ne_eqb}
 use Rattle.trlab_road.specs.Pictures.{ShowsSpeed, point, speed_character}
 use Rattle.trlab_road.specs.Stored.{speed_of_character}

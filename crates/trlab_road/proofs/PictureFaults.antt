@@ -1,5 +1,5 @@
 -- Any limit and pictures show a legal road, or have a first fault.
-use Rattle.std.proofs.Common.{◌≡◌, ◌≢◌, ◌↔◌, ℕ, zero, suc, ◌+◌, ◌-◌, ◌<◌, ◌≤◌, ◌⊎◌, List, map, length, Result, Ok, Err, refl, sym, ap, ◌∙◌, subst, arith, inl, inr}
+use Rattle.std.proofs.Common.{◌≡◌, ◌≢◌, ◌↔◌, ℕ, zero, suc, ◌<◌, ◌≤◌, ◌⊎◌, List, map, length, Result, Ok, Err, refl, sym, ap, ◌∙◌, subst, arith, inl, inr}
 use Rattle.std.proofs.lemmas.Bool.{cases_lt, cases_order}
 use Rattle.std.proofs.lemmas.Bool.Decides.{eqb_tells}
 use Rattle.trlab_road.specs.declared.fault.RoadFault.{RoadFault}
@@ -7,7 +7,7 @@ use Rattle.trlab_road.specs.declared.fault.RoadFault.TheVariants.{Lanes, Length,
 use Rattle.trlab_bounds.specs.declared.roads.TheConstants.{GREATEST_LENGTH, GREATEST_LIMIT, MOST_LANES}
 use Rattle.trlab_road.specs.Cells.{Cells}
 use Rattle.trlab_road.specs.Legal.{IsLegal, LanesFit, LengthFits, LimitFits}
-use Rattle.trlab_road.specs.Pictures.{HaveEqualLengths, IsFirstBad, IsFirstFault, AreGoodPictures, AreNumberedInOrder, Shows, ShowsCell, ShowsSpeed, character_at, point, picture, picture_at}
+use Rattle.trlab_road.specs.Pictures.{HaveEqualLengths, IsFirstBad, IsFirstFault, AreGoodPictures, AreNumberedInOrder, Shows, ShowsCell, character_at, point, picture, picture_at}
 use Rattle.trlab_road.specs.Laws.{Says}
 use Rattle.trlab_road.proofs.Characters.{shows_speed_or_not}
 use Rattle.trlab_road.proofs.PictureLaws.{draws, no_fault, one_fault, one_shown, pictures_good, shown_legal}
