@@ -92,6 +92,10 @@ instr_back (Go a) = λ z. Go (register_back a z)
 instr_back Cross = refl
 instr_back Stay = refl
 
+-- an instruction is known by its bytes
+pub same_instr : {x y : Instr} → instr_bytes x ≡ instr_bytes y → x ≡ y
+same_instr {x} {y} h = sym (instr_back x) ∙ ap first_of h ∙ instr_back y
+
 same_first : (x y : Instr) (xs ys : List Instr) → flat_map instr_bytes (x ∷ xs) ≡ flat_map instr_bytes (y ∷ ys) → x ≡ y
 same_first x y xs ys h = sym (instr_back x) ∙ ap first_of h ∙ instr_back y
 

@@ -1,6 +1,6 @@
 //! From bytes to programs.
 
-ghost use Rattle.std.specs.Prelude.{◌≡◌, ◌≢◌, ◌*◌, ◌<◌, ◌≤◌, ◌⊎◌, ℕ, length, take, drop, vec_len, All, MatchResult, IfOk, IfErr};
+ghost use Rattle.std.specs.Prelude.{◌≡◌, ◌≢◌, ◌*◌, ◌<◌, ◌≤◌, ◌⊎◌, ℕ, length, take, drop, All, MatchResult, IfOk, IfErr};
 ghost use Rattle.std.specs.List.{flat_map};
 ghost use Rattle.trlab_code.specs.Program.{Program, InRange, IsProgram};
 ghost use Rattle.trlab_code.specs.Spelling.{spelling, instr_bytes, Spells};
@@ -20,7 +20,8 @@ fn instr_at(bytes: &[u8], version: u8, pc: u32) -> Result<Instr, CodeFault>
     requires version { version ≡ stated_version bytes.now }
     requires inside { pc < stated_count bytes.now }
     requires before { IsGoodBefore bytes.now pc }
-    ensures { MatchResult result (λ i. Spells version i (bytes_at bytes.now pc)) (IsFirstFault bytes.now) }
+    ensures { MatchResult result
+        (λ i. Spells (stated_version bytes.now) i (bytes_at bytes.now pc)) (IsFirstFault bytes.now) }
 {
     let row = Row::read(bytes, HEADER_BYTES + INSTR_BYTES * pc as usize);
     match row::instruction_of(row, version) {
@@ -36,11 +37,12 @@ fn instrs(alloc: Global, bytes: &[u8], header: Header) -> Result<Vec<Instr>, Cod
     requires room { HasRoom bytes.now }
     requires version { header.version ≡ stated_version bytes.now }
     requires count { header.count ≡ stated_count bytes.now }
-    ensures length { IfOk result (λ instrs. vec_len instrs ≡ header.count) }
+    ensures length { IfOk result (λ instrs. length instrs.items ≡ stated_count bytes.now) }
     ensures in_range { IfOk result (λ instrs. All InRange instrs.items) }
     ensures spelt { IfOk result (λ instrs.
-        flat_map instr_bytes instrs.items ≡ take (INSTR_BYTES * header.count) (drop HEADER_BYTES bytes.now)) }
-    ensures rows { IfOk result (λ _. IsGoodBefore bytes.now header.count) }
+        flat_map instr_bytes instrs.items
+        ≡ take (INSTR_BYTES * stated_count bytes.now) (drop HEADER_BYTES bytes.now)) }
+    ensures rows { IfOk result (λ _. IsGoodBefore bytes.now (stated_count bytes.now)) }
     ensures fault { IfErr result (IsFirstFault bytes.now) }
 {
     let mut instrs = Vec::with_capacity(alloc, header.count as usize)?;
@@ -75,7 +77,8 @@ pub fn decode(alloc: Global, bytes: &[u8]) -> Result<Code, CodeFault>
         → (result ≡ Err fault) ⊎ (result ≡ Err CodeFault.Memory) }
 {
     let header = Header::read(bytes)?;
-    let code = Code::of(header.kind, instrs(alloc, bytes, header)?);
+    let instrs = instrs(alloc, bytes, header)?;
+    let code = Code::of(header.kind, instrs);
     if code.version() != header.version {
         return Err(CodeFault::NeedlessVersion);
     }
