@@ -6,7 +6,7 @@ ghost use Rattle.trlab_code.specs.declared.kind.Kind.{Kind};
 ghost use Rattle.trlab_notes.specs.Notes.{with_side};
 ghost use Rattle.trlab_verify.specs.TableForm.{said_of, meaning, meaning_at};
 ghost use Rattle.trlab_verify.specs.Verdict.{IsAccepted};
-ghost use Rattle.trlab_campaign.specs.NoteLines.{register_entry, said_text, registers_text, note_line, notes_text};
+ghost use Rattle.trlab_campaign.specs.NoteLines.{register_entry, said_text, registers_text, side_text, note_line, notes_text};
 
 use std::alloc::{AllocError, Global};
 use trlab_asm::{REGISTERS, register_text};
@@ -60,6 +60,13 @@ fn push_registers(alloc: Global, out: &mut Vec<u8>, note: &Note) -> Result<(), A
     Ok(())
 }
 
+/// The word of a note by which the side cell is known to be empty.
+fn side_text(side: bool) -> &'static [u8]
+    ensures { result.now ≡ side_text side }
+{
+    if side { b" side" } else { b"" }
+}
+
 /// Adds the line of the note before the instruction at `pc`.
 fn push_note(alloc: Global, out: &mut Vec<u8>, pc: usize, note: &Note) -> Result<(), AllocError>
     ensures { (kind : Kind) → OnOk result
@@ -68,10 +75,9 @@ fn push_note(alloc: Global, out: &mut Vec<u8>, pc: usize, note: &Note) -> Result
     let head = format!(in alloc; "note {pc}")?;
     out.extend_from_slice(head.as_bytes())?;
     push_registers(alloc, out, note)?;
-    if note.side {
-        out.extend_from_slice(b" side")?;
-    }
-    out.push(b'\n')
+    out.extend_from_slice(side_text(note.side))?;
+    out.push(b'\n')?;
+    Ok(())
 }
 
 /// Adds the lines of notes, the first being that of the first instruction.
