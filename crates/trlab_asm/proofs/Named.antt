@@ -6,7 +6,7 @@ use Rattle.std.proofs.lemmas.Slice.Eq.{bytes_eq-Decides}
 use Rattle.trlab_code.specs.declared.instruction.Register.{Register}
 use Rattle.trlab_code.specs.declared.instruction.Register.TheVariants.{R0, R1, R2, R3, R4, R5, R6, R7}
 use Rattle.trlab_code.specs.declared.instruction.Input.{Input}
-use Rattle.trlab_code.specs.declared.instruction.Input.TheVariants.{Speed, Limit, Gap, SideGap, SideBack, Lane}
+use Rattle.trlab_code.specs.declared.instruction.Input.TheVariants.{Speed, Limit, Gap, SideGap, SideBack, Lane, Headspeed}
 use Rattle.trlab_asm.specs.declared.names.Mnemonic.{Mnemonic}
 use Rattle.trlab_asm.specs.declared.names.Mnemonic.TheVariants as name
 use Rattle.trlab_asm.specs.declared.names.TheConstants.{REGISTERS, INPUTS, MNEMONICS}
@@ -46,6 +46,7 @@ input_back Gap = refl
 input_back SideGap = refl
 input_back SideBack = refl
 input_back Lane = refl
+input_back Headspeed = refl
 
 name_back : (x : Mnemonic) → mnemonic_named (mnemonic_text x) ≡ Some x
 name_back name.Num = refl

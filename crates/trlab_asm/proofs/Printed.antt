@@ -9,7 +9,7 @@ use Rattle.std.proofs.lemmas.Bool.Decides.{nat_tests}
 use Rattle.trlab_code.specs.declared.instruction.Register.{Register}
 use Rattle.trlab_code.specs.declared.instruction.Register.TheVariants.{R0, R1, R2, R3, R4, R5, R6, R7}
 use Rattle.trlab_code.specs.declared.instruction.Input.{Input}
-use Rattle.trlab_code.specs.declared.instruction.Input.TheVariants.{Speed, Limit, Gap, SideGap, SideBack, Lane}
+use Rattle.trlab_code.specs.declared.instruction.Input.TheVariants.{Speed, Limit, Gap, SideGap, SideBack, Lane, Headspeed}
 use Rattle.trlab_bounds.specs.declared.programs.TheConstants.{WORDS, CERTAIN}
 use Rattle.trlab_asm.specs.Names.{register_text, input_text, mnemonic_text, mnemonic_named}
 use Rattle.trlab_asm.specs.Operands.{register, input, all_digits, digits_of, numeral, value_within, number, Target, target, target_named, is_label, all_label_bytes, two_registers, three_registers, register_input, register_number, two_registers_number, word_chance, register_word_chance, register_target, two_registers_target, ◌then◌}
@@ -47,6 +47,7 @@ input_plain Gap = refl
 input_plain SideGap = refl
 input_plain SideBack = refl
 input_plain Lane = refl
+input_plain Headspeed = refl
 
 input_again : (k : Input) → input (32 ∷ input_text k) ≡ Ok k
 input_again Speed = refl
@@ -55,6 +56,7 @@ input_again Gap = refl
 input_again SideGap = refl
 input_again SideBack = refl
 input_again Lane = refl
+input_again Headspeed = refl
 
 -- the text of a name is one plain word, and names it
 pub record IsName (x : Mnemonic) : Type 0 where

@@ -4,7 +4,7 @@ use Rattle.std.specs.List.{find}
 use Rattle.trlab_code.specs.declared.instruction.Register.{Register}
 use Rattle.trlab_code.specs.declared.instruction.Register.TheVariants.{R0, R1, R2, R3, R4, R5, R6, R7}
 use Rattle.trlab_code.specs.declared.instruction.Input.{Input}
-use Rattle.trlab_code.specs.declared.instruction.Input.TheVariants.{Speed, Limit, Gap, SideGap, SideBack, Lane}
+use Rattle.trlab_code.specs.declared.instruction.Input.TheVariants.{Speed, Limit, Gap, SideGap, SideBack, Lane, Headspeed}
 use Rattle.trlab_asm.specs.declared.names.Mnemonic.{Mnemonic}
 use Rattle.trlab_asm.specs.declared.names.Mnemonic.TheVariants.{Num, Get, Side, Draw, Copy, Add, Sub, Mul, Div, Min, Max, Not, And, Or, Jump, JumpLess, JumpAtMost, JumpTrue, JumpFalse, Go, Cross, Stay}
 use Rattle.trlab_asm.specs.declared.names.TheConstants.{REGISTERS, INPUTS, MNEMONICS}
@@ -28,6 +28,7 @@ input_text Gap = codes "gap"
 input_text SideGap = codes "sidegap"
 input_text SideBack = codes "sideback"
 input_text Lane = codes "lane"
+input_text Headspeed = codes "headspeed"
 
 -- the text of an instruction's name
 abbrev pub mnemonic_text : Mnemonic → List ℕ

@@ -19,13 +19,14 @@ pub const REGISTERS: [Register; 8] = [
 ];
 
 /// All inputs.
-pub(crate) const INPUTS: [Input; 6] = [
+pub(crate) const INPUTS: [Input; 7] = [
     Input::Speed,
     Input::Limit,
     Input::Gap,
     Input::SideGap,
     Input::SideBack,
     Input::Lane,
+    Input::Headspeed,
 ];
 
 /// The name of an instruction.
@@ -108,6 +109,7 @@ pub(crate) fn input_text(input: Input) -> &'static [u8]
         Input::SideGap => b"sidegap",
         Input::SideBack => b"sideback",
         Input::Lane => b"lane",
+        Input::Headspeed => b"headspeed",
     }
 }
 

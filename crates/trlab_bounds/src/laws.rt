@@ -6,8 +6,8 @@
 ghost use Rattle.std.specs.Prelude.{◌≡◌, ◌+◌, ◌*◌, ◌^◌, codes};
 
 use crate::programs::{
-    CERTAIN, GREATEST_NUMBER, HEADER_BYTES, INSTR_BYTES, LONGEST_LABEL, MAGIC, MOST_DIGITS,
-    MOST_INSTRUCTIONS, PLACES, VERSION, WORDS,
+    CERTAIN, GREATEST_NUMBER, HEADER_BYTES, HEADSPEED_VERSION, INSTR_BYTES, LONGEST_LABEL, MAGIC,
+    MOST_DIGITS, MOST_INSTRUCTIONS, PLACES, PLAIN_VERSION, WORDS,
 };
 use crate::roads::{GREATEST_GAP, GREATEST_LENGTH, GREATEST_LIMIT, MOST_LANES};
 use crate::runs::{MOST_LATER, MOST_STEPS, MOST_WORKERS};
@@ -15,7 +15,7 @@ use crate::texts::{LONGEST_NUMBER, TEXT_LIMIT};
 
 /// The bounds of roads; a car sees at most all other cells of the longest lane.
 pub fn roads()
-    ensures limit { GREATEST_LIMIT ≡ 9 }
+    ensures limit { GREATEST_LIMIT ≡ 35 }
     ensures length { GREATEST_LENGTH ≡ 100000 }
     ensures lanes { MOST_LANES ≡ 2 }
     ensures gap { GREATEST_GAP + 1 ≡ GREATEST_LENGTH }
@@ -24,7 +24,7 @@ pub fn roads()
 /// The numbers of programs.
 pub fn programs()
     ensures instructions { MOST_INSTRUCTIONS ≡ 128 }
-    ensures places { PLACES ≡ 14 }
+    ensures places { PLACES ≡ 15 }
     ensures words { WORDS ≡ 16 }
     ensures certain { CERTAIN ≡ 2 ^ 31 }
 {}
@@ -32,7 +32,8 @@ pub fn programs()
 /// The numbers of their bytes.
 pub fn spellings()
     ensures magic { MAGIC ≡ codes "TRLB" }
-    ensures version { VERSION ≡ 1 }
+    ensures version { PLAIN_VERSION ≡ 1 }
+    ensures headspeed { HEADSPEED_VERSION ≡ 2 }
     ensures header { HEADER_BYTES ≡ 8 }
     ensures instruction { INSTR_BYTES ≡ 8 }
 {}

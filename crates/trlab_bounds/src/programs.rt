@@ -3,8 +3,8 @@
 /// The most instructions of a program.
 pub const MOST_INSTRUCTIONS: usize = 128;
 
-/// The places that hold values while a program runs: eight registers, and behind them six inputs.
-pub const PLACES: usize = 14;
+/// The places that hold values while a program runs: eight registers, and behind them seven inputs.
+pub const PLACES: usize = 15;
 
 /// How many random words a program can draw on.
 pub const WORDS: usize = 16;
@@ -15,8 +15,11 @@ pub const CERTAIN: u32 = 2147483648;
 /// The bytes that every spelling of a program begins with.
 pub const MAGIC: [u8; 4] = *b"TRLB";
 
-/// The version of the spelling.
-pub const VERSION: u8 = 1;
+/// The version of the spelling of programs that do not read the speed of the next car ahead.
+pub const PLAIN_VERSION: u8 = 1;
+
+/// The version of the spelling of programs that read that speed.
+pub const HEADSPEED_VERSION: u8 = 2;
 
 /// How many bytes a header has.
 pub const HEADER_BYTES: usize = 8;

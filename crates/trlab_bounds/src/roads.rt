@@ -1,7 +1,7 @@
 //! How large roads are, and what cars see of them.
 
 /// The greatest speed limit of a road, in cells a step.
-pub const GREATEST_LIMIT: u32 = 9;
+pub const GREATEST_LIMIT: u32 = 35;
 
 /// How many cells a lane has at most.
 pub const GREATEST_LENGTH: u32 = 100_000;

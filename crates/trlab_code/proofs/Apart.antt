@@ -15,8 +15,9 @@ rank fault.Kind = 3
 rank fault.Count = 4
 rank (fault.Opcode pc) = 5
 rank (fault.Field pc) = 6
-rank fault.Trailing = 7
-rank fault.Memory = 8
+rank fault.NeedlessVersion = 7
+rank fault.Trailing = 8
+rank fault.Memory = 9
 
 -- an opcode of no instruction and a field out of range are not both first
 rows_apart : (bytes : List ℕ) (pc qc : ℕ) → IsFirstFault bytes (fault.Opcode pc) → IsFirstFault bytes (fault.Field qc) → ⊥
@@ -24,7 +25,7 @@ rows_apart bytes pc qc f g =
     elim (cases_order pc qc) [
       | inl same ↦ f.2 (let P : ℕ → Type 0 = λ k. HasOpcode (bytes_at bytes k) in subst P (sym same) g.2.0)
       | inr other ↦ elim other [
-        | inl below ↦ f.2 (opcode_of_row _ (g.1.rows pc below))
+        | inl below ↦ f.2 (opcode_of_row _ _ (g.1.rows pc below))
         | inr above ↦ g.2.1 (f.1.rows qc above)
       ]
     ]
@@ -38,28 +39,36 @@ not_both bytes fault.Short fault.Kind lt f g = elim f [ inl short ↦ absurd (sh
 not_both bytes fault.Short fault.Count lt f g = elim f [ inl short ↦ absurd (short g.0) | inr short ↦ absurd (g.2.2 short.0.count) ]
 not_both bytes fault.Short (fault.Opcode pc) lt f g = elim f [ inl short ↦ absurd (short g.1.header.whole) | inr short ↦ absurd (short.1 g.1.room) ]
 not_both bytes fault.Short (fault.Field pc) lt f g = elim f [ inl short ↦ absurd (short g.1.header.whole) | inr short ↦ absurd (short.1 g.1.room) ]
+not_both bytes fault.Short fault.NeedlessVersion lt f g = elim f [ inl short ↦ absurd (short g.0.header.whole) | inr short ↦ absurd (short.1 g.0.room) ]
 not_both bytes fault.Short fault.Trailing lt f g = elim f [ inl short ↦ absurd (short g.0.header.whole) | inr short ↦ absurd (short.1 g.0.room) ]
 not_both bytes fault.Magic fault.Version lt f g = absurd (f.1 g.1)
 not_both bytes fault.Magic fault.Kind lt f g = absurd (f.1 g.1)
 not_both bytes fault.Magic fault.Count lt f g = absurd (f.1 g.1)
 not_both bytes fault.Magic (fault.Opcode pc) lt f g = absurd (f.1 g.1.header.magic)
 not_both bytes fault.Magic (fault.Field pc) lt f g = absurd (f.1 g.1.header.magic)
+not_both bytes fault.Magic fault.NeedlessVersion lt f g = absurd (f.1 g.0.header.magic)
 not_both bytes fault.Magic fault.Trailing lt f g = absurd (f.1 g.0.header.magic)
 not_both bytes fault.Version fault.Kind lt f g = absurd (f.2 g.2.0)
 not_both bytes fault.Version fault.Count lt f g = absurd (f.2 g.2.0)
 not_both bytes fault.Version (fault.Opcode pc) lt f g = absurd (f.2 g.1.header.version)
 not_both bytes fault.Version (fault.Field pc) lt f g = absurd (f.2 g.1.header.version)
+not_both bytes fault.Version fault.NeedlessVersion lt f g = absurd (f.2 g.0.header.version)
 not_both bytes fault.Version fault.Trailing lt f g = absurd (f.2 g.0.header.version)
 not_both bytes fault.Kind fault.Count lt f g = absurd (f.2.1 g.2.1)
 not_both bytes fault.Kind (fault.Opcode pc) lt f g = absurd (f.2.1 g.1.header.kind)
 not_both bytes fault.Kind (fault.Field pc) lt f g = absurd (f.2.1 g.1.header.kind)
+not_both bytes fault.Kind fault.NeedlessVersion lt f g = absurd (f.2.1 g.0.header.kind)
 not_both bytes fault.Kind fault.Trailing lt f g = absurd (f.2.1 g.0.header.kind)
 not_both bytes fault.Count (fault.Opcode pc) lt f g = absurd (f.2.2 g.1.header.count)
 not_both bytes fault.Count (fault.Field pc) lt f g = absurd (f.2.2 g.1.header.count)
+not_both bytes fault.Count fault.NeedlessVersion lt f g = absurd (f.2.2 g.0.header.count)
 not_both bytes fault.Count fault.Trailing lt f g = absurd (f.2.2 g.0.header.count)
 not_both bytes (fault.Opcode pc) (fault.Field qc) lt f g = absurd (rows_apart bytes pc qc f g)
-not_both bytes (fault.Opcode pc) fault.Trailing lt f g = absurd (f.2 (opcode_of_row _ (g.0.rows pc f.0)))
+not_both bytes (fault.Opcode pc) fault.NeedlessVersion lt f g = absurd (f.2 (opcode_of_row _ _ (g.0.rows pc f.0)))
+not_both bytes (fault.Opcode pc) fault.Trailing lt f g = absurd (f.2 (opcode_of_row _ _ (g.0.rows pc f.0)))
+not_both bytes (fault.Field pc) fault.NeedlessVersion lt f g = absurd (f.2.1 (g.0.rows pc f.0))
 not_both bytes (fault.Field pc) fault.Trailing lt f g = absurd (f.2.1 (g.0.rows pc f.0))
+not_both bytes fault.NeedlessVersion fault.Trailing lt f g = absurd (f.1 g.1.0)
 not_both bytes f fault.Memory lt _ _ = refl
 not_both _ _ _ lt _ _ = absurd (omega arith)
 
@@ -69,8 +78,8 @@ same_opcode bytes pc qc f g =
     elim (cases_order pc qc) [
       | inl same ↦ same
       | inr other ↦ elim other [
-        | inl below ↦ absurd (f.2 (opcode_of_row _ (g.1.rows pc below)))
-        | inr above ↦ absurd (g.2 (opcode_of_row _ (f.1.rows qc above)))
+        | inl below ↦ absurd (f.2 (opcode_of_row _ _ (g.1.rows pc below)))
+        | inr above ↦ absurd (g.2 (opcode_of_row _ _ (f.1.rows qc above)))
       ]
     ]
 
@@ -91,6 +100,7 @@ same_rank bytes fault.Kind fault.Kind e f g = refl
 same_rank bytes fault.Count fault.Count e f g = refl
 same_rank bytes (fault.Opcode pc) (fault.Opcode qc) e f g = ap fault.Opcode (same_opcode bytes pc qc f g)
 same_rank bytes (fault.Field pc) (fault.Field qc) e f g = ap fault.Field (same_field bytes pc qc f g)
+same_rank bytes fault.NeedlessVersion fault.NeedlessVersion e f g = refl
 same_rank bytes fault.Trailing fault.Trailing e f g = refl
 same_rank bytes fault.Memory fault.Memory e f g = refl
 same_rank _ _ _ e _ _ = absurd (omega arith)

@@ -1,5 +1,5 @@
 -- The spelling of a program is of bytes.
-use Rattle.std.proofs.Common.{ℕ, ◌/◌, ◌%◌, ◌^◌, ◌<◌, ◌≤◌, List, [], ◌∷◌, All, length, arith}
+use Rattle.std.proofs.Common.{ℕ, Bool, true, false, cond, ◌/◌, ◌%◌, ◌^◌, ◌<◌, ◌≤◌, List, [], ◌∷◌, All, length, arith}
 use Rattle.std.specs.List.{flat_map}
 use Rattle.std.proofs.lemmas.List.Elements.{All-cons, All-append, All-head, All-tail}
 use Rattle.trlab_code.specs.declared.kind.Kind.{Kind}
@@ -7,11 +7,10 @@ use Rattle.trlab_code.specs.declared.kind.Kind.TheVariants.{Motion, Change}
 use Rattle.trlab_code.specs.declared.instruction.Register.{Register}
 use Rattle.trlab_code.specs.declared.instruction.Register.TheVariants.{R0, R1, R2, R3, R4, R5, R6, R7}
 use Rattle.trlab_code.specs.declared.instruction.Input.{Input}
-use Rattle.trlab_code.specs.declared.instruction.Input.TheVariants.{Speed, Limit, Gap, SideGap, SideBack, Lane}
+use Rattle.trlab_code.specs.declared.instruction.Input.TheVariants.{Speed, Limit, Gap, SideGap, SideBack, Lane, Headspeed}
 use Rattle.trlab_code.specs.declared.instruction.Instr.{Instr}
 use Rattle.trlab_code.specs.declared.instruction.Instr.TheVariants.{Num, Get, Side, Draw, Copy, Add, Sub, Mul, Div, Min, Max, Not, And, Or, Jump, JumpLess, JumpAtMost, JumpTrue, JumpFalse, Go, Cross, Stay}
-use Rattle.trlab_bounds.specs.declared.programs.TheConstants.{VERSION}
-use Rattle.trlab_code.specs.Program.{Program, InRange}
+use Rattle.trlab_code.specs.Program.{Program, InRange, version_of}
 use Rattle.trlab_code.specs.Machine.{register_number, input_number}
 use Rattle.trlab_code.specs.Spelling.{kind_byte, row, row_bytes, instr_bytes, header, spelling}
 use Rattle.trlab_code.specs.Laws.{AreBytes, HasWord, IsStored}
@@ -46,6 +45,7 @@ input_small Gap = omega arith
 input_small SideGap = omega arith
 input_small SideBack = omega arith
 input_small Lane = omega arith
+input_small Headspeed = omega arith
 
 row_small : (opcode a b c n : ℕ) → opcode < 2 ^ 8 → a < 2 ^ 8 → b < 2 ^ 8 → c < 2 ^ 8 → n < 2 ^ 32 → Small (row_bytes (row opcode a b c n))
 row_small opcode a b c n f g h i small =
@@ -87,14 +87,19 @@ kind_byte_small : (kind : Kind) → kind_byte kind < 2 ^ 8
 kind_byte_small Motion = omega arith
 kind_byte_small Change = omega arith
 
-header_small : (kind : Kind) (count : ℕ) → count ≤ 128 → Small (header VERSION kind count)
-header_small kind count few =
-    more 84 (omega arith) (more 82 (omega arith) (more 76 (omega arith) (more 66 (omega arith) (more 1 (omega arith)
+-- the two versions are bytes
+version_small : (b : Bool) → cond b 2 1 < 2 ^ 8
+version_small true = omega arith
+version_small false = omega arith
+
+header_small : (version : ℕ) (kind : Kind) (count : ℕ) → version < 2 ^ 8 → count ≤ 128 → Small (header version kind count)
+header_small version kind count low few =
+    more 84 (omega arith) (more 82 (omega arith) (more 76 (omega arith) (more 66 (omega arith) (more version low
     (more (kind_byte kind) (kind_byte_small kind) (more (count % 256) (omega arith) (more (count / 256) (omega arith) none)))))))
 
 pub spelling_bytes : (program : Program) → IsStored program → AreBytes (spelling program)
 unfolding spelling
 spelling_bytes program stored =
-    All-append (λ b. b < 2 ^ 8) (header VERSION program.kind (length program.instrs)) (flat_map instr_bytes program.instrs)
-    (header_small program.kind (length program.instrs) stored.is_program.few).all
+    All-append (λ b. b < 2 ^ 8) (header (version_of program) program.kind (length program.instrs)) (flat_map instr_bytes program.instrs)
+    (header_small (version_of program) program.kind (length program.instrs) (version_small _) stored.is_program.few).all
     (rows_small program.instrs stored.is_program.in_range stored.has_words)

@@ -6,7 +6,7 @@ use Rattle.trlab_code.specs.declared.kind.Kind.TheVariants.{Motion, Change}
 use Rattle.trlab_code.specs.declared.instruction.Register.{Register}
 use Rattle.trlab_code.specs.declared.instruction.Register.TheVariants.{R0, R1, R2, R3, R4, R5, R6, R7}
 use Rattle.trlab_code.specs.declared.instruction.Input.{Input}
-use Rattle.trlab_code.specs.declared.instruction.Input.TheVariants.{Speed, Limit, Gap, SideGap, SideBack, Lane}
+use Rattle.trlab_code.specs.declared.instruction.Input.TheVariants.{Speed, Limit, Gap, SideGap, SideBack, Lane, Headspeed}
 use Rattle.trlab_code.specs.declared.instruction.Instr.{Instr}
 use Rattle.trlab_code.specs.declared.instruction.Instr.TheVariants.{Num, Get, Side, Draw, Copy, Add, Sub, Mul, Div, Min, Max, Not, And, Or, Jump, JumpLess, JumpAtMost, JumpTrue, JumpFalse, Go, Cross, Stay}
 use Rattle.trlab_code.specs.Program.{Program}
@@ -33,7 +33,7 @@ register_back R6 = refl
 register_back R7 = refl
 
 abbrev input_of : ℕ → Input
-input_of n = get_or (Speed ∷ Limit ∷ Gap ∷ SideGap ∷ SideBack ∷ Lane ∷ []) n Speed
+input_of n = get_or (Speed ∷ Limit ∷ Gap ∷ SideGap ∷ SideBack ∷ Lane ∷ Headspeed ∷ []) n Speed
 
 input_back : (k : Input) → input_of (input_number k) ≡ k
 input_back Speed = refl
@@ -42,6 +42,7 @@ input_back Gap = refl
 input_back SideGap = refl
 input_back SideBack = refl
 input_back Lane = refl
+input_back Headspeed = refl
 
 abbrev number_of : ℕ → ℕ → ℕ → ℕ → ℕ
 number_of low second third high = low + 256 * second + 65536 * third + 16777216 * high
@@ -90,6 +91,10 @@ instr_back (JumpFalse a n) = λ z. JumpFalse (register_back a z) (number_back n 
 instr_back (Go a) = λ z. Go (register_back a z)
 instr_back Cross = refl
 instr_back Stay = refl
+
+-- an instruction is known by its bytes
+pub same_instr : {x y : Instr} → instr_bytes x ≡ instr_bytes y → x ≡ y
+same_instr {x} {y} h = sym (instr_back x) ∙ ap first_of h ∙ instr_back y
 
 same_first : (x y : Instr) (xs ys : List Instr) → flat_map instr_bytes (x ∷ xs) ≡ flat_map instr_bytes (y ∷ ys) → x ≡ y
 same_first x y xs ys h = sym (instr_back x) ∙ ap first_of h ∙ instr_back y

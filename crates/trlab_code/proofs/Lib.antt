@@ -1,6 +1,7 @@
 pub mod Rows
 pub mod Injective
 pub mod Spelt
+pub mod Versions
 pub mod Apart
 pub mod Whole
 pub mod Opcodes

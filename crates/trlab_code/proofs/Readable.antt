@@ -11,20 +11,21 @@ use Rattle.trlab_code.specs.declared.kind.Kind.TheVariants.{Motion, Change}
 use Rattle.trlab_code.specs.declared.instruction.Register.{Register}
 use Rattle.trlab_code.specs.declared.instruction.Register.TheVariants.{R0, R1, R2, R3, R4, R5, R6, R7}
 use Rattle.trlab_code.specs.declared.instruction.Input.{Input}
-use Rattle.trlab_code.specs.declared.instruction.Input.TheVariants.{Speed, Limit, Gap, SideGap, SideBack, Lane}
+use Rattle.trlab_code.specs.declared.instruction.Input.TheVariants.{Speed, Limit, Gap, SideGap, SideBack, Lane, Headspeed}
 use Rattle.trlab_code.specs.declared.instruction.Instr.{Instr}
 use Rattle.trlab_code.specs.declared.instruction.Instr.TheVariants.{Num, Get, Side, Draw, Copy, Add, Sub, Mul, Div, Min, Max, Not, And, Or, Jump, JumpLess, JumpAtMost, JumpTrue, JumpFalse, Go, Cross, Stay}
-use Rattle.trlab_bounds.specs.declared.programs.TheConstants.{MAGIC, VERSION}
+use Rattle.trlab_bounds.specs.declared.programs.TheConstants.{MAGIC}
 use Rattle.trlab_bounds.specs.declared.programs.TheConstants.{CERTAIN}
 use Rattle.trlab_code.specs.declared.fault.CodeFault.{CodeFault}
 use Rattle.trlab_code.specs.declared.fault.CodeFault.TheVariants as fault
-use Rattle.trlab_code.specs.Program.{Program, InRange, IsProgram}
+use Rattle.trlab_code.specs.Program.{Program, InRange, IsProgram, IsOfVersion, reads_headspeed, version_of}
 use Rattle.trlab_code.specs.Machine.{register_number, input_number}
 use Rattle.trlab_code.specs.Spelling.{kind_byte, header, instr_bytes, spelling}
-use Rattle.trlab_code.specs.Faults.{HasRoom, SpellsInstr, HasGoodHeader, IsGoodBefore, IsFirstFault, stated_count, bytes_at}
+use Rattle.trlab_code.specs.Faults.{HasRoom, HasVersion, SpellsInstr, HasGoodHeader, IsGoodBefore, NeedsVersion, IsFirstFault, stated_count, stated_version, bytes_at}
 use Rattle.trlab_code.specs.Laws.{Says}
 use Rattle.trlab_code.proofs.Opcodes.{opcode_or_not}
 use Rattle.trlab_code.proofs.Rows.{rows_more, good_more}
+use Rattle.trlab_code.proofs.Versions.{needless, needs_version, version_needed}
 use Rattle.trlab_code.proofs.Whole.{spelling_of_parts}
 
 -- the register of a byte; any register for a byte of none
@@ -44,7 +45,7 @@ register_back R7 = refl
 
 -- the input of a byte; any input for a byte of none
 input_of : ℕ → Input
-input_of byte = get_or (Speed ∷ Limit ∷ Gap ∷ SideGap ∷ SideBack ∷ Lane ∷ []) byte Speed
+input_of byte = get_or (Speed ∷ Limit ∷ Gap ∷ SideGap ∷ SideBack ∷ Lane ∷ Headspeed ∷ []) byte Speed
 
 input_back : (k : Input) → input_of (input_number k) ≡ k
 unfolding input_of
@@ -54,6 +55,7 @@ input_back Gap = refl
 input_back SideGap = refl
 input_back SideBack = refl
 input_back Lane = refl
+input_back Headspeed = refl
 
 -- the number of four bytes
 number_of : ℕ → ℕ → ℕ → ℕ → ℕ
@@ -124,13 +126,23 @@ in_range_or_not (Go a) = inl tt
 in_range_or_not Cross = inl tt
 in_range_or_not Stay = inl tt
 
-spells_or_not : (row : List ℕ) → SpellsInstr row ⊎ (¬ (SpellsInstr row))
-spells_or_not row =
+of_version_or_not : (version : ℕ) (i : Instr) → IsOfVersion version i ⊎ (¬ (IsOfVersion version i))
+of_version_or_not version i =
+    elim (eqb_tells version 2) [
+      | inl is ↦ inl (λ reads. is.1)
+      | inr other ↦ elim (cases_Bool (reads_headspeed i)) [ inl reads ↦ inr (λ h. other.1 (h reads)) | inr plain ↦ inl (λ reads. absurd cc) ]
+    ]
+
+spells_or_not : (version : ℕ) (row : List ℕ) → SpellsInstr version row ⊎ (¬ (SpellsInstr version row))
+spells_or_not version row =
     let i = candidate row in
     let same : (j : Instr) → row ≡ instr_bytes j → i ≡ j = λ j e. ap candidate e ∙ only_candidate j in
     elim (cases_Bool (bytes_eq row (instr_bytes i))) [
       | inl same_bytes ↦ elim (in_range_or_not i) [
-        | inl fits ↦ inl (i, ((bytes_eq-Decides row (instr_bytes i)).0 same_bytes, fits))
+        | inl fits ↦ elim (of_version_or_not version i) [
+          | inl has ↦ inl (i, ((bytes_eq-Decides row (instr_bytes i)).0 same_bytes, fits, has))
+          | inr not ↦ inr (λ h. let e = same h.0 h.1.0 in not (rw e h.1.2))
+        ]
         | inr not ↦ inr (λ h. let e = same h.0 h.1.0 in not (rw e h.1.1))
       ]
       | inr other ↦ inr (λ h. let e = same h.0 h.1.0 in let f : row ≡ instr_bytes i = rw e h.1.0 in let t = (bytes_eq-Decides row (instr_bytes i)).1 f in cc)
@@ -145,7 +157,7 @@ rows_or_fault : (bytes : List ℕ) → HasGoodHeader bytes → HasRoom bytes →
 rows_or_fault bytes head room zero h = inl (record { header = head; room = room; rows = λ k below. absurd (omega arith) })
 rows_or_fault bytes head room (suc pc) h =
     elim (rows_or_fault bytes head room pc (omega arith)) [
-      | inl good ↦ elim (spells_or_not (bytes_at bytes pc)) [
+      | inl good ↦ elim (spells_or_not (stated_version bytes) (bytes_at bytes pc)) [
         | inl row ↦ let next : pc + 1 ≡ suc pc = omega arith in inl (rw (← next) (good_more bytes pc row.0 good row.1))
         | inr not ↦ elim (opcode_or_not (slice_index (bytes_at bytes pc) 0)) [
           | inl opcode ↦ inr (fault.Field pc, ((omega arith, good, (opcode, not)), λ e. cc))
@@ -176,13 +188,12 @@ rows_of bytes (suc pc) good =
     }
 
 -- the first eight bytes are a header
-header_of : (bytes : List ℕ) (kind : Kind) → All (λ byte. byte < 2 ^ 8) bytes → HasGoodHeader bytes → slice_index bytes 5 ≡ kind_byte kind → take 8 bytes ≡ header VERSION kind (stated_count bytes)
+header_of : (bytes : List ℕ) (kind : Kind) → All (λ byte. byte < 2 ^ 8) bytes → HasGoodHeader bytes → slice_index bytes 5 ≡ kind_byte kind → take 8 bytes ≡ header (stated_version bytes) kind (stated_count bytes)
 header_of (t ∷ r ∷ l ∷ b ∷ v ∷ k ∷ low ∷ high ∷ rest) kind small good is =
     let byte : low < 256 = small 6 0 (omega arith) in
     let lower : low ≡ (low + 256 * high) % 256 = omega arith in
     let upper : high ≡ (low + 256 * high) / 256 = omega arith in
     let magic = good.magic in
-    let version = good.version in
     cc
 header_of _ kind small good is = let whole = good.whole in absurd (omega arith)
 
@@ -197,21 +208,31 @@ kind_or_not byte =
       | inr not ↦ elim (eqb_tells byte 1) [ inl is ↦ inl (Change, is.1) | inr more ↦ inr (no_kind byte not.1 more.1) ]
     ]
 
+version_or_not : (bytes : List ℕ) → HasVersion bytes ⊎ (¬ (HasVersion bytes))
+version_or_not bytes =
+    elim (eqb_tells (stated_version bytes) 1) [
+      | inl is ↦ inl (inl is.1)
+      | inr not ↦ elim (eqb_tells (stated_version bytes) 2) [
+        | inl is ↦ inl (inr is.1)
+        | inr more ↦ inr (λ h. elim h [ inl e ↦ not.1 e | inr e ↦ more.1 e ])
+      ]
+    ]
+
 header_or_fault : (bytes : List ℕ) → HasGoodHeader bytes ⊎ Faulty bytes
 header_or_fault bytes =
     elim (cases_lt (length bytes) 8) [
       | inl short ↦ inr (fault.Short, (inl (λ h. absurd (omega arith)), λ e. cc))
       | inr whole ↦ elim (cases_Bool (bytes_eq (take 4 bytes) MAGIC)) [
         | inr other ↦ inr (fault.Magic, ((whole, λ h. let t = (bytes_eq-Decides (take 4 bytes) MAGIC).1 h in cc), λ e. cc))
-        | inl same ↦ let magic = (bytes_eq-Decides (take 4 bytes) MAGIC).0 same in elim (eqb_tells (slice_index bytes 4) VERSION) [
-          | inr other ↦ inr (fault.Version, ((whole, magic, other.1), λ e. cc))
+        | inl same ↦ let magic = (bytes_eq-Decides (take 4 bytes) MAGIC).0 same in elim (version_or_not bytes) [
+          | inr other ↦ inr (fault.Version, ((whole, magic, other), λ e. cc))
           | inl version ↦ elim (kind_or_not (slice_index bytes 5)) [
-            | inr other ↦ inr (fault.Kind, ((whole, magic, (version.1, other)), λ e. cc))
+            | inr other ↦ inr (fault.Kind, ((whole, magic, (version, other)), λ e. cc))
             | inl kind ↦ elim (cases_lt (stated_count bytes) 1) [
-              | inl none ↦ inr (fault.Count, ((whole, magic, (version.1, kind, λ h. let e = h.0 in absurd (omega arith))), λ e. cc))
+              | inl none ↦ inr (fault.Count, ((whole, magic, (version, kind, λ h. let e = h.0 in absurd (omega arith))), λ e. cc))
               | inr some ↦ elim (cases_lt 128 (stated_count bytes)) [
-                | inl many ↦ inr (fault.Count, ((whole, magic, (version.1, kind, λ h. let e = h.1 in absurd (omega arith))), λ e. cc))
-                | inr few ↦ inl (record { whole = whole; magic = magic; version = version.1; kind = kind; count = (some, few) })
+                | inl many ↦ inr (fault.Count, ((whole, magic, (version, kind, λ h. let e = h.1 in absurd (omega arith))), λ e. cc))
+                | inr few ↦ inl (record { whole = whole; magic = magic; version = version; kind = kind; count = (some, few) })
               ]
             ]
           ]
@@ -219,16 +240,26 @@ header_or_fault bytes =
       ]
     ]
 
--- the program that bytes with a good header and good rows spell
-spelt : (bytes : List ℕ) → All (λ byte. byte < 2 ^ 8) bytes → IsGoodBefore bytes (stated_count bytes) → length bytes ≤ 8 + 8 * stated_count bytes → (program : Program) × ((bytes ≡ spelling program) × IsProgram program)
-spelt bytes small good short =
+-- whether the instructions need the version that is stated
+needs_or_not : (bytes : List ℕ) → IsGoodBefore bytes (stated_count bytes) → NeedsVersion bytes ⊎ (¬ (NeedsVersion bytes))
+needs_or_not bytes good =
+    let rows = rows_of bytes (stated_count bytes) good in
+    let program : Program = record { kind = good.header.kind.0; instrs = rows.instrs } in
+    elim (eqb_tells (version_of program) (stated_version bytes)) [
+      | inl same ↦ inl (needs_version bytes program rows.many rows.spelt same.1)
+      | inr other ↦ inr (needless bytes program rows.many rows.spelt good other.1)
+    ]
+
+-- the program that bytes with a good header and good rows of a version that they need spell
+spelt : (bytes : List ℕ) → All (λ byte. byte < 2 ^ 8) bytes → IsGoodBefore bytes (stated_count bytes) → NeedsVersion bytes → length bytes ≤ 8 + 8 * stated_count bytes → (program : Program) × ((bytes ≡ spelling program) × IsProgram program)
+spelt bytes small good needs short =
     let kind = good.header.kind in
     let rows = rows_of bytes (stated_count bytes) good in
     let program : Program = record { kind = kind.0; instrs = rows.instrs } in
     let count = good.header.count in (
       program,
       (
-        spelling_of_parts bytes program (stated_count bytes) rows.many (header_of bytes kind.0 small good.header kind.1) rows.spelt short,
+        spelling_of_parts bytes program (stated_version bytes) (stated_count bytes) (version_needed bytes program rows.many rows.spelt good needs) rows.many (header_of bytes kind.0 small good.header kind.1) rows.spelt short,
         record { some = omega (arith, rows.many, count.0); few = omega (arith, rows.many, count.1); in_range = rows.fit },
       ),
     )
@@ -242,9 +273,12 @@ something bytes small =
         | inl short ↦ (Err fault.Short, (inr (head, λ h. absurd (omega arith)), λ e. cc))
         | inr room ↦ elim (rows_or_fault bytes head room (stated_count bytes) (omega arith)) [
           | inr other ↦ (Err other.0, other.1)
-          | inl good ↦ elim (cases_lt (8 + 8 * stated_count bytes) (length bytes)) [
-            | inl long ↦ (Err fault.Trailing, ((good, long), λ e. cc))
-            | inr other ↦ let found = spelt bytes small good other in (Ok found.0, found.1)
+          | inl good ↦ elim (needs_or_not bytes good) [
+            | inr none ↦ (Err fault.NeedlessVersion, ((good, none), λ e. cc))
+            | inl needs ↦ elim (cases_lt (8 + 8 * stated_count bytes) (length bytes)) [
+              | inl long ↦ (Err fault.Trailing, ((good, (needs, long)), λ e. cc))
+              | inr other ↦ let found = spelt bytes small good needs other in (Ok found.0, found.1)
+            ]
           ]
         ]
       ]

@@ -4,8 +4,7 @@ use Rattle.std.proofs.lemmas.List.{take-append-drop, take_all}
 use Rattle.std.specs.List.{flat_map}
 use Rattle.trlab_code.specs.declared.fault.CodeFault.{CodeFault}
 use Rattle.trlab_code.specs.declared.fault.CodeFault.TheVariants as fault
-use Rattle.trlab_bounds.specs.declared.programs.TheConstants.{VERSION}
-use Rattle.trlab_code.specs.Program.{Program, IsProgram}
+use Rattle.trlab_code.specs.Program.{Program, IsProgram, version_of}
 use Rattle.trlab_code.specs.Spelling.{header, instr_bytes, spelling}
 use Rattle.trlab_code.specs.Faults.{IsFirstFault}
 use Rattle.trlab_code.proofs.Injective.{same_program}
@@ -16,13 +15,13 @@ abbrev Answer : Type 0
 Answer = Result Program CodeFault
 
 -- bytes are the spelling of the program that their header and their rows spell
-pub spelling_of_parts : (bytes : List ℕ) (code : Program) (count : ℕ) → length code.instrs ≡ count → take 8 bytes ≡ header VERSION code.kind count → flat_map instr_bytes code.instrs ≡ take (8 * count) (drop 8 bytes) → length bytes ≤ 8 + 8 * count → bytes ≡ spelling code
+pub spelling_of_parts : (bytes : List ℕ) (code : Program) (version count : ℕ) → version_of code ≡ version → length code.instrs ≡ count → take 8 bytes ≡ header version code.kind count → flat_map instr_bytes code.instrs ≡ take (8 * count) (drop 8 bytes) → length bytes ≤ 8 + 8 * count → bytes ≡ spelling code
 unfolding spelling
-spelling_of_parts bytes code count many head rows short =
+spelling_of_parts bytes code version count needed many head rows short =
     let all = take_all (8 * count) (drop 8 bytes) (omega (arith, length-drop 8 bytes)) in
     let cut = take-append-drop 8 bytes in
-    let start : take 8 bytes ≡ header VERSION code.kind (length code.instrs) = rw many head in
-    sym cut ∙ ap (λ front. front ++ drop 8 bytes) start ∙ ap (λ rest. header VERSION code.kind (length code.instrs) ++ rest) (sym (rows ∙ all))
+    let start : take 8 bytes ≡ header (version_of code) code.kind (length code.instrs) = rw (many, needed) head in
+    sym cut ∙ ap (λ front. front ++ drop 8 bytes) start ∙ ap (λ rest. header (version_of code) code.kind (length code.instrs) ++ rest) (sym (rows ∙ all))
 
 pub found_fault : (bytes : List ℕ) (f : CodeFault) → IsFirstFault bytes f → (program : Program) → IsProgram program → bytes ≡ spelling program → (◌≡◌ {A = Answer} (Err f) (Ok program)) ⊎ (◌≡◌ {A = Answer} (Err f) (Err fault.Memory))
 found_fault bytes f first program is spelt =

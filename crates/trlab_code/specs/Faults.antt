@@ -1,13 +1,18 @@
 -- The first fault of bytes that spell no program, in the order in which a reader meets it.
-use Rattle.std.specs.Prelude.{◌≡◌, ℕ, ◌+◌, ◌*◌, ◌<◌, ◌≤◌, List, length, take, drop, slice_index, ◌⊎◌}
+use Rattle.std.specs.Prelude.{◌≡◌, ℕ, ◌+◌, ◌*◌, ◌<◌, ◌≤◌, List, length, take, drop, slice_index, ◌⊎◌, IsTrue}
 use Rattle.trlab_code.specs.declared.kind.Kind.{Kind}
 use Rattle.trlab_code.specs.declared.instruction.Instr.{Instr}
 use Rattle.trlab_code.specs.declared.fault.CodeFault.{CodeFault}
 use Rattle.trlab_code.specs.declared.fault.CodeFault.TheVariants as fault
-use Rattle.trlab_bounds.specs.declared.programs.TheConstants.{MAGIC, VERSION, HEADER_BYTES}
+use Rattle.trlab_bounds.specs.declared.programs.TheConstants.{MAGIC, PLAIN_VERSION, HEADSPEED_VERSION, HEADER_BYTES}
 use Rattle.trlab_bounds.specs.declared.programs.TheConstants.{INSTR_BYTES}
 use Rattle.trlab_bounds.specs.declared.programs.TheConstants.{MOST_INSTRUCTIONS}
-use Rattle.trlab_code.specs.Spelling.{kind_byte, Spells, IsOpcode}
+use Rattle.trlab_code.specs.Program.{reads_headspeed}
+use Rattle.trlab_code.specs.Spelling.{kind_byte, instr_bytes, Spells, IsOpcode}
+
+-- the version that a header states
+abbrev pub stated_version : List ℕ → ℕ
+stated_version bytes = slice_index bytes 4
 
 -- the count of instructions that a header states, its lower byte first
 abbrev pub stated_count : List ℕ → ℕ
@@ -25,9 +30,9 @@ HasHeader bytes = HEADER_BYTES ≤ length bytes
 abbrev pub HasMagic : List ℕ → Type 0
 HasMagic bytes = take 4 bytes ≡ MAGIC
 
--- then comes the version
+-- then comes one of the two versions
 abbrev pub HasVersion : List ℕ → Type 0
-HasVersion bytes = slice_index bytes 4 ≡ VERSION
+HasVersion bytes = (stated_version bytes ≡ PLAIN_VERSION) ⊎ (stated_version bytes ≡ HEADSPEED_VERSION)
 
 -- then the byte of a kind
 abbrev pub HasKind : List ℕ → Type 0
@@ -45,9 +50,9 @@ HasRoom bytes = HEADER_BYTES + INSTR_BYTES * stated_count bytes ≤ length bytes
 abbrev pub HasOpcode : List ℕ → Type 0
 HasOpcode row = IsOpcode (slice_index row 0)
 
--- eight bytes that spell an instruction with fields in range
-abbrev pub SpellsInstr : List ℕ → Type 0
-SpellsInstr row = (i : Instr) × Spells i row
+-- eight bytes that spell an instruction of a version with fields in range
+abbrev pub SpellsInstr : ℕ → List ℕ → Type 0
+SpellsInstr version row = (i : Instr) × Spells version i row
 
 -- a header as it has to be
 pub record HasGoodHeader (bytes : List ℕ) : Type 0 where
@@ -61,7 +66,7 @@ pub record HasGoodHeader (bytes : List ℕ) : Type 0 where
 pub record IsGoodBefore (bytes : List ℕ) (pc : ℕ) : Type 0 where
   pub header : HasGoodHeader bytes
   pub room : HasRoom bytes
-  pub rows : (k : ℕ) → k < pc → SpellsInstr (bytes_at bytes k)
+  pub rows : (k : ℕ) → k < pc → SpellsInstr (stated_version bytes) (bytes_at bytes k)
 
 -- the bytes end before their header does, or before the instructions that a good header states
 abbrev pub EndsEarly : List ℕ → Type 0
@@ -79,10 +84,22 @@ AfterKind bytes rest = AfterMagic bytes (HasVersion bytes × HasKind bytes × re
 abbrev pub AtInstr : List ℕ → ℕ → (List ℕ → Type 0) → Type 0
 AtInstr bytes pc IsSo = (pc < stated_count bytes) × IsGoodBefore bytes pc × IsSo (bytes_at bytes pc)
 
--- all is well, and more bytes follow
+-- one of the stated instructions reads the speed of the next car ahead
+abbrev pub HasHeadspeed : List ℕ → Type 0
+HasHeadspeed bytes = (pc : ℕ) × (i : Instr)
+    × (pc < stated_count bytes) × (bytes_at bytes pc ≡ instr_bytes i) × IsTrue (reads_headspeed i)
+
+-- the second version is not stated without need
+abbrev pub NeedsVersion : List ℕ → Type 0
+NeedsVersion bytes = stated_version bytes ≡ HEADSPEED_VERSION → HasHeadspeed bytes
+
+-- the bytes go on behind the stated instructions
 abbrev pub HasMore : List ℕ → Type 0
-HasMore bytes =
-    IsGoodBefore bytes (stated_count bytes) × (HEADER_BYTES + INSTR_BYTES * stated_count bytes < length bytes)
+HasMore bytes = HEADER_BYTES + INSTR_BYTES * stated_count bytes < length bytes
+
+-- all is well before the end of the stated instructions, and then it is so
+abbrev pub AfterInstrs : List ℕ → Type 0 → Type 0
+AfterInstrs bytes rest = IsGoodBefore bytes (stated_count bytes) × rest
 
 -- the first fault of bytes; memory may run out at any time
 abbrev pub IsFirstFault : List ℕ → CodeFault → Type 0
@@ -92,6 +109,8 @@ IsFirstFault bytes fault.Version = AfterMagic bytes (¬ (HasVersion bytes))
 IsFirstFault bytes fault.Kind = AfterMagic bytes (HasVersion bytes × ¬ (HasKind bytes))
 IsFirstFault bytes fault.Count = AfterKind bytes (¬ (HasCount bytes))
 IsFirstFault bytes (fault.Opcode pc) = AtInstr bytes pc (λ row. ¬ (HasOpcode row))
-IsFirstFault bytes (fault.Field pc) = AtInstr bytes pc (λ row. HasOpcode row × ¬ (SpellsInstr row))
-IsFirstFault bytes fault.Trailing = HasMore bytes
+IsFirstFault bytes (fault.Field pc) =
+    AtInstr bytes pc (λ row. HasOpcode row × ¬ (SpellsInstr (stated_version bytes) row))
+IsFirstFault bytes fault.NeedlessVersion = AfterInstrs bytes (¬ (NeedsVersion bytes))
+IsFirstFault bytes fault.Trailing = AfterInstrs bytes (NeedsVersion bytes × HasMore bytes)
 IsFirstFault bytes fault.Memory = Unit {0}

@@ -1,10 +1,10 @@
 //! From bytes to programs.
 
-ghost use Rattle.std.specs.Prelude.{◌≡◌, ◌≢◌, ◌*◌, ◌<◌, ◌≤◌, ◌⊎◌, ℕ, length, take, drop, vec_len, All, MatchResult, IfOk, IfErr};
+ghost use Rattle.std.specs.Prelude.{◌≡◌, ◌≢◌, ◌*◌, ◌<◌, ◌≤◌, ◌⊎◌, ℕ, length, take, drop, All, MatchResult, IfOk, IfErr};
 ghost use Rattle.std.specs.List.{flat_map};
 ghost use Rattle.trlab_code.specs.Program.{Program, InRange, IsProgram};
 ghost use Rattle.trlab_code.specs.Spelling.{spelling, instr_bytes, Spells};
-ghost use Rattle.trlab_code.specs.Faults.{HasGoodHeader, IsGoodBefore, HasRoom, SpellsInstr, IsFirstFault, stated_count, bytes_at};
+ghost use Rattle.trlab_code.specs.Faults.{HasGoodHeader, IsGoodBefore, HasRoom, IsFirstFault, stated_count, stated_version, bytes_at};
 ghost use Rattle.trlab_code.specs.declared.fault.CodeFault.{CodeFault};
 
 use crate::fault::CodeFault;
@@ -15,14 +15,16 @@ use crate::row::{self, Row};
 use std::alloc::Global;
 use trlab_bounds::programs::{HEADER_BYTES, INSTR_BYTES};
 
-/// The instruction at pc, where all is well before it.
-fn instr_at(bytes: &[u8], pc: u32) -> Result<Instr, CodeFault>
+/// The instruction at pc of a spelling of this version, where all is well before it.
+fn instr_at(bytes: &[u8], version: u8, pc: u32) -> Result<Instr, CodeFault>
+    requires version { version ≡ stated_version bytes.now }
     requires inside { pc < stated_count bytes.now }
     requires before { IsGoodBefore bytes.now pc }
-    ensures { MatchResult result (λ i. Spells i (bytes_at bytes.now pc)) (IsFirstFault bytes.now) }
+    ensures { MatchResult result
+        (λ i. Spells (stated_version bytes.now) i (bytes_at bytes.now pc)) (IsFirstFault bytes.now) }
 {
     let row = Row::read(bytes, HEADER_BYTES + INSTR_BYTES * pc as usize);
-    match row::instruction_of(row) {
+    match row::instruction_of(row, version) {
         Some(instr) => Ok(instr),
         None if row::is_opcode(row.opcode) => Err(CodeFault::Field(pc)),
         None => Err(CodeFault::Opcode(pc)),
@@ -30,20 +32,22 @@ fn instr_at(bytes: &[u8], pc: u32) -> Result<Instr, CodeFault>
 }
 
 /// The instructions that follow a good header.
-fn instrs(alloc: Global, bytes: &[u8], count: u32) -> Result<Vec<Instr>, CodeFault>
+fn instrs(alloc: Global, bytes: &[u8], header: Header) -> Result<Vec<Instr>, CodeFault>
     requires header { HasGoodHeader bytes.now }
     requires room { HasRoom bytes.now }
-    requires count { count ≡ stated_count bytes.now }
-    ensures length { IfOk result (λ instrs. vec_len instrs ≡ count) }
+    requires version { header.version ≡ stated_version bytes.now }
+    requires count { header.count ≡ stated_count bytes.now }
+    ensures length { IfOk result (λ instrs. length instrs.items ≡ stated_count bytes.now) }
     ensures in_range { IfOk result (λ instrs. All InRange instrs.items) }
     ensures spelt { IfOk result (λ instrs.
-        flat_map instr_bytes instrs.items ≡ take (INSTR_BYTES * count) (drop HEADER_BYTES bytes.now)) }
-    ensures rows { IfOk result (λ _. IsGoodBefore bytes.now count) }
+        flat_map instr_bytes instrs.items
+        ≡ take (INSTR_BYTES * stated_count bytes.now) (drop HEADER_BYTES bytes.now)) }
+    ensures rows { IfOk result (λ _. IsGoodBefore bytes.now (stated_count bytes.now)) }
     ensures fault { IfErr result (IsFirstFault bytes.now) }
 {
-    let mut instrs = Vec::with_capacity(alloc, count as usize)?;
-    for pc in 0..count {
-        let instr = instr_at(bytes, pc)?;
+    let mut instrs = Vec::with_capacity(alloc, header.count as usize)?;
+    for pc in 0..header.count {
+        let instr = instr_at(bytes, header.version, pc)?;
         instrs.push(instr).map_err(|_| CodeFault::Memory)?;
     }
     Ok(instrs)
@@ -51,10 +55,11 @@ fn instrs(alloc: Global, bytes: &[u8], count: u32) -> Result<Vec<Instr>, CodeFau
 
 /// The program that bytes spell: a header of 8 bytes, and 8 bytes for each instruction.
 ///
-/// The header is `TRLB`, version 1, the kind (0 motion, 1 change), and the count in two bytes, the
-/// lower first. An instruction is its opcode, three fields of a byte, and a number in four bytes,
-/// the lowest first; what an instruction does not use is 0. Other bytes are refused by their first
-/// fault, in the order of `CodeFault`; where the bytes end early, the header is judged before.
+/// The header is `TRLB`, the version, the kind (0 motion, 1 change), and the count in two bytes, the
+/// lower first. The version is 2 where an instruction reads `headspeed`, else 1. An instruction is its
+/// opcode, three fields of a byte, and a number in four bytes, the lowest first; what an instruction
+/// does not use is 0. Other bytes are refused by their first fault, in the order of `CodeFault`; where
+/// the bytes end early, the header is judged before.
 ///
 /// # Errors
 ///
@@ -72,9 +77,13 @@ pub fn decode(alloc: Global, bytes: &[u8]) -> Result<Code, CodeFault>
         → (result ≡ Err fault) ⊎ (result ≡ Err CodeFault.Memory) }
 {
     let header = Header::read(bytes)?;
-    let instrs = instrs(alloc, bytes, header.count)?;
+    let instrs = instrs(alloc, bytes, header)?;
+    let code = Code::of(header.kind, instrs);
+    if code.version() != header.version {
+        return Err(CodeFault::NeedlessVersion);
+    }
     if HEADER_BYTES + INSTR_BYTES * (header.count as usize) < bytes.len() {
         return Err(CodeFault::Trailing);
     }
-    Ok(Code::of(header.kind, instrs))
+    Ok(code)
 }

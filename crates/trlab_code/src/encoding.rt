@@ -19,11 +19,12 @@ pub fn encode(alloc: Global, code: &Code) -> Result<Vec<u8>, AllocError>
 {
     let instrs = code.instrs();
     let header = Header {
+        version: code.version(),
         kind: code.kind(),
         count: instrs.len() as u32,
     };
     let mut bytes = Vec::with_capacity(alloc, HEADER_BYTES + INSTR_BYTES * instrs.len())?;
-    bytes.extend_from_slice(&header.bytes(code.version()))?;
+    bytes.extend_from_slice(&header.bytes())?;
     for instr in instrs {
         bytes.extend_from_slice(&row::row_of(*instr).bytes())?;
     }

@@ -9,14 +9,15 @@ use thiserror::Error;
 /// The first fault of bytes that spell no program. Instructions are counted from 0.
 ///
 /// The header is judged from left to right, then the length for its count, then each instruction in
-/// turn, its opcode first, and last what follows them. Fewer than 8 bytes are `Short`.
+/// turn, its opcode first, then whether they need version 2, and last what follows them. Fewer than 8
+/// bytes are `Short`. In version 1 there is no `headspeed`: to read it is a field out of range.
 #[derive(Clone, Copy, Debug, PartialEq, Eq, Error)]
 pub enum CodeFault {
     #[error("the bytes end too early")]
     Short,
     #[error("the bytes do not begin with `TRLB`")]
     Magic,
-    #[error("the version is not 1")]
+    #[error("the version is neither 1 nor 2")]
     Version,
     #[error("the kind is neither 0 nor 1")]
     Kind,
@@ -26,6 +27,8 @@ pub enum CodeFault {
     Opcode(u32),
     #[error("instruction {0} has a field out of range")]
     Field(u32),
+    #[error("no instruction reads `headspeed`, so the version is 1")]
+    NeedlessVersion,
     #[error("bytes follow the last instruction")]
     Trailing,
     #[error("out of memory")]

@@ -1,17 +1,19 @@
 //! The header of a program's bytes.
 
 ghost use Rattle.std.specs.Prelude.{◌≡◌, ◌≤◌, length, take, IfOk, IfErr};
-ghost use Rattle.trlab_bounds.specs.declared.programs.TheConstants.{VERSION};
 ghost use Rattle.trlab_code.specs.Spelling.{kind_byte, header};
-ghost use Rattle.trlab_code.specs.Faults.{HasGoodHeader, HasRoom, IsFirstFault, stated_count};
+ghost use Rattle.trlab_code.specs.Faults.{HasGoodHeader, HasRoom, IsFirstFault, stated_count, stated_version};
 
 use crate::fault::CodeFault;
 use crate::kind::Kind;
-use trlab_bounds::programs::{HEADER_BYTES, INSTR_BYTES, MAGIC, MOST_INSTRUCTIONS, VERSION};
+use trlab_bounds::programs::{
+    HEADER_BYTES, HEADSPEED_VERSION, INSTR_BYTES, MAGIC, MOST_INSTRUCTIONS, PLAIN_VERSION,
+};
 
 /// What a header says.
 #[derive(Clone, Copy)]
 pub(crate) struct Header {
+    pub version: u8,
     pub kind: Kind,
     pub count: u32,
 }
@@ -31,8 +33,9 @@ impl Header {
     pub(crate) fn read(bytes: &[u8]) -> Result<Header, CodeFault>
         ensures good { IfOk result (λ h. HasGoodHeader bytes.now) }
         ensures room { IfOk result (λ h. HasRoom bytes.now) }
+        ensures version { IfOk result (λ h. stated_version bytes.now ≡ h.version) }
         ensures count { IfOk result (λ h. stated_count bytes.now ≡ h.count) }
-        ensures spelt { IfOk result (λ h. take HEADER_BYTES bytes.now ≡ header VERSION h.kind h.count) }
+        ensures spelt { IfOk result (λ h. take HEADER_BYTES bytes.now ≡ header h.version h.kind h.count) }
         ensures fault { IfErr result (IsFirstFault bytes.now) }
     {
         if bytes.len() < HEADER_BYTES {
@@ -41,7 +44,8 @@ impl Header {
         if !bytes.starts_with(&MAGIC) {
             return Err(CodeFault::Magic);
         }
-        if bytes[4] != VERSION {
+        let version = bytes[4];
+        if version != PLAIN_VERSION && version != HEADSPEED_VERSION {
             return Err(CodeFault::Version);
         }
         let kind = match bytes[5] {
@@ -56,16 +60,20 @@ impl Header {
         if bytes.len() - HEADER_BYTES < INSTR_BYTES * (count as usize) {
             return Err(CodeFault::Short);
         }
-        Ok(Header { kind, count })
+        Ok(Header {
+            version,
+            kind,
+            count,
+        })
     }
 
-    /// The bytes of the header of a spelling of this version, the count's lower byte first.
-    pub(crate) fn bytes(self, version: u8) -> [u8; HEADER_BYTES]
+    /// The bytes of the header, the count's lower byte first.
+    pub(crate) fn bytes(self) -> [u8; HEADER_BYTES]
         requires { self.count ≤ MOST_INSTRUCTIONS }
-        ensures { result ≡ header version self.kind self.count }
+        ensures { result ≡ header self.version self.kind self.count }
     {
         let [t, r, l, b] = MAGIC;
         let [low, high] = (self.count as u16).to_le_bytes();
-        [t, r, l, b, version, kind_byte(self.kind), low, high]
+        [t, r, l, b, self.version, kind_byte(self.kind), low, high]
     }
 }

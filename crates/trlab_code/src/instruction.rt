@@ -29,7 +29,7 @@ impl Register {
     }
 }
 
-/// A number that a car sees. Only programs of kind `Change` see the last three.
+/// A number that a car sees. Only programs of kind `Change` see what the other lane is like, and the lane.
 #[derive(Clone, Copy, Debug, PartialEq, Eq)]
 pub enum Input {
     /// The car's speed before the step, in cells a step.
@@ -44,15 +44,17 @@ pub enum Input {
     SideBack,
     /// The car's lane, 0 or 1.
     Lane,
+    /// The speed of the next car ahead on the car's own lane, its own where it is alone there.
+    Headspeed,
 }
 
 impl Input {
     ghost use Rattle.trlab_code.specs.Machine.{input_number};
 
-    /// The number of the input: 0 to 5.
+    /// The number of the input: 0 to 6.
     pub fn number(self) -> usize
         ensures value { result ≡ input_number self }
-        ensures in_range { result < 6 }
+        ensures in_range { result < 7 }
     {
         self as usize
     }
@@ -68,7 +70,7 @@ pub enum Place {
 impl Place {
     ghost use Rattle.trlab_code.specs.Machine.{place_number};
 
-    /// The number of the place: registers are 0 to 7, inputs 8 to 13.
+    /// The number of the place: registers are 0 to 7, inputs 8 to 14.
     pub fn number(self) -> usize
         ensures value { result ≡ place_number self }
         ensures in_range { result < PLACES }

@@ -19,7 +19,8 @@ pub use instruction::{Input, Instr, Place, Register};
 pub use kind::Kind;
 pub use program::Code;
 pub use trlab_bounds::programs::{
-    CERTAIN, HEADER_BYTES, INSTR_BYTES, MAGIC, MOST_INSTRUCTIONS, PLACES, VERSION, WORDS,
+    CERTAIN, HEADER_BYTES, HEADSPEED_VERSION, INSTR_BYTES, MAGIC, MOST_INSTRUCTIONS, PLACES,
+    PLAIN_VERSION, WORDS,
 };
 pub use trlab_bounds::roads::{GREATEST_GAP, GREATEST_LIMIT};
 pub use view::{ChangeView, MotionView, View};

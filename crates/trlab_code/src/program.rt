@@ -1,12 +1,13 @@
 //! Programs whose fields are in range.
 
 ghost use Rattle.std.specs.Prelude.{◌≡◌, ◌↔◌, ◌≤◌, IsTrue, MatchOption, IfSome};
-ghost use Rattle.trlab_code.specs.Program.{Program, InRange, IsProgram, Draws, version_of};
+ghost use Rattle.std.specs.List.{list_any};
+ghost use Rattle.trlab_code.specs.Program.{Program, InRange, IsProgram, Draws, IsOfVersion, reads_headspeed, version_of};
 
-use crate::instruction::Instr;
+use crate::instruction::{Input, Instr};
 use crate::kind::Kind;
 use std::marker::Model;
-use trlab_bounds::programs::{CERTAIN, MOST_INSTRUCTIONS, VERSION, WORDS};
+use trlab_bounds::programs::{CERTAIN, HEADSPEED_VERSION, MOST_INSTRUCTIONS, PLAIN_VERSION, WORDS};
 
 /// A program of 1 to 128 instructions whose fields are in range.
 #[derive(Debug, Drop)]
@@ -34,6 +35,27 @@ pub(crate) fn is_in_range(instr: Instr) -> bool
         Instr::Div(_, _, divisor) => 1 <= divisor,
         _ => true,
     }
+}
+
+/// Whether an instruction reads the speed of the next car ahead.
+pub(crate) fn reads_headspeed(instr: Instr) -> bool
+    ensures { result ≡ reads_headspeed instr }
+{
+    matches!(instr, Instr::Get(_, Input::Headspeed))
+}
+
+/// Whether one of the instructions does.
+fn some_reads_headspeed(instrs: &[Instr]) -> bool
+    ensures { result ≡ list_any reads_headspeed instrs.now }
+{
+    instrs.iter().any(|instr| reads_headspeed(*instr))
+}
+
+/// Whether spellings of a version may have an instruction.
+pub(crate) fn is_of_version(instr: Instr, version: u8) -> bool
+    ensures { IsTrue result ↔ IsOfVersion version instr }
+{
+    version == HEADSPEED_VERSION || !reads_headspeed(instr)
 }
 
 impl Code {
@@ -76,11 +98,15 @@ impl Code {
         &self.instrs
     }
 
-    /// The version of the program's spelling.
+    /// The version of the program's spelling: 2 where it reads `Input::Headspeed`, else 1.
     pub fn version(&self) -> u8
         ensures { result ≡ version_of self.now }
     {
-        VERSION
+        if some_reads_headspeed(&self.instrs) {
+            HEADSPEED_VERSION
+        } else {
+            PLAIN_VERSION
+        }
     }
 
     /// Whether the program draws on random words.

@@ -2,11 +2,11 @@
 
 ghost use Rattle.std.specs.Prelude.{◌≡◌, ◌+◌, ◌≤◌, ◌↔◌, length, take, drop, IsTrue, IsNone, IfSome, ℕ};
 ghost use Rattle.trlab_code.specs.Machine.{register_number, input_number};
-ghost use Rattle.trlab_code.specs.Program.{InRange};
+ghost use Rattle.trlab_code.specs.Program.{InRange, IsOfVersion};
 ghost use Rattle.trlab_code.specs.Spelling.{row_of, row_bytes, IsOpcode};
 
 use crate::instruction::{Input, Instr, Register};
-use crate::program::is_in_range;
+use crate::program::{is_in_range, is_of_version};
 use trlab_bounds::programs::INSTR_BYTES;
 
 /// The opcode of an instruction and its fields, 0 where the instruction has no such field.
@@ -79,7 +79,8 @@ fn input_of(byte: u8) -> Input
         2 => Input::Gap,
         3 => Input::SideGap,
         4 => Input::SideBack,
-        _ => Input::Lane,
+        5 => Input::Lane,
+        _ => Input::Headspeed,
     }
 }
 
@@ -155,13 +156,16 @@ fn candidate(row: Row) -> Instr
     }
 }
 
-/// The instruction of a row, where the row has its fields in range and is 0 in what it does not use.
-pub(crate) fn instruction_of(row: Row) -> Option<Instr>
-    ensures none { IsNone result → (instr : Instr) → row ≡ row_of instr → ¬ (InRange instr) }
-    ensures some { IfSome result (λ instr. (row ≡ row_of instr) × InRange instr) }
+/// The instruction of a row in spellings of a version, where the row has its fields in range and is 0 in
+/// what it does not use.
+pub(crate) fn instruction_of(row: Row, version: u8) -> Option<Instr>
+    ensures none { IsNone result → (instr : Instr) → row ≡ row_of instr → InRange instr
+        → ¬ (IsOfVersion version instr) }
+    ensures some { IfSome result (λ instr.
+        (row ≡ row_of instr) × InRange instr × IsOfVersion version instr) }
 {
     let instr = candidate(row);
-    if row_of(instr) == row && is_in_range(instr) {
+    if row_of(instr) == row && is_in_range(instr) && is_of_version(instr, version) {
         Some(instr)
     } else {
         None

@@ -17,9 +17,11 @@ pub struct View {
     pub sidegap: u32,
     pub sideback: u32,
     pub lane: u32,
+    pub headspeed: u32,
 }
 
-/// What a motion program sees: the speed at most the limit, the limit 1 to 9, the gap at most 99999.
+/// What a motion program sees: the speed and the headspeed at most the limit, the limit 1 to 35, the gap at
+/// most 99999.
 #[derive(Clone, Copy, Debug, PartialEq, Eq)]
 pub struct MotionView {
     view: View,
@@ -40,12 +42,13 @@ impl Model for MotionView {
 
 impl MotionView {
     /// The view of a car, where its numbers are in range. What is seen of the other lane is nothing.
-    pub fn new(speed: u32, limit: u32, gap: u32) -> Option<MotionView>
-        ensures none { IsNone result → ¬ (IsView (motion_view speed limit gap)) }
-        ensures some { IfSome result (λ seen. seen ≡ motion_view speed limit gap) }
+    pub fn new(speed: u32, limit: u32, gap: u32, headspeed: u32) -> Option<MotionView>
+        ensures none { IsNone result → ¬ (IsView (motion_view speed limit gap headspeed)) }
+        ensures some { IfSome result (λ seen. seen ≡ motion_view speed limit gap headspeed) }
         ensures in_range { IfSome result IsView }
     {
-        if 1 <= limit && limit <= GREATEST_LIMIT && speed <= limit && gap <= GREATEST_GAP {
+        let ahead = 1 <= limit && limit <= GREATEST_LIMIT && speed <= limit && gap <= GREATEST_GAP;
+        if ahead && headspeed <= limit {
             Some(MotionView {
                 view: View {
                     speed,
@@ -55,6 +58,7 @@ impl MotionView {
                     sidegap: 0,
                     sideback: 0,
                     lane: 0,
+                    headspeed,
                 },
             })
         } else {
@@ -101,11 +105,12 @@ impl ChangeView {
         sidegap: u32,
         sideback: u32,
         lane: u32,
+        headspeed: u32,
     ) -> Option<ChangeView>
         ensures none { IsNone result
-            → ¬ (IsView (change_view speed limit gap side sidegap sideback lane)) }
+            → ¬ (IsView (change_view speed limit gap side sidegap sideback lane headspeed)) }
         ensures some { IfSome result
-            (λ seen. seen ≡ change_view speed limit gap side sidegap sideback lane) }
+            (λ seen. seen ≡ change_view speed limit gap side sidegap sideback lane headspeed) }
         ensures in_range { IfSome result IsView }
     {
         let view = View {
@@ -116,9 +121,11 @@ impl ChangeView {
             sidegap,
             sideback,
             lane,
+            headspeed,
         };
         let ahead = 1 <= limit && limit <= GREATEST_LIMIT && speed <= limit && gap <= GREATEST_GAP;
-        if ahead && sidegap <= GREATEST_GAP && sideback <= GREATEST_GAP && lane <= 1 {
+        let beside = sidegap <= GREATEST_GAP && sideback <= GREATEST_GAP && lane <= 1;
+        if ahead && beside && headspeed <= limit {
             Some(ChangeView { view })
         } else {
             None

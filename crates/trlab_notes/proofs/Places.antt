@@ -1,11 +1,11 @@
--- Places and their numbers: each has one below 14, and each such number is that of one place.
+-- Places and their numbers: each has one below `PLACES`, and each such number is that of one place.
 use Rattle.std.proofs.Common.{◌≡◌, ◌∙◌, ℕ, zero, suc, ◌+◌, ◌<◌, refl, sym, ap, subst, arith, List, [], ◌∷◌, length, map, true, get_or}
 use Rattle.std.proofs.lemmas.Bool.{eqb-true}
 use Rattle.trlab_bounds.specs.declared.programs.TheConstants.{PLACES}
 use Rattle.trlab_code.specs.declared.instruction.Register.{Register}
 use Rattle.trlab_code.specs.declared.instruction.Register.TheVariants.{R0, R1, R2, R3, R4, R5, R6, R7}
 use Rattle.trlab_code.specs.declared.instruction.Input.{Input}
-use Rattle.trlab_code.specs.declared.instruction.Input.TheVariants.{Speed, Limit, Gap, SideGap, SideBack, Lane}
+use Rattle.trlab_code.specs.declared.instruction.Input.TheVariants.{Speed, Limit, Gap, SideGap, SideBack, Lane, Headspeed}
 use Rattle.trlab_code.specs.declared.instruction.Place.{Place}
 use Rattle.trlab_code.specs.declared.instruction.Place.TheVariants as place
 use Rattle.trlab_code.specs.Machine.{register_number, input_number, place_number}
@@ -17,7 +17,7 @@ places =
     place.Register R0 ∷ place.Register R1 ∷ place.Register R2 ∷ place.Register R3
     ∷ place.Register R4 ∷ place.Register R5 ∷ place.Register R6 ∷ place.Register R7
     ∷ place.Input Speed ∷ place.Input Limit ∷ place.Input Gap
-    ∷ place.Input SideGap ∷ place.Input SideBack ∷ place.Input Lane ∷ []
+    ∷ place.Input SideGap ∷ place.Input SideBack ∷ place.Input Lane ∷ place.Input Headspeed ∷ []
 
 abbrev pub place_of : ℕ → Place
 place_of k = get_or places k (place.Register R0)
@@ -38,6 +38,7 @@ back (place.Input Gap) = refl
 back (place.Input SideGap) = refl
 back (place.Input SideBack) = refl
 back (place.Input Lane) = refl
+back (place.Input Headspeed) = refl
 
 pub register_below : (r : Register) → register_number r < 8
 register_below R0 = omega arith
@@ -56,6 +57,7 @@ input_below Gap = omega arith
 input_below SideGap = omega arith
 input_below SideBack = omega arith
 input_below Lane = omega arith
+input_below Headspeed = omega arith
 
 pub below : (x : Place) → place_number x < PLACES
 below (place.Register r) = let h = register_below r in omega (arith, h)
@@ -76,7 +78,7 @@ number_at (x ∷ xs) n zero c h = let e = c.0 in omega (arith, e)
 number_at (x ∷ xs) n (suc k) c h = let e = number_at xs (suc n) k c.1 (omega arith) in omega (arith, e)
 
 pub forth : (k : ℕ) → k < PLACES → place_number (place_of k) ≡ k
-forth k h = let e = number_at places 0 k (refl, (refl, (refl, (refl, (refl, (refl, (refl, (refl, (refl, (refl, (refl, (refl, (refl, (refl, tt)))))))))))))) h in omega (arith, e)
+forth k h = let e = number_at places 0 k (refl, (refl, (refl, (refl, (refl, (refl, (refl, (refl, (refl, (refl, (refl, (refl, (refl, (refl, (refl, tt))))))))))))))) h in omega (arith, e)
 
 -- what holds of the number of each place holds of each number
 pub at_numbers : (P : ℕ → Type 0) → ((x : Place) → P (place_number x)) → (k : ℕ) → k < PLACES → P k

@@ -16,7 +16,7 @@ use Rattle.trlab_notes.specs.Rows.{level_of, level_at, known_with, AreLevels, Te
 use Rattle.trlab_notes.specs.Stored.{note_of}
 use Rattle.trlab_bounds.specs.declared.programs.TheConstants.{PLACES}
 use Rattle.trlab_code.specs.declared.instruction.Register.{Register}
-use Rattle.trlab_code.specs.declared.instruction.Input.TheVariants.{Speed, Limit}
+use Rattle.trlab_code.specs.declared.instruction.Input.TheVariants.{Speed, Limit, Headspeed}
 use Rattle.trlab_code.specs.declared.instruction.Place.{Place}
 use Rattle.trlab_code.specs.declared.instruction.Place.TheVariants as place
 use Rattle.trlab_code.specs.Machine.{place_number, update}
@@ -362,6 +362,7 @@ entry_small (Implies i) t same l h = omega arith
 
 entry_one : (x y : Place) → entry_level x y ≤ 1
 entry_one (place.Input Speed) (place.Input Limit) = omega arith
+entry_one (place.Input Headspeed) (place.Input Limit) = omega arith
 entry_one x y = omega arith
 
 pub entry_fits : (said : List Said) (levels : List (List ℕ)) → AreEntryLevels levels → AreLevels said levels

@@ -2,7 +2,7 @@
 use Rattle.std.specs.Prelude.{ℕ, ◌||◌, max, Bool, true, false, Option, Some, None, nat_eq, nat_lt, nat_le, if◌then◌else◌}
 use Rattle.trlab_code.specs.declared.kind.Kind.{Kind}
 use Rattle.trlab_code.specs.declared.instruction.Input.{Input}
-use Rattle.trlab_code.specs.declared.instruction.Input.TheVariants.{Speed, Limit, Gap, SideGap, SideBack, Lane}
+use Rattle.trlab_code.specs.declared.instruction.Input.TheVariants.{Speed, Limit, Gap, SideGap, SideBack, Lane, Headspeed}
 use Rattle.trlab_code.specs.declared.instruction.Place.{Place}
 use Rattle.trlab_code.specs.declared.instruction.Place.TheVariants as place
 use Rattle.trlab_bounds.specs.declared.roads.TheConstants.{GREATEST_LIMIT, GREATEST_GAP}
@@ -77,15 +77,17 @@ input_range Gap = Between 0 GREATEST_GAP
 input_range SideGap = Between 0 GREATEST_GAP
 input_range SideBack = Between 0 GREATEST_GAP
 input_range Lane = Between 0 1
+input_range Headspeed = Between 0 GREATEST_LIMIT
 
 -- what is said of a place at the start: no register is set, and the inputs of the kind have their ranges
 abbrev pub entry_said : Kind → Place → Said
 entry_said kind (place.Register r) = Nothing
 entry_said kind (place.Input k) = if allows_input kind k then input_range k else Nothing
 
--- the level of two places at the start: the speed is at most the limit
+-- the level of two places at the start: the speed and that of the car ahead are at most the limit
 abbrev pub entry_level : Place → Place → ℕ
 entry_level (place.Input Speed) (place.Input Limit) = 1
+entry_level (place.Input Headspeed) (place.Input Limit) = 1
 entry_level _ _ = 0
 
 -- the note of the first instruction

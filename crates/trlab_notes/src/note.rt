@@ -88,6 +88,7 @@ pub fn entry_said(kind: Kind) -> [Said; PLACES]
     said[Place::Input(Input::Speed).number()] = Said::Between(0, GREATEST_LIMIT);
     said[Place::Input(Input::Limit).number()] = Said::Between(1, GREATEST_LIMIT);
     said[Place::Input(Input::Gap).number()] = Said::Between(0, GREATEST_GAP);
+    said[Place::Input(Input::Headspeed).number()] = Said::Between(0, GREATEST_LIMIT);
     if kind == Kind::Change {
         said[Place::Input(Input::SideGap).number()] = Said::Between(0, GREATEST_GAP);
         said[Place::Input(Input::SideBack).number()] = Said::Between(0, GREATEST_GAP);
@@ -96,13 +97,14 @@ pub fn entry_said(kind: Kind) -> [Said; PLACES]
     said
 }
 
-/// The levels at the start of a program: the speed is at most the limit.
+/// The levels at the start of a program: the speed and that of the car ahead are at most the limit.
 pub fn entry_levels() -> [[u8; PLACES]; PLACES]
     ensures { (x y : APlace) → levels_in result x y ≡ entry_level x y }
 {
-    let mut speed = [0; PLACES];
-    speed[Place::Input(Input::Limit).number()] = AT_MOST;
+    let mut within_limit = [0; PLACES];
+    within_limit[Place::Input(Input::Limit).number()] = AT_MOST;
     let mut levels = [[0; PLACES]; PLACES];
-    levels[Place::Input(Input::Speed).number()] = speed;
+    levels[Place::Input(Input::Speed).number()] = within_limit;
+    levels[Place::Input(Input::Headspeed).number()] = within_limit;
     levels
 }

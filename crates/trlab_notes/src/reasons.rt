@@ -17,7 +17,7 @@ fn is_allowed_input(kind: Kind, input: Input) -> bool
     ensures { result ≡ allows_input kind input }
 {
     match input {
-        Input::Speed | Input::Limit | Input::Gap => true,
+        Input::Speed | Input::Limit | Input::Gap | Input::Headspeed => true,
         _ => matches!(kind, Kind::Change),
     }
 }

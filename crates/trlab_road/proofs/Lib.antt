@@ -1,4 +1,5 @@
 pub mod Ring
+pub mod Characters
 pub mod StandingOrder
 pub mod MotionLaws
 pub mod MotionByCar
@@ -17,6 +18,7 @@ pub mod Lists
 pub mod ListPush
 pub mod ListGaps
 pub mod ListMotion
+pub mod Headspeeds
 pub mod ListLaneChange
 pub mod ListLeaving
 pub mod ListRoads

@@ -5,7 +5,7 @@ use Rattle.std.proofs.lemmas.List.{length_push}
 use Rattle.trlab_road.specs.declared.lane_car.LaneCar.{LaneCar}
 use Rattle.trlab_road.specs.Cells.{Lane}
 use Rattle.trlab_road.specs.Pictures.{point}
-use Rattle.trlab_road.specs.Stored.{cells_of, Rises, speed_of_digit, lane_of_picture}
+use Rattle.trlab_road.specs.Stored.{cells_of, Rises, speed_of_character, lane_of_picture}
 use Rattle.trlab_road.proofs.Lists.{rises_high}
 use Rattle.trlab_road.proofs.ListPush.{cells_none, cells_some, rises_more, rises_push}
 
@@ -30,7 +30,7 @@ module _ (from : ℕ) (picture : List ℕ) (cars : List LaneCar) (number i : ℕ
         ∙ d.whole;
   }
 
-  pub drawn_more : (car : LaneCar) → get_or picture i 0 ≢ point → car ≡ record { number = number; place = i; speed = speed_of_digit (get_or picture i 0) } → Drawn from picture (cars ++ car ∷ []) (number + 1) (i + 1)
+  pub drawn_more : (car : LaneCar) → get_or picture i 0 ≢ point → car ≡ record { number = number; place = i; speed = speed_of_character (get_or picture i 0) } → Drawn from picture (cars ++ car ∷ []) (number + 1) (i + 1)
   drawn_more car e is =
       let at_i : car.place ≡ i = ap (λ (c : LaneCar). c.place) is in
       let size = length_push cars car in
@@ -40,7 +40,7 @@ module _ (from : ℕ) (picture : List ℕ) (cars : List LaneCar) (number i : ℕ
         few = (let a = d.few in omega (arith, a, size));
         whole = ap (λ (cs : Lane). cs ++ lane_of_picture (number + 1) (drop (i + 1) picture)) (cells_some i cars car d.rises at_i) ∙ append_assoc (cells_of i cars) (Some (car.number, car.speed) ∷ []) (lane_of_picture (number + 1) (drop (i + 1) picture))
             ∙ ap (λ (cs : Lane). cells_of i cars ++ cs) (ap (λ (c : LaneCar). Some (c.number, c.speed) ∷ lane_of_picture (number + 1) (drop (i + 1) picture)) is
-            ∙ ap (λ m. Some (number, speed_of_digit (get_or picture i 0)) ∷ lane_of_picture m (drop (i + 1) picture)) (add-one number)
+            ∙ ap (λ m. Some (number, speed_of_character (get_or picture i 0)) ∷ lane_of_picture m (drop (i + 1) picture)) (add-one number)
             ∙ sym (ap (lane_of_picture number) rest ∙ cond-false (eqb (get_or picture i 0) point) _ _ (ne_eqb _ _ e)))
             ∙ d.whole;
       }

@@ -1,5 +1,5 @@
 -- Any limit and pictures show a legal road, or have a first fault.
-use Rattle.std.proofs.Common.{◌≡◌, ◌≢◌, ◌↔◌, ℕ, zero, suc, ◌+◌, ◌-◌, ◌<◌, ◌≤◌, ◌⊎◌, List, map, length, Result, Ok, Err, refl, sym, ap, ◌∙◌, subst, arith, inl, inr}
+use Rattle.std.proofs.Common.{◌≡◌, ◌≢◌, ◌↔◌, ℕ, zero, suc, ◌<◌, ◌≤◌, ◌⊎◌, List, map, length, Result, Ok, Err, refl, sym, ap, ◌∙◌, subst, arith, inl, inr}
 use Rattle.std.proofs.lemmas.Bool.{cases_lt, cases_order}
 use Rattle.std.proofs.lemmas.Bool.Decides.{eqb_tells}
 use Rattle.trlab_road.specs.declared.fault.RoadFault.{RoadFault}
@@ -7,8 +7,9 @@ use Rattle.trlab_road.specs.declared.fault.RoadFault.TheVariants.{Lanes, Length,
 use Rattle.trlab_bounds.specs.declared.roads.TheConstants.{GREATEST_LENGTH, GREATEST_LIMIT, MOST_LANES}
 use Rattle.trlab_road.specs.Cells.{Cells}
 use Rattle.trlab_road.specs.Legal.{IsLegal, LanesFit, LengthFits, LimitFits}
-use Rattle.trlab_road.specs.Pictures.{HaveEqualLengths, IsFirstBad, IsFirstFault, AreGoodPictures, AreNumberedInOrder, Shows, ShowsCell, ShowsSpeed, character_at, point, picture, picture_at}
+use Rattle.trlab_road.specs.Pictures.{HaveEqualLengths, IsFirstBad, IsFirstFault, AreGoodPictures, AreNumberedInOrder, Shows, ShowsCell, character_at, point, picture, picture_at}
 use Rattle.trlab_road.specs.Laws.{Says}
+use Rattle.trlab_road.proofs.Characters.{shows_speed_or_not}
 use Rattle.trlab_road.proofs.PictureLaws.{draws, no_fault, one_fault, one_shown, pictures_good, shown_legal}
 use Rattle.trlab_road.specs.Stored.{lanes_of_pictures}
 
@@ -50,16 +51,6 @@ same_again road said legal numbered =
     (λ s. one_thing road.limit (map picture road.lanes) said (Ok road) s itself, λ e. rw e itself)
 
 -- each of the conditions holds or not
-
-shows_speed_or_not : (most byte : ℕ) → ShowsSpeed most byte ⊎ (¬ (ShowsSpeed most byte))
-shows_speed_or_not most byte =
-    elim (cases_lt byte 48) [
-      | inl low ↦ inr (λ h. let w = h.is_digit in absurd (omega arith))
-      | inr from ↦ elim (cases_lt (48 + most) byte) [
-        | inl high ↦ inr (λ h. let w = h.is_digit in let k = h.within in absurd (omega arith))
-        | inr to ↦ inl (record { speed = byte - 48; within = omega arith; is_digit = omega arith })
-      ]
-    ]
 
 shows_cell_or_not : (limit byte : ℕ) → ShowsCell limit byte ⊎ (¬ (ShowsCell limit byte))
 shows_cell_or_not limit byte =

@@ -2,7 +2,7 @@
 use Rattle.std.proofs.Common.{◌≡◌, ◌≢◌, ℕ, zero, suc, ◌+◌, ◌<◌, ◌≤◌, true, false, Option, Some, None, List, [], ◌∷◌, ◌++◌, length, get_or, take, drop, map, refl, sym, ◌∙◌, ap, subst, inl, inr, arith, Bor}
 use Rattle.std.specs.Prelude.{nat_eq, is_some, sum_by}
 use Rattle.std.specs.List.{range_with_len}
-use Rattle.std.proofs.lemmas.Bool.{cases_order, cond-true, cond-false}
+use Rattle.std.proofs.lemmas.Bool.{cases_order, cond-true, cond-false, ne_eqb}
 use Rattle.std.proofs.lemmas.Bool.Decides.{eqb_tells}
 use Rattle.std.proofs.lemmas.List.{length-map, map-append, take_at, drop_at}
 use Rattle.std.proofs.lemmas.List.FromFn.{get_or-range_with_len, length-range_with_len}
@@ -13,12 +13,13 @@ use Rattle.trlab_bounds.specs.declared.roads.TheConstants.{GREATEST_LIMIT}
 use Rattle.trlab_road.specs.declared.car.Car.{Car}
 use Rattle.trlab_road.specs.Cells.{Cell, Lane, Cells, cell, lane_of, cars, lane_cars}
 use Rattle.trlab_road.specs.Legal.{IsLegal, LanesFit, LengthFits, LimitFits}
-use Rattle.trlab_road.specs.Pictures.{ShowsSpeed, point, digit, character, picture, Shows, picture_at, character_at, ShowsCell, AreGoodPictures, IsFirstBad, IsFirstFault}
+use Rattle.trlab_road.specs.Pictures.{ShowsSpeed, point, speed_character, character, picture, Shows, picture_at, character_at, ShowsCell, AreGoodPictures, IsFirstBad, IsFirstFault}
 use Rattle.trlab_road.specs.Standing.{standing_from, standing_lanes, standing, rank}
+use Rattle.trlab_road.proofs.Characters.{character_back, no_point, one_speed, speed_back}
 use Rattle.trlab_road.proofs.Ring.{inside, car_in}
 use Rattle.trlab_road.proofs.MotionLaws.{on_lane}
 use Rattle.trlab_road.proofs.StandingOrder.{get_or-map_in, standing_rank, rank_below_cars, length-standing_from, length-standing_lanes, lane_cars-some, car_of}
-use Rattle.trlab_road.specs.Stored.{speed_of_digit, lane_of_picture, lanes_of_pictures}
+use Rattle.trlab_road.specs.Stored.{speed_of_character, lane_of_picture, lanes_of_pictures}
 
 -- the picture at an index of a list of pictures
 pub picture_read : (ps : List (Bor (List ℕ))) (l : ℕ) → picture_at (map (λ s. s.now) ps) l ≡ (get_or ps l (record { ref_ptr = (0, 0); now = [] })).now
@@ -35,15 +36,15 @@ cons_path e f = cc
 -- a point draws an empty cell, any other byte a car
 drawn_point : (n byte : ℕ) (bytes : List ℕ) → nat_eq byte point ≡ true
     → lane_of_picture n (byte ∷ bytes) ≡ None ∷ lane_of_picture n bytes
-drawn_point n byte bytes h = cond-true (nat_eq byte point) (None ∷ lane_of_picture n bytes) (Some (n, speed_of_digit byte) ∷ lane_of_picture (suc n) bytes) h
+drawn_point n byte bytes h = cond-true (nat_eq byte point) (None ∷ lane_of_picture n bytes) (Some (n, speed_of_character byte) ∷ lane_of_picture (suc n) bytes) h
 
 drawn_car : (n byte : ℕ) (bytes : List ℕ) → nat_eq byte point ≡ false
-    → lane_of_picture n (byte ∷ bytes) ≡ Some (n, speed_of_digit byte) ∷ lane_of_picture (suc n) bytes
-drawn_car n byte bytes h = cond-false (nat_eq byte point) (None ∷ lane_of_picture n bytes) (Some (n, speed_of_digit byte) ∷ lane_of_picture (suc n) bytes) h
+    → lane_of_picture n (byte ∷ bytes) ≡ Some (n, speed_of_character byte) ∷ lane_of_picture (suc n) bytes
+drawn_car n byte bytes h = cond-false (nat_eq byte point) (None ∷ lane_of_picture n bytes) (Some (n, speed_of_character byte) ∷ lane_of_picture (suc n) bytes) h
 
-back_again : (limit byte : ℕ) → ShowsCell limit byte → byte ≢ point → digit (speed_of_digit byte) ≡ byte
+back_again : (limit byte : ℕ) → ShowsCell limit byte → byte ≢ point → speed_character (speed_of_character byte) ≡ byte
 back_again limit byte (inl e) n = absurd (n e)
-back_again limit byte (inr d) n = let k = d.is_digit in omega arith
+back_again limit byte (inr d) n = character_back limit byte d
 
 -- the picture of what a good picture draws
 pub picture_drawn : (limit n : ℕ) (bytes : List ℕ)
@@ -69,7 +70,7 @@ numbers_from l x n (byte ∷ bytes) =
           let one : suc n ≡ n + 1 = omega arith in
           ap (λ (lane : Lane). map number_of (standing_from l x lane)) e
           ∙ cons_path refl (numbers_from l (suc x) (suc n) bytes ∙ ap (λ k. range_with_len k (lane_cars rest)) one)
-          ∙ ap (range_with_len n) (sym (lane_cars-some (n, speed_of_digit byte) rest))
+          ∙ ap (range_with_len n) (sym (lane_cars-some (n, speed_of_character byte) rest))
           ∙ ap (λ (lane : Lane). range_with_len n (lane_cars lane)) (sym e)
     ]
 
@@ -126,10 +127,8 @@ lane_back l x n (Some car ∷ lane) h =
     let first : car.0 ≡ n = cc in
     let rest : map number_of (standing_from l (suc x) lane) ≡ range_with_len (n + 1) (lane_cars lane) = cc in
     let one : n + 1 ≡ suc n = omega arith in
-    let no_point : nat_eq (digit car.1) point ≡ false = elim (eqb_tells (digit car.1) point) [ inl w ↦ absurd (let k = w.1 in omega arith) | inr w ↦ w.0 ] in
-    let speed : speed_of_digit (digit car.1) ≡ car.1 = omega arith in
-    drawn_car n (digit car.1) (picture lane) no_point
-    ∙ cons_path (same_some (sym first) speed) (lane_back l (suc x) (suc n) lane (rest ∙ ap (λ k. range_with_len k (lane_cars lane)) one))
+    drawn_car n (speed_character car.1) (picture lane) (ne_eqb (speed_character car.1) point (no_point car.1))
+    ∙ cons_path (same_some (sym first) (speed_back car.1)) (lane_back l (suc x) (suc n) lane (rest ∙ ap (λ k. range_with_len k (lane_cars lane)) one))
 
 lanes_back : (l n : ℕ) (lanes : List Lane)
     → map number_of (standing_lanes l lanes) ≡ range_with_len n (sum_by lane_cars lanes)
@@ -169,9 +168,9 @@ picture_of_at [] l = refl
 picture_of_at (lane ∷ lanes) zero = refl
 picture_of_at (lane ∷ lanes) (suc l) = picture_of_at lanes l
 
-within_speed : (limit v byte : ℕ) → byte ≡ digit v → ShowsCell limit byte → v ≤ limit
-within_speed limit v byte e (inl p) = absurd (omega arith)
-within_speed limit v byte e (inr d) = let k = d.is_digit in let m = d.within in omega arith
+within_speed : (limit v byte : ℕ) → byte ≡ speed_character v → ShowsCell limit byte → v ≤ limit
+within_speed limit v byte e (inl p) = absurd (no_point v (sym e ∙ p))
+within_speed limit v byte e (inr d) = let same = one_speed v d.speed (sym e ∙ d.shown) in let most = d.within in omega (arith, same, most)
 
 module _ (limit : ℕ) (ps : List (List ℕ)) (road : Cells) (good : AreGoodPictures limit ps) (s : Shows limit ps road) where
   shown_lanes : length road.lanes ≡ length ps
@@ -183,7 +182,7 @@ module _ (limit : ℕ) (ps : List (List ℕ)) (road : Cells) (good : AreGoodPict
   lane_size : (l : ℕ) → length (lane_of road l) ≡ length (picture_at ps l)
   lane_size l = sym (length-map (lane_of road l) character) ∙ sym (ap length (drawn_at l))
 
-  byte_is : (l x number speed : ℕ) → cell road l x ≡ Some (number, speed) → character_at ps l x ≡ digit speed
+  byte_is : (l x number speed : ℕ) → cell road l x ≡ Some (number, speed) → character_at ps l x ≡ speed_character speed
   byte_is l x number speed h =
       ap (λ (p : List ℕ). get_or p x 0) (drawn_at l)
       ∙ get_or-map_in character (lane_of road l) x None 0 (inside (lane_of road l) x (number, speed) h) ∙ ap character h
@@ -234,7 +233,7 @@ module _ (limit : ℕ) (ps : List (List ℕ)) (road : Cells) (good : AreGoodPict
 cell_shows : (limit : ℕ) (c : Cell) → ((car : ℕ × ℕ) → c ≡ Some car → car.1 ≤ limit)
     → ShowsCell limit (character c)
 cell_shows limit None h = inl refl
-cell_shows limit (Some car) h = inr (record { speed = car.1; within = h car refl; is_digit = refl })
+cell_shows limit (Some car) h = inr (record { speed = car.1; within = h car refl; shown = refl })
 
 -- the pictures of a legal road are good
 pub pictures_good : (road : Cells) → IsLegal road → AreGoodPictures road.limit (map picture road.lanes)

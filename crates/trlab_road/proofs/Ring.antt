@@ -127,7 +127,7 @@ apart_within_gaps answer lane within = record {
 }
 
 -- what passes, where nothing greater does, is the greatest
-greatest_is : (test : ℕ → Bool) (n g : ℕ) → g ≤ n → test g ≡ true
+pub greatest_is : (test : ℕ → Bool) (n g : ℕ) → g ≤ n → test g ≡ true
     → ((m : ℕ) → g < m → m ≤ n → test m ≡ false) → greatest test n ≡ g
 greatest_is test zero g low passes fails = let e : zero ≡ g = omega arith in e
 greatest_is test (suc n) g low passes fails =

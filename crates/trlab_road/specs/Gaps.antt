@@ -1,6 +1,6 @@
--- Gaps: runs of empty cells along a lane, which is a ring.
-use Rattle.std.specs.Prelude.{ℕ, zero, suc, ◌+◌, ◌-◌, ◌%◌, Bool, true, cond, ◌&&◌, is_none, length}
-use Rattle.trlab_road.specs.Cells.{Lane, at}
+-- What is ahead, beside and behind on a lane, which is a ring: gaps, runs of empty cells, and the next car.
+use Rattle.std.specs.Prelude.{ℕ, zero, suc, ◌+◌, ◌-◌, ◌%◌, Bool, true, cond, ◌&&◌, Some, None, is_none, length}
+use Rattle.trlab_road.specs.Cells.{Cell, Lane, at}
 
 -- the place j cells ahead of x on a ring of n cells
 abbrev pub ahead : ℕ → ℕ → ℕ → ℕ
@@ -27,6 +27,19 @@ clear_cells lane way = greatest (is_clear lane way) (length lane - 1)
 -- the gap ahead of a place: the empty cells up to the next car (Nagel and Schreckenberg 1992)
 abbrev pub gap : Lane → ℕ → ℕ
 gap lane x = clear_cells lane (ahead (length lane) x)
+
+-- the place of the next car ahead, behind the gap: its own where a car is alone on its lane
+abbrev pub next_place : Lane → ℕ → ℕ
+next_place lane x = ahead (length lane) x (gap lane x + 1)
+
+-- the speed of the car in a cell
+abbrev pub speed_in : Cell → ℕ
+speed_in None = 0
+speed_in (Some car) = car.1
+
+-- the speed of the next car ahead, its own where a car is alone on its lane
+abbrev pub headspeed : Lane → ℕ → ℕ
+headspeed lane x = speed_in (at lane (next_place lane x))
 
 -- is the side cell, the cell of the other lane beside x, empty?
 abbrev pub side : Lane → ℕ → Bool

@@ -1,14 +1,15 @@
--- Laws of pictures, of the two phases of a step and of evenly spread cars, for every road and
+-- Laws of pictures, of the next car ahead, of the two phases of a step and of evenly spread cars, for every road and
 -- whichever code moves the cars.
-use Rattle.std.specs.Prelude.{◌≢◌, List, map, ◌≡◌, ℕ, ◌<◌, ◌↔◌, Bool, Result, Ok, Err}
+use Rattle.std.specs.Prelude.{◌≢◌, List, map, ◌≡◌, ℕ, ◌+◌, ◌<◌, ◌↔◌, Bool, Some, None, Result, Ok, Err, length}
 use Rattle.trlab_road.specs.declared.fault.RoadFault.{RoadFault}
 use Rattle.trlab_road.specs.declared.fault.RoadFault.TheVariants.{Memory}
-use Rattle.trlab_road.specs.Cells.{Cells, AgreeAtCars, HasNumber, cars}
+use Rattle.trlab_road.specs.Cells.{Lane, Cells, AgreeAtCars, HasNumber, at, cars}
+use Rattle.trlab_road.specs.Gaps.{ahead, headspeed}
 use Rattle.trlab_road.specs.Legal.{IsLegal}
 use Rattle.trlab_road.specs.Pictures.{IsFirstFault, AreGoodPictures, AreNumberedInOrder, Shows, picture}
 use Rattle.trlab_road.specs.LaneChange.{Crosses, CrossesFree, CleanLaneChange, road_after_change}
 use Rattle.trlab_road.specs.Spreading.{CanSpread, IsEven, IsEvenFault}
-use Rattle.trlab_road.specs.Motion.{CleanMotion, Fits, Moves}
+use Rattle.trlab_road.specs.Motion.{CleanMotion, Fits, IsClearAhead, Moves}
 
 -- pictures show one road only
 abbrev pub PicturesShowOneRoad : Type 0
@@ -54,6 +55,16 @@ PicturesOfLegalRoads = (road : Cells) → IsLegal road → AreGoodPictures road.
 abbrev pub PicturesSayTheRoad : Type 0
 PicturesSayTheRoad = (road : Cells) (said : Result Cells RoadFault) → IsLegal road → AreNumberedInOrder road
     → Says road.limit (map picture road.lanes) said ↔ (said ≡ Ok road)
+
+-- the headspeed is the speed of the first car that is met on the way round the lane
+abbrev pub HeadspeedIsOfNextCar : Type 0
+HeadspeedIsOfNextCar = (lane : Lane) (x g number speed : ℕ) → g < length lane → IsClearAhead lane x g
+    → at lane (ahead (length lane) x (g + 1)) ≡ Some (number, speed) → headspeed lane x ≡ speed
+
+-- the headspeed of a car that is alone on its lane is its own speed
+abbrev pub HeadspeedOfLoneCar : Type 0
+HeadspeedOfLoneCar = (lane : Lane) (x number speed : ℕ) → at lane x ≡ Some (number, speed)
+    → ((y : ℕ) → y ≢ x → at lane y ≡ None) → headspeed lane x ≡ speed
 
 -- where each answer is at most the gap and the limit, some road comes after the motion
 abbrev pub SomeRoadAfterMotion : Type 0

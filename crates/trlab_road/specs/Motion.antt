@@ -4,7 +4,7 @@ use Rattle.std.specs.Prelude.{◌≡◌, ℕ, ◌<◌, ◌≤◌, Some, None, Li
 use Rattle.trlab_road.specs.declared.car.Car.{Car}
 use Rattle.trlab_road.specs.Cells.{Lane, Cells, IsAt, at, lane_of, cars, lane_cars}
 use Rattle.trlab_road.specs.Gaps.{ahead, gap}
-use Rattle.trlab_road.specs.Standing.{standing, rank}
+use Rattle.trlab_road.specs.Standing.{IsStanding, standing, rank}
 
 -- the car that a lane has at y after the motion stood at x before it
 pub record ComesFrom (answer : ℕ → ℕ) (old : Lane) (y number speed x before : ℕ) : Type 0 where
@@ -66,6 +66,11 @@ pub record CleanMotion (old new : Cells) : Type 0 where
 -- what a function of lane and place gives for each car, in standing order
 abbrev pub in_order : {X : Type 0} → (ℕ → ℕ → X) → Cells → List X
 in_order f road = map (λ (car : Car). f car.lane car.place) (standing road)
+
+-- what a function of a lane and a place gives for the k-th car in standing order, on its own lane
+abbrev pub IsOnLane : {X : Type 0} → (Lane → ℕ → X) → Cells → ℕ → X → Type 0
+IsOnLane look road k value = (car : Car) → IsStanding road k car
+    → value ≡ look (lane_of road car.lane) car.place
 
 -- the gaps in standing order
 abbrev pub gaps : Cells → List ℕ

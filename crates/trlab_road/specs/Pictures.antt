@@ -1,5 +1,5 @@
--- Pictures of roads: a point for an empty cell, the digit of its speed for a car.
-use Rattle.std.specs.Prelude.{◌≡◌, ℕ, ◌+◌, ◌<◌, ◌≤◌, Some, None, List, [], map, length, slice_index, slice_index_or, ◌⊎◌}
+-- Pictures of roads: a point for an empty cell, the character of its speed for a car.
+use Rattle.std.specs.Prelude.{◌≡◌, ℕ, ◌+◌, ◌-◌, ◌<◌, ◌≤◌, cond, nat_lt, Some, None, List, [], map, length, slice_index, slice_index_or, ◌⊎◌}
 use Rattle.std.specs.Borrow.{Bor}
 use Rattle.std.specs.List.{range_with_len}
 use Rattle.trlab_bounds.specs.declared.roads.TheConstants.{GREATEST_LIMIT}
@@ -14,14 +14,14 @@ use Rattle.trlab_road.specs.Standing.{standing}
 abbrev pub point : ℕ
 point = 46
 
--- the character of a car: the digit of its speed
-abbrev pub digit : ℕ → ℕ
-digit speed = 48 + speed
+-- the character of a speed: its digit, and from 10 on a letter, which are a, b and so on
+abbrev pub speed_character : ℕ → ℕ
+speed_character speed = cond (nat_lt speed 10) (48 + speed) (97 + (speed - 10))
 
 -- the character of a cell
 abbrev pub character : Cell → ℕ
 character None = point
-character (Some car) = digit car.1
+character (Some car) = speed_character car.1
 
 -- the picture of a lane
 abbrev pub picture : Lane → List ℕ
@@ -61,13 +61,13 @@ pub record HaveShape (limit : ℕ) (pictures : List (List ℕ)) : Type 0 where
   pub lengths : HaveEqualLengths pictures
   pub limit_fits : LimitFits limit
 
--- a character shows a speed of at most some number: it is its digit
+-- a character shows a speed of at most some number
 pub record ShowsSpeed (most character : ℕ) : Type 0 where
   pub speed : ℕ
   pub within : speed ≤ most
-  pub is_digit : character ≡ digit speed
+  pub shown : character ≡ speed_character speed
 
--- a character shows a cell: it is a point, or the digit of a speed within the limit
+-- a character shows a cell: it is a point, or that of a speed within the limit
 abbrev pub ShowsCell : ℕ → ℕ → Type 0
 ShowsCell limit character = (character ≡ point) ⊎ ShowsSpeed limit character
 

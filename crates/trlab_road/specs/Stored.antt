@@ -1,13 +1,14 @@
 -- How the code keeps a road: a lane as the list of its cars by rising place.
-use Rattle.std.specs.Prelude.{◌≡◌, ℕ, suc, ◌+◌, ◌<◌, ◌≤◌, cond, sum_by, take, Some, None, List, [], ◌∷◌, length, map, nat_eq, slice_index, slice_index_or, false, Bool, Vec, ◌-◌}
+use Rattle.std.specs.Prelude.{◌≡◌, ℕ, suc, ◌+◌, ◌<◌, ◌≤◌, cond, sum_by, take, Some, None, List, [], ◌∷◌, length, map, nat_eq, slice_index, slice_index_or, false, Bool, Vec}
 use Rattle.std.specs.Global.{Global}
 use Rattle.std.specs.List.{range_with_len}
 use Rattle.trlab_road.specs.declared.car.Car.{Car}
 use Rattle.trlab_road.specs.declared.lane_car.LaneCar.{LaneCar}
 use Rattle.trlab_road.specs.Cells.{Cell, Lane, Cells, at, lane_cars}
+use Rattle.trlab_road.specs.Gaps.{greatest}
 use Rattle.trlab_road.specs.Legal.{IsLegal}
 use Rattle.trlab_road.specs.Motion.{LaneFits, LaneMoves}
-use Rattle.trlab_road.specs.Pictures.{point}
+use Rattle.trlab_road.specs.Pictures.{point, speed_character}
 
 -- what a list of cars has at a place
 abbrev pub cell_at : List LaneCar → ℕ → Cell
@@ -108,9 +109,10 @@ pub record ListsMove (n : ℕ) (lists next : List (Vec LaneCar Global)) (answers
       → LaneMoves (list_answer n lists answers l)
       (cells_of n (list_at lists l)) (cells_of n (list_at next l))
 
--- the speed of a digit
-abbrev pub speed_of_digit : ℕ → ℕ
-speed_of_digit character = character - 48
+-- the speed whose character this is
+abbrev pub speed_of_character : ℕ → ℕ
+speed_of_character character =
+    greatest (λ speed. nat_eq (speed_character speed) character) character
 
 -- the lane that a picture shows, its cars numbered from n on
 abbrev pub lane_of_picture : ℕ → List ℕ → Lane
@@ -118,7 +120,7 @@ lane_of_picture n [] = []
 lane_of_picture n (character ∷ picture) =
     cond (nat_eq character point)
     (None ∷ lane_of_picture n picture)
-    (Some (n, speed_of_digit character) ∷ lane_of_picture (suc n) picture)
+    (Some (n, speed_of_character character) ∷ lane_of_picture (suc n) picture)
 
 -- the lanes that pictures show, their cars numbered from n on
 abbrev pub lanes_of_pictures : ℕ → List (List ℕ) → List Lane

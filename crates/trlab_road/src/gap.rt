@@ -1,12 +1,51 @@
-//! Gaps along a lane, in cells: from the next car of its list, by rising place, or round the ring from the
-//! first or the last.
+//! What is ahead and behind on a lane: gaps in cells, and the speed of the next car. The next car is that of its
+//! list, by rising place, or round the ring the first or the last.
 
 ghost use Rattle.std.specs.Prelude.{◌≡◌, ◌<◌, ◌≤◌, ℕ, length};
 ghost use Rattle.trlab_bounds.specs.declared.roads.TheConstants.{GREATEST_LENGTH};
-ghost use Rattle.trlab_road.specs.Gaps.{behind, clear_cells, gap};
+ghost use Rattle.trlab_road.specs.Gaps.{behind, clear_cells, gap, headspeed};
 ghost use Rattle.trlab_road.specs.Stored.{IsParted, Rises, cells_of, place_of};
 
 use crate::lane_car::LaneCar;
+
+/// What is ahead of a car on its own lane.
+#[derive(Clone, Copy, Debug, PartialEq, Eq)]
+pub struct Ahead {
+    /// How many cells ahead of it are empty.
+    pub gap: u32,
+    /// The speed of the next car in cells a step, its own where it is alone.
+    pub headspeed: u32,
+}
+
+/// What is ahead of the car at an index of a lane's list.
+pub fn look_ahead(cars: &[LaneCar], cells: usize, index: usize) -> Ahead
+    requires small { cells ≤ GREATEST_LENGTH }
+    requires sorted { Rises 0 cells cars.now }
+    requires here { index < length cars.now }
+    ensures gap { result.gap ≡ gap (cells_of cells cars.now) (place_of cars.now index) }
+    ensures headspeed { result.headspeed ≡ headspeed (cells_of cells cars.now) (place_of cars.now index) }
+    ensures within { result.gap < cells }
+{
+    let place = cars[index].place as usize;
+    Ahead {
+        gap: gap_ahead(cars, cells, place, index + 1) as u32,
+        headspeed: next_speed(cars, index),
+    }
+}
+
+/// The speed of the next car ahead of that at an index of a lane's list; ahead of the last is the first.
+fn next_speed(cars: &[LaneCar], index: usize) -> u32
+    requires { index < length cars.now }
+    ensures { (n : ℕ) → Rises 0 n cars.now
+        → result ≡ headspeed (cells_of n cars.now) (place_of cars.now index) }
+{
+    let next = index + 1;
+    if next < cars.len() {
+        cars[next].speed
+    } else {
+        cars[0].speed
+    }
+}
 
 /// How many cells ahead of a place are empty, where the cars from an index on are those past it.
 pub fn gap_ahead(cars: &[LaneCar], cells: usize, place: usize, next: usize) -> usize

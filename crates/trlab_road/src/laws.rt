@@ -1,10 +1,11 @@
-//! Laws of pictures, of the two phases of a step and of evenly spread cars, for every road and
-//! whichever code moves the cars.
+//! Laws of pictures, of the next car ahead, of the two phases of a step and of evenly spread cars, for
+//! every road and whichever code moves the cars.
 //!
 //! Each law is the contract of a function with nothing to do.
 
 ghost use Rattle.trlab_road.specs.Laws.{GoodPicturesShowLegalRoads, NoFaultInGood, OneFirstFault, PicturesShowOneRoad};
 ghost use Rattle.trlab_road.specs.Laws.{PicturesOfLegalRoads, PicturesSayOneThing, PicturesSaySomething, PicturesSayTheRoad};
+ghost use Rattle.trlab_road.specs.Laws.{HeadspeedIsOfNextCar, HeadspeedOfLoneCar};
 ghost use Rattle.trlab_road.specs.Laws.{HasAllNumbers, MotionByCars, MotionIsClean, MotionKeepsCars};
 ghost use Rattle.trlab_road.specs.Laws.{MotionKeepsLegal, OneRoadAfterMotion, SomeRoadAfterMotion};
 ghost use Rattle.trlab_road.specs.Laws.{LaneChangeByCars, LaneChangeIsClean, LaneChangeKeepsLegal};
@@ -31,6 +32,13 @@ pub fn pictures_say_one_thing()
 pub fn pictures_say_the_road()
     ensures good { PicturesOfLegalRoads }
     ensures same { PicturesSayTheRoad }
+{}
+
+/// The headspeed is the speed of the first car that is met on the way round the lane, and so the own one of a
+/// car that is alone there.
+pub fn headspeed_is_of_the_next_car()
+    ensures next { HeadspeedIsOfNextCar }
+    ensures alone { HeadspeedOfLoneCar }
 {}
 
 /// Answers that fit lead to one road by the motion, and only the answers at cars count.

@@ -1,9 +1,9 @@
-//! The characters of pictures: a point for an empty cell, a digit for the speed of a car.
+//! The characters of pictures: a point for an empty cell, a digit or a letter for the speed of a car.
 
-ghost use Rattle.std.specs.Prelude.{◌≡◌, ◌<◌, ◌≤◌, ◌↔◌, ℕ, ◌++◌, OnOk, IsTrue, length, slice_index_or};
+ghost use Rattle.std.specs.Prelude.{◌≡◌, ◌<◌, ◌≤◌, ◌↔◌, ℕ, ◌++◌, OnOk, IfSome, IsNone, IsTrue, length, slice_index_or};
 ghost use Rattle.trlab_bounds.specs.declared.roads.TheConstants.{GREATEST_LIMIT};
-ghost use Rattle.trlab_road.specs.Stored.{Rises, cells_of, no_car, speed_of_digit};
-ghost use Rattle.trlab_road.specs.Pictures.{ShowsCell, ShowsSpeed, picture, digit};
+ghost use Rattle.trlab_road.specs.Stored.{Rises, cells_of, no_car};
+ghost use Rattle.trlab_road.specs.Pictures.{ShowsCell, ShowsSpeed, picture, speed_character};
 
 use crate::lane_car::LaneCar;
 use std::alloc::AllocError;
@@ -12,21 +12,29 @@ use trlab_bounds::roads::GREATEST_LIMIT;
 /// The character of an empty cell.
 pub const POINT: u8 = b'.';
 
-/// The character of a car: the digit of its speed.
-pub fn digit(speed: u32) -> u8
+/// The character of a speed: its digit, and from 10 on a letter.
+pub fn speed_character(speed: u32) -> u8
     requires { speed ≤ GREATEST_LIMIT }
-    ensures { result ≡ digit speed }
+    ensures { result ≡ speed_character speed }
 {
-    b'0' + speed as u8
+    if speed < 10 {
+        b'0' + speed as u8
+    } else {
+        b'a' + (speed - 10) as u8
+    }
 }
 
-/// The speed that a digit shows.
-pub fn speed_of_digit(character: u8) -> u32
-    requires { ShowsSpeed GREATEST_LIMIT character }
-    ensures value { result ≡ speed_of_digit character }
-    ensures within { result ≤ GREATEST_LIMIT }
+/// The speed that a character shows, if it shows one.
+pub fn speed_shown(character: u8) -> Option<u32>
+    ensures none { IsNone result → ¬ (ShowsSpeed GREATEST_LIMIT character) }
+    ensures within { IfSome result (λ speed. speed ≤ GREATEST_LIMIT) }
+    ensures shown { IfSome result (λ speed. character ≡ speed_character speed) }
 {
-    u32::from(character - b'0')
+    match character {
+        b'0'..=b'9' => Some(u32::from(character - b'0')),
+        b'a'..=b'z' => Some(u32::from(character - b'a') + 10),
+        _ => None,
+    }
 }
 
 /// Does a character show a speed of at most some number?
@@ -34,7 +42,10 @@ pub fn shows_speed(most: u32, character: u8) -> bool
     requires { most ≤ GREATEST_LIMIT }
     ensures { IsTrue result ↔ ShowsSpeed most character }
 {
-    digit(0) <= character && character <= digit(most)
+    match speed_shown(character) {
+        Some(speed) => speed <= most,
+        None => false,
+    }
 }
 
 /// Does a character show a cell: a point, or a speed within the limit?
@@ -45,7 +56,7 @@ pub fn shows_cell(limit: u32, character: u8) -> bool
     character == POINT || shows_speed(limit, character)
 }
 
-/// Adds the picture of a lane: a point for an empty cell, the digit of the speed for a car.
+/// Adds the picture of a lane: a point for an empty cell, the character of the speed for a car.
 pub fn push_picture(out: &mut Vec<u8>, cars: &[LaneCar], cells: u32) -> Result<(), AllocError>
     requires sorted { Rises 0 cells cars.now }
     requires slow { (k : ℕ) → k < length cars.now
@@ -56,7 +67,7 @@ pub fn push_picture(out: &mut Vec<u8>, cars: &[LaneCar], cells: u32) -> Result<(
     out.resize(start + cells as usize, POINT)?;
     for k in 0..cars.len() {
         let car = cars[k];
-        out[start + car.place as usize] = digit(car.speed);
+        out[start + car.place as usize] = speed_character(car.speed);
     }
     Ok(())
 }

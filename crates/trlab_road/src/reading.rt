@@ -8,7 +8,7 @@ ghost use Rattle.trlab_road.specs.Pictures.{HaveEqualLengths, IsFirstFault, AreG
 
 use crate::fault::RoadFault;
 use crate::lane_car::LaneCar;
-use crate::picture::{POINT, shows_cell, shows_speed, speed_of_digit};
+use crate::picture::{shows_cell, shows_speed, speed_shown};
 use std::alloc::{AllocError, Global};
 use trlab_bounds::roads::{GREATEST_LENGTH, GREATEST_LIMIT, MOST_LANES};
 
@@ -58,10 +58,10 @@ pub fn check_pictures(limit: u32, pictures: &[&[u8]]) -> Result<(), RoadFault>
     for (lane, picture) in pictures.iter().enumerate() {
         let place = first_bad(limit, picture);
         if place < picture.len() {
-            let digit = shows_speed(GREATEST_LIMIT, picture[place]);
+            let speed = shows_speed(GREATEST_LIMIT, picture[place]);
             let lane = lane as u32;
             let place = place as u32;
-            return Err(if digit {
+            return Err(if speed {
                 RoadFault::SpeedAboveLimit { lane, place }
             } else {
                 RoadFault::Character { lane, place }
@@ -84,11 +84,11 @@ pub fn draw_lane(alloc: Global, picture: &[u8], from: u32) -> Result<Vec<LaneCar
     let mut cars = Vec::new(alloc);
     let mut number = from;
     for (place, character) in picture.iter().enumerate() {
-        if *character != POINT {
+        if let Some(speed) = speed_shown(*character) {
             cars.push(LaneCar {
                 number,
                 place: place as u32,
-                speed: speed_of_digit(*character),
+                speed,
             })?;
             number += 1;
         }

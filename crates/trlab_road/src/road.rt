@@ -5,17 +5,17 @@ ghost use Rattle.trlab_bounds.specs.declared.roads.TheConstants.{GREATEST_LENGTH
 ghost use Rattle.trlab_road.specs.declared.car.Car.{Car};
 ghost use Rattle.trlab_road.specs.declared.fault.RoadFault.{RoadFault};
 ghost use Rattle.trlab_road.specs.Cells.{Cells, IsAt, cars, lane_of};
-ghost use Rattle.trlab_road.specs.Gaps.{gap, side, sideback, sidegap};
+ghost use Rattle.trlab_road.specs.Gaps.{gap, headspeed, side, sideback, sidegap};
 ghost use Rattle.trlab_road.specs.Standing.{IsStanding};
 ghost use Rattle.trlab_road.specs.Legal.{IsLegal};
 ghost use Rattle.trlab_road.specs.Pictures.{IsFirstFault, Shows, picture, pictures_of};
 ghost use Rattle.trlab_road.specs.LaneChange.{CleanLaneChange, Crosses, IsBeside, IsGapBeside, MayCross, sides};
 ghost use Rattle.trlab_road.specs.Spreading.{CanSpread, IsEven, IsEvenFault};
-ghost use Rattle.trlab_road.specs.Motion.{MayMove, CleanMotion, Moves, gaps, in_order};
+ghost use Rattle.trlab_road.specs.Motion.{MayMove, CleanMotion, IsOnLane, Moves, gaps, in_order};
 
 use crate::car::Car;
 use crate::fault::RoadFault;
-use crate::gap::gap_ahead;
+use crate::gap::{Ahead, look_ahead};
 use crate::lane_car::LaneCar;
 use crate::lane_change::change_lanes;
 use crate::lanes::{car_of, copy_lanes, count_cars, find, list_of, same_lanes};
@@ -56,9 +56,10 @@ impl Model for Road {
 
 impl Road {
     /// The road that pictures show, one for each lane, with its cars numbered in standing order. The
-    /// limit is 1 to 9 cells a step.
+    /// limit is 1 to 35 cells a step.
     ///
-    /// A picture has one character a cell: a point for an empty cell, the digit of its speed for a car.
+    /// A picture has one character a cell: a point for an empty cell, and for a car its speed, as a digit from
+    /// 0 to 9 or, for 10 to 35, as a letter from `a` to `z`.
     ///
     /// # Errors
     ///
@@ -90,7 +91,7 @@ impl Road {
     }
 
     /// The road on which so many cars are evenly spread over one or two lanes of 1 to 100000 cells, all
-    /// with speed 0. The limit is 1 to 9 cells a step.
+    /// with speed 0. The limit is 1 to 35 cells a step.
     ///
     /// With C cells in all, car i of n stands at flat cell i * C / n, rounded down. Flat cells
     /// count across the lanes: place 0 of each lane, then place 1, and so on.
@@ -177,7 +178,7 @@ impl Road {
         self.cells
     }
 
-    /// The speed limit, 1 to 9 cells a step.
+    /// The speed limit, 1 to 35 cells a step.
     pub fn limit(&self) -> u32
         ensures value { result ≡ self.now.limit }
         ensures legal { IsLegal self.now }
@@ -212,14 +213,34 @@ impl Road {
     pub fn gap(&self, k: u32) -> u32
         requires { k < cars self.now }
         ensures value { result ≡ slice_index (gaps self.now) k }
-        ensures of_car { (car : Car) → IsStanding self.now k car
-            → result ≡ gap (lane_of self.now car.lane) car.place }
+        ensures of_car { IsOnLane gap self.now k result }
         ensures below { result < length (lane_of self.now 0) }
     {
+        self.ahead(k).gap
+    }
+
+    /// The speed, in cells a step, of the next car ahead of the k-th car in standing order, on its own lane.
+    ///
+    /// A lone car on its lane has its own speed ahead.
+    pub fn headspeed(&self, k: u32) -> u32
+        requires { k < cars self.now }
+        ensures of_car { IsOnLane headspeed self.now k result }
+        ensures within { result ≤ self.now.limit }
+    {
+        self.ahead(k).headspeed
+    }
+
+    /// What is ahead of the k-th car in standing order on its own lane, as `gap` and `headspeed` tell.
+    pub fn ahead(&self, k: u32) -> Ahead
+        requires { k < cars self.now }
+        ensures value { result.gap ≡ slice_index (gaps self.now) k }
+        ensures gap { IsOnLane gap self.now k result.gap }
+        ensures headspeed { IsOnLane headspeed self.now k result.headspeed }
+        ensures below { result.gap < length (lane_of self.now 0) }
+        ensures within { result.headspeed ≤ self.now.limit }
+    {
         let (lane, index) = find(&self.lanes, k);
-        let cars = list_of(&self.lanes, lane);
-        let place = cars[index].place as usize;
-        gap_ahead(cars, self.cells as usize, place, index + 1) as u32
+        look_ahead(list_of(&self.lanes, lane), self.cells as usize, index)
     }
 
     /// Is the side cell of the k-th car in standing order, the cell beside it on the other lane,
@@ -278,7 +299,7 @@ impl Road {
         self.beside(k, 0).behind
     }
 
-    /// The picture of a lane: one character a cell, a point or the digit of the car's speed.
+    /// The picture of a lane: one character a cell, a point, or a digit or a letter for the car's speed.
     ///
     /// # Errors
     ///

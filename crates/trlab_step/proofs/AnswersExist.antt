@@ -10,6 +10,7 @@ use Rattle.trlab_road.specs.LaneChange.{other_lane, CrossesFree}
 use Rattle.trlab_road.specs.Gaps.{gap, side, ahead, behind, clear_cells, greatest, is_clear}
 use Rattle.trlab_road.specs.Legal.{IsLegal}
 use Rattle.trlab_road.specs.Motion.{Fits}
+use Rattle.trlab_road.proofs.Headspeeds.{headspeed_within}
 use Rattle.trlab_road.proofs.MotionLaws.{on_lane}
 use Rattle.trlab_machine.proofs.Crossings.{checked_change_answers}
 use Rattle.trlab_machine.proofs.Speeds.{checked_motion_moves}
@@ -53,6 +54,7 @@ motion_view_is_view road car legal here = record {
   sidegap = omega arith;
   sideback = omega arith;
   lane = omega arith;
+  headspeed = headspeed_within road car.lane car.place legal;
 }
 
 -- what the change program of a car of a legal road of two lanes sees is in range
@@ -72,6 +74,7 @@ change_view_is_view road car legal two here =
       sidegap = or_none empty (clear_cells other (ahead (length other) x)) 99999 (seen_within road (other_lane l) (ahead (length other) x) legal beside);
       sideback = or_none empty (clear_cells other (behind (length other) x)) 99999 (seen_within road (other_lane l) (behind (length other) x) legal beside);
       lane = omega (arith, on, two);
+      headspeed = headspeed_within road l x legal;
     }
 
 some_inside : {a b : ℕ × ℕ} → ◌≡◌ {A = Cell} (Some a) (Some b) → a ≡ b

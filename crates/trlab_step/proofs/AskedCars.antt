@@ -10,7 +10,7 @@ use Rattle.trlab_machine.specs.Crossings.{crossing_answer}
 use Rattle.trlab_road.specs.declared.car.Car.{Car}
 use Rattle.trlab_road.specs.Cells.{Cells, lane_of}
 use Rattle.trlab_road.specs.LaneChange.{other_lane, sides}
-use Rattle.trlab_road.specs.Gaps.{gap, side, sidegap, sideback}
+use Rattle.trlab_road.specs.Gaps.{gap, headspeed, side, sidegap, sideback}
 use Rattle.trlab_road.specs.Motion.{gaps}
 use Rattle.trlab_road.specs.Standing.{IsStanding}
 use Rattle.trlab_machine.specs.declared.dice.Dice.{Dice}
@@ -26,15 +26,16 @@ some_same h = cc
 not_change : Motion ≡ Change → ⊥
 not_change h = cc
 
-module _ (road : Cells) (k : ℕ) (told : Car) (order : IsStanding road k told) (limit gap_ahead : ℕ) (limited : limit ≡ road.limit)
-    (gap_is : gap_ahead ≡ slice_index (gaps road) k) (gap_of : (car : Car) → IsStanding road k car → gap_ahead ≡ gap (lane_of road car.lane) car.place) where
+module _ (road : Cells) (k : ℕ) (told : Car) (order : IsStanding road k told) (limit gap_ahead speed_ahead : ℕ) (limited : limit ≡ road.limit)
+    (gap_is : gap_ahead ≡ slice_index (gaps road) k) (gap_of : (car : Car) → IsStanding road k car → gap_ahead ≡ gap (lane_of road car.lane) car.place)
+    (speed_of : (car : Car) → IsStanding road k car → speed_ahead ≡ headspeed (lane_of road car.lane) car.place) where
   same : (car : Car) → IsStanding road k car → told ≡ car
   same car here = some_same (sym order ∙ here)
 
-  pub motion_asked : (view : View) → view ≡ motion_view told.speed limit gap_ahead → IsView view → IsAsked Motion road k view told.number
+  pub motion_asked : (view : View) → view ≡ motion_view told.speed limit gap_ahead speed_ahead → IsView view → IsAsked Motion road k view told.number
   motion_asked view is legal = record {
     is_view = legal;
-    seen = λ car here. is ∙ same_view _ _ _ _ _ _ (ap (λ (one : Car). one.speed) (same car here)) limited (gap_of car here);
+    seen = λ car here. is ∙ same_view _ _ _ _ _ _ _ _ (ap (λ (one : Car). one.speed) (same car here)) limited (gap_of car here) (speed_of car here);
     number_of = λ car here. ap (λ (one : Car). one.number) (same car here);
     limit = ap (λ (v : View). v.limit) is ∙ limited;
     gap = ap (λ (v : View). v.gap) is ∙ gap_is;
@@ -45,10 +46,10 @@ module _ (road : Cells) (k : ℕ) (told : Car) (order : IsStanding road k told) 
       → ((car : Car) → IsStanding road k car → empty ≡ side (lane_of road (other_lane car.lane)) car.place)
       → ((car : Car) → IsStanding road k car → ahead ≡ sidegap (lane_of road (other_lane car.lane)) car.place)
       → ((car : Car) → IsStanding road k car → behind ≡ sideback (lane_of road (other_lane car.lane)) car.place)
-      → (view : View) → view ≡ change_view told.speed limit gap_ahead empty ahead behind told.lane → IsView view → IsAsked Change road k view told.number
+      → (view : View) → view ≡ change_view told.speed limit gap_ahead empty ahead behind told.lane speed_ahead → IsView view → IsAsked Change road k view told.number
   change_asked empty ahead behind side_is side_of ahead_of behind_of view is legal = record {
     is_view = legal;
-    seen = λ car here. is ∙ same_change_view road told car limit gap_ahead empty ahead behind (same car here) limited (gap_of car here) (side_of car here) (ahead_of car here) (behind_of car here);
+    seen = λ car here. is ∙ same_change_view road told car limit gap_ahead empty ahead behind speed_ahead (same car here) limited (gap_of car here) (side_of car here) (ahead_of car here) (behind_of car here) (speed_of car here);
     number_of = λ car here. ap (λ (one : Car). one.number) (same car here);
     limit = ap (λ (v : View). v.limit) is ∙ limited;
     gap = ap (λ (v : View). v.gap) is ∙ gap_is;

@@ -7,19 +7,19 @@ use Rattle.trlab_verify.specs.CheckedProgram.{CheckedProgram}
 use Rattle.trlab_road.specs.declared.car.Car.{Car}
 use Rattle.trlab_road.specs.Cells.{Cells, cars, lane_of}
 use Rattle.trlab_road.specs.LaneChange.{other_lane, sides}
-use Rattle.trlab_road.specs.Gaps.{gap, side, sidegap, sideback}
+use Rattle.trlab_road.specs.Gaps.{gap, headspeed, side, sidegap, sideback}
 use Rattle.trlab_road.specs.Motion.{MayMove, gaps}
 use Rattle.trlab_machine.specs.declared.dice.Dice.{Dice}
 use Rattle.trlab_step.specs.Answers.{change_view_of, AnswersSpeedsPart, FitsPart, CrossesFreePart}
 
-pub same_view : (a b c x y z : ℕ) → a ≡ x → b ≡ y → c ≡ z → motion_view a b c ≡ motion_view x y z
-same_view a b c x y z e f g = ap (λ k. motion_view k b c) e ∙ ap (λ k. motion_view x k c) f ∙ ap (motion_view x y) g
+pub same_view : (a b c d x y z w : ℕ) → a ≡ x → b ≡ y → c ≡ z → d ≡ w → motion_view a b c d ≡ motion_view x y z w
+same_view a b c d x y z w e f g h = ap (λ k. motion_view k b c d) e ∙ ap (λ k. motion_view x k c d) f ∙ ap (λ k. motion_view x y k d) g ∙ ap (motion_view x y z) h
 
 -- what a change program sees of a car goes by what the road tells of that car
-pub same_change_view : (road : Cells) (told car : Car) (limit gap_ahead : ℕ) (empty : Bool) (ahead_there behind_there : ℕ) → told ≡ car → limit ≡ road.limit → gap_ahead ≡ gap (lane_of road car.lane) car.place
-    → empty ≡ side (lane_of road (other_lane car.lane)) car.place → ahead_there ≡ sidegap (lane_of road (other_lane car.lane)) car.place → behind_there ≡ sideback (lane_of road (other_lane car.lane)) car.place
-    → change_view told.speed limit gap_ahead empty ahead_there behind_there told.lane ≡ change_view_of road car
-same_change_view road told car limit gap_ahead empty ahead_there behind_there a b c d e f = rw (a, b, c, d, e, f) refl
+pub same_change_view : (road : Cells) (told car : Car) (limit gap_ahead : ℕ) (empty : Bool) (ahead_there behind_there speed_ahead : ℕ) → told ≡ car → limit ≡ road.limit → gap_ahead ≡ gap (lane_of road car.lane) car.place
+    → empty ≡ side (lane_of road (other_lane car.lane)) car.place → ahead_there ≡ sidegap (lane_of road (other_lane car.lane)) car.place → behind_there ≡ sideback (lane_of road (other_lane car.lane)) car.place → speed_ahead ≡ headspeed (lane_of road car.lane) car.place
+    → change_view told.speed limit gap_ahead empty ahead_there behind_there told.lane speed_ahead ≡ change_view_of road car
+same_change_view road told car limit gap_ahead empty ahead_there behind_there speed_ahead a b c d e f g = rw (a, b, c, d, e, f, g) refl
 
 -- what a list has at an index after a push
 pushed : {X : Type 0} (none : X) (P : ℕ → X → Type 0) (xs : List X) (v : X) → ((k : ℕ) → k < length xs → P k (get_or xs k none)) → P (length xs) v → (k : ℕ) → k < length (xs ++ v ∷ []) → P k (get_or (xs ++ v ∷ []) k none)

@@ -12,7 +12,7 @@ use Rattle.trlab_road.specs.declared.car.Car.{Car}
 use Rattle.trlab_road.specs.Cells.{Cells, IsAt, lane_of}
 use Rattle.trlab_road.specs.Standing.{IsStanding}
 use Rattle.trlab_road.specs.Motion.{gaps}
-use Rattle.trlab_road.specs.Gaps.{gap, side, sidegap, sideback}
+use Rattle.trlab_road.specs.Gaps.{gap, headspeed, side, sidegap, sideback}
 use Rattle.trlab_road.specs.LaneChange.{other_lane, sides}
 
 -- the dice of a key, a road's number and the number of a step
@@ -21,14 +21,17 @@ dice_of key road step = record { key = key; road = road; step = step }
 
 -- what the motion program of a car sees
 abbrev pub motion_view_of : Cells → Car → View
-motion_view_of road car = motion_view car.speed road.limit (gap (lane_of road car.lane) car.place)
+motion_view_of road car =
+    let own = lane_of road car.lane in
+    motion_view car.speed road.limit (gap own car.place) (headspeed own car.place)
 
 -- what the change program of a car sees
 abbrev pub change_view_of : Cells → Car → View
 change_view_of road car =
+    let own = lane_of road car.lane in
     let other = lane_of road (other_lane car.lane) in
-    change_view car.speed road.limit (gap (lane_of road car.lane) car.place)
-    (side other car.place) (sidegap other car.place) (sideback other car.place) car.lane
+    change_view car.speed road.limit (gap own car.place) (side other car.place)
+    (sidegap other car.place) (sideback other car.place) car.lane (headspeed own car.place)
 
 -- a motion program answers a speed to a car
 abbrev pub AnswersSpeed : CheckedProgram → Dice → Cells → Car → ℕ → Type 0

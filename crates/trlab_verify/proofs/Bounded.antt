@@ -2,7 +2,7 @@
 use Rattle.std.proofs.Common.{ℕ, zero, suc, ◌<◌, ◌≤◌, max, subst, arith, List, length, Bool, true, false, Option, Some, None, nat_eq, cond}
 use Rattle.std.specs.Prelude.{slice_get, IfSome}
 use Rattle.trlab_code.specs.declared.kind.Kind.{Kind}
-use Rattle.trlab_code.specs.declared.instruction.Input.TheVariants.{Speed, Limit}
+use Rattle.trlab_code.specs.declared.instruction.Input.TheVariants.{Speed, Limit, Headspeed}
 use Rattle.trlab_code.specs.declared.instruction.Instr.{Instr}
 use Rattle.trlab_code.specs.declared.instruction.Instr.TheVariants.{Get, Copy, Add, Sub, Div, Min, Max, JumpLess, JumpAtMost, JumpTrue, JumpFalse}
 use Rattle.trlab_code.specs.declared.instruction.Place.{Place}
@@ -114,6 +114,7 @@ entry_two kind x y = known_two (entry_said kind x) (entry_said kind y) (same_pla
   where
     levels : (x y : Place) → entry_level x y ≤ 2
     levels (place.Input Speed) (place.Input Limit) = omega arith
+    levels (place.Input Headspeed) (place.Input Limit) = omega arith
     levels x y = omega arith
 
 edge_two : (old new : Option Note) → IfSome old HasLevels → IfSome new HasLevels → IfSome (add_note old new) HasLevels

@@ -3,7 +3,7 @@ use Rattle.std.proofs.Common.{◌≡◌, ℕ, zero, suc, ◌+◌, ◌<◌, min, 
 use Rattle.std.specs.Prelude.{slice_get, IfSome}
 use Rattle.trlab_code.specs.declared.kind.Kind.{Kind}
 use Rattle.trlab_code.specs.declared.instruction.Input.{Input}
-use Rattle.trlab_code.specs.declared.instruction.Input.TheVariants.{Speed, Limit, Gap, SideGap, SideBack, Lane}
+use Rattle.trlab_code.specs.declared.instruction.Input.TheVariants.{Speed, Limit, Gap, SideGap, SideBack, Lane, Headspeed}
 use Rattle.trlab_code.specs.declared.instruction.Instr.{Instr}
 use Rattle.trlab_code.specs.declared.instruction.Instr.TheVariants.{JumpLess, JumpAtMost, JumpTrue, JumpFalse}
 use Rattle.trlab_code.specs.declared.instruction.Place.{Place}
@@ -31,6 +31,7 @@ range_plain Gap = refl
 range_plain SideGap = refl
 range_plain SideBack = refl
 range_plain Lane = refl
+range_plain Headspeed = refl
 
 plain : (kind : Kind) (k : Input) (b : Bool) → allows_input kind k ≡ b → is_flag (entry_said kind (place.Input k)) ≡ false
 plain kind k true e = rw e (range_plain k)

@@ -3,7 +3,7 @@ use Rattle.std.proofs.Common.{◌≡◌, ℕ, suc, ◌<◌, ◌≤◌, refl, con
 use Rattle.std.specs.Prelude.{slice_get, IfSome}
 use Rattle.trlab_code.specs.declared.kind.Kind.{Kind}
 use Rattle.trlab_code.specs.declared.kind.Kind.TheVariants.{Motion, Change}
-use Rattle.trlab_code.specs.declared.instruction.Input.TheVariants.{Speed, Limit, Gap, SideGap, SideBack, Lane}
+use Rattle.trlab_code.specs.declared.instruction.Input.TheVariants.{Speed, Limit, Gap, SideGap, SideBack, Lane, Headspeed}
 use Rattle.trlab_code.specs.declared.instruction.Instr.{Instr}
 use Rattle.trlab_code.specs.declared.instruction.Instr.TheVariants.{Get}
 use Rattle.trlab_code.specs.Machine.{allows_input}
@@ -42,12 +42,14 @@ reaches : (kind own : Kind) (i : Instr) → (kind ≡ own → ⊥) → may_stand
 reaches Motion own (Get d Speed) ne h = refl
 reaches Motion own (Get d Limit) ne h = refl
 reaches Motion own (Get d Gap) ne h = refl
+reaches Motion own (Get d Headspeed) ne h = refl
 reaches Motion own (Get d SideGap) ne h = absurd (cc h)
 reaches Motion own (Get d SideBack) ne h = absurd (cc h)
 reaches Motion own (Get d Lane) ne h = absurd (cc h)
 reaches Change Motion (Get d Speed) ne h = refl
 reaches Change Motion (Get d Limit) ne h = refl
 reaches Change Motion (Get d Gap) ne h = refl
+reaches Change Motion (Get d Headspeed) ne h = refl
 reaches Change Motion (Get d SideGap) ne h = absurd (cc h)
 reaches Change Motion (Get d SideBack) ne h = absurd (cc h)
 reaches Change Motion (Get d Lane) ne h = absurd (cc h)

@@ -21,7 +21,7 @@ use Rattle.trlab_verify.specs.Incoming.{add_note, add_notes, if_here, next_note_
 use Rattle.trlab_verify.specs.Verdict.{IsAccepted}
 use Rattle.trlab_code.specs.declared.instruction.Register.{Register}
 use Rattle.trlab_code.specs.declared.instruction.Input.{Input}
-use Rattle.trlab_code.specs.declared.instruction.Input.TheVariants.{Speed, Limit, Gap, SideGap, SideBack, Lane}
+use Rattle.trlab_code.specs.declared.instruction.Input.TheVariants.{Speed, Limit, Gap, SideGap, SideBack, Lane, Headspeed}
 use Rattle.trlab_code.specs.declared.instruction.Place.{Place}
 use Rattle.trlab_code.specs.declared.instruction.Place.TheVariants as place
 use Rattle.trlab_code.specs.Machine.{Unset, allows_input}
@@ -171,6 +171,7 @@ input_fits view h Gap = (omega arith, h.gap)
 input_fits view h SideGap = (omega arith, h.sidegap)
 input_fits view h SideBack = (omega arith, h.sideback)
 input_fits view h Lane = (omega arith, h.lane)
+input_fits view h Headspeed = (omega arith, omega (arith, h.headspeed, h.limit))
 
 allowed_fits : (side b : Bool) (said : Said) (n : ℕ) → FitsSaid side said (Number n) → FitsSaid side (cond b said Nothing) (cond b (Number n) Unset)
 allowed_fits side true said n f = f
@@ -184,14 +185,18 @@ place_fits kind view h (place.Input k) = allowed_fits view.side (allows_input ki
 number_is : (m n : ℕ) → Number m ≡ Number n → m ≡ n
 number_is m n e = grind (arith, e)
 
--- the speed is at most the limit
+-- a number that is at most the limit
+at_limit : (v limit m n : ℕ) → v ≤ limit → Number v ≡ Number m → Number limit ≡ Number n → Ahead 1 m n
+at_limit v limit m n h vx vy = let e = number_is v m vx in let f = number_is limit n vy in λ _. omega (arith, e, f, h)
+
+-- the speed and that of the car ahead are at most the limit
 level_fits : (kind : Kind) (view : View) → IsView view → (x y : Place) (m n : ℕ) → start kind view x ≡ Number m → start kind view y ≡ Number n →
     Ahead (entry_level x y) m n
 unfolding start
-level_fits Motion view h (place.Input Speed) (place.Input Limit) m n vx vy =
-    let e = number_is view.speed m vx in let f = number_is view.limit n vy in λ _. omega (arith, e, f, h.speed)
-level_fits Change view h (place.Input Speed) (place.Input Limit) m n vx vy =
-    let e = number_is view.speed m vx in let f = number_is view.limit n vy in λ _. omega (arith, e, f, h.speed)
+level_fits Motion view h (place.Input Speed) (place.Input Limit) m n vx vy = at_limit view.speed view.limit m n h.speed vx vy
+level_fits Change view h (place.Input Speed) (place.Input Limit) m n vx vy = at_limit view.speed view.limit m n h.speed vx vy
+level_fits Motion view h (place.Input Headspeed) (place.Input Limit) m n vx vy = at_limit view.headspeed view.limit m n h.headspeed vx vy
+level_fits Change view h (place.Input Headspeed) (place.Input Limit) m n vx vy = at_limit view.headspeed view.limit m n h.headspeed vx vy
 level_fits kind view h x y m n vx vy = λ p. omega arith
 
 -- at the start the values fit the entry note

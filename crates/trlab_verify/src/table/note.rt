@@ -30,8 +30,8 @@ pub struct Note {
     pub regs: [Mark; 8],
     /// How the places are ordered: `levels[x][y]` is 1 where place x is at most place y, 2 where it
     /// is below, and 0 where nothing is known beyond what the ranges tell. The places are `r0` to
-    /// `r7`, speed, limit, gap, sidegap, sideback and lane. Entries with x = y, or of a place that
-    /// holds no number, are not looked at.
+    /// `r7`, speed, limit, gap, sidegap, sideback, lane and headspeed. Entries with x = y, or of a place
+    /// that holds no number, are not looked at.
     pub levels: [[u8; PLACES]; PLACES],
     /// Is the side cell known to be empty?
     pub side: bool,

@@ -36,4 +36,4 @@ pub loop-k-preserved : goal.loop-k-preserved
 loop-k-preserved c =
     let shown = cells_of c.args.cells (take c.loop-k.k c.args.cars.now) in
     rw c.loop-k.invariant (set_behind c.args.out.now.items (picture shown) c.len-start.result (place_of c.args.cars.now c.loop-k.k) _ (c.len-start.ensures ∙ c.args.out.now.ok.0)
-    ∙ ap (λ bytes. c.args.out.now.items ++ bytes) (picture_more c.args.cells c.args.cars.now c.loop-k.k _ c.requires.sorted c.loop-k-test.true c.digit.ensures))
+    ∙ ap (λ bytes. c.args.out.now.items ++ bytes) (picture_more c.args.cells c.args.cars.now c.loop-k.k _ c.requires.sorted c.loop-k-test.true c.speed_character.ensures))

@@ -1,6 +1,10 @@
-use Rattle.std.proofs.Common.{rules, ◌+◌, ◌<◌, ℕ, List, map, length, ap, rules, arith, below_more}
+use Rattle.std.proofs.Common.{rules, ◌≢◌, ◌+◌, ◌<◌, ◌≤◌, ◌↔◌, ℕ, List, [], Bor, map, length, slice_index, slice_index_or, ap, refl, subst, sym, rules, arith, below_more}
+use Rattle.std.proofs.lemmas.Bool.{both_ways}
+use Rattle.std.proofs.lemmas.Bool.Decides.{nat_tests}
 use Rattle.std.proofs.lemmas.List.{length-map}
-use Rattle.trlab_road.specs.Pictures.{ShowsCell, picture_at, character_at, HaveEqualLengths}
+use Rattle.trlab_bounds.specs.declared.roads.TheConstants.{GREATEST_LIMIT}
+use Rattle.trlab_road.specs.Legal.{LanesFit}
+use Rattle.trlab_road.specs.Pictures.{HaveEqualLengths, HaveShape, IsFaultAt, ShowsAnySpeed, ShowsCell, ShowsSpeed, character_at, picture_at, pictures_of}
 use Rattle.trlab_road.proofs.PictureLaws.{picture_read}
 use Rattle.trlab_road.proofs.reading.check_pictures.Goals as goal
 
@@ -26,3 +30,44 @@ loop-lane-preserved c =
     let read = picture_read c.args.pictures.now c.loop-lane.lane in
     one_more c.args.limit (map (λ s. s.now) c.args.pictures.now) c.loop-lane.lane c.loop-lane.invariant
     (rw read (λ y h. c.first_bad-place.ensures.before y (let k = c.if-place-picture.false in omega arith)))
+
+-- pictures of this shape, of which all is well up to a character
+module _ (limit : ℕ) (held : List (Bor (List ℕ))) (some : 1 ≤ length held) (few : length held ≤ 2) (equal : HaveEqualLengths (pictures_of held)) (low : limit ≢ 0) (high : limit ≤ GREATEST_LIMIT) where
+  shaped : HaveShape limit (pictures_of held)
+  shaped =
+      let size = length-map held (λ s. s.now) in
+      record { lanes = subst LanesFit (sym size) (record { some_lane = some; few_lanes = few }); lengths = equal; limit_fits = record { some_limit = omega (arith, low); low_limit = high } }
+
+  module _ (l x : ℕ) (on : l < length held) (earlier : (m y : ℕ) → m < l → y < length (picture_at (pictures_of held) m) → ShowsCell limit (character_at (pictures_of held) m y)) where
+    abbrev picture_here : List ℕ
+    picture_here = (slice_index_or held l (record { ref_ptr = (0, 0); now = [] })).now
+
+    pub fault_at : x < length picture_here → ((y : ℕ) → y < x → ShowsCell limit (slice_index picture_here y)) → ¬ (ShowsCell limit (slice_index picture_here x)) → IsFaultAt limit (pictures_of held) l x
+    fault_at inside before bad =
+        let read = picture_read held l in
+        (shaped, record { on_lane = rw length-map on; inside = rw read inside; bad = rw read bad; earlier_lanes = earlier; earlier_places = rw read before })
+
+    pub any_speed : ShowsSpeed GREATEST_LIMIT (slice_index picture_here x) ↔ ShowsAnySpeed (pictures_of held) l x
+    any_speed = let read = picture_read held l in (λ h. rw read h, λ h. rw read at h)
+
+pub returns-then-speed : goal.returns-then-speed
+returns-then-speed c =
+    let held = c.args.pictures.now in
+    let l = c.loop-lane.lane in
+    let x = c.first_bad-place.result in
+    let some : 1 ≤ length held = (let e = c.if-is_empty.ensures in grind (arith, nat_tests, e)) in
+    let equal = c.if-not-has_equal_lanes.ensures.0 refl in
+    let fault = fault_at c.args.limit held some c.if-pictures.false equal c.if-limit-eq0.false c.if-limit-gt-GREATEST_LIMIT.false l x c.loop-lane-test.true c.loop-lane.invariant
+    c.if-place-picture.true c.first_bad-place.ensures.before (c.first_bad-place.ensures.bad c.if-place-picture.true) in
+    (fault, (any_speed c.args.limit held some c.if-pictures.false equal c.if-limit-eq0.false c.if-limit-gt-GREATEST_LIMIT.false l x c.loop-lane-test.true c.loop-lane.invariant).0 (c.shows_speed-speed.ensures.0 c.if-speed.true))
+
+pub returns-else-speed : goal.returns-else-speed
+returns-else-speed c =
+    let held = c.args.pictures.now in
+    let l = c.loop-lane.lane in
+    let x = c.first_bad-place.result in
+    let some : 1 ≤ length held = (let e = c.if-is_empty.ensures in grind (arith, nat_tests, e)) in
+    let equal = c.if-not-has_equal_lanes.ensures.0 refl in
+    let fault = fault_at c.args.limit held some c.if-pictures.false equal c.if-limit-eq0.false c.if-limit-gt-GREATEST_LIMIT.false l x c.loop-lane-test.true c.loop-lane.invariant
+    c.if-place-picture.true c.first_bad-place.ensures.before (c.first_bad-place.ensures.bad c.if-place-picture.true) in
+    (fault, λ shown. both_ways c.shows_speed-speed.result c.if-speed.false (c.shows_speed-speed.ensures.1 ((any_speed c.args.limit held some c.if-pictures.false equal c.if-limit-eq0.false c.if-limit-gt-GREATEST_LIMIT.false l x c.loop-lane-test.true c.loop-lane.invariant).1 shown)))

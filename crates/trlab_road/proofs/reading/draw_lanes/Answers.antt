@@ -1,6 +1,6 @@
 use Rattle.std.proofs.Common.{◌≡◌, ◌+◌, ◌<◌, ◌≤◌, ◌∙◌, ℕ, List, [], ◌∷◌, ◌++◌, map, Vec, Global, length, drop, sym, refl, ap, subst, arith, append_assoc, drop-cons, add-one}
 use Rattle.std.proofs.lemmas.List.{length-map, length_push, map-append}
-use Rattle.trlab_bounds.specs.declared.roads.TheConstants.{GREATEST_LENGTH}
+use Rattle.trlab_bounds.specs.declared.roads.TheConstants.{GREATEST_LENGTH, GREATEST_LIMIT}
 use Rattle.trlab_road.specs.declared.lane_car.LaneCar.{LaneCar}
 use Rattle.trlab_road.specs.Cells.{Lane, lane_cars}
 use Rattle.trlab_road.specs.Stored.{Rises, cells_of, lanes_from, lane_of_picture, lanes_of_pictures}
@@ -17,7 +17,7 @@ draw_lane-requires-clause-shown c =
     let size = length-map c.args.pictures.now (λ s. s.now) in
     let on : i < length ps = rw size c.loop-picture-test.true in
     let read = picture_read c.args.pictures.now i in
-    let all : (x : ℕ) → x < length (picture_at ps i) → ShowsCell 9 (character_at ps i x) = λ x h. c.requires.good.cells i x on h in
+    let all : (x : ℕ) → x < length (picture_at ps i) → ShowsCell GREATEST_LIMIT (character_at ps i x) = λ x h. c.requires.good.cells i x on h in
     rw read at all
 
 pub draw_lane-requires-clause-small : goal.draw_lane-requires-clause-small
