@@ -22,4 +22,5 @@ pub use canonical::disassemble;
 pub use cutting::cut;
 pub use fault::{AsmFault, Why};
 pub use lines::next_line;
+pub use names::{REGISTERS, register_text};
 pub use numbers::{digits_value, is_numeral};

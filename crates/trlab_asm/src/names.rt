@@ -6,8 +6,8 @@ ghost use Rattle.trlab_asm.specs.Names.{register_text, input_text, mnemonic_text
 
 use trlab_code::{Input, Register};
 
-/// All registers.
-pub(crate) const REGISTERS: [Register; 8] = [
+/// All registers, in the order of their numbers.
+pub const REGISTERS: [Register; 8] = [
     Register::R0,
     Register::R1,
     Register::R2,
@@ -82,8 +82,8 @@ pub(crate) const MNEMONICS: [Mnemonic; 22] = [
     Mnemonic::Stay,
 ];
 
-/// The text of a register.
-pub(crate) fn register_text(register: Register) -> &'static [u8]
+/// The text of a register: `r0` to `r7`.
+pub fn register_text(register: Register) -> &'static [u8]
     ensures { result.now ≡ register_text register }
 {
     match register {

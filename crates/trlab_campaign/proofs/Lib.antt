@@ -1,5 +1,6 @@
 pub mod KnownBytes
 pub mod Lines
+pub mod NoteTables
 pub mod Owed
 pub mod Sheets
 pub mod Running

@@ -1,5 +1,6 @@
--- Lines with a number, and what stands behind them.
-use Rattle.std.proofs.Common.{◌≡◌, ℕ, ◌+◌, ◌<◌, List, [], ◌∷◌, ◌++◌, drop, flat_map, length, get_or, append_assoc}
+-- Lines with a number, and what stands behind them; texts that are put together of pieces.
+use Rattle.std.proofs.Common.{◌≡◌, ℕ, zero, suc, ◌+◌, ◌-◌, ◌<◌, List, [], ◌∷◌, ◌++◌, ◌∙◌, ap, arith, drop, flat_map, length, get_or, append_assoc, refl}
+use Rattle.std.specs.List.{range_with_len}
 use Rattle.std.proofs.lemmas.List.{drop_more}
 
 -- a line was put behind a text, and more stands behind it
@@ -11,3 +12,24 @@ line_then front digits line old new rest p q = rw (q, p) (simp append_assoc)
 pub next_piece : {X : Type 0} (f : X → List ℕ) (xs : List X) (i : ℕ) (d : X) (old mid new first last : List ℕ) → i < length xs → f (get_or xs i d) ≡ first ++ last
     → mid ≡ old ++ first → new ≡ mid ++ last → new ++ flat_map f (drop (i + 1) xs) ≡ old ++ flat_map f (drop i xs)
 next_piece f xs i d old mid new first last inside piece p q = rw (q, p, drop_more xs i d, piece) (simp append_assoc)
+
+-- the same, where the piece was put there at once
+pub next_whole : {X : Type 0} (f : X → List ℕ) (xs : List X) (i : ℕ) (d : X) (old new piece : List ℕ) → i < length xs → f (get_or xs i d) ≡ piece
+    → new ≡ old ++ piece → new ++ flat_map f (drop (i + 1) xs) ≡ old ++ flat_map f (drop i xs)
+next_whole f xs i d old new piece inside is added = rw (added, drop_more xs i d, is) (simp append_assoc)
+
+-- of the pieces of the numbers below a count the next was put behind a text
+pub next_number : (f : ℕ → List ℕ) (n count : ℕ) (old new : List ℕ) → n < count → new ≡ old ++ f n
+    → new ++ flat_map f (range_with_len (n + 1) (count - (n + 1))) ≡ old ++ flat_map f (range_with_len n (count - n))
+next_number f n count old new inside added =
+    let left : count - n ≡ suc (count - (n + 1)) = omega arith in
+    rw (added, left) (simp append_assoc)
+
+-- the same pieces, one by one
+pub pieces_agree : (f g : ℕ → List ℕ) (from count : ℕ) → ((n : ℕ) → n < from + count → f n ≡ g n)
+    → flat_map f (range_with_len from count) ≡ flat_map g (range_with_len from count)
+pieces_agree f g from zero same = refl
+pieces_agree f g from (suc count) same =
+    let here = same from (omega arith) in
+    let rest = pieces_agree f g (from + 1) count (λ n below. same n (omega arith)) in
+    ap (λ t. t ++ flat_map f (range_with_len (from + 1) count)) here ∙ ap (λ t. g from ++ t) rest

@@ -5,14 +5,14 @@ use Rattle.trlab_jobs.specs.Check.{Check}
 use Rattle.trlab_texts.specs.Reading.{Fault}
 use Rattle.trlab_texts.proofs.OneProgram.{one_longest, not_refused, refused_at_one, refused_one}
 use Rattle.trlab_jobs.proofs.OneCheck.{one_thing}
-use Rattle.trlab_campaign.specs.CheckOutput.{accepted_text, refused_line, VerdictOutput}
+use Rattle.trlab_campaign.specs.CheckOutput.{answer_text, refused_line, VerdictOutput}
 use Rattle.trlab_campaign.specs.Refusal.{OutputFor}
 use Rattle.trlab_campaign.specs.Laws.{CheckHasOneOutput}
 
 verdict_one : (check : Check) (refused also : Bool) (out other : List ℕ) → VerdictOutput check refused out → VerdictOutput check also other
     → (refused ≡ also) × (out ≡ other)
 verdict_one check false false out other p q =
-    (refl, p.1.1.1 ∙ ap (λ budget. accepted_text budget check.program) (one_longest check.program.instrs p.1.0 q.1.0 p.1.1.0 q.1.1.0) ∙ sym q.1.1.1)
+    (refl, p.1.1.1 ∙ ap (λ budget. answer_text check.question budget check.program) (one_longest check.program.instrs p.1.0 q.1.0 p.1.1.0 q.1.1.0) ∙ sym q.1.1.1)
 verdict_one check false true out other p q = absurd (not_refused check.program.kind check.program q.0 q.1 p.0 q.2.0)
 verdict_one check true false out other p q = absurd (not_refused check.program.kind check.program p.0 p.1 q.0 p.2.0)
 verdict_one check true true out other p q =

@@ -6,14 +6,14 @@ use Rattle.trlab_verify.proofs.Judged.{accepted_or_refused, some_budget}
 use Rattle.trlab_texts.specs.Reading.{Fault}
 use Rattle.trlab_jobs.proofs.SomeCheck.{HasProgram, says_program}
 use Rattle.trlab_campaign.specs.Refusal.{OutputFor, fault_line}
-use Rattle.trlab_campaign.specs.CheckOutput.{accepted_text, refused_line, VerdictOutput}
+use Rattle.trlab_campaign.specs.CheckOutput.{answer_text, refused_line, VerdictOutput}
 use Rattle.trlab_campaign.specs.Laws.{CheckHasSomeOutput}
 
 verdict_some : (check : Check) → HasProgram check → (refused : Bool) × (out : List ℕ) × VerdictOutput check refused out
 verdict_some check is = elim (accepted_or_refused check.program.kind check.program) [
   | inl accepted ↦
       let found = some_budget check.program.kind check.program is accepted in
-      (false, accepted_text found.0 check.program, (accepted, (found.0, (found.1.longest, refl))))
+      (false, answer_text check.question found.0 check.program, (accepted, (found.0, (found.1.longest, refl))))
   | inr refused ↦ (true, refused_line refused.0 refused.1, (refused.0, refused.1, (refused.2, refl)))
 ]
 

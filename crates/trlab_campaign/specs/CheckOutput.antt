@@ -5,12 +5,20 @@ use Rattle.trlab_asm.specs.Canonical.{text_of}
 use Rattle.trlab_verify.specs.Longest.{IsLongest}
 use Rattle.trlab_verify.specs.Verdict.{IsAccepted, IsRefused}
 use Rattle.trlab_texts.specs.Reading.{Fault}
+use Rattle.trlab_jobs.specs.declared.check.Question.{Question}
+use Rattle.trlab_jobs.specs.declared.check.Question.TheVariants.{Verdict, Notes}
 use Rattle.trlab_jobs.specs.Check.{Check, CheckText}
+use Rattle.trlab_campaign.specs.NoteLines.{notes_text}
 use Rattle.trlab_campaign.specs.Refusal.{Outputs, OutputFor}
 
 -- what is written for an accepted program: its budget, and its canonical text
 abbrev pub accepted_text : ℕ → Program → List ℕ
 accepted_text budget program = codes "accepted budget " ++ (decimal budget ++ (10 ∷ text_of program.instrs))
+
+-- what is written for an accepted program of which this is asked
+abbrev pub answer_text : Question → ℕ → Program → List ℕ
+answer_text Verdict budget program = accepted_text budget program
+answer_text Notes budget program = accepted_text budget program ++ notes_text program
 
 -- what is written for a refused program: where it is refused, and why
 abbrev pub refused_line : ℕ → ℕ → List ℕ
@@ -20,7 +28,7 @@ refused_line at reason =
 -- what is written for a check, by what the verifier says of its program as one of its own kind
 abbrev pub VerdictOutput : Check → Outputs
 VerdictOutput check false out = IsAccepted check.program.kind check.program × ((budget : ℕ)
-    × (IsLongest check.program.instrs 0 budget × (out ≡ accepted_text budget check.program)))
+    × (IsLongest check.program.instrs 0 budget × (out ≡ answer_text check.question budget check.program)))
 VerdictOutput check true out = (at reason : ℕ)
     × (IsRefused check.program.kind check.program at reason × (out ≡ refused_line at reason))
 

@@ -2,6 +2,7 @@ pub mod Device
 pub mod Watched
 pub mod Refusal
 pub mod Output
+pub mod NoteLines
 pub mod CheckOutput
 pub mod TooBig
 pub mod Ending

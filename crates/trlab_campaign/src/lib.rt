@@ -6,6 +6,7 @@ mod device;
 mod end;
 mod engine;
 pub mod laws;
+mod note_lines;
 mod output;
 mod refusal;
 mod run;

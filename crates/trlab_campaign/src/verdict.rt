@@ -1,15 +1,17 @@
-//! The verdict on a program, as it is written.
+//! The verdict on a program, and its notes, as they are written.
 
 ghost use Rattle.std.specs.Prelude.{◌≡◌, IfOk, false, true};
 ghost use Rattle.std.specs.String.{string_bytes};
 ghost use Rattle.trlab_verify.specs.Faults.{Tells};
 ghost use Rattle.trlab_jobs.specs.Check.{Check as Request};
-ghost use Rattle.trlab_campaign.specs.CheckOutput.{VerdictOutput, accepted_text, refused_line};
+ghost use Rattle.trlab_verify.specs.Verdict.{IsAccepted};
+ghost use Rattle.trlab_campaign.specs.CheckOutput.{VerdictOutput, accepted_text, answer_text, refused_line};
 
+use crate::note_lines::push_notes;
 use std::alloc::{AllocError, Global};
 use trlab_asm::disassemble;
 use trlab_code::{Code, Kind};
-use trlab_jobs::Check;
+use trlab_jobs::{Check, Question};
 use trlab_verify::{VerifyFault, verify_change, verify_motion};
 
 /// What is written for an accepted program: its budget, and its canonical text.
@@ -32,12 +34,36 @@ fn refused_line(alloc: Global, at: u32, reason: u32) -> Result<Vec<u8>, AllocErr
     Ok(line.into_bytes())
 }
 
-/// The output for an accepted program, which is no refusal.
-fn accepted_output(alloc: Global, budget: u32, code: &Code) -> Result<(bool, Vec<u8>), AllocError>
-    ensures { IfOk result (λ answer.
-        (answer.0 ≡ false) × (answer.1.items ≡ accepted_text budget code.now)) }
+/// What is written for an accepted program of which this is asked.
+fn answer_text(
+    alloc: Global,
+    question: Question,
+    budget: u32,
+    code: &Code,
+) -> Result<Vec<u8>, AllocError>
+    requires { IsAccepted code.now.kind code.now }
+    ensures { IfOk result (λ text. text.items ≡ answer_text question budget code.now) }
 {
-    Ok((false, accepted_text(alloc, budget, code)?))
+    let mut text = accepted_text(alloc, budget, code)?;
+    match question {
+        Question::Verdict => {}
+        Question::Notes => push_notes(alloc, &mut text, code)?,
+    }
+    Ok(text)
+}
+
+/// The output for an accepted program, which is no refusal.
+fn accepted_output(
+    alloc: Global,
+    question: Question,
+    budget: u32,
+    code: &Code,
+) -> Result<(bool, Vec<u8>), AllocError>
+    requires { IsAccepted code.now.kind code.now }
+    ensures { IfOk result (λ answer.
+        (answer.0 ≡ false) × (answer.1.items ≡ answer_text question budget code.now)) }
+{
+    Ok((false, answer_text(alloc, question, budget, code)?))
 }
 
 /// The output for a program that the verifier does not accept, which is a refusal.
@@ -51,7 +77,8 @@ fn refused_output(alloc: Global, fault: VerifyFault) -> Result<(bool, Vec<u8>), 
     }
 }
 
-/// The verdict on the program of a check: whether it is refused, and what is written for it.
+/// The verdict on the program of a check: whether it is refused, and what is written for it, with
+/// its notes where it is accepted and they are asked for.
 ///
 /// # Errors
 ///
@@ -59,14 +86,14 @@ fn refused_output(alloc: Global, fault: VerifyFault) -> Result<(bool, Vec<u8>), 
 pub fn verdict(alloc: Global, check: Check) -> Result<(bool, Vec<u8>), AllocError>
     ensures { IfOk result (λ answer. VerdictOutput check answer.0 answer.1.items) }
 {
-    let Check { code } = check;
+    let Check { question, code } = check;
     match code.kind() {
         Kind::Motion => match verify_motion(alloc, code) {
-            Ok(motion) => accepted_output(alloc, motion.budget(), motion.code()),
+            Ok(motion) => accepted_output(alloc, question, motion.budget(), motion.code()),
             Err((_, fault)) => refused_output(alloc, fault),
         },
         Kind::Change => match verify_change(alloc, code) {
-            Ok(change) => accepted_output(alloc, change.budget(), change.code()),
+            Ok(change) => accepted_output(alloc, question, change.budget(), change.code()),
             Err((_, fault)) => refused_output(alloc, fault),
         },
     }

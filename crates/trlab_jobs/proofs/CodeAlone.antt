@@ -1,5 +1,5 @@
--- The line of a program that stands alone in its text.
-use Rattle.std.proofs.Common.{◌≡◌, ◌≢◌, ℕ, List, [], ◌∷◌, refl}
+-- The line of a program that stands alone in its text, and what is asked of a program.
+use Rattle.std.proofs.Common.{◌≡◌, ◌≢◌, ℕ, List, [], ◌∷◌, refl, subst}
 use Rattle.std.specs.Prelude.{Ok, Err}
 use Rattle.trlab_code.specs.Program.{Program}
 use Rattle.trlab_texts.specs.declared.fault.Cause.TheVariants.{Line}
@@ -9,7 +9,8 @@ use Rattle.trlab_texts.specs.declared.fault.TextFault.{TextFault}
 use Rattle.trlab_texts.specs.declared.fault.TextFault.TheVariants.{At, Memory}
 use Rattle.trlab_texts.specs.Reading.{Reports, ReportsLine, fault_at}
 use Rattle.trlab_texts.specs.Programs.{code_line}
-use Rattle.trlab_jobs.specs.Check.{Check, CheckLinesSay, LoneCodeSays, ProgramLinesSay}
+use Rattle.trlab_jobs.specs.declared.check.Question.{Question}
+use Rattle.trlab_jobs.specs.Check.{check_of, question_of, Check, CheckLinesSay, LoneCodeSays, ProgramSays, QuestionSays}
 
 -- the line of a program alone, before other lines, and of none
 pub code_is_alone : (text : List ℕ) (left : List (List ℕ)) (program : Program) → code_line text (Ok program) → left ≡ [] → LoneCodeSays text left (Ok program)
@@ -23,7 +24,15 @@ pub no_code_alone : (text : List ℕ) (left : List (List ℕ)) (fault : LineFaul
 no_code_alone text left (Wrong cause) says = (Err cause, (says, refl))
 no_code_alone text left NoMemory says = tt
 
--- lines that are a program ask for the verdict on it, and others have the same fault
-pub check_fails : (lines : List (List ℕ)) (fault : TextFault) → Reports {A = Program} (ProgramLinesSay lines) (Err fault) → Reports {A = Check} (CheckLinesSay lines) (Err fault)
-check_fails lines (At line cause) says = (Err (record { line = line; cause = cause }), (says, refl))
-check_fails lines Memory says = tt
+-- what is asked of a program by its first line, which says the question and the line that begins it
+pub check_says : (text line : List ℕ) (question : Question) (left : List (List ℕ)) (program : Program) → (question, line) ≡ question_of text
+    → ProgramSays line left (Ok program) → CheckLinesSay (text ∷ left) (Ok (check_of question program))
+check_says text line question left program is says =
+    subst (λ (first : Question × List ℕ). QuestionSays first left (Ok (check_of question program))) is (Ok program, (says, refl))
+
+-- lines that are no program have its fault, whatever is asked
+pub check_fails : (text line : List ℕ) (question : Question) (left : List (List ℕ)) (fault : TextFault) → (question, line) ≡ question_of text
+    → Reports {A = Program} (ProgramSays line left) (Err fault) → Reports {A = Check} (CheckLinesSay (text ∷ left)) (Err fault)
+check_fails text line question left (At number cause) is says =
+    subst (λ (first : Question × List ℕ). QuestionSays first left (Err (record { line = number; cause = cause }))) is (Err (record { line = number; cause = cause }), (says, refl))
+check_fails text line question left Memory is says = tt

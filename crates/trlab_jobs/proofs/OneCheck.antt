@@ -6,7 +6,8 @@ use Rattle.trlab_code.specs.Program.{Program}
 use Rattle.trlab_asm.specs.Lines.{lines_of}
 use Rattle.trlab_asm.specs.Results.{map_ok}
 use Rattle.trlab_texts.specs.Reading.{Fault}
-use Rattle.trlab_jobs.specs.Check.{check_of, heading_kind, lone_program, Check, CheckLinesSay, HeadedLinesSay, ProgramLinesSay}
+use Rattle.trlab_jobs.specs.declared.check.Question.{Question}
+use Rattle.trlab_jobs.specs.Check.{check_of, heading_kind, lone_program, question_of, Check, CheckLinesSay, HeadedLinesSay, QuestionSays}
 use Rattle.trlab_jobs.specs.Laws.{CheckSaysOneThing}
 use Rattle.trlab_texts.proofs.OneProgram.{code_one}
 use Rattle.trlab_texts.proofs.OneReading.{whole_one}
@@ -16,12 +17,12 @@ behind_one : (headed : Option Kind) (text : List ℕ) (left : List (List ℕ)) (
 behind_one (Some kind) text left a b p q = p ∙ sym q
 behind_one None text left a b p q = p.1.1 ∙ ap (lone_program left) (code_one text p.0 q.0 p.1.0 q.1.0) ∙ sym q.1.1
 
-program_one : (lines : List (List ℕ)) (a b : Result Program Fault) → ProgramLinesSay lines a → ProgramLinesSay lines b → a ≡ b
-program_one [] a b p q = p ∙ sym q
-program_one (text ∷ left) a b p q = behind_one (heading_kind text) text left a b p q
+question_one : (first : Question × List ℕ) (left : List (List ℕ)) (a b : Result Check Fault) → QuestionSays first left a → QuestionSays first left b → a ≡ b
+question_one first left a b p q = p.1.1 ∙ ap (map_ok (check_of first.0)) (behind_one (heading_kind first.1) first.1 left p.0 q.0 p.1.0 q.1.0) ∙ sym q.1.1
 
 lines_one : (lines : List (List ℕ)) (a b : Result Check Fault) → CheckLinesSay lines a → CheckLinesSay lines b → a ≡ b
-lines_one lines a b p q = p.1.1 ∙ ap (map_ok check_of) (program_one lines p.0 q.0 p.1.0 q.1.0) ∙ sym q.1.1
+lines_one [] a b p q = p ∙ sym q
+lines_one (text ∷ left) a b p q = question_one (question_of text) left a b p q
 
 pub one_thing : CheckSaysOneThing
 one_thing text says other p q = whole_one (λ t. CheckLinesSay (lines_of t)) text says other (lines_one (lines_of text)) p q

@@ -9,7 +9,8 @@ use Rattle.trlab_texts.specs.declared.fault.Cause.{Cause}
 use Rattle.trlab_texts.specs.declared.fault.Cause.TheVariants.{Line}
 use Rattle.trlab_texts.specs.Reading.{Fault}
 use Rattle.trlab_texts.specs.Programs.{program_behind}
-use Rattle.trlab_jobs.specs.Check.{check_of, no_more_behind, lone_program, heading_kind, Check, CheckLinesSay, CheckText, HeadedLinesSay, ProgramLinesSay}
+use Rattle.trlab_jobs.specs.declared.check.Question.{Question}
+use Rattle.trlab_jobs.specs.Check.{check_of, no_more_behind, lone_program, heading_kind, question_of, Check, CheckLinesSay, CheckText, HeadedLinesSay, QuestionSays}
 use Rattle.trlab_jobs.specs.Laws.{CheckSaysSomething}
 use Rattle.trlab_texts.proofs.SomeProgram.{code_some, behind_keeps}
 use Rattle.trlab_texts.proofs.SomeReading.{whole_some}
@@ -29,22 +30,22 @@ behind_some None text left =
     let any = code_some text in
     (lone_program left any.0, ((any.0, (any.1.0, refl)), alone_keeps left any.0 any.1.1))
 
-program_some : (lines : List (List ℕ)) → (says : Result Program Fault) × (ProgramLinesSay lines says × IfOk says IsProgram)
-program_some [] = (Err (record { line = 1; cause = Line }), (refl, tt))
-program_some (text ∷ left) = behind_some (heading_kind text) text left
-
 -- the program of a check is one
 abbrev pub HasProgram : Check → Type 0
 HasProgram check = IsProgram check.program
 
-check_keeps : (says : Result Program Fault) → IfOk says IsProgram → IfOk (map_ok check_of says) HasProgram
-check_keeps (Ok program) is = is
-check_keeps (Err fault) is = tt
+check_keeps : (question : Question) (says : Result Program Fault) → IfOk says IsProgram → IfOk (map_ok (check_of question) says) HasProgram
+check_keeps question (Ok program) is = is
+check_keeps question (Err fault) is = tt
+
+question_some : (first : Question × List ℕ) (left : List (List ℕ)) → (says : Result Check Fault) × (QuestionSays first left says × IfOk says HasProgram)
+question_some first left =
+    let found = behind_some (heading_kind first.1) first.1 left in
+    (map_ok (check_of first.0) found.0, ((found.0, (found.1.0, refl)), check_keeps first.0 found.0 found.1.1))
 
 lines_some : (lines : List (List ℕ)) → (says : Result Check Fault) × (CheckLinesSay lines says × IfOk says HasProgram)
-lines_some lines =
-    let found = program_some lines in
-    (map_ok check_of found.0, ((found.0, (found.1.0, refl)), check_keeps found.0 found.1.1))
+lines_some [] = (Err (record { line = 1; cause = Line }), (refl, tt))
+lines_some (text ∷ left) = question_some (question_of text) left
 
 -- it says something, and what it says is a program
 pub says_program : (text : List ℕ) → (says : Result Check Fault) × (CheckText text says × IfOk says HasProgram)

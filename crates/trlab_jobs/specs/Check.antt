@@ -1,15 +1,27 @@
--- Check texts: a program, on which a verdict is asked for.
-use Rattle.std.specs.Prelude.{◌≡◌, ℕ, List, [], ◌∷◌, Option, None, Some, Result, Ok, Err, if◌then◌else◌}
+-- Check texts: a program, on which a verdict is asked for, and perhaps its notes.
+use Rattle.std.specs.Prelude.{◌≡◌, ℕ, List, [], ◌∷◌, codes, Option, None, Some, Result, Ok, Err, if◌then◌else◌}
 use Rattle.std.specs.Str.{bytes_eq}
 use Rattle.trlab_code.specs.declared.kind.Kind.{Kind}
 use Rattle.trlab_code.specs.declared.kind.Kind.TheVariants.{Motion, Change}
 use Rattle.trlab_code.specs.Program.{Program}
+use Rattle.trlab_asm.specs.Cutting.{behind}
 use Rattle.trlab_asm.specs.Lines.{lines_of}
 use Rattle.trlab_asm.specs.Results.{map_ok}
 use Rattle.trlab_texts.specs.declared.fault.Cause.{Cause}
 use Rattle.trlab_texts.specs.declared.fault.Cause.TheVariants.{Line}
 use Rattle.trlab_texts.specs.Reading.{Fault, TextSays}
 use Rattle.trlab_texts.specs.Programs.{heading, program_behind, code_line}
+use Rattle.trlab_jobs.specs.declared.check.Question.{Question}
+use Rattle.trlab_jobs.specs.declared.check.Question.TheVariants.{Verdict, Notes}
+
+-- what is asked of a program, and the line that begins it: behind `notes ` notes are asked for
+abbrev pub question_behind : List ℕ → Option (List ℕ) → Question × List ℕ
+question_behind text None = (Verdict, text)
+question_behind text (Some rest) = (Notes, rest)
+
+-- what the first line of a check text asks, and that line without it
+abbrev pub question_of : List ℕ → Question × List ℕ
+question_of text = question_behind text (behind (codes "notes ") text)
 
 -- the kind of program that a line heads, if it heads one
 abbrev pub heading_kind : List ℕ → Option Kind
@@ -33,29 +45,35 @@ abbrev pub LoneCodeSays : List ℕ → List (List ℕ) → Result Program Fault 
 LoneCodeSays text left says =
     (any : Result Program Cause) × (code_line text any × (says ≡ lone_program left any))
 
--- the program of a text by its first line, and the lines behind it: all of them are the program's where
--- it heads one
+-- the program that a line begins, with the lines behind it: all of them are the program's where it
+-- heads one
 abbrev pub HeadedLinesSay : Option Kind → List ℕ → List (List ℕ) → Result Program Fault → Type 0
 HeadedLinesSay (Some kind) text left says = says ≡ program_behind kind 1 left
 HeadedLinesSay None text left says = LoneCodeSays text left says
 
--- the program that the lines of a text are
-abbrev pub ProgramLinesSay : List (List ℕ) → Result Program Fault → Type 0
-ProgramLinesSay [] says = says ≡ Err (record { line = 1; cause = Line })
-ProgramLinesSay (text ∷ left) says = HeadedLinesSay (heading_kind text) text left says
+-- what a line that begins a program and the lines behind it say
+abbrev pub ProgramSays : List ℕ → List (List ℕ) → Result Program Fault → Type 0
+ProgramSays text left says = HeadedLinesSay (heading_kind text) text left says
 
--- what a check text asks for: the verdict on a program
+-- what a check text asks for: the verdict on a program, and perhaps its notes
 pub record Check : Type 0 where
+  pub question : Question
   pub program : Program
 
--- the check of a program
-abbrev pub check_of : Program → Check
-check_of program = record { program = program }
+-- a question, asked of a program
+abbrev pub check_of : Question → Program → Check
+check_of question program = record { question = question; program = program }
+
+-- what is said where a question was read, and a line that begins a program
+abbrev pub QuestionSays : Question × List ℕ → List (List ℕ) → Result Check Fault → Type 0
+QuestionSays first left says =
+    (program : Result Program Fault)
+    × (ProgramSays first.1 left program × (says ≡ map_ok (check_of first.0) program))
 
 -- what the lines of a check text say
 abbrev pub CheckLinesSay : List (List ℕ) → Result Check Fault → Type 0
-CheckLinesSay lines says =
-    (program : Result Program Fault) × (ProgramLinesSay lines program × (says ≡ map_ok check_of program))
+CheckLinesSay [] says = says ≡ Err (record { line = 1; cause = Line })
+CheckLinesSay (text ∷ left) says = QuestionSays (question_of text) left says
 
 -- what a check text says: what it asks for, or its first fault; a text that is too long has that
 -- fault alone

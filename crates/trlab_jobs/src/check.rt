@@ -1,8 +1,8 @@
-//! Check texts: a program each, on which a verdict is asked for.
+//! Check texts: a program each, on which a verdict is asked for, and perhaps its notes.
 
 ghost use Rattle.std.specs.Prelude.{◌≡◌, ◌≤◌, length};
 ghost use Rattle.trlab_asm.specs.Lines.{lines_of};
-ghost use Rattle.trlab_jobs.specs.Check.{CheckLinesSay, CheckText, LoneCodeSays, ProgramLinesSay, heading_kind};
+ghost use Rattle.trlab_jobs.specs.Check.{CheckLinesSay, CheckText, LoneCodeSays, ProgramSays, heading_kind, question_of};
 ghost use Rattle.trlab_texts.specs.Reading.{Reports};
 ghost use Rattle.trlab_bounds.specs.declared.texts.TheConstants.{TEXT_LIMIT};
 
@@ -12,11 +12,22 @@ use trlab_asm::next_line;
 use trlab_bounds::texts::TEXT_LIMIT;
 use trlab_code::{Code, Kind};
 use trlab_texts::program::{code_line, heads, program_behind};
+use trlab_texts::word::behind;
 use trlab_texts::{Cause, TextFault};
 
-/// What a check text asks for: the verdict on a program.
+/// What is asked of a program.
+#[derive(Clone, Copy, Debug, PartialEq, Eq)]
+pub enum Question {
+    /// Whether the verifier accepts it.
+    Verdict,
+    /// The same, and what the verifier knows before each of its instructions.
+    Notes,
+}
+
+/// What a check text asks for: the verdict on a program, and perhaps its notes.
 #[derive(Drop)]
 pub struct Check {
+    pub question: Question,
     /// The program, of either kind.
     pub code: Code,
 }
@@ -26,7 +37,18 @@ impl Model for Check {
 
     ghost Value = { Request };
 
-    ghost view = { λ check. check_of check.code };
+    ghost view = { λ check. check_of check.question check.code };
+}
+
+/// What the first line of a check text asks, and the line without it: behind `notes ` notes are
+/// asked for.
+fn question_of(line: &[u8]) -> (Question, &[u8])
+    ensures { (result.0, result.1.now) ≡ question_of line.now }
+{
+    match behind(b"notes ", line) {
+        Some(rest) => (Question::Notes, rest),
+        None => (Question::Verdict, line),
+    }
 }
 
 /// The kind of program that a line heads, if it heads one.
@@ -61,17 +83,11 @@ fn code_alone(alloc: Global, line: &[u8], rest: &[u8]) -> Result<Code, TextFault
     }
 }
 
-/// The program that the lines of a text are, which is not too long.
-fn read_program(alloc: Global, text: &[u8]) -> Result<Code, TextFault>
-    requires { length text.now ≤ TEXT_LIMIT }
-    ensures { Reports (ProgramLinesSay (lines_of text.now)) result }
+/// The program that a line begins, and that the lines behind it go on with, which are not too long.
+fn read_program(alloc: Global, line: &[u8], rest: &[u8]) -> Result<Code, TextFault>
+    requires { length rest.now ≤ TEXT_LIMIT }
+    ensures { Reports (ProgramSays line.now (lines_of rest.now)) result }
 {
-    let Some((line, rest)) = next_line(text) else {
-        return Err(TextFault::At {
-            line: 1,
-            cause: Cause::Line,
-        });
-    };
     match heading_kind(line) {
         Some(kind) => program_behind(alloc, kind, 1, rest),
         None => code_alone(alloc, line, rest),
@@ -83,13 +99,21 @@ fn read_lines(alloc: Global, text: &[u8]) -> Result<Check, TextFault>
     requires { length text.now ≤ TEXT_LIMIT }
     ensures { Reports (CheckLinesSay (lines_of text.now)) result }
 {
-    match read_program(alloc, text) {
-        Ok(code) => Ok(Check { code }),
+    let Some((first, rest)) = next_line(text) else {
+        return Err(TextFault::At {
+            line: 1,
+            cause: Cause::Line,
+        });
+    };
+    let (question, line) = question_of(first);
+    match read_program(alloc, line, rest) {
+        Ok(code) => Ok(Check { question, code }),
         Err(fault) => Err(fault),
     }
 }
 
-/// Reads a check text: a program of either kind, on which a verdict is asked for.
+/// Reads a check text: a program of either kind, on which a verdict is asked for, and perhaps its
+/// notes.
 ///
 /// # Errors
 ///

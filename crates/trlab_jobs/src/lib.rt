@@ -10,5 +10,5 @@ mod line;
 mod rule;
 mod rule_line;
 
-pub use check::{Check, read_check};
+pub use check::{Check, Question, read_check};
 pub use job::{Job, read_job};

@@ -1,0 +1,41 @@
+-- The lines of the notes that the verifier hands out.
+use Rattle.std.proofs.Common.{◌≡◌, ℕ, List, length, flat_map, get_or, sym, ◌∙◌, ap, arith, ◌++◌, ◌∷◌, [], append_assoc}
+use Rattle.std.proofs.lemmas.List.{get_or-map, length-map}
+use Rattle.std.specs.Prelude.{Result, Ok, Err, OnOk, Some, slice_index_or, codes, decimal}
+use Rattle.std.specs.List.{range_with_len}
+use Rattle.trlab_code.specs.declared.kind.Kind.{Kind}
+use Rattle.trlab_code.specs.declared.instruction.Register.{Register}
+use Rattle.trlab_code.specs.Machine.{register_number}
+use Rattle.trlab_code.specs.Program.{Program}
+use Rattle.trlab_notes.specs.Notes.{with_side}
+use Rattle.trlab_verify.specs.declared.table.note.Mark.TheVariants.{Unset}
+use Rattle.trlab_verify.specs.declared.table.note.Note.{Note as Form}
+use Rattle.trlab_verify.specs.TableForm.{empty_form, meaning, meaning_at, said_of, table_of}
+use Rattle.trlab_verify.specs.Incoming.{note_at}
+use Rattle.trlab_verify.specs.Tables.{AreVerdictNotes, blank}
+use Rattle.trlab_campaign.specs.NoteLines.{maybe_note_line, note_line, notes_text, said_text}
+use Rattle.trlab_campaign.proofs.Lines.{pieces_agree}
+
+-- what a form says of a register
+abbrev pub marked_text : Form → Register → List ℕ
+marked_text form register = said_text register (with_side form.side (said_of (slice_index_or form.regs (register_number register) Unset)))
+
+-- the lines of the notes of a table that the verdict has are those of the program
+pub table_lines : (program : Program) (forms : List Form) → AreVerdictNotes program.kind program (table_of program.kind forms)
+    → flat_map (λ pc. note_line pc (meaning_at program.kind forms pc)) (range_with_len 0 (length forms)) ≡ notes_text program
+table_lines program forms are =
+    let count : length forms ≡ length program.instrs = sym (length-map forms (meaning program.kind)) ∙ are.one_each in
+    let agree = pieces_agree (λ pc. note_line pc (meaning_at program.kind forms pc)) (λ pc. maybe_note_line pc (note_at program.kind program.instrs pc)) 0 (length forms)
+    (λ pc below. sym (ap (maybe_note_line pc) (are.each pc (omega (arith, count)) ∙ ap Some (get_or-map (meaning program.kind) forms pc empty_form blank (omega arith))))) in
+    agree ∙ ap (λ n. flat_map (λ pc. maybe_note_line pc (note_at program.kind program.instrs pc)) (range_with_len 0 n)) count
+
+-- the parts of a note's line were put behind a text
+pub note_put : (pc : ℕ) (registers side head old a b c new : List ℕ) → head ≡ codes "note " ++ decimal pc → a ≡ old ++ head → b ≡ a ++ registers
+    → c ≡ b ++ side → new ≡ c ++ (10 ∷ []) → new ≡ old ++ (codes "note " ++ (decimal pc ++ (registers ++ (side ++ (10 ∷ [])))))
+note_put pc registers side head old a b c new h p q r s = rw (s, r, q, p, h) (simp append_assoc)
+
+-- the lines of such a table were put behind a text
+pub notes_put : {E : Type 0} (r : Result (Unit {0}) E) (program : Program) (forms : List Form) (old new : List ℕ) → AreVerdictNotes program.kind program (table_of program.kind forms)
+    → ((kind : Kind) → OnOk r (new ≡ old ++ flat_map (λ pc. note_line pc (meaning_at kind forms pc)) (range_with_len 0 (length forms)))) → OnOk r (new ≡ old ++ notes_text program)
+notes_put (Ok x) program forms old new are put = put program.kind ∙ ap (λ (t : List ℕ). old ++ t) (table_lines program forms are)
+notes_put (Err e) program forms old new are put = tt

@@ -1,0 +1,49 @@
+-- The lines of the notes of an accepted program.
+use Rattle.std.specs.Prelude.{ℕ, Bool, true, false, List, [], ◌∷◌, ◌++◌, length, flat_map, decimal, codes, Option, None, Some, if◌then◌else◌}
+use Rattle.std.specs.List.{range_with_len}
+use Rattle.trlab_code.specs.declared.instruction.Register.{Register}
+use Rattle.trlab_code.specs.declared.instruction.Place.TheVariants as place
+use Rattle.trlab_code.specs.Program.{Program}
+use Rattle.trlab_asm.specs.Names.{register_text}
+use Rattle.trlab_asm.specs.declared.names.TheConstants.{REGISTERS}
+use Rattle.trlab_notes.specs.declared.note.Said.{Said}
+use Rattle.trlab_notes.specs.declared.note.Said.TheVariants.{Nothing, Between, Implies}
+use Rattle.trlab_notes.specs.Notes.{Note, with_side}
+use Rattle.trlab_verify.specs.Incoming.{note_at}
+
+-- the name of a register and what it holds, each behind a space
+abbrev pub register_entry : Register → List ℕ → List ℕ
+register_entry register held = 32 ∷ (register_text register ++ (32 ∷ held))
+
+-- what is said of a register, nothing where it may be unset: the least and the greatest number, or that it
+-- holds a flag, which is `side` where its truth says that the side cell is empty
+abbrev pub said_text : Register → Said → List ℕ
+said_text register Nothing = []
+said_text register (Between lo hi) = register_entry register (decimal lo ++ (32 ∷ decimal hi))
+said_text register (Implies true) = register_entry register (codes "side")
+said_text register (Implies false) = register_entry register (codes "flag")
+
+-- what a note says of the registers; where the side cell is known to be empty, each flag says so
+abbrev pub registers_text : Note → List ℕ
+registers_text note =
+    flat_map (λ register. said_text register (with_side note.side (note.said (place.Register register)))) REGISTERS
+
+-- that the side cell is known to be empty
+abbrev pub side_text : Bool → List ℕ
+side_text side = if side then codes " side" else []
+
+-- the line of the note before the instruction at pc
+abbrev pub note_line : ℕ → Note → List ℕ
+note_line pc note =
+    codes "note " ++ (decimal pc ++ (registers_text note ++ (side_text note.side ++ (10 ∷ []))))
+
+-- the line of the note at pc, if there is one
+abbrev pub maybe_note_line : ℕ → Option Note → List ℕ
+maybe_note_line pc None = []
+maybe_note_line pc (Some note) = note_line pc note
+
+-- the lines of the notes of a program, as one of its own kind; in an accepted one each instruction has a note
+abbrev pub notes_text : Program → List ℕ
+notes_text program =
+    flat_map (λ pc. maybe_note_line pc (note_at program.kind program.instrs pc))
+    (range_with_len 0 (length program.instrs))
