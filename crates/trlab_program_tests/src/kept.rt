@@ -1,6 +1,6 @@
 //! What checked programs and refusals keep of their codes.
 
-use super::{change, motion, program};
+use crate::programs::{change, motion, program};
 use std::alloc::Global;
 use trlab_asm::disassemble;
 use trlab_code::{Code, Kind};

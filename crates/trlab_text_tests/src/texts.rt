@@ -11,7 +11,7 @@ use trlab_texts::{Cause, TextFault};
 const KEY: &str = "key 0000000000000000000000000000000000000000000000000000000000000000";
 
 /// The job of one step with these lines between its key and its steps.
-pub fn job(alloc: Global, lines: &str) -> Option<Job> {
+fn job(alloc: Global, lines: &str) -> Option<Job> {
     let text = format!(in alloc; "road 1\n{KEY}\n{lines}steps 1\n").ok()?;
     read_job(alloc, text.as_bytes()).ok()
 }

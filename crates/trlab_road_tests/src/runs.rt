@@ -1,22 +1,19 @@
 //! Runs, step by step.
 
 use crate::roads::shows;
-use crate::texts::job;
 use std::alloc::{AllocError, Global};
-use trlab_jobs::Job;
+use trlab_road::Road;
+use trlab_rules::nasch;
 use trlab_run::{Run, Sheet};
 use trlab_step::Caller;
+use trlab_words::{Chance, Key};
 
-/// The run of a job, whose steps count from `warm` on.
-fn run_of(alloc: Global, job: Job, warm: u32) -> Run {
-    let Job {
-        key,
-        road,
-        first,
-        later,
-        steps: _,
-    } = job;
-    Run::new(alloc, key, 0, warm, road, Sheet::new(first, later))
+/// The run of the cars of one lane, which never brake by chance. Steps count from `warm` on.
+fn run_of(alloc: Global, picture: &[u8], warm: u32) -> Option<Run> {
+    let road = Road::parse(alloc, 5, &[picture]).ok()?;
+    let rule = nasch(alloc, Chance::new(0)?).ok()?;
+    let sheet = Sheet::new(rule, Vec::new(alloc));
+    Some(Run::new(alloc, Key([0; 32]), 0, warm, road, sheet))
 }
 
 /// Whether a run has come to a step, its cars have gone so many cells without a stop, and its one
@@ -41,9 +38,9 @@ fn go_on(alloc: Global, run: &mut Run) -> Result<(), AllocError> {
     Ok(())
 }
 
-/// The run of a job behind so many steps, of which those before `warm` are not counted.
-fn run_behind(alloc: Global, lines: &str, warm: u32, steps: u32) -> Option<Run> {
-    let mut run = run_of(alloc, job(alloc, lines)?, warm);
+/// The run of one lane behind so many steps, of which those before `warm` are not counted.
+fn run_behind(alloc: Global, picture: &[u8], warm: u32, steps: u32) -> Option<Run> {
+    let mut run = run_of(alloc, picture, warm)?;
     for _ in 0..steps {
         go_on(alloc, &mut run).ok()?;
     }
@@ -52,7 +49,7 @@ fn run_behind(alloc: Global, lines: &str, warm: u32, steps: u32) -> Option<Run> 
 
 /// Whether the run of two cars, which counts from step 2 on, is at a step as it is to be.
 fn comes_to(alloc: Global, step: u32, distance: u64, picture: &[u8]) -> Option<bool> {
-    let run = run_behind(alloc, "limit 5\nlane 0.0.......\nrule nasch 0\n", 2, step)?;
+    let run = run_behind(alloc, b"0.0.......", 2, step)?;
     is_at(alloc, &run, step, distance, picture).ok()
 }
 
@@ -72,9 +69,8 @@ fn are_level(first: &Run, second: &Run) -> bool {
 
 /// Whether the road of two cars that went half round a ring so often is that of the start.
 fn is_as_before(alloc: Global, steps: u32) -> Option<bool> {
-    let lines = "limit 5\nlane 1.1.\nrule nasch 0\n";
-    let start = run_behind(alloc, lines, 0, 0)?;
-    Some(are_level(&start, &run_behind(alloc, lines, 0, steps)?))
+    let start = run_behind(alloc, b"1.1.", 0, 0)?;
+    Some(are_level(&start, &run_behind(alloc, b"1.1.", 0, steps)?))
 }
 
 // Behind two steps each car is at the place of the other, and the picture is that of the start.

@@ -2,7 +2,7 @@
 
 ghost use Rattle.std.specs.Prelude.{◌<◌};
 
-use super::program;
+use crate::programs::program;
 use std::alloc::{AllocError, Global};
 use trlab_code::{Code, Kind};
 use trlab_verify::{Mark, Note, check_notes, notes};

@@ -1,6 +1,6 @@
 //! Codes and views that are in range, and those that are not.
 
-use super::program;
+use crate::programs::program;
 use std::alloc::{AllocError, Global};
 use trlab_code::Instr::{Div, Draw, Get, Go, Stay};
 use trlab_code::Register::R0;

@@ -1,6 +1,6 @@
 //! Runs of programs, worked out by hand.
 
-use super::{CROSSING, change, slowing};
+use crate::programs::{CROSSING, change, slowing};
 use std::alloc::Global;
 use trlab_code::{ChangeView, MotionView};
 use trlab_machine::{run_change, run_motion};

@@ -1,6 +1,6 @@
 use Rattle.std.proofs.Common.{◌-◌}
 use Rattle.trlab_segments.specs.Drawers.{IsFrom, count_of, least_of}
-use Rattle.trlab_tests.proofs.segments.drawn.Given as goal
+use Rattle.trlab_road_tests.proofs.segments.drawn.Given as goal
 
 abbrev pub invariant-loop-number : goal.invariant-loop-number
 invariant-loop-number l = IsFrom l.tickets l.drawer

@@ -4,7 +4,7 @@ ghost use Rattle.std.specs.Prelude.{◌<◌, ◌≤◌, ℕ, length};
 ghost use Rattle.trlab_code.specs.Views.{IsView};
 ghost use Rattle.trlab_machine.specs.Blocks.{view_of};
 
-use super::{CROSSING, change, slowing};
+use crate::programs::{CROSSING, change, slowing};
 use std::alloc::Global;
 use std::process::Abort;
 use trlab_code::{ChangeView, MotionView};

@@ -1,0 +1,20 @@
+//! Tests of driver programs by public calls, with values worked out by hand: codes and views in
+//! range, laws of program text, what the verifier keeps, tables of notes, the machine, standard rules.
+#![tactic(auto)]
+
+#[cfg(test)]
+mod asm;
+#[cfg(test)]
+mod blocks;
+#[cfg(test)]
+mod codes;
+#[cfg(test)]
+mod kept;
+#[cfg(test)]
+mod machine;
+#[cfg(test)]
+mod programs;
+#[cfg(test)]
+mod rules;
+#[cfg(test)]
+mod tables;

@@ -1,0 +1,80 @@
+//! Rules that are none for a road, and the longest road.
+
+use std::alloc::Global;
+use trlab_asm::assemble;
+use trlab_code::Kind;
+use trlab_road::{Car, Road};
+use trlab_rules::{Rule, nasch, rickert};
+use trlab_step::{StepFault, step_road};
+use trlab_verify::{verify_change, verify_motion};
+use trlab_words::{CERTAIN, Chance, Key};
+
+/// The rule of 1992, by which no car brakes by chance.
+fn steady(alloc: Global) -> Option<Rule> {
+    nasch(alloc, Chance::new(0)?).ok()
+}
+
+/// The rule of 1996, by which no car brakes by chance and each one crosses where it may.
+fn crossing(alloc: Global) -> Option<Rule> {
+    rickert(alloc, Chance::new(0)?, Chance::new(CERTAIN)?).ok()
+}
+
+/// A rule of two programs, by which cars stand and keep their lane.
+fn standing(alloc: Global) -> Option<Rule> {
+    let motion = assemble(alloc, Kind::Motion, b"num r0, 0\ngo r0\n").ok()?;
+    let change = assemble(alloc, Kind::Change, b"stay\n").ok()?;
+    Some(Rule::new(
+        verify_motion(alloc, motion).ok()?,
+        Some(verify_change(alloc, change).ok()?),
+    ))
+}
+
+/// The fault of a step of one lane under a rule.
+fn fault(alloc: Global, rule: Option<Rule>) -> Option<StepFault> {
+    let road = Road::parse(alloc, 5, &[b"0.0......."]).ok()?;
+    step_road(alloc, &road, &rule?, &Key([0; 32]), 0, 0).err()
+}
+
+#[test]
+fn a_change_program_wants_two_lanes(rt: HostRuntime) {
+    let wanted = Some(StepFault::LanesMismatch);
+    assert_eq!(rt; fault(rt.alloc(), crossing(rt.alloc())), wanted);
+    assert_eq!(rt; fault(rt.alloc(), standing(rt.alloc())), wanted);
+    assert_eq!(rt; fault(rt.alloc(), steady(rt.alloc())), None);
+}
+
+/// The road to which a road comes under a rule, so many steps on.
+fn steps_on(alloc: Global, start: &Road, rule: &Rule, steps: u32) -> Option<Road> {
+    let mut road = start.copy(alloc).ok()?;
+    for step in 0..steps {
+        road = step_road(alloc, &road, rule, &Key([0; 32]), 0, step)
+            .ok()?
+            .0;
+    }
+    Some(road)
+}
+
+/// The first two cars, in standing order, of 2000 on the longest road behind ten steps.
+fn first_two(alloc: Global) -> Option<(Car, Car)> {
+    let start = Road::even(alloc, 2, 100_000, 9, 2_000).ok()?;
+    let road = steps_on(alloc, &start, &steady(alloc)?, 10)?;
+    (road.cars() == 2_000).then(|| (road.standing(0), road.standing(1)))
+}
+
+// The cars stand 50 cells apart on the first lane, and go 1, 2, .. 9 and once more 9 cells.
+#[test]
+fn the_last_car_comes_round_the_longest_road(rt: HostRuntime) {
+    let last = Car {
+        number: 1999,
+        lane: 0,
+        place: 4,
+        speed: 9,
+    };
+    let first = Car {
+        number: 0,
+        lane: 0,
+        place: 54,
+        speed: 9,
+    };
+    assert_eq!(rt; first_two(rt.alloc()), Some((last, first)));
+}
