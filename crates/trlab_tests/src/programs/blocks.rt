@@ -18,7 +18,7 @@ fn seen_ahead(rt: &impl Abort, cars: &[(u32, u32, u32)]) -> Views
 {
     let mut views = Views::new();
     for (number, speed, gap) in cars {
-        let view = MotionView::new(*speed, 5, *gap).expect(rt, "a view");
+        let view = MotionView::new(*speed, 5, *gap, *speed).expect(rt, "a view");
         views.push(*number, view.get());
     }
     views
@@ -31,7 +31,7 @@ fn seen_aside(rt: &impl Abort, sides: &[bool]) -> Views
 {
     let mut views = Views::new();
     for side in sides {
-        let view = ChangeView::new(3, 5, 1, *side, 9, 9, 0).expect(rt, "a view");
+        let view = ChangeView::new(3, 5, 1, *side, 9, 9, 0, 3).expect(rt, "a view");
         views.push(0, view.get());
     }
     views
@@ -65,7 +65,7 @@ fn slows_down_the_cars_whose_chance_happens(rt: HostRuntime) {
 /// The new speed of a car that is asked alone, with a chance of one half to slow down.
 fn alone(alloc: Global, key: &Key, (number, speed, gap): (u32, u32, u32)) -> Option<u32> {
     let motion = slowing(alloc, 1073741824)?;
-    let view = MotionView::new(speed, 5, gap)?;
+    let view = MotionView::new(speed, 5, gap, speed)?;
     Some(run_motion(&motion, view, &words(key, 5, number, 7)).speed)
 }
 

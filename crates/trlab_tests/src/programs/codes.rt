@@ -55,24 +55,26 @@ fn tells_what_a_program_holds(rt: HostRuntime) {
     assert_eq!(rt; draws.map(|code| code.draws()), Some(true));
 }
 
-/// Whether a car may see this ahead.
-fn is_seen_ahead(speed: u32, limit: u32, gap: u32) -> bool {
-    MotionView::new(speed, limit, gap).is_some()
+/// Whether a car may see this ahead, and a car of this speed.
+fn is_seen_ahead(speed: u32, limit: u32, gap: u32, headspeed: u32) -> bool {
+    MotionView::new(speed, limit, gap, headspeed).is_some()
 }
 
 /// Whether a car of speed 0 under limit 1 may see this beside it.
 fn is_seen_beside(sidegap: u32, sideback: u32, lane: u32) -> bool {
-    ChangeView::new(0, 1, 0, true, sidegap, sideback, lane).is_some()
+    ChangeView::new(0, 1, 0, true, sidegap, sideback, lane, 1).is_some()
 }
 
 #[test]
 fn bounds_what_a_car_sees(rt: HostRuntime) {
-    assert!(rt; !is_seen_ahead(0, 0, 0));
-    assert!(rt; !is_seen_ahead(10, 10, 0));
-    assert!(rt; !is_seen_ahead(3, 2, 0));
-    assert!(rt; !is_seen_ahead(0, 1, 100000));
-    assert!(rt; is_seen_ahead(0, 1, 0));
-    assert!(rt; ChangeView::new(2, 1, 0, true, 0, 0, 0).is_none());
+    assert!(rt; !is_seen_ahead(0, 0, 0, 0));
+    assert!(rt; !is_seen_ahead(36, 36, 0, 0));
+    assert!(rt; !is_seen_ahead(3, 2, 0, 0));
+    assert!(rt; !is_seen_ahead(0, 1, 100000, 0));
+    assert!(rt; !is_seen_ahead(0, 1, 0, 2));
+    assert!(rt; is_seen_ahead(0, 1, 0, 1));
+    assert!(rt; ChangeView::new(2, 1, 0, true, 0, 0, 0, 0).is_none());
+    assert!(rt; ChangeView::new(0, 1, 0, true, 0, 0, 0, 2).is_none());
     assert!(rt; !is_seen_beside(100000, 0, 0));
     assert!(rt; !is_seen_beside(0, 100000, 0));
     assert!(rt; !is_seen_beside(0, 0, 2));
@@ -83,14 +85,15 @@ fn bounds_what_a_car_sees(rt: HostRuntime) {
 fn keeps_what_a_car_sees(rt: HostRuntime) {
     let seen = View {
         speed: 9,
-        limit: 9,
+        limit: 35,
         gap: 99999,
         side: true,
         sidegap: 99999,
         sideback: 99999,
         lane: 1,
+        headspeed: 35,
     };
-    let change = ChangeView::new(9, 9, 99999, true, 99999, 99999, 1).map(|view| view.get());
+    let change = ChangeView::new(9, 35, 99999, true, 99999, 99999, 1, 35).map(|view| view.get());
     assert_eq!(rt; change, Some(seen));
     let ahead = View {
         side: false,
@@ -99,6 +102,6 @@ fn keeps_what_a_car_sees(rt: HostRuntime) {
         lane: 0,
         ..seen
     };
-    let motion = MotionView::new(9, 9, 99999).map(|view| view.get());
+    let motion = MotionView::new(9, 35, 99999, 35).map(|view| view.get());
     assert_eq!(rt; motion, Some(ahead));
 }
