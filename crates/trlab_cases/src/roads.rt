@@ -47,7 +47,8 @@ fn drawn(alloc: Global, road: Result<Road, RoadFault>) -> Result<Answer, AllocEr
     let mut output = Vec::new(alloc);
     add_measures(alloc, &mut output, &road)?;
     for k in 0..road.cars() {
-        add_car(alloc, &mut output, road.standing(k), road.gap(k))?;
+        let ahead = (road.gap(k), road.headspeed(k));
+        add_car(alloc, &mut output, road.standing(k), ahead)?;
         if road.lanes() == 2 {
             let beside = (road.side(k), road.sidegap(k), road.sideback(k));
             add_beside(alloc, &mut output, beside)?;
@@ -71,13 +72,19 @@ fn add_measures(alloc: Global, output: &mut Vec<u8>, road: &Road) -> Result<(), 
     Ok(())
 }
 
-/// Adds a car and the gap ahead of it.
-fn add_car(alloc: Global, output: &mut Vec<u8>, car: Car, gap: u32) -> Result<(), AllocError> {
+/// Adds a car, the gap ahead of it and the speed of the next car there.
+fn add_car(
+    alloc: Global,
+    output: &mut Vec<u8>,
+    car: Car,
+    (gap, headspeed): (u32, u32),
+) -> Result<(), AllocError> {
     add_number(alloc, output, "car ", car.number)?;
     add_number(alloc, output, " lane ", car.lane)?;
     add_number(alloc, output, " place ", car.place)?;
     add_number(alloc, output, " speed ", car.speed)?;
-    add_number(alloc, output, " gap ", gap)
+    add_number(alloc, output, " gap ", gap)?;
+    add_number(alloc, output, " headspeed ", headspeed)
 }
 
 /// Adds whether the side cell is empty, and the gaps ahead and behind on the other lane.

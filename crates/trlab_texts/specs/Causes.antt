@@ -1,7 +1,7 @@
 -- The numbers by which refused texts tell their causes.
 use Rattle.std.specs.Prelude.{ℕ, ◌+◌}
 use Rattle.trlab_code.specs.declared.fault.CodeFault.{CodeFault}
-use Rattle.trlab_code.specs.declared.fault.CodeFault.TheVariants.{Short, Magic, Version, Kind, Count, Opcode, Field, Trailing, Memory as CodeMemory}
+use Rattle.trlab_code.specs.declared.fault.CodeFault.TheVariants.{Short, Magic, Version, Kind, Count, Opcode, Field, Trailing, Memory as CodeMemory, NeedlessVersion}
 use Rattle.trlab_asm.specs.declared.fault.Why.{Why}
 use Rattle.trlab_asm.specs.declared.fault.Why.TheVariants.{Word, Operand, Number as WrongNumber, LabelTwice, NoLabel, TooLong, Empty, Memory as WhyMemory}
 use Rattle.trlab_road.specs.declared.fault.RoadFault.{RoadFault}
@@ -31,6 +31,7 @@ code_fault_number (Opcode pc) = 6
 code_fault_number (Field pc) = 7
 code_fault_number Trailing = 8
 code_fault_number CodeMemory = 9
+code_fault_number NeedlessVersion = 10
 
 -- the number of a fault of a road's pictures
 abbrev pub road_fault_number : RoadFault → ℕ

@@ -106,6 +106,7 @@ fn code_fault_number(fault: CodeFault) -> u64
         CodeFault::Field(_) => 7,
         CodeFault::Trailing => 8,
         CodeFault::Memory => 9,
+        CodeFault::NeedlessVersion => 10,
     }
 }
 
