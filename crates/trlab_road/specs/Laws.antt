@@ -1,5 +1,5 @@
--- Laws of pictures, of the next car ahead, of the two phases of a step and of evenly spread cars, for every road and
--- whichever code moves the cars.
+-- Laws of pictures, of the next car ahead, of the two phases of a step and of evenly spread cars, for
+-- every road and whichever code moves the cars.
 use Rattle.std.specs.Prelude.{◌≢◌, List, map, ◌≡◌, ℕ, ◌+◌, ◌<◌, ◌↔◌, Bool, Some, None, Result, Ok, Err, length}
 use Rattle.trlab_road.specs.declared.fault.RoadFault.{RoadFault}
 use Rattle.trlab_road.specs.declared.fault.RoadFault.TheVariants.{Memory}

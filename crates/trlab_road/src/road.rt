@@ -206,10 +206,8 @@ impl Road {
         car_of(&self.lanes, lane, index)
     }
 
-    /// The gap of the k-th car in standing order: how many cells ahead of it are empty (Nagel and
-    /// Schreckenberg 1992).
-    ///
-    /// A lone car on a lane of n cells has the gap n - 1.
+    /// The gap of the k-th car in standing order: how many cells ahead of it are empty, n - 1 for a lone car
+    /// on a lane of n cells (Nagel and Schreckenberg 1992).
     pub fn gap(&self, k: u32) -> u32
         requires { k < cars self.now }
         ensures value { result ≡ slice_index (gaps self.now) k }
@@ -219,9 +217,8 @@ impl Road {
         self.ahead(k).gap
     }
 
-    /// The speed, in cells a step, of the next car ahead of the k-th car in standing order, on its own lane.
-    ///
-    /// A lone car on its lane has its own speed ahead.
+    /// The headspeed of the k-th car in standing order: the speed of the next car ahead on its own lane, in
+    /// cells a step, which is its own where it is alone there.
     pub fn headspeed(&self, k: u32) -> u32
         requires { k < cars self.now }
         ensures of_car { IsOnLane headspeed self.now k result }
@@ -275,10 +272,8 @@ impl Road {
         look_beside(other, self.cells as usize, place, near)
     }
 
-    /// The gap ahead on the other lane in cells, from beside the k-th car in standing order: 0 where the
-    /// side cell is taken (Rickert, Nagel, Schreckenberg and Latour 1996).
-    ///
-    /// On an empty lane of n cells it is n - 1.
+    /// The gap ahead on the other lane in cells, from beside the k-th car in standing order: 0 where the side
+    /// cell is taken, n - 1 on an empty lane of n (Rickert, Nagel, Schreckenberg and Latour 1996).
     pub fn sidegap(&self, k: u32) -> u32
         requires below { k < cars self.now }
         requires two { length self.now.lanes ≡ 2 }
@@ -287,10 +282,8 @@ impl Road {
         self.beside(k, 0).ahead
     }
 
-    /// The gap behind on the other lane in cells, from beside the k-th car in standing order: 0 where the
-    /// side cell is taken (Rickert, Nagel, Schreckenberg and Latour 1996).
-    ///
-    /// On an empty lane of n cells it is n - 1.
+    /// The gap behind on the other lane in cells, from beside the k-th car in standing order: 0 where the side
+    /// cell is taken, n - 1 on an empty lane of n (Rickert, Nagel, Schreckenberg and Latour 1996).
     pub fn sideback(&self, k: u32) -> u32
         requires below { k < cars self.now }
         requires two { length self.now.lanes ≡ 2 }
