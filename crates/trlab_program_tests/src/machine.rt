@@ -18,20 +18,18 @@ fn moved(alloc: Global, chance: u32, speed: u32, gap: u32) -> Option<(u32, u32)>
 // Word 0 is 2917185654, whose half is 1458592827.
 #[test]
 fn slows_down_where_the_chance_happens(rt: HostRuntime) {
-    assert_eq!(rt; moved(rt.alloc(), 1458592828, 0, 9), Some((0, 12)));
-    assert_eq!(rt; moved(rt.alloc(), 1458592828, 3, 9), Some((3, 12)));
-    assert_eq!(rt; moved(rt.alloc(), 1458592828, 5, 9), Some((4, 12)));
-    assert_eq!(rt; moved(rt.alloc(), 1458592828, 4, 2), Some((1, 12)));
-    assert_eq!(rt; moved(rt.alloc(), 1458592828, 3, 0), Some((0, 12)));
+    for (speed, gap, slower) in [(0, 9, 0), (3, 9, 3), (5, 9, 4), (4, 2, 1), (3, 0, 0)] {
+        let ended = moved(rt.alloc(), 1458592828, speed, gap);
+        assert_eq!(rt; ended, Some((slower, 12)));
+    }
 }
 
 #[test]
 fn goes_on_where_it_does_not(rt: HostRuntime) {
-    assert_eq!(rt; moved(rt.alloc(), 1458592827, 0, 9), Some((1, 10)));
-    assert_eq!(rt; moved(rt.alloc(), 1458592827, 3, 9), Some((4, 10)));
-    assert_eq!(rt; moved(rt.alloc(), 1458592827, 5, 9), Some((5, 10)));
-    assert_eq!(rt; moved(rt.alloc(), 1458592827, 4, 2), Some((2, 10)));
-    assert_eq!(rt; moved(rt.alloc(), 1458592827, 3, 0), Some((0, 10)));
+    for (speed, gap, steady) in [(0, 9, 1), (3, 9, 4), (5, 9, 5), (4, 2, 2), (3, 0, 0)] {
+        let ended = moved(rt.alloc(), 1458592827, speed, gap);
+        assert_eq!(rt; ended, Some((steady, 10)));
+    }
 }
 
 /// Whether a car beside an empty cell or a car crosses, and how many instructions it took.

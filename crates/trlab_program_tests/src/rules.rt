@@ -48,49 +48,31 @@ fn copies_are_equal(rt: HostRuntime) {
     assert_eq!(rt; equals_its_copy(alloc, of_1996(alloc, 1, 2)), Some(true));
 }
 
-/// Whether two rules are equal.
-fn are_equal(first: Option<Rule>, second: Option<Rule>) -> Option<bool> {
-    Some(first?.equals(&second?))
+/// Whether there are both rules, and they are not equal.
+fn differ(first: Option<Rule>, second: Option<Rule>) -> bool {
+    match (first, second) {
+        (Some(first), Some(second)) => !first.equals(&second),
+        _ => false,
+    }
 }
 
 #[test]
 fn rules_of_other_chances_are_not_equal(rt: HostRuntime) {
     let alloc = rt.alloc();
     let q = 1073741824;
-    assert_eq!(rt;
-        are_equal(of_1992(alloc, 0), of_1992(alloc, q)),
-        Some(false)
-    );
-    assert_eq!(rt;
-        are_equal(of_1998(alloc, 0, q), of_1998(alloc, q, 0)),
-        Some(false)
-    );
-    assert_eq!(rt;
-        are_equal(of_1996(alloc, 0, q), of_1996(alloc, 0, 0)),
-        Some(false)
-    );
-    assert_eq!(rt;
-        are_equal(of_1996(alloc, 0, 0), of_1996(alloc, q, 0)),
-        Some(false)
-    );
+    assert!(rt; differ(of_1992(alloc, 0), of_1992(alloc, q)));
+    assert!(rt; differ(of_1998(alloc, 0, q), of_1998(alloc, q, 0)));
+    assert!(rt; differ(of_1996(alloc, 0, q), of_1996(alloc, 0, 0)));
+    assert!(rt; differ(of_1996(alloc, 0, 0), of_1996(alloc, q, 0)));
 }
 
 #[test]
 fn other_rules_are_not_equal(rt: HostRuntime) {
     let alloc = rt.alloc();
     let p = 1073741824;
-    assert_eq!(rt;
-        are_equal(of_1992(alloc, p), of_1998(alloc, p, p)),
-        Some(false)
-    );
-    assert_eq!(rt;
-        are_equal(of_1992(alloc, p), of_1996(alloc, p, p)),
-        Some(false)
-    );
-    assert_eq!(rt;
-        are_equal(of_1996(alloc, p, p), of_1992(alloc, p)),
-        Some(false)
-    );
+    assert!(rt; differ(of_1992(alloc, p), of_1998(alloc, p, p)));
+    assert!(rt; differ(of_1992(alloc, p), of_1996(alloc, p, p)));
+    assert!(rt; differ(of_1996(alloc, p, p), of_1992(alloc, p)));
 }
 
 /// The speed of a car after acceleration and slowing down, by its speed, its limit and its gap.
@@ -101,12 +83,16 @@ fn slowed(speed: u32, limit: u32, gap: u32) -> u32 {
 #[test]
 fn slows_as_in_1992(rt: HostRuntime) {
     let most = 4294967295;
-    assert_eq!(rt; slowed(3, 5, 2), 2);
-    assert_eq!(rt; slowed(5, 5, 9), 5);
-    assert_eq!(rt; slowed(0, 5, 0), 0);
-    assert_eq!(rt; slowed(2, 5, 2), 2);
-    assert_eq!(rt; slowed(2, 5, 3), 3);
-    assert_eq!(rt; slowed(7, 5, 9), 7);
-    assert_eq!(rt; slowed(most, most, most), most);
-    assert_eq!(rt; slowed(0, most, most), 1);
+    for (speed, limit, gap, wanted) in [
+        (3, 5, 2, 2),
+        (5, 5, 9, 5),
+        (0, 5, 0, 0),
+        (2, 5, 2, 2),
+        (2, 5, 3, 3),
+        (7, 5, 9, 7),
+        (most, most, most, most),
+        (0, most, most, 1),
+    ] {
+        assert_eq!(rt; slowed(speed, limit, gap), wanted);
+    }
 }

@@ -55,11 +55,15 @@ fn comes_to(alloc: Global, step: u32, distance: u64, picture: &[u8]) -> Option<b
 
 #[test]
 fn a_run_comes_to_each_road(rt: HostRuntime) {
-    assert_eq!(rt; comes_to(rt.alloc(), 0, 0, b"0.0......."), Some(true));
-    assert_eq!(rt; comes_to(rt.alloc(), 1, 0, b".1.1......"), Some(true));
-    assert_eq!(rt; comes_to(rt.alloc(), 2, 0, b"..1..2...."), Some(true));
-    assert_eq!(rt; comes_to(rt.alloc(), 3, 5, b"....2...3."), Some(true));
-    assert_eq!(rt; comes_to(rt.alloc(), 4, 12, b"..4....3.."), Some(true));
+    for (step, distance, picture) in [
+        (0, 0, b"0.0......."),
+        (1, 0, b".1.1......"),
+        (2, 0, b"..1..2...."),
+        (3, 5, b"....2...3."),
+        (4, 12, b"..4....3.."),
+    ] {
+        assert_eq!(rt; comes_to(rt.alloc(), step, distance, picture), Some(true));
+    }
 }
 
 /// Whether two runs have come to the same road.

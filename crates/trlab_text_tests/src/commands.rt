@@ -113,6 +113,20 @@ fn carried<S: Source, K: Sink>(
     Ok(status_of_end(carry_out(rt, wanted, reader, writer)))
 }
 
+/// Whether the command of a line ends with this status over a text, and writes this output.
+fn writes(
+    rt: &impl AllocGlobal,
+    line: &str,
+    text: &str,
+    status: u8,
+    wanted: &str,
+) -> Result<bool, Error> {
+    let mut reader = Watched::new(text.as_bytes());
+    let mut writer = Watched::new(Vec::new(rt.alloc()));
+    let ended = carried(rt, line, &mut reader, &mut writer)?;
+    Ok(ended == status && writer.into_inner().as_slice() == wanted.as_bytes())
+}
+
 #[test]
 fn commands_write_their_own_output(rt: HostRuntime) -> Result<(), Fail> {
     let job = concat!(
@@ -128,17 +142,7 @@ fn commands_write_their_own_output(rt: HostRuntime) -> Result<(), Fail> {
         ("run --workers 16", job, 0, "step 0\n0.\nstep 1\n.1\n"),
         ("run", "change\nstay", 1, "fault line 1 cause 1\n"),
     ] {
-        let mut reader = Watched::new(text.as_bytes());
-        let mut writer = Watched::new(Vec::new(rt.alloc()));
-        assert_eq!(rt;
-            carried(&rt, line, &mut reader, &mut writer)?,
-            status,
-            "at {line:?}"
-        );
-        assert!(rt;
-            writer.into_inner().as_slice() == wanted.as_bytes(),
-            "at {line:?}"
-        );
+        assert!(rt; writes(&rt, line, text, status, wanted)?, "at {line:?}");
     }
     Ok(())
 }
@@ -170,16 +174,21 @@ fn each_end_has_its_status(rt: HostRuntime) {
     }
 }
 
+/// The exit statuses of a line that asks for nothing: where what is told of it is written, and where
+/// that fails.
+fn told(rt: &impl AllocGlobal, line: &str) -> Option<(u8, u8)> {
+    let error = asked(rt, line).err()?;
+    let failed: io::Result<()> = Err(io::Error::from(io::ErrorKind::BrokenPipe));
+    let written = status_of_print(&error, &Ok(()));
+    Some((written, status_of_print(&error, &failed)))
+}
+
 #[test]
 fn help_that_is_not_written_is_a_failed_write(rt: HostRuntime) {
-    let failed: io::Result<()> = Err(io::Error::from(io::ErrorKind::BrokenPipe));
     for (line, written, not_written) in [("--help", 0, 4), ("help run", 0, 4), ("walk", 2, 2)] {
-        match asked(&rt, line) {
-            Ok(_) => assert!(rt; false, "at {line}"),
-            Err(error) => {
-                assert_eq!(rt; status_of_print(&error, &Ok(())), written, "at {line}");
-                assert_eq!(rt; status_of_print(&error, &failed), not_written, "at {line}");
-            }
-        }
+        assert!(rt;
+            told(&rt, line) == Some((written, not_written)),
+            "at {line}"
+        );
     }
 }
