@@ -6,8 +6,21 @@ use trlab_verify::{Mark, Note};
 
 /// The names of the places, in their order.
 const NAMES: [&str; PLACES] = [
-    "r0", "r1", "r2", "r3", "r4", "r5", "r6", "r7", "speed", "limit", "gap", "sidegap", "sideback",
-    "lane", "headspeed",
+    "r0",
+    "r1",
+    "r2",
+    "r3",
+    "r4",
+    "r5",
+    "r6",
+    "r7",
+    "speed",
+    "limit",
+    "gap",
+    "sidegap",
+    "sideback",
+    "lane",
+    "headspeed",
 ];
 
 /// A note as a line of text: what the registers hold, which places are at most others or below
