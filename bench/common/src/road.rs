@@ -20,13 +20,13 @@ pub struct View {
     pub speed: u32,
     pub limit: u32,
     pub gap: u32,
-    /// The speed of the next car ahead, before the step.
-    pub headspeed: u32,
     /// Whether the cell beside the car is empty.
     pub side: bool,
     pub sidegap: u32,
     pub sideback: u32,
     pub lane: u32,
+    /// The speed of the next car ahead, before the step.
+    pub headspeed: u32,
 }
 
 /// How cars are driven. A car is told as its place in a group of four, whose words are at hand.
