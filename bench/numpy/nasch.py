@@ -12,6 +12,8 @@ try:
 except ImportError:
     sys.exit("NumPy is not here")
 
+SPEEDS = np.frombuffer(b"0123456789abcdefghijklmnopqrstuvwxyz", dtype=np.uint8)
+
 
 def read_job(text):
     """The limit, the lane, the chance to brake and the steps of a job text."""
@@ -26,7 +28,7 @@ def read_job(text):
 def picture(cells, places, speeds):
     """The picture of a lane, with its line feed."""
     lane = np.full(cells + 1, ord("."), dtype=np.uint8)
-    lane[places] = ord("0") + speeds
+    lane[places] = SPEEDS[speeds]
     lane[cells] = ord("\n")
     return lane.tobytes()
 
@@ -36,7 +38,7 @@ def run(limit, lane, chance, steps, out):
     draw = np.random.default_rng(1)
     start = np.frombuffer(lane, dtype=np.uint8)
     cells, places = len(start), np.flatnonzero(start != ord("."))
-    speeds = start[places].astype(np.int64) - ord("0")
+    speeds = np.searchsorted(SPEEDS, start[places])
     out.write(b"step 0\n" + picture(cells, places, speeds))
     for step in range(1, steps + 1):
         gaps = (np.roll(places, -1) - places - 1) % cells

@@ -1,4 +1,4 @@
-//! Job texts of a standard rule.
+//! Job texts of a standard rule, or of programs in byte code.
 
 use crate::road::{Car, Road};
 
@@ -15,14 +15,17 @@ pub struct Job {
     /// The words of the key, which is 32 bytes.
     pub key: [u32; 8],
     pub road: Road,
-    pub rule: Rule,
+    /// The rule, where it is a standard one.
+    pub rule: Option<Rule>,
+    /// The bytes of the programs of `rule own`: of the motion, and of the change where there is one.
+    pub codes: Vec<Vec<u8>>,
     pub steps: u32,
 }
 
-/// Reads a job text of one standard rule and no later rules; nothing where it is none.
+/// Reads a job text of one rule, whose own programs are byte code; nothing where it is none.
 pub fn read_job(text: &str) -> Option<Job> {
     let (mut key, mut limit, mut length, mut steps, mut rule) = ([0; 8], 0, 0, 0, None);
-    let mut lanes: Vec<Vec<Car>> = Vec::new();
+    let (mut lanes, mut codes): (Vec<Vec<Car>>, _) = (Vec::new(), Vec::new());
     for line in text.lines() {
         let words: Vec<&str> = line.split(' ').collect();
         let number = |k: usize| words.get(k)?.parse::<u32>().ok();
@@ -32,9 +35,10 @@ pub fn read_job(text: &str) -> Option<Job> {
             "limit" => limit = number(1)?,
             "lane" => {
                 let first = lanes.iter().map(Vec::len).sum::<usize>() as u32;
-                lanes.push(read_lane(words.get(1)?, first));
+                lanes.push(read_lane(words.get(1)?, first)?);
                 length = words[1].len() as u32;
             }
+            "rule" if words[1..] == ["own"] => {}
             "rule" => {
                 rule = Some(match *words.get(1)? {
                     "nasch" => Rule::Nasch { brake: number(2)? },
@@ -49,6 +53,7 @@ pub fn read_job(text: &str) -> Option<Job> {
                     _ => return None,
                 });
             }
+            "code" => codes.push(read_bytes(words.get(1)?)?),
             "steps" => steps = number(1)?,
             _ => return None,
         }
@@ -57,7 +62,8 @@ pub fn read_job(text: &str) -> Option<Job> {
     Some(Job {
         key,
         road,
-        rule: rule?,
+        rule,
+        codes,
         steps,
     })
 }
@@ -71,18 +77,27 @@ fn read_key(hex: &str) -> Option<[u32; 8]> {
     Some(key)
 }
 
+fn read_bytes(hex: &str) -> Option<Vec<u8>> {
+    let digits = (0..hex.len()).step_by(2);
+    digits
+        .map(|k| u8::from_str_radix(hex.get(k..k + 2)?, 16).ok())
+        .collect()
+}
+
 /// The cars of a picture, which are numbered from `first` on.
-fn read_lane(picture: &str, first: u32) -> Vec<Car> {
+fn read_lane(picture: &str, first: u32) -> Option<Vec<Car>> {
     let cells = picture
         .bytes()
         .enumerate()
         .filter(|(_, cell)| *cell != b'.');
     cells
         .zip(first..)
-        .map(|((place, cell), number)| Car {
-            number,
-            place: place as u32,
-            speed: u32::from(cell - b'0'),
+        .map(|((place, cell), number)| {
+            Some(Car {
+                number,
+                place: place as u32,
+                speed: char::from(cell).to_digit(36)?,
+            })
         })
         .collect()
 }

@@ -4,6 +4,9 @@ use std::mem::swap;
 
 use crate::chacha::Words;
 
+/// What shows each speed in a picture.
+const SPEEDS: &[u8; 36] = b"0123456789abcdefghijklmnopqrstuvwxyz";
+
 #[derive(Clone, Copy, Debug, PartialEq, Eq)]
 pub struct Car {
     pub number: u32,
@@ -22,6 +25,8 @@ pub struct View {
     pub sidegap: u32,
     pub sideback: u32,
     pub lane: u32,
+    /// The speed of the next car ahead, before the step.
+    pub headspeed: u32,
 }
 
 /// How cars are driven. A car is told as its place in a group of four, whose words are at hand.
@@ -72,19 +77,20 @@ impl Road {
     fn drive(&mut self, driver: &impl Driver, key: &[u32; 8], step: u32) {
         let (length, limit) = (self.length, self.limit);
         for lane in &mut self.lanes {
-            let Some(first) = lane.first().map(|car| car.place) else {
+            let Some(&first) = lane.first() else {
                 continue;
             };
             let (cars, mut wrapped) = (lane.len(), 0);
             for start in (0..cars).step_by(4) {
                 let mut words = Words::new(key, step, numbers(&lane[start..]));
                 for k in start..cars.min(start + 4) {
-                    let next = lane.get(k + 1).map_or(first, |car| car.place);
+                    let next = lane.get(k + 1).copied().unwrap_or(first);
                     let car = &mut lane[k];
                     let view = View {
                         speed: car.speed,
                         limit,
-                        gap: between(length, car.place, next),
+                        gap: between(length, car.place, next.place),
+                        headspeed: next.speed,
                         ..View::default()
                     };
                     car.speed = driver.speed(&view, &mut words, k - start);
@@ -143,6 +149,7 @@ impl Road {
                     speed: car.speed,
                     limit: self.limit,
                     gap: between(self.length, car.place, next.place),
+                    headspeed: next.speed,
                     lane: own as u32,
                     ..self.beside(car.place, other, at)
                 };
@@ -167,14 +174,7 @@ impl Road {
         };
         let ahead = other.get(at).unwrap_or(first);
         if ahead.place == place {
-            let next = other.get(at + 1).unwrap_or(first);
-            let behind = if at == 0 { last } else { &other[at - 1] };
-            return View {
-                side: false,
-                sidegap: between(self.length, place, next.place),
-                sideback: between(self.length, behind.place, place),
-                ..View::default()
-            };
+            return View::default();
         }
         let behind = if at == 0 { last } else { &other[at - 1] };
         View {
@@ -192,7 +192,7 @@ impl Road {
             out.resize(begin + self.length as usize, b'.');
             let cells = &mut out[begin..];
             for car in lane {
-                cells[car.place as usize] = b'0' + car.speed as u8;
+                cells[car.place as usize] = SPEEDS[car.speed as usize];
             }
             out.push(b'\n');
         }

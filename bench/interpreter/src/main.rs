@@ -1,14 +1,15 @@
-//! Driver programs in plain Rust, for comparison: the byte code of the standard rules, interpreted
-//! for one car at a time, with no verifier and no proofs.
+//! Driver programs in plain Rust, for comparison: the byte code of the standard rules or of others,
+//! interpreted for one car at a time, with no verifier and no proofs.
 //!
-//! Reads a job text of a standard rule and writes what `trlab run` writes for it.
+//! Reads a job text of a standard rule, or of programs that the verifier accepts as `code` lines, and
+//! writes what `trlab run` writes for it.
 
 mod machine;
 mod program;
 
 use std::io;
 
-use common::{job_from_input, run, Driver, Rule, View, Words};
+use common::{job_from_input, run, Driver, Job, View, Words};
 
 use machine::Answer;
 use program::{Instr, Row};
@@ -19,13 +20,20 @@ struct Programs {
 }
 
 impl Programs {
-    fn of(rule: Rule) -> Option<Self> {
-        let change = match program::change(rule) {
+    fn of(job: &Job) -> Option<Self> {
+        let (motion, change) = match job.rule {
+            Some(rule) => (program::motion(rule), program::change(rule)),
+            None => (
+                program::rows(job.codes.first()?),
+                job.codes.get(1).map(|code| program::rows(code)),
+            ),
+        };
+        let change = match change {
             Some(rows) => Some(instructions(&rows)?),
             None => None,
         };
         Some(Programs {
-            motion: instructions(&program::motion(rule))?,
+            motion: instructions(&motion)?,
             change,
         })
     }
@@ -59,7 +67,26 @@ impl Driver for Programs {
 
 fn main() -> io::Result<()> {
     let job = job_from_input()?;
-    let driver =
-        Programs::of(job.rule).ok_or_else(|| io::Error::from(io::ErrorKind::InvalidData))?;
+    let driver = Programs::of(&job).ok_or_else(|| io::Error::from(io::ErrorKind::InvalidData))?;
     run(job, &driver)
+}
+
+#[cfg(test)]
+mod tests {
+    use common::read_job;
+
+    use super::Programs;
+
+    #[test]
+    fn the_last_car_sees_how_fast_the_first_was() {
+        // As fast as the next car ahead, at most the gap: in its code `headspeed` is input 6.
+        let text = "limit 12\nlane 3.b.......\nrule own\ncode 54524c4202000400\
+            020006000000000002010200000000000a000001000000001400000000000000\nsteps 1\n";
+        let mut job = read_job(text).expect("a job");
+        let driver = Programs::of(&job).expect("a program");
+        job.road.step(&driver, &job.key, 0);
+        let mut picture = Vec::new();
+        job.road.draw(&mut picture);
+        assert_eq!(picture, b".1...3....\n");
+    }
 }

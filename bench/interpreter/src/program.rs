@@ -42,6 +42,7 @@ pub enum Input {
     Sidegap,
     Sideback,
     Lane,
+    Headspeed,
 }
 
 /// The instruction of a row; nothing where it is none.
@@ -97,8 +98,17 @@ fn input(number: u8) -> Option<Input> {
         3 => Input::Sidegap,
         4 => Input::Sideback,
         5 => Input::Lane,
+        6 => Input::Headspeed,
         _ => return None,
     })
+}
+
+/// The rows of a program's bytes, which stand behind a header of 8 bytes.
+pub fn rows(bytes: &[u8]) -> Vec<Row> {
+    let (rows, _) = bytes.get(8..).unwrap_or_default().as_chunks::<8>();
+    rows.iter()
+        .map(|&[opcode, a, b, c, imm @ ..]| (opcode, a, b, c, u32::from_le_bytes(imm)))
+        .collect()
 }
 
 /// The motion program of a standard rule.

@@ -58,6 +58,6 @@ fn main() -> io::Result<()> {
         make_words(&job);
         return Ok(());
     }
-    let driver = Plain(job.rule);
+    let driver = job.rule.map(Plain).ok_or(io::ErrorKind::InvalidData)?;
     run(job, &driver)
 }
