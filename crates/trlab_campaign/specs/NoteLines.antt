@@ -23,10 +23,14 @@ said_text register (Between lo hi) = register_entry register (decimal lo ++ (32 
 said_text register (Implies true) = register_entry register (codes "side")
 said_text register (Implies false) = register_entry register (codes "flag")
 
--- what a note says of the registers; where the side cell is known to be empty, each flag says so
+-- what a note says of a register; where the side cell is known to be empty, each flag says so
+abbrev pub said_of_register : Note → Register → List ℕ
+said_of_register note register =
+    said_text register (with_side note.side (note.said (place.Register register)))
+
+-- what a note says of the registers
 abbrev pub registers_text : Note → List ℕ
-registers_text note =
-    flat_map (λ register. said_text register (with_side note.side (note.said (place.Register register)))) REGISTERS
+registers_text note = flat_map (said_of_register note) REGISTERS
 
 -- that the side cell is known to be empty
 abbrev pub side_text : Bool → List ℕ

@@ -1,5 +1,5 @@
 -- What is seen of cars that are asked, and what their programs answer.
-use Rattle.std.proofs.Common.{◌≡◌, ◌∙◌, ℕ, ◌≤◌, Bool, false, Some, List, refl, sym, ap, subst}
+use Rattle.std.proofs.Common.{◌≡◌, ◌∙◌, ℕ, ◌≤◌, Bool, false, Some, List, length, refl, sym, ap, subst}
 use Rattle.std.specs.Prelude.{slice_index, slice_index_or}
 use Rattle.trlab_code.specs.declared.kind.Kind.TheVariants.{Motion, Change}
 use Rattle.trlab_code.specs.declared.view.View.{View}
@@ -8,16 +8,18 @@ use Rattle.trlab_code.specs.Views.{IsView, motion_view, change_view}
 use Rattle.trlab_machine.specs.Blocks.{CrossesWith, MovesWith}
 use Rattle.trlab_machine.specs.Crossings.{crossing_answer}
 use Rattle.trlab_road.specs.declared.car.Car.{Car}
-use Rattle.trlab_road.specs.Cells.{Cells, lane_of}
+use Rattle.trlab_road.specs.Cells.{Cells, lane_of, IsAt}
 use Rattle.trlab_road.specs.LaneChange.{other_lane, sides}
 use Rattle.trlab_road.specs.Gaps.{gap, headspeed, side, sidegap, sideback}
+use Rattle.trlab_road.specs.Legal.{IsLegal}
 use Rattle.trlab_road.specs.Motion.{gaps}
 use Rattle.trlab_road.specs.Standing.{IsStanding}
 use Rattle.trlab_machine.specs.declared.dice.Dice.{Dice}
 use Rattle.trlab_machine.specs.Blocks.{words_of}
-use Rattle.trlab_step.specs.Answers.{dice_of}
+use Rattle.trlab_step.specs.Answers.{change_view_of, dice_of, motion_view_of}
 use Rattle.trlab_step.specs.Block.{CrossesBy, GoesBy, IsAsked}
 use Rattle.trlab_verify.specs.CheckedProgram.{CheckedProgram}
+use Rattle.trlab_step.proofs.AnswersExist.{change_view_is_view, motion_view_is_view}
 use Rattle.trlab_step.proofs.Parts.{same_view, same_change_view}
 
 some_same : {a b : Car} → Some a ≡ Some b → a ≡ b
@@ -32,29 +34,35 @@ module _ (road : Cells) (k : ℕ) (told : Car) (order : IsStanding road k told) 
   same : (car : Car) → IsStanding road k car → told ≡ car
   same car here = some_same (sym order ∙ here)
 
-  pub motion_asked : (view : View) → view ≡ motion_view told.speed limit gap_ahead speed_ahead → IsView view → IsAsked Motion road k view told.number
-  motion_asked view is legal = record {
-    is_view = legal;
-    seen = λ car here. is ∙ same_view _ _ _ _ _ _ _ _ (ap (λ (one : Car). one.speed) (same car here)) limited (gap_of car here) (speed_of car here);
-    number_of = λ car here. ap (λ (one : Car). one.number) (same car here);
-    limit = ap (λ (v : View). v.limit) is ∙ limited;
-    gap = ap (λ (v : View). v.gap) is ∙ gap_is;
-    side = λ e. absurd (not_change e);
-  }
+  pub motion_asked : IsLegal road → IsAt road told → IsAsked Motion road k (motion_view told.speed limit gap_ahead speed_ahead) told.number
+  motion_asked legal at =
+      let own : (car : Car) → IsStanding road k car → motion_view told.speed limit gap_ahead speed_ahead ≡ motion_view_of road car =
+      λ car here. same_view _ _ _ _ _ _ _ _ (ap (λ (one : Car). one.speed) (same car here)) limited (gap_of car here) (speed_of car here) in
+      record {
+        is_view = subst IsView (sym (own told order)) (motion_view_is_view road told legal at);
+        seen = own;
+        number_of = λ car here. ap (λ (one : Car). one.number) (same car here);
+        limit = limited;
+        gap = gap_is;
+        side = λ e. absurd (not_change e);
+      }
 
-  pub change_asked : (empty : Bool) (ahead behind : ℕ) → empty ≡ slice_index_or (sides road) k false
+  pub change_asked : IsLegal road → length road.lanes ≡ 2 → IsAt road told → (empty : Bool) (ahead behind : ℕ) → empty ≡ slice_index_or (sides road) k false
       → ((car : Car) → IsStanding road k car → empty ≡ side (lane_of road (other_lane car.lane)) car.place)
       → ((car : Car) → IsStanding road k car → ahead ≡ sidegap (lane_of road (other_lane car.lane)) car.place)
       → ((car : Car) → IsStanding road k car → behind ≡ sideback (lane_of road (other_lane car.lane)) car.place)
-      → (view : View) → view ≡ change_view told.speed limit gap_ahead empty ahead behind told.lane speed_ahead → IsView view → IsAsked Change road k view told.number
-  change_asked empty ahead behind side_is side_of ahead_of behind_of view is legal = record {
-    is_view = legal;
-    seen = λ car here. is ∙ same_change_view road told car limit gap_ahead empty ahead behind speed_ahead (same car here) limited (gap_of car here) (side_of car here) (ahead_of car here) (behind_of car here) (speed_of car here);
-    number_of = λ car here. ap (λ (one : Car). one.number) (same car here);
-    limit = ap (λ (v : View). v.limit) is ∙ limited;
-    gap = ap (λ (v : View). v.gap) is ∙ gap_is;
-    side = λ e. ap (λ (v : View). v.side) is ∙ side_is;
-  }
+      → IsAsked Change road k (change_view told.speed limit gap_ahead empty ahead behind told.lane speed_ahead) told.number
+  change_asked legal two at empty ahead behind side_is side_of ahead_of behind_of =
+      let own : (car : Car) → IsStanding road k car → change_view told.speed limit gap_ahead empty ahead behind told.lane speed_ahead ≡ change_view_of road car =
+      λ car here. same_change_view road told car limit gap_ahead empty ahead behind speed_ahead (same car here) limited (gap_of car here) (side_of car here) (ahead_of car here) (behind_of car here) (speed_of car here) in
+      record {
+        is_view = subst IsView (sym (own told order)) (change_view_is_view road told legal two at);
+        seen = own;
+        number_of = λ car here. ap (λ (one : Car). one.number) (same car here);
+        limit = limited;
+        gap = gap_is;
+        side = λ e. side_is;
+      }
 
 -- dice by their parts
 pub same_dice : (dice : Dice) (key : List ℕ) (road step : ℕ) → dice.key ≡ key → dice.road ≡ road → dice.step ≡ step → dice ≡ dice_of key road step
