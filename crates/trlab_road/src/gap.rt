@@ -17,7 +17,7 @@ pub struct Ahead {
     pub headspeed: u32,
 }
 
-/// What is ahead of the car at an index of a lane's list.
+/// What is ahead of the car at an index of a lane's list; ahead of the last is the first.
 pub fn look_ahead(cars: &[LaneCar], cells: usize, index: usize) -> Ahead
     requires small { cells ≤ GREATEST_LENGTH }
     requires sorted { Rises 0 cells cars.now }
@@ -26,24 +26,20 @@ pub fn look_ahead(cars: &[LaneCar], cells: usize, index: usize) -> Ahead
     ensures headspeed { result.headspeed ≡ headspeed (cells_of cells cars.now) (place_of cars.now index) }
     ensures within { result.gap < cells }
 {
-    let place = cars[index].place as usize;
-    Ahead {
-        gap: gap_ahead(cars, cells, place, index + 1) as u32,
-        headspeed: next_speed(cars, index),
-    }
-}
-
-/// The speed of the next car ahead of that at an index of a lane's list; ahead of the last is the first.
-fn next_speed(cars: &[LaneCar], index: usize) -> u32
-    requires { index < length cars.now }
-    ensures { (n : ℕ) → Rises 0 n cars.now
-        → result ≡ headspeed (cells_of n cars.now) (place_of cars.now index) }
-{
+    let place = cars[index].place;
     let next = index + 1;
     if next < cars.len() {
-        cars[next].speed
+        let car = cars[next];
+        Ahead {
+            gap: car.place - place - 1,
+            headspeed: car.speed,
+        }
     } else {
-        cars[0].speed
+        let first = cars[0];
+        Ahead {
+            gap: cells as u32 - 1 - place + first.place,
+            headspeed: first.speed,
+        }
     }
 }
 
