@@ -19,8 +19,9 @@ fn seen_ahead(rt: &impl Abort, cars: &[(u32, u32, u32)]) -> Views
     let mut views = Views::new();
     for (number, speed, gap) in cars {
         let view = MotionView::new(*speed, 5, *gap, *speed).expect(rt, "a view");
-        views.put(views.cars, *number, view.get());
-        views.cars += 1;
+        let k = views.cars;
+        views.put(k, *number, view.get());
+        views.cars = k + 1;
     }
     views
 }
@@ -33,8 +34,9 @@ fn seen_aside(rt: &impl Abort, sides: &[bool]) -> Views
     let mut views = Views::new();
     for side in sides {
         let view = ChangeView::new(3, 5, 1, *side, 9, 9, 0, 3).expect(rt, "a view");
-        views.put(views.cars, 0, view.get());
-        views.cars += 1;
+        let k = views.cars;
+        views.put(k, 0, view.get());
+        views.cars = k + 1;
     }
     views
 }
