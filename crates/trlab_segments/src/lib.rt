@@ -3,12 +3,16 @@
 //! ticket is drawn once.
 #![tactic(auto)]
 
+mod asked;
 mod drawer;
 mod gate;
 pub mod laws;
+mod part;
+mod phase;
 mod segment;
 mod stock;
 mod tickets;
+mod work;
 
 pub use drawer::{Drawer, Tickets};
 pub use gate::{Gate, OpenGate};
