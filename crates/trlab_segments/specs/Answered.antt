@@ -10,6 +10,8 @@ use Rattle.trlab_segments.specs.Drawers.{IsFrom, is_ended, passes_of, tickets_of
 use Rattle.trlab_segments.specs.Segments.{first_car}
 use Rattle.trlab_step.specs.Answers.{AnswersSpeedsPart, AnswersCrossingsPart, FitsPart, CrossesFreePart}
 use Rattle.trlab_verify.specs.CheckedProgram.{CheckedProgram}
+use Rattle.std.specs.Borrow.{Bor}
+use Rattle.trlab_road.specs.declared.road.Road.{Road}
 
 -- speeds can be asked on any road
 abbrev pub HasLanes : Cells → Type 0
@@ -56,3 +58,19 @@ HasWorked IsRight tickets d told =
 abbrev pub HasNumber : {A : Type 0} → List (Part A) → ℕ → ℕ → Type 0
 HasNumber parts place number =
     (place < length parts) × ((other : Part _) → number_of (slice_index_or parts place other) ≡ number)
+
+-- a call that can be made on any road, and tells the speeds of all its cars, if memory was there
+abbrev pub TellsSpeeds : {A B E : Type 0} → (A → Bor Road → Bor CheckedProgram → Bor Dice → Type 0)
+    → (A → Bor Road → Bor CheckedProgram → Bor Dice → Result (Vec ℕ B) E → Type 0) → Type 0
+TellsSpeeds pre post = (alloc : _) (road : Bor Road) (motion : Bor CheckedProgram) (dice : Bor Dice)
+    → pre alloc road motion dice
+    × ((told : _) → post alloc road motion dice told
+      → IfOk told (λ speeds. SpeedsPart motion.now dice.now road.now 0 (cars road.now) speeds.items))
+
+-- a call that can be made on a road of two lanes, and tells which of all its cars cross, if memory was there
+abbrev pub TellsCrosses : {A B E : Type 0} → (A → Bor Road → Bor CheckedProgram → Bor Dice → Type 0)
+    → (A → Bor Road → Bor CheckedProgram → Bor Dice → Result (Vec Bool B) E → Type 0) → Type 0
+TellsCrosses pre post = (alloc : _) (road : Bor Road) (change : Bor CheckedProgram) (dice : Bor Dice)
+    → HasTwoLanes road.now → pre alloc road change dice
+    × ((told : _) → post alloc road change dice told
+      → IfOk told (λ crosses. CrossesPart change.now dice.now road.now 0 (cars road.now) crosses.items))

@@ -1,0 +1,60 @@
+//! The workers of a run, who ask the cars of a road together.
+
+ghost use Rattle.std.specs.Prelude.{◌≡◌, ◌<◌, ◌≤◌, IfOk};
+ghost use Rattle.trlab_bounds.specs.declared.runs.TheConstants.{MOST_WORKERS};
+ghost use Rattle.trlab_road.specs.Cells.{cars};
+
+use crate::asked::Asked;
+use crate::drawer::Tickets;
+use crate::gate::Gate;
+use crate::lineup::line_up;
+use crate::phase::Phase;
+use crate::segment::segment_count;
+use crate::work::share;
+use std::alloc::{AllocError, Global};
+use std::thread::Threads;
+
+/// 1 to 16 workers and their gate. The calling thread is worker 0; the others are started for each
+/// phase, and have ended when its answers are there.
+#[derive(Drop)]
+pub struct Crew<'a, R, G> {
+    rt: &'a R,
+    gate: &'a G,
+    workers: u32,
+    ghost some: { 0 < workers },
+    ghost few: { workers ≤ MOST_WORKERS },
+}
+
+impl<'a, R: Threads + Sync, G: Gate + Sync> Crew<'a, R, G> {
+    /// So many workers, each of whom passes the gate before each segment.
+    pub fn new(rt: &'a R, workers: u32, gate: &'a G) -> Crew<'a, R, G>
+        requires some { 0 < workers }
+        requires few { workers ≤ MOST_WORKERS }
+    {
+        Crew { rt, gate, workers }
+    }
+
+    /// The answers of all cars of a phase, in standing order.
+    ///
+    /// # Errors
+    ///
+    /// Where an allocation was refused to any worker.
+    pub fn ask<A: Copy + Drop + Send, P: Asked<A> + Sync>(
+        &self,
+        alloc: Global,
+        phase: &Phase<P>,
+    ) -> Result<Vec<A>, AllocError>
+        requires { P.can_ask phase.now.road.now }
+        ensures { IfOk result (λ answers. P.answers phase.now.program.now phase.now.dice.now
+            phase.now.road.now 0 (cars phase.now.road.now) answers.items) }
+    {
+        let count = segment_count(phase.road.cars(), self.workers);
+        let (tickets, drawer) = Tickets::start(alloc, count, self.workers)?;
+        let (drawer, parts) = share(self.rt, alloc, phase, &tickets, drawer, self.gate);
+        let parts = parts?;
+        match tickets.finish(drawer) {
+            Ok(()) => line_up(alloc, phase, count, &parts),
+            Err(_) => unreachable!(),
+        }
+    }
+}
