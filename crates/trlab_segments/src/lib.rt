@@ -22,6 +22,5 @@ pub use calls::Calls;
 pub use crew::Crew;
 pub use drawer::{Drawer, Tickets};
 pub use gate::{Gate, OpenGate};
-pub use phase::Phase;
 pub use segment::{Segment, segment_count};
 pub use step::step_shared;

@@ -1,16 +1,14 @@
 //! One step of a road, taken by several workers.
 
-ghost use Rattle.std.specs.Prelude.{◌≡◌, ◌<◌, ◌≤◌, IfOk, length};
+ghost use Rattle.std.specs.Prelude.{◌<◌, ◌≤◌};
 ghost use Rattle.trlab_bounds.specs.declared.runs.TheConstants.{MOST_WORKERS};
-ghost use Rattle.trlab_road.specs.Cells.{cars};
-ghost use Rattle.trlab_segments.specs.Answered.{CrossesPart, SpeedsPart};
+ghost use Rattle.trlab_segments.specs.Answered.{HasTwoLanes};
 ghost use Rattle.trlab_step.specs.Answers.{dice_of};
 ghost use Rattle.trlab_step.specs.Next.{TellsNext};
 
 use crate::calls::Calls;
 use crate::crew::Crew;
 use crate::gate::Gate;
-use crate::phase::Phase;
 use std::alloc::{AllocError, Global};
 use std::thread::Threads;
 use trlab_machine::Dice;
@@ -48,13 +46,12 @@ pub fn step_shared<R: Threads + Sync, G: Gate + Sync>(
     ensures { TellsNext rule.now (dice_of key.now.0 number step) road.now result }
 {
     let crew = Crew::new(rt, workers, gate);
-    let speeds = |alloc: Global, road: &Road, program: &Motion, dice: &Dice| -> Result<Vec<u32>, AllocError>
-        ensures { IfOk result (λ speeds. SpeedsPart program.now dice.now road.now 0 (cars road.now) speeds.items) }
-    { crew.ask(alloc, &Phase { program, road, dice }) };
-    let crossings = |alloc: Global, road: &Road, program: &Change, dice: &Dice| -> Result<Vec<bool>, AllocError>
-        requires { length road.now.lanes ≡ 2 }
-        ensures { IfOk result (λ crosses. CrossesPart program.now dice.now road.now 0 (cars road.now) crosses.items) }
-    { crew.ask(alloc, &Phase { program, road, dice }) };
+    let calls = Calls::new(
+        |alloc: Global, road: &Road, motion: &Motion, dice: &Dice| crew.speeds(alloc, road, motion, dice),
+        |alloc: Global, road: &Road, change: &Change, dice: &Dice| -> Result<Vec<bool>, AllocError>
+            requires { HasTwoLanes road.now }
+        { crew.crossings(alloc, road, change, dice) },
+    );
     let dice = Dice::new(key, number, step);
-    step_road_by(&Calls::new(speeds, crossings), alloc, road, rule, &dice)
+    step_road_by(&calls, alloc, road, rule, &dice)
 }
