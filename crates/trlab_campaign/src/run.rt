@@ -78,7 +78,9 @@ pub fn run_job_text<R: AllocGlobal + Threads + Sync, S: Source, K: Sink>(
 {
     let crew = Crew::new(rt, workers, &OpenGate).sparing();
     let asker = Calls::new(
-        |alloc: Global, road: &Road, motion: &Motion, dice: &Dice| crew.speeds(alloc, road, motion, dice),
+        |alloc: Global, road: &Road, motion: &Motion, dice: &Dice| crew.speeds(
+            alloc, road, motion, dice,
+        ),
         |alloc: Global, road: &Road, change: &Change, dice: &Dice| -> Result<Vec<bool>, AllocError>
             requires { HasTwoLanes road.now }
         { crew.crossings(alloc, road, change, dice) },

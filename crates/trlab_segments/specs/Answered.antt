@@ -65,7 +65,7 @@ abbrev pub TellsSpeeds : {A B E : Type 0} → (A → Bor Road → Bor CheckedPro
 TellsSpeeds pre post = (alloc : _) (road : Bor Road) (motion : Bor CheckedProgram) (dice : Bor Dice)
     → pre alloc road motion dice
     × ((told : _) → post alloc road motion dice told
-      → IfOk told (λ speeds. SpeedsPart motion.now dice.now road.now 0 (cars road.now) speeds.items))
+    → IfOk told (λ speeds. SpeedsPart motion.now dice.now road.now 0 (cars road.now) speeds.items))
 
 -- a call that can be made on a road of two lanes, and tells which of all its cars cross, if memory was there
 abbrev pub TellsCrosses : {A B E : Type 0} → (A → Bor Road → Bor CheckedProgram → Bor Dice → Type 0)
@@ -73,4 +73,4 @@ abbrev pub TellsCrosses : {A B E : Type 0} → (A → Bor Road → Bor CheckedPr
 TellsCrosses pre post = (alloc : _) (road : Bor Road) (change : Bor CheckedProgram) (dice : Bor Dice)
     → HasTwoLanes road.now → pre alloc road change dice
     × ((told : _) → post alloc road change dice told
-      → IfOk told (λ crosses. CrossesPart change.now dice.now road.now 0 (cars road.now) crosses.items))
+    → IfOk told (λ crosses. CrossesPart change.now dice.now road.now 0 (cars road.now) crosses.items))

@@ -36,8 +36,7 @@ pub speeds_join : (motion : CheckedProgram) (dice : Dice) (road : Cells) (from m
     → SpeedsPart motion dice road from middle first → SpeedsPart motion dice road middle to second → SpeedsPart motion dice road from to (first ++ second)
 speeds_join motion dice road from middle to first second a b =
     let size = a.0.one_each in
-    let place : (k : ℕ) → middle + k ≡ from + (length first + k) = λ k. omega (arith, size) in
-    (
+    let place : (k : ℕ) → middle + k ≡ from + (length first + k) = λ k. omega (arith, size) in (
       join_speeds motion dice road from middle to first second a.0 b.0,
       record {
         within_gaps = both 0 (λ i s. s ≤ get_or (gaps road) (from + i) 0) first second a.1.within_gaps
@@ -58,8 +57,7 @@ pub crosses_join : (change : CheckedProgram) (dice : Dice) (road : Cells) (from 
     → CrossesPart change dice road from middle first → CrossesPart change dice road middle to second → CrossesPart change dice road from to (first ++ second)
 crosses_join change dice road from middle to first second a b =
     let size = a.0.one_each in
-    let place : (k : ℕ) → middle + k ≡ from + (length first + k) = λ k. omega (arith, size) in
-    (
+    let place : (k : ℕ) → middle + k ≡ from + (length first + k) = λ k. omega (arith, size) in (
       join_crossings change dice road from middle to first second a.0 b.0,
       record {
         side_empty = both false (λ i c. c ≡ true → get_or (sides road) (from + i) false ≡ true) first second a.1.side_empty

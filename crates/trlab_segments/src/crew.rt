@@ -53,7 +53,10 @@ impl<'a, R: Threads + Sync, G: Gate + Sync> Crew<'a, R, G> {
     /// every 4000 cars of a road. One alone asks all cars at once, and passes no gate.
     pub fn sparing(self) -> Crew<'a, R, G> {
         let Crew {
-            rt, gate, workers, ..
+            rt,
+            gate,
+            workers,
+            ..
         } = self;
         let processors = thread::available_parallelism(rt).map_or(1, |count| count.get());
         let workers = if processors < workers as usize {

@@ -47,7 +47,9 @@ pub fn step_shared<R: Threads + Sync, G: Gate + Sync>(
 {
     let crew = Crew::new(rt, workers, gate);
     let calls = Calls::new(
-        |alloc: Global, road: &Road, motion: &Motion, dice: &Dice| crew.speeds(alloc, road, motion, dice),
+        |alloc: Global, road: &Road, motion: &Motion, dice: &Dice| crew.speeds(
+            alloc, road, motion, dice,
+        ),
         |alloc: Global, road: &Road, change: &Change, dice: &Dice| -> Result<Vec<bool>, AllocError>
             requires { HasTwoLanes road.now }
         { crew.crossings(alloc, road, change, dice) },

@@ -1,4 +1,4 @@
-use Rattle.std.proofs.Common.{◌≡◌, ◌+◌, length, arith, rules}
+use Rattle.std.proofs.Common.{◌≡◌, length, arith, rules}
 use Rattle.trlab_segments.proofs.calls.CallsAsker.speeds.Goals as goal
 
 pub prove-unreachable-requires : goal.prove-unreachable-requires

@@ -1,4 +1,4 @@
-use Rattle.std.proofs.Common.{IfOk, subst, ◌≡◌, ◌∙◌, ap}
+use Rattle.std.proofs.Common.{IfOk, subst, ◌∙◌, ap}
 use Rattle.trlab_road.specs.Cells.{cars}
 use Rattle.trlab_segments.proofs.Borders.{last_behind}
 use Rattle.trlab_segments.specs.Segments.{segment_count}
