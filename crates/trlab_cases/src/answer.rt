@@ -6,6 +6,7 @@ ghost use Rattle.trlab_bounds.specs.declared.runs.TheConstants.{MOST_WORKERS};
 use crate::notes::note_line;
 use crate::roads::{pictured, spread, stepped};
 use std::alloc::{AllocError, AllocGlobal, Global};
+use std::thread::Threads;
 use trlab_asm::{AsmFault, Why, assemble, disassemble};
 use trlab_campaign::{End, Watched, check_text, run_job_text};
 use trlab_code::{Code, CodeFault, Kind, decode, encode};
@@ -40,7 +41,7 @@ pub struct Answer {
 }
 
 /// The answer to a text.
-pub fn answer_to<R: AllocGlobal>(
+pub fn answer_to<R: AllocGlobal + Threads + Sync>(
     rt: &R,
     command: Command,
     text: &str,
@@ -59,7 +60,7 @@ pub fn answer_to<R: AllocGlobal>(
 }
 
 /// What a run gives, where sixteen workers give the same as one.
-fn run<R: AllocGlobal>(rt: &R, text: &[u8]) -> Result<Answer, AllocError> {
+fn run<R: AllocGlobal + Threads + Sync>(rt: &R, text: &[u8]) -> Result<Answer, AllocError> {
     let alone = run_by(rt, text, 1);
     let together = run_by(rt, text, 16);
     if alone.end == together.end && alone.output == together.output {
@@ -70,7 +71,7 @@ fn run<R: AllocGlobal>(rt: &R, text: &[u8]) -> Result<Answer, AllocError> {
 }
 
 /// What a run by so many workers gives.
-fn run_by<R: AllocGlobal>(rt: &R, text: &[u8], workers: u32) -> Answer
+fn run_by<R: AllocGlobal + Threads + Sync>(rt: &R, text: &[u8], workers: u32) -> Answer
     requires some { 1 ≤ workers }
     requires few { workers ≤ MOST_WORKERS }
 {

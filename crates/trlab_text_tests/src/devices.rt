@@ -4,6 +4,7 @@
 use std::alloc::AllocGlobal;
 use std::io;
 use std::io::{BufWriter, Error, ErrorKind, Read, Write};
+use std::thread::Threads;
 use trlab_campaign::{DeviceError, End, Sink, Source, Watched, check_text, run_job_text};
 
 /// A device of which every call fails.
@@ -78,7 +79,12 @@ fn what_is_flushed_is_handed_on(rt: HostRuntime) -> io::Result<()> {
 }
 
 /// Whether the run of a text ends so, and leaves this behind a buffer.
-fn run_leaves(rt: &impl AllocGlobal, text: &[u8], wanted: End, left: &[u8]) -> io::Result<bool> {
+fn run_leaves(
+    rt: &(impl AllocGlobal + Threads + Sync),
+    text: &[u8],
+    wanted: End,
+    left: &[u8],
+) -> io::Result<bool> {
     let alloc = rt.alloc();
     let mut writer = Watched::new(BufWriter::new(alloc, Vec::new(alloc))?);
     let end = run_job_text(rt, &mut Watched::new(text), &mut writer, 1);
