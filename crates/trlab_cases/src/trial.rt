@@ -3,11 +3,17 @@
 use crate::answer::{Answer, answer_to};
 use crate::cases::{Case, read_cases};
 use crate::parts::Broken;
+use std::alloc::AllocGlobal;
 use std::io::Write;
+use std::rt::Files;
+use std::thread::Threads;
 use std::{fs, io};
 
 /// Tries the cases of a file, and prints which gave something else, and how many there are.
-pub fn try_file(rt: &HostRuntime, name: &str) -> io::Result<()> {
+pub fn try_file(
+    rt: &(impl AllocGlobal + Files + Print + Threads + Sync),
+    name: &str,
+) -> io::Result<()> {
     let text = fs::read_to_string(rt, name)?;
     match read_cases(rt.alloc(), text.as_str()) {
         Ok(cases) => try_cases(rt, name, &cases),
@@ -16,7 +22,11 @@ pub fn try_file(rt: &HostRuntime, name: &str) -> io::Result<()> {
     }
 }
 
-fn try_cases(rt: &HostRuntime, name: &str, cases: &[Case<'_>]) -> io::Result<()> {
+fn try_cases(
+    rt: &(impl AllocGlobal + Files + Print + Threads + Sync),
+    name: &str,
+    cases: &[Case<'_>],
+) -> io::Result<()> {
     let mut others = 0u64;
     for case in cases {
         let came = answer_to(rt, case.command, case.text.as_str())?;
@@ -36,7 +46,7 @@ fn try_cases(rt: &HostRuntime, name: &str, cases: &[Case<'_>]) -> io::Result<()>
 }
 
 /// Prints what a case gave in place of what was wanted.
-fn tell(rt: &HostRuntime, name: &str, case: &Case<'_>, came: &Answer) -> io::Result<()> {
+fn tell(rt: &impl Print, name: &str, case: &Case<'_>, came: &Answer) -> io::Result<()> {
     let Case {
         title,
         line,
