@@ -12,6 +12,7 @@ pub const MOST_QUOTED: usize = 80;
 /// A page: printable characters of ASCII, in lines.
 #[derive(Drop)]
 pub struct Page {
+    alloc: Global,
     text: Vec<u8>,
 }
 
@@ -51,6 +52,7 @@ impl Page {
         ensures { result ≡ [] }
     {
         Page {
+            alloc,
             text: Vec::new(alloc),
         }
     }
@@ -61,6 +63,17 @@ impl Page {
         ensures { OnOk result (self.new ≡ self.old ++ byte ∷ []) }
     {
         self.text.push(byte)?;
+        Ok(())
+    }
+
+    /// Adds plain text.
+    fn put(&mut self, text: &[u8]) -> Result<(), AllocError>
+        requires { All IsPlain text.now }
+        ensures { OnOk result (self.new ≡ self.old ++ text.now) }
+    {
+        for byte in text {
+            self.push(*byte)?;
+        }
         Ok(())
     }
 
@@ -96,8 +109,22 @@ impl Page {
     /// # Errors
     ///
     /// Want of memory.
-    pub fn say(&mut self, words: &str) -> Result<(), AllocError> {
+    pub fn say(&mut self, words: &str) -> Result<(), AllocError>
+        ensures { OnOk result (self.new ≡ self.old ++ all_shown words.now) }
+    {
         self.show_all(words.as_bytes())
+    }
+
+    /// Adds the decimal digits of a number.
+    ///
+    /// # Errors
+    ///
+    /// Want of memory.
+    pub fn number(&mut self, number: u64) -> Result<(), AllocError>
+        ensures { OnOk result (self.new ≡ self.old ++ decimal number) }
+    {
+        let digits = format!(in self.alloc; "{number}")?;
+        self.put(digits.as_bytes())
     }
 
     /// Ends the line.
@@ -116,7 +143,9 @@ impl Page {
     /// # Errors
     ///
     /// Want of memory.
-    pub fn line(&mut self, words: &str) -> Result<(), AllocError> {
+    pub fn line(&mut self, words: &str) -> Result<(), AllocError>
+        ensures { OnOk result (self.new ≡ self.old ++ all_shown words.now ++ 10 ∷ []) }
+    {
         self.say(words)?;
         self.end_line()
     }
