@@ -1,0 +1,16 @@
+//! What a refused text most likely needs: which line had to stand where its fault is, what is odd
+//! about the line that stands there, and a repair where one is likely. Nothing is judged here: the
+//! faults are those that the readers tell.
+#![tactic(auto)]
+
+mod line;
+
+mod odd;
+
+mod spot;
+
+pub use line::line_at;
+
+pub use odd::{Oddity, oddity_of};
+
+pub use spot::{Spot, spot_at};
