@@ -1,2 +1,3 @@
 pub mod Quoting
 pub mod Oddities
+pub mod Subjects

@@ -8,9 +8,11 @@ mod line;
 mod odd;
 
 mod spot;
+mod subject;
 
 pub use line::line_at;
 
 pub use odd::{Oddity, oddity_of};
 
 pub use spot::{Spot, spot_at};
+pub use subject::{Subject, subject_of};

@@ -169,6 +169,17 @@ impl Page {
         }
     }
 
+    /// Adds another page.
+    ///
+    /// # Errors
+    ///
+    /// Want of memory.
+    pub fn add(&mut self, page: &Page) -> Result<(), AllocError>
+        ensures { OnOk result (self.new ≡ self.old ++ page.now) }
+    {
+        self.put(page.text())
+    }
+
     /// The text of the page.
     pub fn text(&self) -> &[u8]
         ensures value { result.now ≡ self.now }

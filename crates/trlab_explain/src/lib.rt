@@ -1,0 +1,16 @@
+//! Explanations: what is wrong with a refused text and how it may be mended, or what a good one
+//! will do, in plain words.
+#![tactic(auto)]
+
+mod causes;
+mod check;
+mod explain;
+mod fault;
+mod head;
+mod job;
+mod reasons;
+mod spots;
+mod verdict;
+
+pub use explain::explain_text;
+pub use trlab_advice::Subject;

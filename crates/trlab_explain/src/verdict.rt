@@ -1,0 +1,82 @@
+//! The explanation of the verdict on a program.
+
+ghost use Rattle.std.specs.Prelude.{IfOk, true, false};
+ghost use Rattle.trlab_verify.specs.Faults.{Tells};
+ghost use Rattle.trlab_jobs.specs.Check.{Check as Request};
+ghost use Rattle.trlab_explain.specs.Explanations.{BeginsWith, ProgramTold};
+ghost use Rattle.trlab_campaign.specs.CheckOutput.{refused_line};
+
+use crate::head::push_refused_line;
+use crate::reasons::meaning_of_reason;
+use std::alloc::{AllocError, Global};
+use trlab_code::{Code, Kind};
+use trlab_jobs::Check;
+use trlab_prose::Page;
+use trlab_verify::{VerifyFault, verify_change, verify_motion};
+
+/// The page on a program that is accepted.
+fn accepted_page(alloc: Global, budget: u32) -> Result<Page, AllocError> {
+    let mut page = Page::new(alloc);
+    page.say("This driver program is accepted: a car needs at most ")?;
+    page.number(u64::from(budget))?;
+    page.line(" instructions for a step.")?;
+    Ok(page)
+}
+
+/// What is told of a refused program behind its head.
+fn refused_body(alloc: Global, at: u32, reason: u32) -> Result<Page, AllocError> {
+    let mut page = Page::new(alloc);
+    page.say("Reason ")?;
+    page.number(u64::from(reason))?;
+    page.say(": ")?;
+    page.line(meaning_of_reason(reason))?;
+    Ok(page)
+}
+
+/// The page on a program that is refused.
+fn refused_page(alloc: Global, at: u32, reason: u32) -> Result<Page, AllocError>
+    ensures { IfOk result (BeginsWith (refused_line at reason)) }
+{
+    let mut page = Page::new(alloc);
+    push_refused_line(&mut page, at, reason)?;
+    let body = refused_body(alloc, at, reason)?;
+    page.add(&body)?;
+    Ok(page)
+}
+
+/// What is told of a program that the verifier does not accept.
+fn explain_refusal(
+    alloc: Global,
+    text: &[u8],
+    code: &Code,
+    fault: VerifyFault,
+) -> Result<(bool, Page), AllocError>
+    ensures { (check : Request) → Tells check.program.kind check.program fault
+        → IfOk result (λ told. ProgramTold check told.0 told.1) }
+{
+    match fault {
+        VerifyFault::Why { at, reason } => Ok((true, refused_page(alloc, at, reason)?)),
+        VerifyFault::Memory => Err(AllocError),
+    }
+}
+
+/// Whether the program of a check text is refused, and the page on it.
+///
+/// # Errors
+///
+/// Want of memory.
+pub fn explain_program(alloc: Global, text: &[u8], check: Check) -> Result<(bool, Page), AllocError>
+    ensures { IfOk result (λ told. ProgramTold check told.0 told.1) }
+{
+    let Check { code, .. } = check;
+    match code.kind() {
+        Kind::Motion => match verify_motion(alloc, code) {
+            Ok(motion) => Ok((false, accepted_page(alloc, motion.budget())?)),
+            Err((code, fault)) => explain_refusal(alloc, text, &code, fault),
+        },
+        Kind::Change => match verify_change(alloc, code) {
+            Ok(change) => Ok((false, accepted_page(alloc, change.budget())?)),
+            Err((code, fault)) => explain_refusal(alloc, text, &code, fault),
+        },
+    }
+}
