@@ -4,15 +4,11 @@
 #![tactic(auto)]
 
 mod line;
-
 mod odd;
-
 mod spot;
 mod subject;
 
 pub use line::line_at;
-
 pub use odd::{Oddity, oddity_of};
-
 pub use spot::{Spot, spot_at};
 pub use subject::{Subject, subject_of};

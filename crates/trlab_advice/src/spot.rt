@@ -56,7 +56,11 @@ impl Walk {
 
     /// Behind a rule with its programs.
     fn behind_rule(self) -> Walk {
-        self.to(if self.is_later { Spot::Later } else { Spot::Steps })
+        self.to(if self.is_later {
+            Spot::Later
+        } else {
+            Spot::Steps
+        })
     }
 
     /// Behind the line of a rule.
@@ -69,7 +73,11 @@ impl Walk {
 
     /// Behind a line of a program, whose last is `end`.
     fn behind_program_line(self, line: &[u8], behind: Walk) -> Walk {
-        if line == b"end".as_slice() { behind } else { self }
+        if line == b"end".as_slice() {
+            behind
+        } else {
+            self
+        }
     }
 
     /// Behind the line `steps n`, or a later rule.

@@ -11,7 +11,8 @@ pub fn expected_at(spot: Spot) -> &'static str {
         Spot::Lane => {
             "Expected: `lane P`, P 1 to 100000 cells: `.` is empty, a car is its speed, 0 to 9, a to z."
         }
-        Spot::LaneOrRule => "Expected: a second `lane P`, or a rule: `rule nasch t`, `rule vdr t t0`, `rule own`.",
+        Spot::LaneOrRule =>
+            "Expected: a second `lane P`, or a rule: `rule nasch t`, `rule vdr t t0`, `rule own`.",
         Spot::Rule => {
             "Expected: `rule nasch t`, `rule vdr t t0`, `rule rickert t c` or `rule own`; t, t0, c from 0 to 2147483648."
         }
