@@ -8,8 +8,12 @@ mod explain;
 mod fault;
 mod head;
 mod job;
+mod marks;
+mod operands;
 mod reasons;
+mod refusal;
 mod spots;
+mod standing;
 mod verdict;
 
 pub use explain::explain_text;

@@ -7,11 +7,14 @@ ghost use Rattle.trlab_explain.specs.Explanations.{BeginsWith, ProgramTold};
 ghost use Rattle.trlab_campaign.specs.CheckOutput.{refused_line};
 
 use crate::head::push_refused_line;
-use crate::reasons::meaning_of_reason;
+use crate::refusal::{Refused, push_refusal};
+use crate::standing::{Standing, behind_line};
 use std::alloc::{AllocError, Global};
+use trlab_advice::line_at;
 use trlab_code::{Code, Kind};
 use trlab_jobs::Check;
 use trlab_prose::Page;
+use trlab_texts::word::behind;
 use trlab_verify::{VerifyFault, verify_change, verify_motion};
 
 /// The page on a program that is accepted.
@@ -23,23 +26,49 @@ fn accepted_page(alloc: Global, budget: u32) -> Result<Page, AllocError> {
     Ok(page)
 }
 
+/// Where the instructions of the program of a check text stand.
+fn standing_of(alloc: Global, text: &[u8]) -> Result<Standing, AllocError> {
+    match line_at(text, 1) {
+        Some(line) if behind(b"code ", line).is_some() => Ok(Standing::of_bytes(alloc)),
+        Some(line) if behind(b"notes code ", line).is_some() => Ok(Standing::of_bytes(alloc)),
+        _ => Standing::of_lines(alloc, 1, behind_line(text, 1)),
+    }
+}
+
 /// What is told of a refused program behind its head.
-fn refused_body(alloc: Global, at: u32, reason: u32) -> Result<Page, AllocError> {
+fn refused_body(
+    alloc: Global,
+    text: &[u8],
+    code: &Code,
+    at: u32,
+    reason: u32,
+) -> Result<Page, AllocError> {
     let mut page = Page::new(alloc);
-    page.say("Reason ")?;
-    page.number(u64::from(reason))?;
-    page.say(": ")?;
-    page.line(meaning_of_reason(reason))?;
+    let standing = standing_of(alloc, text)?;
+    let refused = Refused {
+        text,
+        code,
+        standing: &standing,
+        at,
+        reason,
+    };
+    push_refusal(alloc, &mut page, &refused)?;
     Ok(page)
 }
 
 /// The page on a program that is refused.
-fn refused_page(alloc: Global, at: u32, reason: u32) -> Result<Page, AllocError>
+fn refused_page(
+    alloc: Global,
+    text: &[u8],
+    code: &Code,
+    at: u32,
+    reason: u32,
+) -> Result<Page, AllocError>
     ensures { IfOk result (BeginsWith (refused_line at reason)) }
 {
     let mut page = Page::new(alloc);
     push_refused_line(&mut page, at, reason)?;
-    let body = refused_body(alloc, at, reason)?;
+    let body = refused_body(alloc, text, code, at, reason)?;
     page.add(&body)?;
     Ok(page)
 }
@@ -55,7 +84,7 @@ fn explain_refusal(
         → IfOk result (λ told. ProgramTold check told.0 told.1) }
 {
     match fault {
-        VerifyFault::Why { at, reason } => Ok((true, refused_page(alloc, at, reason)?)),
+        VerifyFault::Why { at, reason } => Ok((true, refused_page(alloc, text, code, at, reason)?)),
         VerifyFault::Memory => Err(AllocError),
     }
 }
