@@ -3,12 +3,16 @@
 //! faults are those that the readers tell.
 #![tactic(auto)]
 
+mod alike;
 mod line;
 mod odd;
+mod repairs;
 mod spot;
 mod subject;
 
+pub use alike::nearest;
 pub use line::line_at;
 pub use odd::{Oddity, oddity_of};
+pub use repairs::{Repair, likely_repair};
 pub use spot::{Spot, spot_at};
 pub use subject::{Subject, subject_of};
