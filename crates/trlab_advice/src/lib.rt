@@ -13,6 +13,6 @@ mod subject;
 pub use alike::nearest;
 pub use line::line_at;
 pub use odd::{Oddity, oddity_of};
-pub use repairs::{Repair, likely_repair};
+pub use repairs::{Repair, likely_repair, name_and_operands};
 pub use spot::{Spot, spot_at};
 pub use subject::{Subject, subject_of};

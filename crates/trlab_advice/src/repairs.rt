@@ -11,6 +11,7 @@ use crate::line::line_at;
 use crate::odd::Oddity;
 use crate::repairs::line::line_repair;
 use crate::repairs::number::{hex_repair, key_repair, number_repair};
+pub use crate::repairs::program::name_and_operands;
 use crate::repairs::program::{operand_repair, word_repair};
 use crate::subject::Subject;
 use std::alloc::{AllocError, Global};

@@ -2,14 +2,19 @@
 //! will do, in plain words.
 #![tactic(auto)]
 
+mod accepted;
 mod causes;
 mod check;
 mod explain;
 mod fault;
+mod forms;
 mod head;
 mod job;
 mod marks;
+mod mends;
 mod operands;
+mod part;
+mod placed;
 mod reasons;
 mod refusal;
 mod spots;

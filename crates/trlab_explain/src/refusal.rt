@@ -3,54 +3,22 @@
 
 use crate::marks::{push_known, push_register};
 use crate::operands::{leads_to, operands};
+use crate::placed::{Placed, push_instruction};
 use crate::reasons::{meaning_of_reason, repair_of_reason};
-use crate::standing::Standing;
 use std::alloc::{AllocError, Global};
-use trlab_advice::line_at;
-use trlab_asm::disassemble;
-use trlab_code::{Code, Instr, Register};
+use trlab_code::{Instr, Register};
 use trlab_prose::Page;
 use trlab_verify::{Mark, Note, notes_of_refused};
 
-/// A program that is refused, and where it stands.
+/// A program that is refused.
 #[derive(Clone, Copy)]
 pub struct Refused<'a> {
-    /// The whole text.
-    pub text: &'a [u8],
-    /// The program.
-    pub code: &'a Code,
-    /// The lines of its instructions.
-    pub standing: &'a Standing,
+    /// The program, and where it stands.
+    pub program: Placed<'a>,
     /// The refused instruction, counted from 0.
     pub at: u32,
     /// The number of the reason, 1 to 12.
     pub reason: u32,
-}
-
-/// Adds an instruction: its line of the text, or as the laboratory writes it where it has none.
-fn push_instruction(
-    alloc: Global,
-    page: &mut Page,
-    refused: &Refused<'_>,
-    pc: u32,
-) -> Result<(), AllocError> {
-    if let Some(number) = refused.standing.line_of(pc as usize) {
-        page.say("line ")?;
-        page.number(u64::from(number))?;
-        page.say(": ")?;
-        if let Some(line) = line_at(refused.text, number) {
-            page.quote(line)?;
-        }
-        return page.end_line();
-    }
-    let program = disassemble(alloc, refused.code)?;
-    page.say("instruction ")?;
-    page.number(u64::from(pc))?;
-    page.say(": ")?;
-    if let Some(line) = line_at(&program, pc.saturating_add(1)) {
-        page.quote(line)?;
-    }
-    page.end_line()
 }
 
 /// Adds what a note says of a register that is read, if one is.
@@ -142,7 +110,7 @@ fn push_why(page: &mut Page, reason: u32, note: &Note, instr: Instr) -> Result<(
 fn count_ways(refused: &Refused<'_>) -> u32 {
     let mut ways = 0u32;
     for pc in 0..refused.at {
-        if leads_to(refused.code.instrs(), pc as usize, refused.at as usize) {
+        if leads_to(refused.program.code.instrs(), pc as usize, refused.at as usize) {
             ways = ways.saturating_add(1);
         }
     }
@@ -156,8 +124,8 @@ fn push_ways(alloc: Global, page: &mut Page, refused: &Refused<'_>) -> Result<()
     }
     page.line("Several ways lead to it, and only what all of them know is known there:")?;
     for pc in 0..refused.at {
-        if leads_to(refused.code.instrs(), pc as usize, refused.at as usize) {
-            push_instruction(alloc, page, refused, pc)?;
+        if leads_to(refused.program.code.instrs(), pc as usize, refused.at as usize) {
+            push_instruction(alloc, page, refused.program, pc)?;
         }
     }
     Ok(())
@@ -168,7 +136,7 @@ fn push_skip(alloc: Global, page: &mut Page, refused: &Refused<'_>) -> Result<()
     match refused.at.checked_sub(1) {
         Some(above) => {
             page.line("The instruction above leads elsewhere, and no jump leads here:")?;
-            push_instruction(alloc, page, refused, above)
+            push_instruction(alloc, page, refused.program, above)
         }
         None => Ok(()),
     }
@@ -176,11 +144,11 @@ fn push_skip(alloc: Global, page: &mut Page, refused: &Refused<'_>) -> Result<()
 
 /// Adds what is known where the refused instruction stands.
 fn push_notes(alloc: Global, page: &mut Page, refused: &Refused<'_>) -> Result<(), AllocError> {
-    let Some(notes) = notes_of_refused(alloc, refused.code)? else {
+    let Some(notes) = notes_of_refused(alloc, refused.program.code)? else {
         return Ok(());
     };
     let at = refused.at as usize;
-    let instrs = refused.code.instrs();
+    let instrs = refused.program.code.instrs();
     if let (Some(note), Some(instr)) = (notes.get(at), instrs.get(at)) {
         push_operands(page, note, *instr)?;
         push_why(page, refused.reason, note, *instr)?;
@@ -198,7 +166,7 @@ pub fn push_refusal(
     page: &mut Page,
     refused: &Refused<'_>,
 ) -> Result<(), AllocError> {
-    push_instruction(alloc, page, refused, refused.at)?;
+    push_instruction(alloc, page, refused.program, refused.at)?;
     page.say("Reason ")?;
     page.number(u64::from(refused.reason))?;
     page.say(": ")?;
@@ -210,5 +178,5 @@ pub fn push_refusal(
         push_ways(alloc, page, refused)?;
     }
     page.say("Repair: ")?;
-    page.line(repair_of_reason(refused.reason, refused.code.kind()))
+    page.line(repair_of_reason(refused.reason, refused.program.code.kind()))
 }

@@ -6,7 +6,9 @@ ghost use Rattle.trlab_jobs.specs.Check.{Check as Request};
 ghost use Rattle.trlab_explain.specs.Explanations.{BeginsWith, ProgramTold};
 ghost use Rattle.trlab_campaign.specs.CheckOutput.{refused_line};
 
+use crate::accepted::push_accepted;
 use crate::head::push_refused_line;
+use crate::placed::Placed;
 use crate::refusal::{Refused, push_refusal};
 use crate::standing::{Standing, behind_line};
 use std::alloc::{AllocError, Global};
@@ -17,15 +19,6 @@ use trlab_prose::Page;
 use trlab_texts::word::behind;
 use trlab_verify::{VerifyFault, verify_change, verify_motion};
 
-/// The page on a program that is accepted.
-fn accepted_page(alloc: Global, budget: u32) -> Result<Page, AllocError> {
-    let mut page = Page::new(alloc);
-    page.say("This driver program is accepted: a car needs at most ")?;
-    page.number(u64::from(budget))?;
-    page.line(" instructions for a step.")?;
-    Ok(page)
-}
-
 /// Where the instructions of the program of a check text stand.
 fn standing_of(alloc: Global, text: &[u8]) -> Result<Standing, AllocError> {
     match line_at(text, 1) {
@@ -33,6 +26,24 @@ fn standing_of(alloc: Global, text: &[u8]) -> Result<Standing, AllocError> {
         Some(line) if behind(b"notes code ", line).is_some() => Ok(Standing::of_bytes(alloc)),
         _ => Standing::of_lines(alloc, 1, behind_line(text, 1)),
     }
+}
+
+/// The page on a program that is accepted.
+fn accepted_page(
+    alloc: Global,
+    text: &[u8],
+    code: &Code,
+    budget: u32,
+) -> Result<Page, AllocError> {
+    let mut page = Page::new(alloc);
+    let standing = standing_of(alloc, text)?;
+    let program = Placed {
+        text,
+        code,
+        standing: &standing,
+    };
+    push_accepted(alloc, &mut page, program, budget)?;
+    Ok(page)
 }
 
 /// What is told of a refused program behind its head.
@@ -45,14 +56,12 @@ fn refused_body(
 ) -> Result<Page, AllocError> {
     let mut page = Page::new(alloc);
     let standing = standing_of(alloc, text)?;
-    let refused = Refused {
+    let program = Placed {
         text,
         code,
         standing: &standing,
-        at,
-        reason,
     };
-    push_refusal(alloc, &mut page, &refused)?;
+    push_refusal(alloc, &mut page, &Refused { program, at, reason })?;
     Ok(page)
 }
 
@@ -100,11 +109,11 @@ pub fn explain_program(alloc: Global, text: &[u8], check: Check) -> Result<(bool
     let Check { code, .. } = check;
     match code.kind() {
         Kind::Motion => match verify_motion(alloc, code) {
-            Ok(motion) => Ok((false, accepted_page(alloc, motion.budget())?)),
+            Ok(motion) => Ok((false, accepted_page(alloc, text, motion.code(), motion.budget())?)),
             Err((code, fault)) => explain_refusal(alloc, text, &code, fault),
         },
         Kind::Change => match verify_change(alloc, code) {
-            Ok(change) => Ok((false, accepted_page(alloc, change.budget())?)),
+            Ok(change) => Ok((false, accepted_page(alloc, text, change.code(), change.budget())?)),
             Err((code, fault)) => explain_refusal(alloc, text, &code, fault),
         },
     }
