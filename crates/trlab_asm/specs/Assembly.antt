@@ -1,6 +1,6 @@
 -- What program the lines of a text say. The first pass reads them in order, the second gives jumps the pcs of
 -- their labels.
-use Rattle.std.specs.Prelude.{◌≡◌, ℕ, ◌+◌, ◌==◌, List, [], ◌∷◌, ◌++◌, length, bytes_eq, Option, None, Some, Result, Ok, Err, if◌then◌else◌}
+use Rattle.std.specs.Prelude.{◌≡◌, ℕ, ◌+◌, ◌==◌, List, [], ◌∷◌, ◌++◌, length, map, bytes_eq, Option, None, Some, Result, Ok, Err, if◌then◌else◌}
 use Rattle.std.specs.Map.{update}
 use Rattle.trlab_code.specs.Program.{Program}
 use Rattle.trlab_code.specs.declared.kind.Kind.{Kind}
@@ -26,6 +26,10 @@ pub record LineDraft : Type 0 where
 pub record Parts : Type 0 where
   pub labels : Labels
   pub reads : List LineDraft
+
+-- the numbers of the lines of the instructions
+abbrev pub line_numbers : Parts → List ℕ
+line_numbers parts = map (λ read. read.line) parts.reads
 
 -- of no line
 abbrev pub nothing : Parts

@@ -1,12 +1,12 @@
 //! The assembler: a first pass over the lines finds labels and instructions, a second one gives jumps
 //! the pcs of their labels.
 
-ghost use Rattle.std.specs.Prelude.{◌≡◌, ◌≤◌, ◌⊎◌, vec_len, All, MatchResult, IfOk};
+ghost use Rattle.std.specs.Prelude.{◌≡◌, ◌≤◌, ◌⊎◌, Ok, vec_len, All, MatchResult, IfOk};
 ghost use Rattle.trlab_code.specs.Program.{InRange};
 ghost use Rattle.trlab_bounds.specs.declared.programs.TheConstants.{MOST_INSTRUCTIONS};
 ghost use Rattle.trlab_asm.specs.Lines.{lines_of};
 ghost use Rattle.trlab_asm.specs.Stored.{pcs, stored_parts};
-ghost use Rattle.trlab_asm.specs.Assembly.{nothing, first_pass, with_target, resolve, instrs_of, code_of, IsOutOfMemory};
+ghost use Rattle.trlab_asm.specs.Assembly.{Parts as Found, nothing, first_pass, with_target, resolve, instrs_of, code_of, line_numbers, IsOutOfMemory};
 
 use crate::fault::{AsmFault, Why};
 use crate::labels::Labels;
@@ -110,4 +110,22 @@ pub fn assemble(alloc: Global, kind: Kind, text: &[u8]) -> Result<Code, AsmFault
         Some(code) => Ok(code),
         None => unreachable!(),
     }
+}
+
+/// The numbers of the lines on which the instructions of a text stand, counted from 1.
+///
+/// # Errors
+///
+/// The first fault of the text, where it is not a jump's label that is nowhere; or want of memory.
+pub fn instruction_lines(alloc: Global, text: &[u8]) -> Result<Vec<usize>, AsmFault>
+    ensures { IfOk result (λ numbers. (parts : Found)
+        × (first_pass nothing 1 (lines_of text.now) ≡ Ok parts) × (numbers.items ≡ line_numbers parts)) }
+{
+    let parts = read_parts(alloc, text)?;
+    let reads = parts.reads();
+    let mut numbers = Vec::with_capacity(alloc, reads.len())?;
+    for read in reads {
+        numbers.push(read.line()).map_err(AllocError::from)?;
+    }
+    Ok(numbers)
 }

@@ -50,7 +50,7 @@ pub fn cut(text: &[u8], byte: u8) -> Option<(&[u8], &[u8])>
 }
 
 /// A text without the blanks at its front.
-pub(crate) fn without_indent(text: &[u8]) -> &[u8]
+pub fn without_indent(text: &[u8]) -> &[u8]
     ensures { result.now ≡ without_indent text.now }
 {
     match first_of_word(text) {
@@ -63,7 +63,7 @@ pub(crate) fn without_indent(text: &[u8]) -> &[u8]
 }
 
 /// A text up to its first blank, and the rest.
-pub(crate) fn up_to_blank(text: &[u8]) -> (&[u8], &[u8])
+pub fn up_to_blank(text: &[u8]) -> (&[u8], &[u8])
     ensures { (result.0.now, result.1.now) ≡ up_to_blank text.now }
 {
     match first_blank(text) {
@@ -80,7 +80,7 @@ fn first_word(text: &[u8]) -> (&[u8], &[u8])
 }
 
 /// The word of a text that has but blanks beside it; of blanks alone it is the empty word.
-pub(crate) fn only_word(text: &[u8]) -> Option<&[u8]>
+pub fn only_word(text: &[u8]) -> Option<&[u8]>
     ensures { option_map (λ word. word.now) result ≡ only_word text.now }
 {
     let (word, rest) = first_word(text);
@@ -92,7 +92,7 @@ pub(crate) fn only_word(text: &[u8]) -> Option<&[u8]>
 }
 
 /// A line without its comment.
-pub(crate) fn without_comment(line: &[u8]) -> &[u8]
+pub fn without_comment(line: &[u8]) -> &[u8]
     ensures { result.now ≡ without_comment line.now }
 {
     match cut(line, b';') {
@@ -102,7 +102,7 @@ pub(crate) fn without_comment(line: &[u8]) -> &[u8]
 }
 
 /// What stands before the first colon, if there is one, and what stands behind.
-pub(crate) fn label_and_rest(text: &[u8]) -> (Option<&[u8]>, &[u8])
+pub fn label_and_rest(text: &[u8]) -> (Option<&[u8]>, &[u8])
     ensures { (option_map (λ label. label.now) result.0, result.1.now) ≡ label_and_rest text.now }
 {
     match cut(text, b':') {

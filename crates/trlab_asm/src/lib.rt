@@ -17,10 +17,14 @@ mod printing;
 mod reading;
 mod target;
 
-pub use assembly::assemble;
+pub use assembly::{assemble, instruction_lines};
 pub use canonical::disassemble;
-pub use cutting::cut;
+pub use cutting::{cut, label_and_rest, only_word, up_to_blank, without_comment, without_indent};
 pub use fault::{AsmFault, Why};
 pub use lines::next_line;
-pub use names::{REGISTERS, register_text};
+pub use names::{
+    INPUTS, MNEMONICS, Mnemonic, REGISTERS, input_text, mnemonic_named, mnemonic_text,
+    register_text,
+};
 pub use numbers::{digits_value, is_numeral};
+pub use target::is_label;

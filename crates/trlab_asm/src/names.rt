@@ -19,7 +19,7 @@ pub const REGISTERS: [Register; 8] = [
 ];
 
 /// All inputs.
-pub(crate) const INPUTS: [Input; 7] = [
+pub const INPUTS: [Input; 7] = [
     Input::Speed,
     Input::Limit,
     Input::Gap,
@@ -31,7 +31,7 @@ pub(crate) const INPUTS: [Input; 7] = [
 
 /// The name of an instruction.
 #[derive(Clone, Copy, Debug, PartialEq, Eq)]
-pub(crate) enum Mnemonic {
+pub enum Mnemonic {
     Num,
     Get,
     Side,
@@ -57,7 +57,7 @@ pub(crate) enum Mnemonic {
 }
 
 /// All names of instructions.
-pub(crate) const MNEMONICS: [Mnemonic; 22] = [
+pub const MNEMONICS: [Mnemonic; 22] = [
     Mnemonic::Num,
     Mnemonic::Get,
     Mnemonic::Side,
@@ -99,7 +99,7 @@ pub fn register_text(register: Register) -> &'static [u8]
 }
 
 /// The text of an input.
-pub(crate) fn input_text(input: Input) -> &'static [u8]
+pub fn input_text(input: Input) -> &'static [u8]
     ensures { result.now ≡ input_text input }
 {
     match input {
@@ -114,7 +114,7 @@ pub(crate) fn input_text(input: Input) -> &'static [u8]
 }
 
 /// The text of an instruction's name.
-pub(crate) fn mnemonic_text(name: Mnemonic) -> &'static [u8]
+pub fn mnemonic_text(name: Mnemonic) -> &'static [u8]
     ensures { result.now ≡ mnemonic_text name }
 {
     match name {
@@ -178,7 +178,7 @@ fn input_among(inputs: &[Input], word: &[u8]) -> Option<Input>
 }
 
 /// The instruction's name of a text.
-pub(crate) fn mnemonic_named(word: &[u8]) -> Option<Mnemonic>
+pub fn mnemonic_named(word: &[u8]) -> Option<Mnemonic>
     ensures { result ≡ mnemonic_named word.now }
 {
     mnemonic_among(&MNEMONICS, word)

@@ -30,7 +30,7 @@ fn all_label_bytes(text: &[u8]) -> bool
 }
 
 /// Can a word be a label?
-pub(crate) fn is_label(text: &[u8]) -> bool
+pub fn is_label(text: &[u8]) -> bool
     ensures { result ≡ is_label text.now }
 {
     !text.is_empty()

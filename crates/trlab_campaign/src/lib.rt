@@ -13,10 +13,13 @@ mod run;
 mod verdict;
 
 pub use check::check_text;
-pub use device::{DeviceError, Sink, Source, Watched};
+pub use device::{DeviceError, ReadFault, Sink, Source, Watched, read_text};
 pub use end::End;
+pub use output::fault_line;
+pub use refusal::write_output;
 pub use run::run_job_text;
 pub use trlab_bounds::runs::{MOST_LATER, MOST_STEPS, MOST_WORKERS};
 pub use trlab_bounds::texts::TEXT_LIMIT;
 pub use trlab_jobs::{Job, read_job};
 pub use trlab_texts::{Cause, TextFault};
+pub use verdict::refused_line;

@@ -27,7 +27,11 @@ fn accepted_text(alloc: Global, budget: u32, code: &Code) -> Result<Vec<u8>, All
 }
 
 /// What is written for a refused program: where it is refused, and why.
-fn refused_line(alloc: Global, at: u32, reason: u32) -> Result<Vec<u8>, AllocError>
+///
+/// # Errors
+///
+/// Want of memory.
+pub fn refused_line(alloc: Global, at: u32, reason: u32) -> Result<Vec<u8>, AllocError>
     ensures { IfOk result (λ text. text.items ≡ refused_line at reason) }
 {
     let line = format!(in alloc; "refused at {at} reason {reason}\n")?;

@@ -12,6 +12,9 @@ Each command reads one text on standard input and writes to standard output.
 Example:
   trlab run < examples/two_cars.job
 
+A refused text is told by its line and the number of a cause:
+  trlab explain < FILE    says in words what is wrong there and how to mend it
+
 Exit statuses:
   0  done
   1  the text or the program is refused: standard output says where and why
@@ -34,7 +37,8 @@ Standard output:
   `accepted budget B`, B the most instructions that a call can take, and then
   the program in its canonical form; `refused at PC reason R`, where the
   verifier refuses it; or `fault line N cause K`, where the text has a fault.
-  docs/TEXTS.md explains the reasons and the causes.
+  `trlab explain check` says in words what is wrong, and docs/TEXTS.md has the
+  reasons and the causes.
 
 Example:
   printf 'motion\\nget r0, speed\\nget r1, gap\\nmin r0, r0, r1\\ngo r0\\n' | trlab check";
@@ -51,7 +55,8 @@ Standard input:
 Standard output:
   For each step a line `step s` and the picture of each lane: `.` is an empty
   cell, a digit a car and its speed. Or `fault line N cause K`, where the text
-  has a fault. docs/TEXTS.md explains job texts and the causes.
+  has a fault: `trlab explain run` says it in words, and docs/TEXTS.md explains
+  job texts and the causes.
 
 Example:
   trlab run < examples/two_cars.job";
@@ -59,3 +64,21 @@ Example:
 /// What the option of `run` is for.
 pub const WORKERS_HELP: &str =
     "How many workers may share the work, 1 to 16; the output is the same";
+
+/// The help of `explain`.
+pub const EXPLAIN_HELP: &str = "\
+Says in words what is wrong with a text and how to mend it, or what a good one does
+
+Usage: trlab explain [run|check]
+
+Standard input:
+  A job text, as `trlab run` reads it, or a check text, as `trlab check` does.
+  Without a word it is a job text where its first word is `road`.
+
+Standard output:
+  Of a refused text the line that the command would write, the line of the
+  text that is at fault, what was expected there, and a repair where one is
+  likely. Of a good text what it does.
+
+Example:
+  trlab explain run < examples/two_cars.job";

@@ -3,10 +3,14 @@
 #![tactic(auto)]
 
 mod command;
+mod explain;
 mod help;
 mod status;
 mod words;
 
 pub use command::carry_out;
+pub use explain::{Explaining, explain_words};
+pub use help::EXPLAIN_HELP;
+pub use trlab_explain::{Subject, explain_text};
 pub use status::{REFUSED_WORDS, status_of_end, status_of_print, status_of_words};
 pub use words::{Wanted, read_words};

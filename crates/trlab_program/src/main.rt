@@ -1,7 +1,7 @@
 //! The program `trlab`: it does what its words ask for, from standard input to standard output.
 #![tactic(auto)]
 
-ghost use Rattle.std.specs.Prelude.{◌≡◌, Bool};
+ghost use Rattle.std.specs.Prelude.{◌≡◌, Bool, false};
 ghost use Rattle.clap.specs.Words.{kind_of};
 ghost use Rattle.trlab_commands.specs.Statuses.{status_of_print};
 
@@ -10,19 +10,22 @@ use clap::error::ErrorKind;
 use std::process::ExitCode;
 use std::rt::Env;
 use std::{env, io};
-use trlab_campaign::{End, Watched};
-use trlab_commands::{REFUSED_WORDS, carry_out, read_words, status_of_end, status_of_print};
+use trlab_campaign::{End, Sink, Source, Watched};
+use trlab_commands::{
+    EXPLAIN_HELP, Explaining, REFUSED_WORDS, carry_out, explain_text, explain_words, read_words,
+    status_of_end, status_of_print,
+};
 
 fn main(rt: HostRuntime) -> ExitCode {
     let status = match given_words(&rt) {
-        Ok(words) => match read_words(rt.alloc(), &words) {
-            Ok(wanted) => {
-                let mut reader = Watched::new(rt.stdin());
-                let mut writer = Watched::new(rt.stdout());
-                status_of_end(carry_out(&rt, wanted, &mut reader, &mut writer))
+        Ok(words) => {
+            let mut reader = Watched::new(rt.stdin());
+            let mut writer = Watched::new(rt.stdout());
+            match explain_words(&words) {
+                Some(wanted) => explain(&rt, wanted, &mut reader, &mut writer),
+                None => act(&rt, &words, &mut reader, &mut writer),
             }
-            Err(error) => tell(&rt, &error),
-        },
+        }
         Err(error) if error.kind() == io::ErrorKind::OutOfMemory => status_of_end(End::Memory),
         Err(_) => {
             let _ = eprintln!(rt; "error: a word of the command line is not UTF-8");
@@ -30,6 +33,45 @@ fn main(rt: HostRuntime) -> ExitCode {
         }
     };
     ExitCode::from(status)
+}
+
+/// Does what the words ask for, and answers the exit status.
+fn act<R: AllocGlobal + Print + Eprint, S: Source, K: Sink>(
+    rt: &R,
+    words: &[String],
+    reader: &mut S,
+    writer: &mut K,
+) -> u8
+    requires reader_works { S.failed reader.old ≡ false }
+    requires writer_works { K.failed writer.old ≡ false }
+{
+    match read_words(rt.alloc(), words) {
+        Ok(wanted) => status_of_end(carry_out(rt, wanted, reader, writer)),
+        Err(error) => tell(rt, &error),
+    }
+}
+
+/// Explains what is wanted, and answers the exit status.
+fn explain<R: AllocGlobal + Print + Eprint, S: Source, K: Sink>(
+    rt: &R,
+    wanted: Explaining,
+    reader: &mut S,
+    writer: &mut K,
+) -> u8
+    requires reader_works { S.failed reader.old ≡ false }
+    requires writer_works { K.failed writer.old ≡ false }
+{
+    match wanted {
+        Explaining::Text(subject) => status_of_end(explain_text(rt, subject, reader, writer)),
+        Explaining::Help => match println!(rt; "{EXPLAIN_HELP}") {
+            Ok(()) => status_of_end(End::Done),
+            Err(_) => status_of_end(End::DeviceFault),
+        },
+        Explaining::Nothing => {
+            let _ = eprintln!(rt; "error: `explain` takes no such words\n\n{EXPLAIN_HELP}");
+            REFUSED_WORDS
+        }
+    }
 }
 
 /// The words of the command line after the program's name. A word that is no text is an error.

@@ -14,3 +14,4 @@ pub mod Refusals
 pub mod Strongest
 pub mod Judged
 pub mod Reasons
+pub mod FirstNotes

@@ -1,5 +1,5 @@
 -- Tables of notes, one note for each instruction of a program, and which of them check.
-use Rattle.std.specs.Prelude.{◌≡◌, ℕ, suc, ◌<◌, List, length, slice_get, slice_index_or, Some, None, IfSome, false}
+use Rattle.std.specs.Prelude.{◌≡◌, ℕ, suc, ◌+◌, ◌<◌, ◌==◌, if◌then◌else◌, List, length, slice_get, slice_index_or, Some, None, IfSome, false}
 use Rattle.trlab_code.specs.declared.kind.Kind.{Kind}
 use Rattle.trlab_code.specs.declared.instruction.Instr.{Instr}
 use Rattle.trlab_code.specs.Program.{Program}
@@ -11,6 +11,7 @@ use Rattle.trlab_notes.specs.Reasons.{reason_against}
 use Rattle.trlab_notes.specs.Transfer.{next_note, jump_note}
 use Rattle.trlab_verify.specs.Longest.{Follows}
 use Rattle.trlab_verify.specs.Incoming.{note_at}
+use Rattle.trlab_verify.specs.Verdict.{IsRefused}
 
 -- a note that says nothing
 abbrev pub blank : Note
@@ -49,3 +50,17 @@ pub record AreVerdictNotes (kind : Kind) (program : Program) (table : List Note)
 abbrev pub IsNoStrongerAt : Kind → Program → ℕ → Note → Type 0
 IsNoStrongerAt kind program pc note =
     (best : Note) × (note_at kind program.instrs pc ≡ Some best) × IsNoStronger note best
+
+-- how many instructions have a note where the verdict ends: no note comes to one that no way leads to
+abbrev pub noted_count : ℕ → ℕ → ℕ
+noted_count at reason = if reason == 1 then at else at + 1
+
+-- the notes of the first so many instructions of a program, as a table
+pub record AreFirstNotes (kind : Kind) (program : Program) (count : ℕ) (table : List Note) : Type 0 where
+  pub one_each : length table ≡ count
+  pub each : (pc : ℕ) → pc < count → note_at kind program.instrs pc ≡ Some (note_in table pc)
+
+-- the notes of a program that is refused, as far as the verdict comes
+abbrev pub AreNotesOfRefused : Kind → Program → List Note → Type 0
+AreNotesOfRefused kind program table = (at : ℕ) × (reason : ℕ)
+    × IsRefused kind program at reason × AreFirstNotes kind program (noted_count at reason) table

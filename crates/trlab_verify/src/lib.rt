@@ -14,5 +14,5 @@ mod verify;
 
 pub use fault::VerifyFault;
 pub use program::{AcceptedProgram, Change, ChangeKind, Motion, MotionKind, ProgramKind};
-pub use table::{Mark, Note, NotesFault, check_notes, notes};
+pub use table::{Mark, Note, NotesFault, check_notes, notes, notes_of_refused};
 pub use verify::{verify_change, verify_motion};

@@ -3,8 +3,10 @@
 
 mod best;
 mod check;
+mod front;
 mod note;
 
 pub use best::{NotesFault, notes};
 pub use check::check_notes;
+pub use front::notes_of_refused;
 pub use note::{Mark, Note};

@@ -1,7 +1,7 @@
 //! The verdict on a program: which instruction is refused first, and why. The instructions are judged in turn, each
 //! by the join of its incoming notes (docs/PROGRAMS.md).
 
-ghost use Rattle.std.specs.Prelude.{◌≡◌, ℕ, ◌<◌, ◌≤◌, length, All, IfOk, MatchOption, None};
+ghost use Rattle.std.specs.Prelude.{◌≡◌, ℕ, ◌<◌, ◌≤◌, length, All, IfOk, IfSome, MatchOption, None};
 ghost use Rattle.trlab_code.specs.Program.{Program, InRange};
 ghost use Rattle.trlab_verify.specs.Incoming.{incoming, note_at};
 ghost use Rattle.trlab_notes.specs.Notes.{maybe_closure};
@@ -37,6 +37,8 @@ pub fn judge(
         MatchOption result (IsAccepted kind program) (λ no. IsRefused kind program no.at (reason_number no.reason)) }
     ensures stored { result ≡ None → (q : ℕ) → q < length instrs.now →
         notes_of notes.new q ≡ maybe_closure (note_at kind instrs.now q) }
+    ensures judged { IfSome result (λ no. (q : ℕ) → q ≤ no.at →
+        notes_of notes.new q ≡ maybe_closure (note_at kind instrs.now q)) }
 {
     for pc in 0..instrs.len() {
         let instr = instrs[pc];

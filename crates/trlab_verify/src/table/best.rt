@@ -52,7 +52,11 @@ fn write_at(kind: Kind, pc: usize, stored: &Stored) -> Note
 }
 
 /// The forms of the stored notes.
-fn write_all(alloc: Global, kind: Kind, stored: &[Option<Stored>]) -> Result<Vec<Note>, AllocError>
+pub fn write_all(
+    alloc: Global,
+    kind: Kind,
+    stored: &[Option<Stored>],
+) -> Result<Vec<Note>, AllocError>
     requires { (pc : ℕ) → pc < length stored.now →
         (note : ANote) × (notes_of stored.now pc ≡ Some note) × SaysRanges kind note }
     ensures one_each { IfOk result (λ notes. length notes.items ≡ length stored.now) }

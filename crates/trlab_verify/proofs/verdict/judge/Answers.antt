@@ -13,6 +13,10 @@ use Rattle.trlab_verify.proofs.verdict.judge.Goals as goal
 below_same : {m n k : ℕ} (i : ℕ) → m ≡ n → n ≡ k → i < k → i < m
 below_same i e f lt = omega arith
 
+-- what holds below pc and at pc holds up to it
+judged_to : (P : ℕ → Type 0) (pc : ℕ) → ((q : ℕ) → q < pc → P q) → P pc → (q : ℕ) → q ≤ pc → P q
+judged_to P pc below here q le = below_more P pc below here q (omega arith)
+
 pub returns-in_default-clause-verdict : goal.returns-in_default-clause-verdict
 returns-in_default-clause-verdict c = record {
   within = c.loop-pc-test.true;
@@ -29,6 +33,12 @@ returns-in-Some-reason_against-clause-verdict c =
       here = tested c.args.kind c.args.own c.args.instrs.now c.loop-pc.pc w.0 _ _ w.1 (slice_get-get_or c.args.instrs.now c.loop-pc.pc _ c.loop-pc-test.true) (reason_same c.args.kind c.args.own (length c.args.instrs.now) c.loop-pc.pc w.0 n _ w.2 ∙ sym c.in-Some-reason_against.ensures);
       first = c.loop-pc.invariant.no_fault;
     }
+
+pub returns-in_default-clause-judged : goal.returns-in_default-clause-judged
+returns-in_default-clause-judged c = λ q le. judged_to _ c.loop-pc.pc (c.loop-pc.invariant.done) (c.loop-pc.invariant.incoming_so_far c.loop-pc.pc (omega arith) c.loop-pc-test.true) q le
+
+pub returns-in-Some-reason_against-clause-judged : goal.returns-in-Some-reason_against-clause-judged
+returns-in-Some-reason_against-clause-judged c = λ q le. judged_to _ c.loop-pc.pc (c.loop-pc.invariant.done) (c.loop-pc.invariant.incoming_so_far c.loop-pc.pc (omega arith) c.loop-pc-test.true) q le
 
 pub loop-pc-preserved : goal.loop-pc-preserved
 loop-pc-preserved c =

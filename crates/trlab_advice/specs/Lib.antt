@@ -1,0 +1,4 @@
+pub mod Quoting
+pub mod Oddities
+pub mod Subjects
+pub mod Repairs

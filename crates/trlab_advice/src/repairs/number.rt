@@ -1,0 +1,107 @@
+//! Repairs of numbers, keys and hexadecimal digits.
+
+ghost use Rattle.std.specs.Prelude.{◌≡◌, IfSome, true};
+ghost use Rattle.trlab_advice.specs.Repairs.{mends_hex, mends_key, mends_number};
+
+use crate::odd::{Oddity, oddity_of};
+use crate::repairs::Repair;
+use trlab_asm::{cut, digits_value, is_numeral};
+use trlab_texts::word::{behind, head_word};
+
+/// The parts of 2^31 that are certain.
+const ALL_PARTS: u64 = 2147483648;
+
+/// The number that some digits behind a point are of a whole, in parts of 2^31, to the nearest part.
+fn parts_behind_point(digits: &[u8]) -> Option<u32> {
+    if !is_numeral(digits) || digits.len() > 9 {
+        return None;
+    }
+    let mut scale = 1u64;
+    for _ in 0..digits.len() {
+        scale = scale.saturating_mul(10);
+    }
+    let value = digits_value(digits).min(1_000_000_000);
+    let parts = (value * ALL_PARTS * 2).saturating_add(scale) / scale.saturating_mul(2).max(1);
+    u32::try_from(parts).ok()
+}
+
+/// The parts of 2^31 that a word means which is a fraction from 0 to 1, as `0.25` or `.25`.
+pub fn parts_of(word: &[u8]) -> Option<u32> {
+    let (whole, digits) = cut(word, b'.')?;
+    if !whole.is_empty() && whole != b"0".as_slice() {
+        return None;
+    }
+    parts_behind_point(digits)
+}
+
+/// What mends a word that is to be a number.
+fn number_word(word: &[u8]) -> Option<Repair>
+    ensures { IfSome result (λ r. mends_number r ≡ true) }
+{
+    if let Some(parts) = parts_of(word) {
+        Some(Repair::Parts(parts))
+    } else if word.first() == Some(&b'-') || word.first() == Some(&b'+') {
+        Some(Repair::Sign)
+    } else if word.len() > 1 && word[0] == b'0' && is_numeral(word) {
+        Some(Repair::Zero)
+    } else {
+        None
+    }
+}
+
+/// What most likely mends a line in which a number is wrong: the first word that is odd as a number.
+pub fn number_repair(line: &[u8]) -> Option<Repair>
+    ensures { IfSome result (λ r. mends_number r ≡ true) }
+{
+    if oddity_of(line) == Some(Oddity::CarriageReturn) {
+        return Some(Repair::Plain(Oddity::CarriageReturn));
+    }
+    let mut left = line;
+    for _ in 0..8 {
+        if let Some(repair) = number_word(head_word(left)) {
+            return Some(repair);
+        }
+        match cut(left, b' ') {
+            Some((_, rest)) => left = rest,
+            None => break,
+        }
+    }
+    None
+}
+
+/// The place of the first character that is no hexadecimal digit, counted from 1.
+fn first_no_digit(word: &[u8]) -> Option<usize> {
+    let place = word.iter().position(|byte| !byte.is_ascii_hexdigit())?;
+    Some(place.saturating_add(1))
+}
+
+/// What most likely mends the line of a key.
+pub fn key_repair(line: &[u8]) -> Option<Repair>
+    ensures { IfSome result (λ r. mends_key r ≡ true) }
+{
+    if oddity_of(line) == Some(Oddity::CarriageReturn) {
+        return Some(Repair::Plain(Oddity::CarriageReturn));
+    }
+    let word = behind(b"key ", line)?;
+    if word.len() != 64 {
+        return Some(Repair::KeyLength(word.len()));
+    }
+    match first_no_digit(word) {
+        Some(place) => Some(Repair::NoDigit(place)),
+        None => None,
+    }
+}
+
+/// What most likely mends the line of a program in bytes.
+pub fn hex_repair(line: &[u8]) -> Option<Repair>
+    ensures { IfSome result (λ r. mends_hex r ≡ true) }
+{
+    if oddity_of(line) == Some(Oddity::CarriageReturn) {
+        return Some(Repair::Plain(Oddity::CarriageReturn));
+    }
+    let (_, word) = cut(line, b' ')?;
+    match first_no_digit(word) {
+        Some(place) => Some(Repair::NoDigit(place)),
+        None => Some(Repair::OddDigits(word.len())),
+    }
+}

@@ -1,0 +1,27 @@
+//! Which texts there are.
+
+ghost use Rattle.std.specs.Prelude.{◌≡◌};
+ghost use Rattle.trlab_asm.specs.Lines.{lines_of};
+ghost use Rattle.trlab_advice.specs.Subjects.{subject_of};
+
+use trlab_asm::next_line;
+use trlab_texts::word::head_word;
+
+/// What a text is read as.
+#[derive(Clone, Copy, Debug, PartialEq, Eq)]
+pub enum Subject {
+    /// A job text, which `run` reads.
+    Job,
+    /// A check text, which `check` reads.
+    Check,
+}
+
+/// What a text is meant as, by its first word: a job where that is `road`, and else a check.
+pub fn subject_of(text: &[u8]) -> Subject
+    ensures { result ≡ subject_of (lines_of text.now) }
+{
+    match next_line(text) {
+        Some((line, _)) if head_word(line) == b"road".as_slice() => Subject::Job,
+        _ => Subject::Check,
+    }
+}

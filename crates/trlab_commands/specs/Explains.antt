@@ -1,0 +1,38 @@
+-- What the words of `explain` ask for.
+use Rattle.std.specs.Prelude.{ℕ, ◌||◌, List, [], ◌∷◌, Option, None, Some, codes, if◌then◌else◌}
+use Rattle.std.specs.Str.{bytes_eq}
+use Rattle.trlab_advice.specs.declared.subject.Subject.{Subject}
+use Rattle.trlab_advice.specs.declared.subject.Subject.TheVariants.{Job, Check}
+use Rattle.trlab_commands.specs.declared.explain.Explaining.{Explaining}
+use Rattle.trlab_commands.specs.declared.explain.Explaining.TheVariants.{Text, Help, Nothing}
+
+-- what a text is read as by the command of this name
+abbrev pub subject_named : List ℕ → Option Subject
+subject_named name =
+    if bytes_eq name (codes "run") then Some Job
+    else if bytes_eq name (codes "check") then Some Check else None
+
+-- what a word asks for that names no command
+abbrev pub other_word : List ℕ → Explaining
+other_word word = if bytes_eq word (codes "--help") || bytes_eq word (codes "-h") then Help else Nothing
+
+-- what one word asks for, by the command that it names
+abbrev pub one_word : List ℕ → Option Subject → Explaining
+one_word word None = other_word word
+one_word word (Some subject) = Text (Some subject)
+
+-- what the word behind `explain` asks for
+abbrev pub explain_word : List ℕ → Explaining
+explain_word word = one_word word (subject_named word)
+
+-- what the words behind `explain` ask for
+abbrev pub behind_explain : List (List ℕ) → Explaining
+behind_explain [] = Text None
+behind_explain (word ∷ []) = explain_word word
+behind_explain (word ∷ other ∷ rest) = Nothing
+
+-- what the words of a command line ask for, where the first is `explain`
+abbrev pub explain_words : List (List ℕ) → Option Explaining
+explain_words [] = None
+explain_words (first ∷ rest) =
+    if bytes_eq first (codes "explain") then Some (behind_explain rest) else None

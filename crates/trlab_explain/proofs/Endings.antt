@@ -1,0 +1,55 @@
+-- How explanations end, by what was written.
+use Rattle.std.proofs.Common.{◌≡◌, ◌∙◌, ◌++◌, ◌<◌, ℕ, List, length, refl, sym, ap, Bool, true, inl, append_assoc, append-nil}
+use Rattle.std.proofs.lemmas.Bool.{lt-ltb}
+use Rattle.std.specs.Prelude.{All, Option, None, Some, IfSome, Result, Ok, Err, IfOk, OnOk, MatchResult}
+use Rattle.std.specs.Option.{unwrap_or}
+use Rattle.std.specs.Io.KnownBytes.{Keeps}
+use Rattle.trlab_asm.specs.Lines.{lines_of}
+use Rattle.trlab_bounds.specs.declared.texts.TheConstants.{TEXT_LIMIT}
+use Rattle.trlab_texts.specs.declared.fault.Cause.TheVariants.{TooBig}
+use Rattle.trlab_campaign.specs.declared.end.End.{End}
+use Rattle.trlab_campaign.specs.declared.end.End.TheVariants.{Memory}
+use Rattle.trlab_campaign.specs.Ending.{EndsSo, OutputEnds}
+use Rattle.trlab_campaign.specs.Refusal.{too_big_line}
+use Rattle.trlab_campaign.proofs.Endings.{output_ends}
+use Rattle.trlab_prose.specs.Plain.{IsPlain}
+use Rattle.trlab_advice.specs.Subjects.{subject_of}
+use Rattle.trlab_advice.specs.declared.subject.Subject.{Subject}
+use Rattle.trlab_advice.specs.declared.subject.Subject.TheVariants.{Job, Check}
+use Rattle.trlab_explain.specs.Explanations.{BeginsWith, Explained, ExplainedAs, ToldAs}
+
+-- two parts were put behind a text, the second unless memory ran out
+pub parts_put : {A E : Type 0} (r : Result A E) (old mid new first last : List ℕ) → mid ≡ old ++ first → OnOk r (new ≡ mid ++ last) → OnOk r (new ≡ old ++ (first ++ last))
+parts_put (Ok x) old mid new first last p q = rw (q, p) (simp append_assoc)
+parts_put (Err e) old mid new first last p q = tt
+
+-- what a text is read as
+explained_as : (wanted : Option Subject) (text : List ℕ) (refused : Bool) (out : List ℕ) → ExplainedAs (unwrap_or wanted (subject_of (lines_of text))) text refused out
+    → Explained wanted text refused out
+explained_as None text refused out told = told
+explained_as (Some subject) text refused out told = told
+
+-- the page on a text was written so
+pub told_ends : {E : Type 0} (wanted : Option Subject) (text : List ℕ) (told : Result (Bool × List ℕ) E) (e : End) (old new : Option (List ℕ))
+    → IfOk told (λ t. ToldAs (unwrap_or wanted (subject_of (lines_of text))) text t.0 t.1)
+    → MatchResult told (λ t. All IsPlain t.1 × OutputEnds t.0 t.1 e old new) (λ _. (e ≡ Memory) × Keeps old new)
+    → EndsSo (Explained wanted text) e old new
+told_ends wanted text (Ok t) e old new told ends =
+    output_ends (Explained wanted text) t.0 t.1 e old new (explained_as wanted text t.0 t.1 (told, ends.0)) ends.1
+told_ends wanted text (Err x) e old new told ends = rw ends.0 (inl ends.1)
+
+-- a text that is too big, as whatever it is read
+big_as : (subject : Subject) (text : List ℕ) (out : List ℕ) → TEXT_LIMIT < length text → BeginsWith too_big_line out → ToldAs subject text true out
+big_as Job text out big begins = (Err (record { line = 0; cause = TooBig }), rw (lt-ltb TEXT_LIMIT (length text) big) refl, (refl, (begins.0, begins.1 ∙ ap (λ t. t ++ begins.0) (sym (append-nil too_big_line)))))
+big_as Check text out big begins = (Err (record { line = 0; cause = TooBig }), rw (lt-ltb TEXT_LIMIT (length text) big) refl, (refl, (begins.0, begins.1 ∙ ap (λ t. t ++ begins.0) (sym (append-nil too_big_line)))))
+
+-- the page on a text that is too big was written so
+pub big_ends : {E : Type 0} (wanted : Option Subject) (told : Result (Bool × List ℕ) E) (e : End) (left old new : Option (List ℕ))
+    → IfSome left (λ all. TEXT_LIMIT < length all) → IfOk told (λ t. t.0 ≡ true) → IfOk told (λ t. BeginsWith too_big_line t.1)
+    → MatchResult told (λ t. All IsPlain t.1 × OutputEnds t.0 t.1 e old new) (λ _. (e ≡ Memory) × Keeps old new)
+    → IfSome left (λ text. EndsSo (Explained wanted text) e old new)
+big_ends wanted told e None old new big refused begins ends = tt
+big_ends wanted (Err x) e (Some all) old new big refused begins ends = rw ends.0 (inl ends.1)
+big_ends wanted (Ok t) e (Some all) old new big refused begins ends =
+    let told : ToldAs (unwrap_or wanted (subject_of (lines_of all))) all t.0 t.1 = rw refused (big_as (unwrap_or wanted (subject_of (lines_of all))) all t.1 big begins) in
+    output_ends (Explained wanted all) t.0 t.1 e old new (explained_as wanted all t.0 t.1 (told, ends.0)) ends.1

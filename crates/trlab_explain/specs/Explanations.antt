@@ -1,0 +1,64 @@
+-- What is told of a text, whatever words are chosen: where it is refused, how that begins.
+use Rattle.std.specs.Prelude.{◌≡◌, ℕ, true, false, All, List, [], ◌∷◌, ◌++◌, codes, decimal, Option, None, Some, Result, Ok, Err}
+use Rattle.trlab_prose.specs.Plain.{IsPlain, quoted}
+use Rattle.trlab_asm.specs.Lines.{lines_of}
+use Rattle.trlab_verify.specs.Verdict.{IsAccepted, IsRefused}
+use Rattle.trlab_texts.specs.Reading.{Fault}
+use Rattle.trlab_jobs.specs.Job.{Job as JobSaid, JobText}
+use Rattle.trlab_jobs.specs.Check.{Check as CheckSaid, CheckText}
+use Rattle.trlab_campaign.specs.CheckOutput.{refused_line}
+use Rattle.trlab_campaign.specs.Refusal.{Outputs, fault_line}
+use Rattle.trlab_advice.specs.Quoting.{line_at}
+use Rattle.trlab_advice.specs.Subjects.{subject_of}
+use Rattle.trlab_advice.specs.declared.subject.Subject.{Subject}
+use Rattle.trlab_advice.specs.declared.subject.Subject.TheVariants.{Job, Check}
+
+-- a line of the text with its number; nothing where the text has no such line
+abbrev pub quote_line : ℕ → Option (List ℕ) → List ℕ
+quote_line number None = []
+quote_line number (Some line) =
+    codes "line " ++ (decimal number ++ (codes ": " ++ (quoted line ++ (10 ∷ []))))
+
+-- how a fault is told: the line by which the text is refused, and the line of the text
+abbrev pub fault_head : List ℕ → Fault → List ℕ
+fault_head text fault = fault_line fault ++ quote_line fault.line (line_at fault.line (lines_of text))
+
+-- a text goes on behind this front
+abbrev pub BeginsWith : List ℕ → List ℕ → Type 0
+BeginsWith front out = (more : List ℕ) × (out ≡ front ++ more)
+
+-- what is told of a text with a fault
+abbrev pub FaultTold : List ℕ → Fault → Outputs
+FaultTold text fault refused out = (refused ≡ true) × BeginsWith (fault_head text fault) out
+
+-- what is told by what a job text says
+abbrev pub JobTold : List ℕ → Result JobSaid Fault → Outputs
+JobTold text (Ok job) refused out = refused ≡ false
+JobTold text (Err fault) refused out = FaultTold text fault refused out
+
+-- what is told of the program of a check
+abbrev pub ProgramTold : CheckSaid → Outputs
+ProgramTold check false out = IsAccepted check.program.kind check.program
+ProgramTold check true out = (at reason : ℕ)
+    × IsRefused check.program.kind check.program at reason × BeginsWith (refused_line at reason) out
+
+-- what is told by what a check text says
+abbrev pub CheckTold : List ℕ → Result CheckSaid Fault → Outputs
+CheckTold text (Ok check) refused out = ProgramTold check refused out
+CheckTold text (Err fault) refused out = FaultTold text fault refused out
+
+-- what is told of a text that is read so
+abbrev pub ToldAs : Subject → List ℕ → Outputs
+ToldAs Job text refused out = (says : Result JobSaid Fault) × JobText text says × JobTold text says refused out
+ToldAs Check text refused out =
+    (says : Result CheckSaid Fault) × CheckText text says × CheckTold text says refused out
+
+-- the whole explanations that there may be of a text that is read so, each with whether it is refused:
+-- plain text, whatever bytes the text has
+abbrev pub ExplainedAs : Subject → List ℕ → Outputs
+ExplainedAs subject text refused out = ToldAs subject text refused out × All IsPlain out
+
+-- the same of a text that is read as what is wanted, or else as what it is meant as
+abbrev pub Explained : Option Subject → List ℕ → Outputs
+Explained (Some subject) text = ExplainedAs subject text
+Explained None text = ExplainedAs (subject_of (lines_of text)) text

@@ -1,0 +1,30 @@
+//! The explanation of a check text.
+
+ghost use Rattle.std.specs.Prelude.{IfOk};
+ghost use Rattle.trlab_explain.specs.Explanations.{ToldAs};
+ghost use Rattle.trlab_advice.specs.declared.subject.Subject.TheVariants.{Check as OfCheck};
+
+use crate::fault::fault_page;
+use crate::verdict::explain_program;
+use std::alloc::{AllocError, Global};
+use trlab_advice::Subject;
+use trlab_jobs::read_check;
+use trlab_prose::Page;
+use trlab_texts::TextFault;
+
+/// Whether a check text or its program is refused, and the page on it.
+///
+/// # Errors
+///
+/// Want of memory.
+pub fn explain_check(alloc: Global, text: &[u8]) -> Result<(bool, Page), AllocError>
+    ensures { IfOk result (λ told. ToldAs OfCheck text.now told.0 told.1) }
+{
+    match read_check(alloc, text) {
+        Ok(check) => explain_program(alloc, text, check),
+        Err(TextFault::At { line, cause }) => {
+            Ok((true, fault_page(alloc, Subject::Check, text, line, cause)?))
+        }
+        Err(TextFault::Memory) => Err(AllocError),
+    }
+}

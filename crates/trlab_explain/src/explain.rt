@@ -1,0 +1,87 @@
+//! The engine of explanations.
+
+ghost use Rattle.std.specs.Prelude.{◌≡◌, ◌+◌, ◌<◌, ◌||◌, ◌↔◌, true, false, All, IfOk, IfSome, MatchResult, length};
+ghost use Rattle.std.specs.Io.KnownBytes.{Keeps};
+ghost use Rattle.trlab_bounds.specs.declared.texts.TheConstants.{TEXT_LIMIT};
+ghost use Rattle.trlab_campaign.specs.Device.{ConsumesUpTo};
+ghost use Rattle.trlab_campaign.specs.Ending.{EndsSo, OnWhole, OutputEnds};
+ghost use Rattle.trlab_campaign.specs.Refusal.{too_big_line};
+ghost use Rattle.trlab_campaign.specs.declared.end.End.TheVariants.{DeviceFault, Memory};
+ghost use Rattle.trlab_prose.specs.Plain.{IsPlain};
+ghost use Rattle.trlab_explain.specs.Explanations.{BeginsWith, Explained, ToldAs};
+
+use crate::check::explain_check;
+use crate::fault::fault_page;
+use crate::job::explain_job;
+use std::alloc::{AllocError, AllocGlobal, Global};
+use trlab_advice::{Subject, subject_of};
+use trlab_campaign::{Cause, End, ReadFault, Sink, Source, read_text, write_output};
+use trlab_prose::Page;
+
+/// Whether a text that is read so is refused, and the page on it.
+fn explain_as(alloc: Global, subject: Subject, text: &[u8]) -> Result<(bool, Page), AllocError>
+    ensures { IfOk result (λ told. ToldAs subject text.now told.0 told.1) }
+{
+    match subject {
+        Subject::Job => explain_job(alloc, text),
+        Subject::Check => explain_check(alloc, text),
+    }
+}
+
+/// The page on a text that is too big.
+fn too_big_page(alloc: Global) -> Result<(bool, Page), AllocError>
+    ensures refused { IfOk result (λ told. told.0 ≡ true) }
+    ensures begins { IfOk result (λ told. BeginsWith too_big_line told.1) }
+{
+    let page = fault_page(alloc, Subject::Check, b"", 0, Cause::TooBig)?;
+    Ok((true, page))
+}
+
+/// Writes a page, which tells a refusal or none, and hands it on.
+fn write_told<K: Sink>(told: Result<(bool, Page), AllocError>, writer: &mut K) -> End
+    requires { K.failed writer.old ≡ false }
+    ensures answer { MatchResult told
+        (λ told. All IsPlain told.1 × OutputEnds told.0 told.1 result (K.written writer.old) (K.written writer.new))
+        (λ _. (result ≡ Memory) × Keeps (K.written writer.old) (K.written writer.new)) }
+    ensures handed { OnWhole result (K.handed_on writer.new ≡ true) }
+    ensures device { (result ≡ DeviceFault) ↔ (K.failed writer.new ≡ true) }
+{
+    match told {
+        Ok((refused, page)) => write_output(refused, page.text(), writer),
+        Err(_) => End::Memory,
+    }
+}
+
+/// Reads a text, and writes what is wrong with it and how it may be mended, or what it will do: as
+/// the text that it is wanted to be, or else as what its first word says.
+///
+/// The whole text is read and judged before a byte is written. Where memory runs out or a call of
+/// the reader or writer fails, what was written is the front of the whole output.
+pub fn explain_text<R: AllocGlobal, S: Source, K: Sink>(
+    rt: &R,
+    subject: Option<Subject>,
+    reader: &mut S,
+    writer: &mut K,
+) -> End
+    requires reader_works { S.failed reader.old ≡ false }
+    requires writer_works { K.failed writer.old ≡ false }
+    // Where the reader tells its bytes, and the writer those that it has.
+    ensures answer { IfSome (S.left reader.old)
+        (λ text. EndsSo (Explained subject text) result (K.written writer.old) (K.written writer.new)) }
+    // Nothing was written where the text was not read, also by a reader that does not tell its bytes.
+    ensures silent { S.failed reader.new ≡ true → Keeps (K.written writer.old) (K.written writer.new) }
+    ensures handed { OnWhole result (K.handed_on writer.new ≡ true) }
+    ensures device { (result ≡ DeviceFault) ↔ ((S.failed reader.new || K.failed writer.new) ≡ true) }
+    ensures read { ConsumesUpTo (TEXT_LIMIT + 1) (S.left reader.old) (S.left reader.new) }
+{
+    let alloc = rt.alloc();
+    match read_text(alloc, reader) {
+        Ok(text) => {
+            let subject = subject.unwrap_or(subject_of(&text));
+            write_told(explain_as(alloc, subject, &text), writer)
+        }
+        Err(ReadFault::TooBig) => write_told(too_big_page(alloc), writer),
+        Err(ReadFault::Memory) => End::Memory,
+        Err(ReadFault::Device) => End::DeviceFault,
+    }
+}

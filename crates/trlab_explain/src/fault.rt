@@ -1,0 +1,124 @@
+//! The explanation of a fault.
+
+ghost use Rattle.std.specs.Prelude.{IfOk};
+ghost use Rattle.trlab_explain.specs.Explanations.{BeginsWith, fault_head};
+
+use crate::causes::meaning;
+use crate::forms::{INSTRUCTIONS, form_of};
+use crate::head::push_fault_head;
+use crate::mends::push_mend;
+use crate::part::push_part_refusal;
+use crate::spots::{expected_at, expected_of_check};
+use std::alloc::{AllocError, Global};
+use trlab_advice::{Subject, likely_repair, line_at, name_and_operands, spot_at};
+use trlab_asm::{Why, mnemonic_named};
+use trlab_code::CodeFault;
+use trlab_prose::Page;
+use trlab_road::RoadFault;
+use trlab_texts::Cause;
+
+/// Adds what a cause means.
+fn push_meaning(page: &mut Page, cause: Cause) -> Result<(), AllocError> {
+    page.say("Cause ")?;
+    page.number(cause.number())?;
+    page.say(": ")?;
+    page.line(meaning(cause))
+}
+
+/// Adds which instruction of a program in bytes is at fault, or which character of a lane.
+fn push_place(page: &mut Page, cause: Cause) -> Result<(), AllocError> {
+    let (words, place) = match cause {
+        Cause::Code(CodeFault::Opcode(pc) | CodeFault::Field(pc)) => ("It is instruction ", pc),
+        Cause::Road(RoadFault::Character { place, .. } | RoadFault::SpeedAboveLimit { place, .. }) => {
+            ("It stands at cell ", place)
+        }
+        _ => return Ok(()),
+    };
+    page.say(words)?;
+    page.number(u64::from(place))?;
+    page.line(", counted from 0.")
+}
+
+/// Adds what has to stand at a line of a text.
+fn push_expected(
+    page: &mut Page,
+    subject: Subject,
+    text: &[u8],
+    line: u32,
+) -> Result<(), AllocError> {
+    match subject {
+        Subject::Job => page.line(expected_at(spot_at(text, line))),
+        Subject::Check => page.line(expected_of_check()),
+    }
+}
+
+/// Adds the form of the instruction of a line.
+fn push_form(page: &mut Page, text: &[u8], number: u32) -> Result<(), AllocError> {
+    let Some(line) = line_at(text, number) else {
+        return Ok(());
+    };
+    let (name, _) = name_and_operands(line);
+    match mnemonic_named(name) {
+        Some(name) => {
+            page.line(form_of(name))?;
+            page.line("Registers are r0 to r7.")
+        }
+        None => Ok(()),
+    }
+}
+
+/// Adds what was expected at a fault.
+fn push_expectation(
+    alloc: Global,
+    page: &mut Page,
+    subject: Subject,
+    text: &[u8],
+    line: u32,
+    cause: Cause,
+) -> Result<(), AllocError> {
+    match cause {
+        Cause::Line | Cause::Number | Cause::Key => push_expected(page, subject, text, line),
+        Cause::Program(Why::Operand | Why::Number) => push_form(page, text, line),
+        Cause::Program(Why::Word) => page.line(INSTRUCTIONS),
+        Cause::Verdict(_) => push_part_refusal(alloc, page, text, line),
+        _ => push_place(page, cause),
+    }
+}
+
+/// What is told of a fault behind its head.
+fn fault_body(
+    alloc: Global,
+    subject: Subject,
+    text: &[u8],
+    line: u32,
+    cause: Cause,
+) -> Result<Page, AllocError> {
+    let mut page = Page::new(alloc);
+    push_meaning(&mut page, cause)?;
+    push_expectation(alloc, &mut page, subject, text, line, cause)?;
+    if let Some(repair) = likely_repair(alloc, subject, text, line, cause)? {
+        push_mend(&mut page, repair)?;
+    }
+    Ok(page)
+}
+
+/// The page on the first fault of a text.
+///
+/// # Errors
+///
+/// Want of memory.
+pub fn fault_page(
+    alloc: Global,
+    subject: Subject,
+    text: &[u8],
+    line: u32,
+    cause: Cause,
+) -> Result<Page, AllocError>
+    ensures { IfOk result (BeginsWith (fault_head text.now (record { line = line; cause = cause }))) }
+{
+    let mut page = Page::new(alloc);
+    push_fault_head(&mut page, text, line, cause)?;
+    let body = fault_body(alloc, subject, text, line, cause)?;
+    page.add(&body)?;
+    Ok(page)
+}

@@ -1,0 +1,112 @@
+//! The explanation of a job text.
+
+ghost use Rattle.std.specs.Prelude.{IfOk};
+ghost use Rattle.trlab_explain.specs.Explanations.{ToldAs};
+ghost use Rattle.trlab_advice.specs.declared.subject.Subject.TheVariants.{Job as OfJob};
+
+use crate::fault::fault_page;
+use crate::head::push_quote;
+use std::alloc::{AllocError, Global};
+use trlab_advice::Subject;
+use trlab_asm::next_line;
+use trlab_bounds::runs::MOST_LATER;
+use trlab_jobs::{Job, read_job};
+use trlab_prose::Page;
+use trlab_road::Road;
+use trlab_texts::TextFault;
+use trlab_texts::word::head_word;
+
+/// Adds the rule lines of a job text, which are those of a first word.
+fn push_rules(page: &mut Page, text: &[u8], name: &[u8], most: u32) -> Result<(), AllocError> {
+    let mut left = text;
+    let mut number = 1u32;
+    let mut told = 0u32;
+    for _ in 0..text.len() {
+        let Some((line, rest)) = next_line(left) else {
+            break;
+        };
+        if head_word(line) == name && told < most {
+            push_quote(page, number, Some(line))?;
+            told = told.saturating_add(1);
+        }
+        number = number.saturating_add(1);
+        left = rest;
+    }
+    Ok(())
+}
+
+/// How many decimal digits a number has.
+fn count_digits(number: u32) -> u64 {
+    match number {
+        0..=9 => 1,
+        10..=99 => 2,
+        100..=999 => 3,
+        1000..=9999 => 4,
+        10000..=99999 => 5,
+        _ => 6,
+    }
+}
+
+/// How many bytes a run writes: for each step its line, and the picture of each lane.
+fn output_bytes(road: &Road, steps: u32) -> u64 {
+    let pictures = u64::from(road.lanes()).saturating_mul(u64::from(road.length()).saturating_add(1));
+    let mut bytes = 0u64;
+    for step in 0..=steps {
+        let line = count_digits(step).saturating_add(6);
+        bytes = bytes.saturating_add(line).saturating_add(pictures);
+    }
+    bytes
+}
+
+/// Adds a line with a number.
+fn push_count(page: &mut Page, front: &str, count: u64, behind: &str) -> Result<(), AllocError> {
+    page.say(front)?;
+    page.number(count)?;
+    page.line(behind)
+}
+
+/// Adds the road of a job: its lanes, cells, cars and limit.
+fn push_road(page: &mut Page, road: &Road) -> Result<(), AllocError> {
+    let cells = u64::from(road.lanes()).saturating_mul(u64::from(road.length()));
+    let cars = u64::from(road.cars());
+    push_count(page, "Lanes: ", u64::from(road.lanes()), ", each a ring.")?;
+    push_count(page, "Cells of a lane: ", u64::from(road.length()), ".")?;
+    push_count(page, "Cars: ", cars, ".")?;
+    let share = cars.saturating_mul(1000) / cells.max(1);
+    push_count(page, "Density: ", share, " cars in 1000 cells.")?;
+    push_count(page, "Limit: ", u64::from(road.limit()), " cells a step.")
+}
+
+/// The page on what a job will do.
+fn job_page(alloc: Global, text: &[u8], job: &Job) -> Result<Page, AllocError> {
+    let mut page = Page::new(alloc);
+    page.line("This is a good job text: `trlab run` drives it.")?;
+    push_road(&mut page, &job.road)?;
+    page.line("The first rule:")?;
+    push_rules(&mut page, text, b"rule", 1)?;
+    if !job.later.is_empty() {
+        page.line("Rules of later steps:")?;
+        push_rules(&mut page, text, b"at", MOST_LATER)?;
+    }
+    push_count(&mut page, "Steps: ", u64::from(job.steps), ".")?;
+    let bytes = output_bytes(&job.road, job.steps);
+    push_count(&mut page, "Output: ", bytes, " bytes.")?;
+    Ok(page)
+}
+
+/// Whether a job text is refused, and the page on it.
+///
+/// # Errors
+///
+/// Want of memory.
+pub fn explain_job(alloc: Global, text: &[u8]) -> Result<(bool, Page), AllocError>
+    ensures { IfOk result (λ told. ToldAs OfJob text.now told.0 told.1) }
+{
+    match read_job(alloc, text) {
+        Ok(job) => Ok((false, job_page(alloc, text, &job)?)),
+        Err(TextFault::At { line, cause }) => {
+            Ok((true, fault_page(alloc, Subject::Job, text, line, cause)?))
+        }
+        Err(TextFault::Memory) => Err(AllocError),
+    }
+}

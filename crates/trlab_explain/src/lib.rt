@@ -1,0 +1,25 @@
+//! Explanations: what is wrong with a refused text and how it may be mended, or what a good one
+//! will do, in plain words.
+#![tactic(auto)]
+
+mod accepted;
+mod causes;
+mod check;
+mod explain;
+mod fault;
+mod forms;
+mod head;
+mod job;
+mod marks;
+mod mends;
+mod operands;
+mod part;
+mod placed;
+mod reasons;
+mod refusal;
+mod spots;
+mod standing;
+mod verdict;
+
+pub use explain::explain_text;
+pub use trlab_advice::Subject;

@@ -1,0 +1,182 @@
+//! The explanation of a refused program: the instruction, the reason, what the verifier knows there,
+//! and the usual repair.
+
+use crate::marks::{push_known, push_register};
+use crate::operands::{leads_to, operands};
+use crate::placed::{Placed, push_instruction};
+use crate::reasons::{meaning_of_reason, repair_of_reason};
+use std::alloc::{AllocError, Global};
+use trlab_code::{Instr, Register};
+use trlab_prose::Page;
+use trlab_verify::{Mark, Note, notes_of_refused};
+
+/// A program that is refused.
+#[derive(Clone, Copy)]
+pub struct Refused<'a> {
+    /// The program, and where it stands.
+    pub program: Placed<'a>,
+    /// The refused instruction, counted from 0.
+    pub at: u32,
+    /// The number of the reason, 1 to 12.
+    pub reason: u32,
+}
+
+/// Adds what a note says of a register that is read, if one is.
+fn push_operand(
+    page: &mut Page,
+    note: &Note,
+    register: Option<Register>,
+) -> Result<(), AllocError> {
+    match register {
+        Some(register) => {
+            push_known(page, note, register)?;
+            page.end_line()
+        }
+        None => Ok(()),
+    }
+}
+
+/// Adds what the note before an instruction says of the registers that it reads.
+fn push_operands(page: &mut Page, note: &Note, instr: Instr) -> Result<(), AllocError> {
+    let (first, second) = operands(instr);
+    if first.is_some() {
+        page.line("What is known before it:")?;
+    }
+    push_operand(page, note, first)?;
+    if first == second {
+        return Ok(());
+    }
+    push_operand(page, note, second)
+}
+
+/// The greatest number that a note knows of a register.
+fn most_of(note: &Note, register: Register) -> u32 {
+    match note.regs[register.number()] {
+        Mark::Num(_, high) => high,
+        _ => 0,
+    }
+}
+
+/// Adds how large a result may be.
+fn push_largest(page: &mut Page, note: &Note, instr: Instr) -> Result<(), AllocError> {
+    let largest = match instr {
+        Instr::Add(_, a, b) => u64::from(most_of(note, a)) + u64::from(most_of(note, b)),
+        Instr::Mul(_, a, n) => u64::from(most_of(note, a)) * u64::from(n),
+        _ => return Ok(()),
+    };
+    page.say("The result may be as large as ")?;
+    page.number(largest)?;
+    page.line(".")
+}
+
+/// Adds which difference may be below zero.
+fn push_difference(page: &mut Page, instr: Instr) -> Result<(), AllocError> {
+    let Instr::Sub(_, a, b) = instr else {
+        return Ok(());
+    };
+    push_register(page, b)?;
+    page.say(" is not known to be at most ")?;
+    push_register(page, a)?;
+    page.say(", so ")?;
+    push_register(page, a)?;
+    page.say(" - ")?;
+    push_register(page, b)?;
+    page.line(" may be below zero.")
+}
+
+/// Adds which speed may be above an input.
+fn push_speed(page: &mut Page, instr: Instr, input: &str) -> Result<(), AllocError> {
+    let Instr::Go(a) = instr else {
+        return Ok(());
+    };
+    push_register(page, a)?;
+    page.say(" is not known to be at most the ")?;
+    page.say(input)?;
+    page.line(".")
+}
+
+/// Adds what the operands have to do with the reason.
+fn push_why(page: &mut Page, reason: u32, note: &Note, instr: Instr) -> Result<(), AllocError> {
+    match reason {
+        8 => push_largest(page, note, instr),
+        9 => push_difference(page, instr),
+        10 => push_speed(page, instr, "gap"),
+        11 => push_speed(page, instr, "limit"),
+        _ => Ok(()),
+    }
+}
+
+/// How many ways lead to the refused instruction.
+fn count_ways(refused: &Refused<'_>) -> u32 {
+    let mut ways = 0u32;
+    for pc in 0..refused.at {
+        if leads_to(refused.program.code.instrs(), pc as usize, refused.at as usize) {
+            ways = ways.saturating_add(1);
+        }
+    }
+    ways
+}
+
+/// Adds the instructions from which ways lead to the refused one, where there are several.
+fn push_ways(alloc: Global, page: &mut Page, refused: &Refused<'_>) -> Result<(), AllocError> {
+    if count_ways(refused) < 2 {
+        return Ok(());
+    }
+    page.line("Several ways lead to it, and only what all of them know is known there:")?;
+    for pc in 0..refused.at {
+        if leads_to(refused.program.code.instrs(), pc as usize, refused.at as usize) {
+            push_instruction(alloc, page, refused.program, pc)?;
+        }
+    }
+    Ok(())
+}
+
+/// Adds the instruction above the refused one, which leads elsewhere.
+fn push_skip(alloc: Global, page: &mut Page, refused: &Refused<'_>) -> Result<(), AllocError> {
+    match refused.at.checked_sub(1) {
+        Some(above) => {
+            page.line("The instruction above leads elsewhere, and no jump leads here:")?;
+            push_instruction(alloc, page, refused.program, above)
+        }
+        None => Ok(()),
+    }
+}
+
+/// Adds what is known where the refused instruction stands.
+fn push_notes(alloc: Global, page: &mut Page, refused: &Refused<'_>) -> Result<(), AllocError> {
+    let Some(notes) = notes_of_refused(alloc, refused.program.code)? else {
+        return Ok(());
+    };
+    let at = refused.at as usize;
+    let instrs = refused.program.code.instrs();
+    if let (Some(note), Some(instr)) = (notes.get(at), instrs.get(at)) {
+        push_operands(page, note, *instr)?;
+        push_why(page, refused.reason, note, *instr)?;
+    }
+    Ok(())
+}
+
+/// Adds why a program is refused.
+///
+/// # Errors
+///
+/// Want of memory.
+pub fn push_refusal(
+    alloc: Global,
+    page: &mut Page,
+    refused: &Refused<'_>,
+) -> Result<(), AllocError> {
+    push_instruction(alloc, page, refused.program, refused.at)?;
+    page.say("Reason ")?;
+    page.number(u64::from(refused.reason))?;
+    page.say(": ")?;
+    page.line(meaning_of_reason(refused.reason))?;
+    if refused.reason == 1 {
+        push_skip(alloc, page, refused)?;
+    } else {
+        push_notes(alloc, page, refused)?;
+        push_ways(alloc, page, refused)?;
+    }
+    page.say("Repair: ")?;
+    page.line(repair_of_reason(refused.reason, refused.program.code.kind()))
+}

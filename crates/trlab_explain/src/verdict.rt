@@ -1,0 +1,120 @@
+//! The explanation of the verdict on a program.
+
+ghost use Rattle.std.specs.Prelude.{IfOk, true, false};
+ghost use Rattle.trlab_verify.specs.Faults.{Tells};
+ghost use Rattle.trlab_jobs.specs.Check.{Check as Request};
+ghost use Rattle.trlab_explain.specs.Explanations.{BeginsWith, ProgramTold};
+ghost use Rattle.trlab_campaign.specs.CheckOutput.{refused_line};
+
+use crate::accepted::push_accepted;
+use crate::head::push_refused_line;
+use crate::placed::Placed;
+use crate::refusal::{Refused, push_refusal};
+use crate::standing::{Standing, behind_line};
+use std::alloc::{AllocError, Global};
+use trlab_advice::line_at;
+use trlab_code::{Code, Kind};
+use trlab_jobs::Check;
+use trlab_prose::Page;
+use trlab_texts::word::behind;
+use trlab_verify::{VerifyFault, verify_change, verify_motion};
+
+/// Where the instructions of the program of a check text stand.
+fn standing_of(alloc: Global, text: &[u8]) -> Result<Standing, AllocError> {
+    match line_at(text, 1) {
+        Some(line) if behind(b"code ", line).is_some() => Ok(Standing::of_bytes(alloc)),
+        Some(line) if behind(b"notes code ", line).is_some() => Ok(Standing::of_bytes(alloc)),
+        _ => Standing::of_lines(alloc, 1, behind_line(text, 1)),
+    }
+}
+
+/// The page on a program that is accepted.
+fn accepted_page(
+    alloc: Global,
+    text: &[u8],
+    code: &Code,
+    budget: u32,
+) -> Result<Page, AllocError> {
+    let mut page = Page::new(alloc);
+    let standing = standing_of(alloc, text)?;
+    let program = Placed {
+        text,
+        code,
+        standing: &standing,
+    };
+    push_accepted(alloc, &mut page, program, budget)?;
+    Ok(page)
+}
+
+/// What is told of a refused program behind its head.
+fn refused_body(
+    alloc: Global,
+    text: &[u8],
+    code: &Code,
+    at: u32,
+    reason: u32,
+) -> Result<Page, AllocError> {
+    let mut page = Page::new(alloc);
+    let standing = standing_of(alloc, text)?;
+    let program = Placed {
+        text,
+        code,
+        standing: &standing,
+    };
+    push_refusal(alloc, &mut page, &Refused { program, at, reason })?;
+    Ok(page)
+}
+
+/// The page on a program that is refused.
+fn refused_page(
+    alloc: Global,
+    text: &[u8],
+    code: &Code,
+    at: u32,
+    reason: u32,
+) -> Result<Page, AllocError>
+    ensures { IfOk result (BeginsWith (refused_line at reason)) }
+{
+    let mut page = Page::new(alloc);
+    push_refused_line(&mut page, at, reason)?;
+    let body = refused_body(alloc, text, code, at, reason)?;
+    page.add(&body)?;
+    Ok(page)
+}
+
+/// What is told of a program that the verifier does not accept.
+fn explain_refusal(
+    alloc: Global,
+    text: &[u8],
+    code: &Code,
+    fault: VerifyFault,
+) -> Result<(bool, Page), AllocError>
+    ensures { (check : Request) → Tells check.program.kind check.program fault
+        → IfOk result (λ told. ProgramTold check told.0 told.1) }
+{
+    match fault {
+        VerifyFault::Why { at, reason } => Ok((true, refused_page(alloc, text, code, at, reason)?)),
+        VerifyFault::Memory => Err(AllocError),
+    }
+}
+
+/// Whether the program of a check text is refused, and the page on it.
+///
+/// # Errors
+///
+/// Want of memory.
+pub fn explain_program(alloc: Global, text: &[u8], check: Check) -> Result<(bool, Page), AllocError>
+    ensures { IfOk result (λ told. ProgramTold check told.0 told.1) }
+{
+    let Check { code, .. } = check;
+    match code.kind() {
+        Kind::Motion => match verify_motion(alloc, code) {
+            Ok(motion) => Ok((false, accepted_page(alloc, text, motion.code(), motion.budget())?)),
+            Err((code, fault)) => explain_refusal(alloc, text, &code, fault),
+        },
+        Kind::Change => match verify_change(alloc, code) {
+            Ok(change) => Ok((false, accepted_page(alloc, text, change.code(), change.budget())?)),
+            Err((code, fault)) => explain_refusal(alloc, text, &code, fault),
+        },
+    }
+}

@@ -1,0 +1,6 @@
+//! Plain prose: pages of printable characters in lines, whatever bytes are quoted on them.
+#![tactic(auto)]
+
+mod page;
+
+pub use page::{MOST_QUOTED, Page};
