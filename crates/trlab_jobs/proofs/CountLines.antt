@@ -30,10 +30,17 @@ behind_more : (first : List ℕ) (count : ℕ) (said : Result (List ℕ) Fault) 
 behind_more first count (Ok counts) = ap Ok (sym (append_assoc first (count ∷ []) counts))
 behind_more first count (Err fault) = refl
 
+-- what was said, or something else
+abbrev said_or : ℕ × Rest → Result (ℕ × Rest) Fault → ℕ × Rest
+said_or other (Ok found) = found
+said_or other (Err fault) = other
+
 -- what a line said, by what was told of it
 line_said : (number count : ℕ) (left : List (List ℕ)) (after : Rest) (says : Result ℕ Cause) → Ok (count, after) ≡ in_line number left says
     → (says ≡ Ok count) × ((after.number ≡ number + 1) × (after.left ≡ left))
-line_said number count left after (Ok n) e = (cc e, (cc e, cc e))
+line_said number count left after (Ok n) e =
+    let same = ap (said_or (count, after)) e in
+    (ap (λ found. Ok found.0) (sym same), (ap (λ found. found.1.number) same, ap (λ found. found.1.left) same))
 line_said number count left after (Err cause) e = absurd (cc e)
 
 line_wrong : (number : ℕ) (left : List (List ℕ)) (fault : Fault) (says : Result ℕ Cause) → Err fault ≡ in_line number left says → at_line number says ≡ Err fault

@@ -16,5 +16,6 @@ pub mod LaterWords
 pub mod Ranges
 pub mod CountLines
 pub mod OneSweep
+pub mod SomeCounts
 pub mod SomeSweep
 pub mod SweepLines

@@ -121,7 +121,8 @@ fn read_setup(alloc: Global, rest: Rest<'_>) -> Result<(Setup, Rest<'_>), TextFa
 /// Reads the lines of a text that is not too long.
 fn read_lines(alloc: Global, text: &[u8]) -> Result<Sweep, TextFault>
     requires { length text.now ≤ TEXT_LIMIT }
-    ensures { Reports (SweepLinesSay text.now) result }
+    ensures told { Reports (SweepLinesSay text.now) result }
+    ensures stored { IfOk result IsStoredSweep }
 {
     let (setup, rest) = read_setup(alloc, Rest::start(text))?;
     let Setup {
