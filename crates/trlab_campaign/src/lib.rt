@@ -1,4 +1,5 @@
-//! Job texts in, pictures of roads out; check texts in, verdicts on programs out.
+//! Job texts in, pictures of roads out; sweep texts in, tables of points out; check texts in, verdicts
+//! on programs out.
 #![tactic(auto)]
 
 mod check;
@@ -10,13 +11,16 @@ mod note_lines;
 mod output;
 mod refusal;
 mod run;
+mod sweep;
 mod verdict;
 
 pub use check::check_text;
 pub use device::{DeviceError, Sink, Source, Watched};
 pub use end::End;
 pub use run::run_job_text;
+pub use sweep::run_sweep_text;
 pub use trlab_bounds::runs::{MOST_LATER, MOST_STEPS, MOST_WORKERS};
 pub use trlab_bounds::texts::TEXT_LIMIT;
-pub use trlab_jobs::{Job, read_job};
+pub use trlab_jobs::limits::{MOST_CARS, MOST_POINTS, MOST_RUNNERS, MOST_WORK};
+pub use trlab_jobs::{Job, Sweep, read_job, read_sweep};
 pub use trlab_texts::{Cause, TextFault};

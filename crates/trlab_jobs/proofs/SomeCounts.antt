@@ -49,9 +49,11 @@ in_front cells steps point count others one more = record { cars = cars_of; poin
     cars_of : (i d : ℕ) → i < suc (length others) → get_or (count ∷ others) i d ≤ cells
     cars_of zero d inside = one.cars
     cars_of (suc i) d inside = more.cars i d (omega arith)
+
     points_of : (i : ℕ) → i < suc (length others) → point + i ≤ MOST_POINTS
     points_of zero inside = omega (arith, one.points)
     points_of (suc i) inside = let rest = more.points i (omega arith) in omega arith
+
     work_of : (i : ℕ) → i < suc (length others) → (point + i) * steps ≤ MOST_WORK
     work_of zero inside = let same : point + 0 ≡ point = omega arith in rw same one.work
     work_of (suc i) inside = let same : point + suc i ≡ point + 1 + i = omega arith in rw same (more.work i (omega arith))

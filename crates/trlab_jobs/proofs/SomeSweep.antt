@@ -1,5 +1,5 @@
 -- A sweep text says a sweep that can be run, or has a first fault.
-use Rattle.std.proofs.Common.{◌≡◌, ℕ, ◌-◌, ◌*◌, ◌≤◌, List, length, refl, sym, subst, arith}
+use Rattle.std.proofs.Common.{◌≡◌, ℕ, ◌-◌, ◌≤◌, List, length, refl, sym, subst, arith}
 use Rattle.std.specs.Prelude.{All, Result, Ok, Err, IfOk, codes}
 use Rattle.trlab_bounds.specs.declared.roads.TheConstants.{GREATEST_LENGTH, GREATEST_LIMIT, MOST_LANES}
 use Rattle.trlab_bounds.specs.declared.runs.TheConstants.{MOST_STEPS}

@@ -1,10 +1,10 @@
 -- The lines of a sweep text before its points, one after another.
-use Rattle.std.proofs.Common.{◌≡◌, ℕ, List, refl}
+use Rattle.std.proofs.Common.{ℕ, List, refl}
 use Rattle.std.specs.Prelude.{Result, Ok, Err}
 use Rattle.trlab_rules.specs.Rules.{Programs}
 use Rattle.trlab_texts.specs.declared.fault.TextFault.{TextFault}
 use Rattle.trlab_texts.specs.Lines.{Rest}
-use Rattle.trlab_texts.specs.Reading.{Reading, ◌>>=◌, ◌>>◌, say, line, exactly, Reports}
+use Rattle.trlab_texts.specs.Reading.{Reading, ◌>>=◌, say, line, exactly, Reports}
 use Rattle.trlab_jobs.specs.declared.shape.Shape.{Shape}
 use Rattle.trlab_jobs.specs.declared.shape.Span.{Span}
 use Rattle.trlab_jobs.specs.Job.{key_line, limit_line}

@@ -40,12 +40,7 @@ fn cars_line(cells: u32, steps: u32, point: u32, line: &[u8]) -> Result<u32, Cau
 }
 
 /// The count of cars at the point of this number, which must stand here.
-fn count(
-    cells: u32,
-    steps: u32,
-    point: u32,
-    rest: Rest<'_>,
-) -> Result<(u32, Rest<'_>), TextFault>
+fn count(cells: u32, steps: u32, point: u32, rest: Rest<'_>) -> Result<(u32, Rest<'_>), TextFault>
     ensures told { Reports (line (exactly (cars_line cells steps point)) rest.entry) result }
     ensures room { OnOk result (point ≤ MOST_POINTS) }
 {
@@ -77,12 +72,7 @@ fn counts_to_end(
 
 /// The counts of cars up to the end of the text, where one at least must stand; a road has so many
 /// cells, and a point so many steps.
-pub fn counts(
-    alloc: Global,
-    cells: u32,
-    steps: u32,
-    rest: Rest<'_>,
-) -> Result<Vec<u32>, TextFault>
+pub fn counts(alloc: Global, cells: u32, steps: u32, rest: Rest<'_>) -> Result<Vec<u32>, TextFault>
     ensures { Reports (λ says. says ≡ counts cells steps rest.entry.number rest.entry.left)
         (result_map_both (λ counts. counts.items) (λ fault. fault) result) }
 {
