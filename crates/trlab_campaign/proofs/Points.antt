@@ -46,11 +46,13 @@ one_more sweep points number cars point first here inside counted is measured =
     last_of i count d at =
         let same : get_or sweep.cars number count ≡ cars = get_or_default sweep.cars number count 0 inside ∙ sym counted in
         rw (at, get_or_push points point d number here, same) is
+
     each_of : (i count : ℕ) (d : Point) → i < length (points ++ (point ∷ [])) → IsPoint sweep.setup i (get_or sweep.cars i count) (get_or (points ++ (point ∷ [])) i d)
     each_of i count d within = elim (cases_lt i (length points)) [
       | inl below ↦ rw (get_or_append_left points (point ∷ []) d i below) (first.each i count d below)
       | inr above ↦ last_of i count d (let more = length-append points (point ∷ []) in omega (arith, more))
     ]
+
     measured_of : (i : ℕ) (d : Point) → i < length (points ++ (point ∷ [])) → IsMeasured (get_or (points ++ (point ∷ [])) i d)
     measured_of i d within = elim (cases_lt i (length points)) [
       | inl below ↦ rw (get_or_append_left points (point ∷ []) d i below) (first.measured i d below)
