@@ -11,6 +11,8 @@ use Rattle.trlab_campaign.specs.Refusal.{Outputs, fault_line, too_big_line}
 use Rattle.trlab_campaign.specs.Output.{IsOutput}
 use Rattle.trlab_jobs.specs.Check.{Check, CheckText}
 use Rattle.trlab_campaign.specs.CheckOutput.{VerdictOutput, IsCheckOutput}
+use Rattle.trlab_jobs.specs.Sweep.{Sweep, SweepText}
+use Rattle.trlab_campaign.specs.SweepOutput.{SweepOutput, IsSweepOutput}
 use Rattle.trlab_campaign.specs.Ending.{EndsSo, OutputEnds, WrotePictures, WroteSome, JobEnds}
 use Rattle.trlab_campaign.proofs.KnownBytes.{front_kept}
 
@@ -47,6 +49,15 @@ refusal_ends e text fault old new says ends = output_ends (IsOutput text) true (
 pub check_refusal_ends : (e : End) (text : List ℕ) (fault : Fault) (old new : Option (List ℕ)) → CheckText text (Err fault)
     → OutputEnds true (fault_line fault) e old new → EndsSo (IsCheckOutput text) e old new
 check_refusal_ends e text fault old new says ends = output_ends (IsCheckOutput text) true (fault_line fault) e old new (Err fault, (says, (refl, refl))) ends
+
+-- the table of the points of a sweep that a text says
+pub table_ends : (e : End) (text : List ℕ) (sweep : Sweep) (out : List ℕ) (old new : Option (List ℕ)) → SweepText text (Ok sweep)
+    → SweepOutput sweep false out → OutputEnds false out e old new → EndsSo (IsSweepOutput text) e old new
+table_ends e text sweep out old new says points ends = output_ends (IsSweepOutput text) false out e old new (Ok sweep, (says, points)) ends
+
+pub sweep_refusal_ends : (e : End) (text : List ℕ) (fault : Fault) (old new : Option (List ℕ)) → SweepText text (Err fault)
+    → OutputEnds true (fault_line fault) e old new → EndsSo (IsSweepOutput text) e old new
+sweep_refusal_ends e text fault old new says ends = output_ends (IsSweepOutput text) true (fault_line fault) e old new (Err fault, (says, (refl, refl))) ends
 
 -- the refusal of a text that is too long, where an engine refuses such texts
 pub too_big_ends : (IsWhole : List ℕ → Outputs) (e : End) (left old new : Option (List ℕ)) → ((text : List ℕ) → TEXT_LIMIT < length text → IsWhole text true too_big_line)

@@ -8,4 +8,7 @@ pub mod Endings
 pub mod OneOutput
 pub mod OneVerdict
 pub mod SomeVerdict
+pub mod Points
+pub mod OnePoints
+pub mod SomePoints
 pub mod SomeOutput

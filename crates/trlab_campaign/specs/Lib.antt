@@ -4,6 +4,7 @@ pub mod Refusal
 pub mod Output
 pub mod NoteLines
 pub mod CheckOutput
+pub mod SweepOutput
 pub mod TooBig
 pub mod Ending
 pub mod Laws

@@ -8,6 +8,7 @@ use Rattle.trlab_texts.specs.declared.fault.Cause.TheVariants.{TooBig}
 use Rattle.trlab_campaign.specs.Refusal.{too_big_line}
 use Rattle.trlab_campaign.specs.Output.{IsOutput}
 use Rattle.trlab_campaign.specs.CheckOutput.{IsCheckOutput}
+use Rattle.trlab_campaign.specs.SweepOutput.{IsSweepOutput}
 
 -- the fault of such a text
 abbrev too_big : Fault
@@ -16,6 +17,10 @@ too_big = record { line = 0; cause = TooBig }
 -- as a job text
 pub big_job : (text : List ℕ) → TEXT_LIMIT < length text → IsOutput text true too_big_line
 big_job text big = (Err too_big, (rw (lt-ltb TEXT_LIMIT (length text) big) refl, (refl, refl)))
+
+-- as a sweep text
+pub big_sweep : (text : List ℕ) → TEXT_LIMIT < length text → IsSweepOutput text true too_big_line
+big_sweep text big = (Err too_big, (rw (lt-ltb TEXT_LIMIT (length text) big) refl, (refl, refl)))
 
 -- as a check text
 pub big_check : (text : List ℕ) → TEXT_LIMIT < length text → IsCheckOutput text true too_big_line

@@ -1,4 +1,5 @@
-//! Job texts in, pictures of roads out; check texts in, verdicts on programs out.
+//! Job texts in, pictures of roads out; sweep texts in, tables of points out; check texts in, verdicts
+//! on programs out.
 #![tactic(auto)]
 
 mod check;
@@ -10,6 +11,7 @@ mod note_lines;
 mod output;
 mod refusal;
 mod run;
+mod sweep;
 mod verdict;
 
 pub use check::check_text;
@@ -18,8 +20,10 @@ pub use end::End;
 pub use output::fault_line;
 pub use refusal::write_output;
 pub use run::run_job_text;
+pub use sweep::run_sweep_text;
 pub use trlab_bounds::runs::{MOST_LATER, MOST_STEPS, MOST_WORKERS};
 pub use trlab_bounds::texts::TEXT_LIMIT;
-pub use trlab_jobs::{Job, read_job};
+pub use trlab_jobs::limits::{MOST_CARS, MOST_POINTS, MOST_RUNNERS, MOST_WORK};
+pub use trlab_jobs::{Job, Sweep, read_job, read_sweep};
 pub use trlab_texts::{Cause, TextFault};
 pub use verdict::refused_line;

@@ -13,3 +13,9 @@ pub mod SomeLine
 pub mod SomeRule
 pub mod SomeText
 pub mod LaterWords
+pub mod Ranges
+pub mod CountLines
+pub mod OneSweep
+pub mod SomeCounts
+pub mod SomeSweep
+pub mod SweepLines

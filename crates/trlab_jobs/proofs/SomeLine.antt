@@ -24,7 +24,8 @@ pub record InOrder (steps least : ℕ) (at : ℕ × RuleLine ℕ) : Type 0 where
   pub below : at.0 < steps
   pub chances : Chances at.1
 
-then_keeps : {A B : Type 0} (P : A → Type 0) (Q : B → Type 0) (r : Result A Cause) (next : A → Result B Cause)
+-- what is read by a result, and then by the next
+pub then_keeps : {A B : Type 0} (P : A → Type 0) (Q : B → Type 0) (r : Result A Cause) (next : A → Result B Cause)
     → IfOk r P → ((x : A) → P x → IfOk (next x) Q) → IfOk (r >>= next) Q
 then_keeps P Q (Ok x) next keeps more = more x keeps
 then_keeps P Q (Err cause) next keeps more = tt

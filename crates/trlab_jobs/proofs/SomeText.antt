@@ -18,7 +18,8 @@ use Rattle.trlab_texts.proofs.SomeReading.{Anything, SomeReading, anything, exac
 use Rattle.trlab_jobs.proofs.SomeLanes.{lanes_some}
 use Rattle.trlab_jobs.proofs.SomeRule.{FewLanes, rule_some, later_rules_some}
 
-any_line : {A : Type 0} (rule : List ℕ → Result A Cause) → SomeReading Anything (line (exactly rule))
+-- a line that says something, whatever it is
+pub any_line : {A : Type 0} (rule : List ℕ → Result A Cause) → SomeReading Anything (line (exactly rule))
 any_line rule = line_some Anything (exactly rule) (exactly_some Anything rule (λ text. anything (rule text)))
 
 few_lanes : (road : Cells) → IsLegal road → FewLanes (length road.lanes)

@@ -5,4 +5,7 @@ pub mod Later
 pub mod Job
 pub mod Stored
 pub mod Check
+pub mod Counts
+pub mod Shapes
+pub mod Sweep
 pub mod Laws

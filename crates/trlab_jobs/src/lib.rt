@@ -1,14 +1,19 @@
-//! What job texts and check texts say.
+//! What job texts, sweep texts and check texts say.
 #![tactic(auto)]
 
 mod check;
+mod count;
 mod job;
 mod lane;
 mod later;
 pub mod laws;
+pub mod limits;
 mod line;
 mod rule;
 mod rule_line;
+mod shape;
+mod sweep;
 
 pub use check::{Check, Question, read_check};
 pub use job::{Job, read_job};
+pub use sweep::{Sweep, read_sweep};

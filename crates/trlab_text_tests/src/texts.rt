@@ -86,6 +86,7 @@ fn causes_have_numbers(rt: HostRuntime) {
         (Cause::OneLane, 4),
         (Cause::Order, 5),
         (Cause::TooMany, 6),
+        (Cause::Work, 7),
         (Cause::TooBig, 9),
         (Cause::Program(Why::Word), 11),
         (Cause::Program(Why::Empty), 17),

@@ -18,7 +18,7 @@ use Rattle.trlab_verify.specs.CheckedProgram.{CheckedProgram, IsChecked}
 use Rattle.trlab_verify.specs.Longest.{IsLongest}
 use Rattle.trlab_verify.specs.Verdict.{IsAccepted, IsRefused, fault_at}
 use Rattle.trlab_texts.specs.declared.fault.Cause.{Cause}
-use Rattle.trlab_texts.specs.declared.fault.Cause.TheVariants.{Line, Number, Key, OneLane, Order, TooMany, Hex, TooBig, Program as InProgram, Code, Road, StandardRefused, Verdict}
+use Rattle.trlab_texts.specs.declared.fault.Cause.TheVariants.{Line, Number, Key, OneLane, Order, TooMany, Work, Hex, TooBig, Program as InProgram, Code, Road, StandardRefused, Verdict}
 use Rattle.trlab_texts.specs.Lines.{Rest}
 use Rattle.trlab_texts.specs.Words.{word_behind}
 use Rattle.trlab_texts.specs.Reading.{Fault, before}
@@ -42,6 +42,7 @@ bytes_cases bytes (Err OneLane) p = absurd p
 bytes_cases bytes (Err Order) p = absurd p
 bytes_cases bytes (Err TooMany) p = absurd p
 bytes_cases bytes (Err Hex) p = absurd p
+bytes_cases bytes (Err Work) p = absurd p
 bytes_cases bytes (Err TooBig) p = absurd p
 bytes_cases bytes (Err (InProgram why)) p = absurd p
 bytes_cases bytes (Err (Code fault)) p = inr (fault, refl, p.0, p.1)

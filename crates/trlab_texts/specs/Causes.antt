@@ -7,7 +7,7 @@ use Rattle.trlab_asm.specs.declared.fault.Why.TheVariants.{Word, Operand, Number
 use Rattle.trlab_road.specs.declared.fault.RoadFault.{RoadFault}
 use Rattle.trlab_road.specs.declared.fault.RoadFault.TheVariants.{Lanes, Length, Limit, Character, SpeedAboveLimit, TooManyCars, Memory as RoadMemory}
 use Rattle.trlab_texts.specs.declared.fault.Cause.{Cause}
-use Rattle.trlab_texts.specs.declared.fault.Cause.TheVariants.{Line, Number, Key, OneLane, Order, TooMany, Hex, TooBig, Program, Code, Road, StandardRefused, Verdict}
+use Rattle.trlab_texts.specs.declared.fault.Cause.TheVariants.{Line, Number, Key, OneLane, Order, TooMany, Work, Hex, TooBig, Program, Code, Road, StandardRefused, Verdict}
 
 -- the number of a fault of a program's lines
 abbrev pub why_number : Why → ℕ
@@ -51,6 +51,7 @@ own_cause_number Key = 3
 own_cause_number OneLane = 4
 own_cause_number Order = 5
 own_cause_number TooMany = 6
+own_cause_number Work = 7
 own_cause_number Hex = 8
 own_cause_number TooBig = 9
 own_cause_number _ = 0

@@ -27,9 +27,12 @@ pub enum Cause {
     /// The step does not rise, or is not below the count of steps.
     #[error("the step does not rise, or is not below the count of steps")]
     Order,
-    /// More rules of later steps than a job may have.
-    #[error("too many rules of later steps")]
+    /// More rules of later steps than a job may have, or more points than a sweep may have.
+    #[error("too many rules of later steps, or too many points")]
     TooMany,
+    /// The points so far have more steps together than a sweep may have.
+    #[error("too many steps for one sweep")]
+    Work,
     /// The bytes of a program are not hexadecimal.
     #[error("not in hexadecimal digits")]
     Hex,
@@ -65,6 +68,7 @@ impl Cause {
             Cause::OneLane => 4,
             Cause::Order => 5,
             Cause::TooMany => 6,
+            Cause::Work => 7,
             Cause::Hex => 8,
             Cause::TooBig => 9,
             Cause::Program(why) => 10 + why_number(why),

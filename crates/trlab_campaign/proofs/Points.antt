@@ -1,0 +1,66 @@
+-- The points of a sweep, one after another.
+use Rattle.std.proofs.Common.{◌≡◌, ℕ, zero, suc, ◌+◌, ◌*◌, ◌<◌, ◌≤◌, List, [], ◌∷◌, ◌++◌, length, length-append, get_or, inl, inr, refl, ◌∙◌, sym, arith}
+use Rattle.std.proofs.lemmas.Bool.{cases_lt}
+use Rattle.std.proofs.lemmas.List.{get_or_append_left, get_or_push, get_or_default}
+use Rattle.std.specs.Prelude.{All}
+use Rattle.trlab_diagram.specs.declared.point.Point.{Point}
+use Rattle.trlab_diagram.specs.Flow.{IsMeasured}
+use Rattle.trlab_road.specs.Spreading.{CanSpread}
+use Rattle.trlab_step.specs.Laws.{IsRuleFor, IsSheetFor}
+use Rattle.trlab_step.proofs.Sheets.{with_is_sheet, with_all}
+use Rattle.trlab_jobs.specs.Shapes.{all_cells}
+use Rattle.trlab_jobs.specs.Sweep.{Setup, Sweep}
+use Rattle.trlab_campaign.specs.SweepOutput.{IsPoint, ArePoints, sheet_of}
+
+-- the sheet of a sweep is one for the lanes of its roads
+pub suits : (lanes : ℕ) (common : Setup) → IsRuleFor lanes common.rule → IsSheetFor lanes (sheet_of common)
+suits lanes common rule = record {
+  is_sheet = with_is_sheet common.rule [] tt;
+  rules = with_all (IsRuleFor lanes) common.rule [] rule (λ k d inside. absurd (omega arith));
+}
+
+-- the cells of a road are some
+pub some_cells : (lanes cells : ℕ) → 1 ≤ lanes → 1 ≤ cells → 1 ≤ lanes * cells
+some_cells (suc lanes) (suc cells) p q = omega arith
+some_cells zero cells p q = absurd (omega arith)
+some_cells (suc lanes) zero p q = absurd (omega arith)
+
+-- the first points of a sweep are there
+pub record FirstPoints (sweep : Sweep) (points : List Point) : Type 0 where
+  pub few : length points ≤ length sweep.cars
+  pub each : (i cars : ℕ) (point : Point) → i < length points → IsPoint sweep.setup i (get_or sweep.cars i cars) (get_or points i point)
+  pub measured : All IsMeasured points
+
+-- none are there yet
+pub no_points : (sweep : Sweep) → FirstPoints sweep []
+no_points sweep = record { few = omega arith; each = λ i cars point inside. absurd (omega arith); measured = λ k d inside. absurd (omega arith) }
+
+-- one more is there
+pub one_more : (sweep : Sweep) (points : List Point) (number cars : ℕ) (point : Point) → FirstPoints sweep points → length points ≡ number → number < length sweep.cars
+    → cars ≡ get_or sweep.cars number 0 → IsPoint sweep.setup number cars point → IsMeasured point → FirstPoints sweep (points ++ (point ∷ []))
+one_more sweep points number cars point first here inside counted is measured =
+    let more = length-append points (point ∷ []) in
+    record { few = omega (arith, more); each = each_of; measured = measured_of }
+  where
+    last_of : (i count : ℕ) (d : Point) → i ≡ number → IsPoint sweep.setup i (get_or sweep.cars i count) (get_or (points ++ (point ∷ [])) i d)
+    last_of i count d at =
+        let same : get_or sweep.cars number count ≡ cars = get_or_default sweep.cars number count 0 inside ∙ sym counted in
+        rw (at, get_or_push points point d number here, same) is
+
+    each_of : (i count : ℕ) (d : Point) → i < length (points ++ (point ∷ [])) → IsPoint sweep.setup i (get_or sweep.cars i count) (get_or (points ++ (point ∷ [])) i d)
+    each_of i count d within = elim (cases_lt i (length points)) [
+      | inl below ↦ rw (get_or_append_left points (point ∷ []) d i below) (first.each i count d below)
+      | inr above ↦ last_of i count d (let more = length-append points (point ∷ []) in omega (arith, more))
+    ]
+
+    measured_of : (i : ℕ) (d : Point) → i < length (points ++ (point ∷ [])) → IsMeasured (get_or (points ++ (point ∷ [])) i d)
+    measured_of i d within = elim (cases_lt i (length points)) [
+      | inl below ↦ rw (get_or_append_left points (point ∷ []) d i below) (first.measured i d below)
+      | inr above ↦
+          let last : length points ≡ i = (let more = length-append points (point ∷ []) in omega (arith, more)) in
+          rw (get_or_push points point d i last) measured
+    ]
+
+-- all are there
+pub all_points : (sweep : Sweep) (points : List Point) → FirstPoints sweep points → length points ≡ length sweep.cars → ArePoints sweep points
+all_points sweep points first all = record { one_each = all; each = λ i cars point inside. first.each i cars point (omega (arith, all)) }

@@ -1,0 +1,9 @@
+use Rattle.std.proofs.Common.{◌≡◌, length}
+use Rattle.trlab_campaign.proofs.Points.{FirstPoints}
+use Rattle.trlab_campaign.proofs.sweep.points.sweep_points.Given as goal
+
+abbrev pub invariant-loop-number : goal.invariant-loop-number
+invariant-loop-number l = record {
+  first : FirstPoints l.sweep l.points.items;
+  count : length l.points.items ≡ l.number;
+}

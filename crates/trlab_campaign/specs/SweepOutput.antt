@@ -1,0 +1,58 @@
+-- What is written for a sweep text: the table of its points.
+use Rattle.std.specs.Prelude.{◌≡◌, ℕ, ◌<◌, false, List, [], ◌∷◌, length, slice_index_or, Result}
+use Rattle.trlab_diagram.specs.declared.point.Point.{Point}
+use Rattle.trlab_diagram.specs.Table.{points_text}
+use Rattle.trlab_road.specs.Cells.{Cells}
+use Rattle.trlab_road.specs.Spreading.{IsEven}
+use Rattle.trlab_step.specs.declared.tally.StepTally.{StepTally}
+use Rattle.trlab_step.specs.Run.{Seed, Sheet, IsTallyAt}
+use Rattle.trlab_texts.specs.Reading.{Fault}
+use Rattle.trlab_jobs.specs.Shapes.{all_cells, all_steps}
+use Rattle.trlab_jobs.specs.Sweep.{Setup, Sweep, SweepText}
+use Rattle.trlab_campaign.specs.Refusal.{Outputs, OutputFor}
+
+-- where the run of a point starts, whose road has this number: the steps of `warm` are not counted
+abbrev pub seed_of : Setup → ℕ → Cells → Seed
+seed_of setup number road =
+    record { road = road; key = setup.key; number = number; warm = setup.span.warm }
+
+-- the sheet of a sweep: one rule, in force from step 0 on
+abbrev pub sheet_of : Setup → Sheet
+sheet_of setup = (0, setup.rule) ∷ []
+
+-- the point of the diagram at which so much was counted of so many cars
+abbrev pub point_of : Setup → ℕ → StepTally → Point
+point_of setup cars tally = record {
+  cars = cars;
+  cells = all_cells setup.shape;
+  steps = setup.span.measure;
+  distance = tally.distance;
+  stopped = tally.stopped;
+  changes = tally.changes;
+}
+
+-- a point of a sweep: its cars are evenly spread at the start, and what is told of them is what was
+-- counted after all steps of the run
+pub record IsPoint (setup : Setup) (number cars : ℕ) (point : Point) : Type 0 where
+  pub start : Cells
+  pub tally : StepTally
+  pub even : IsEven setup.shape.lanes setup.shape.cells setup.shape.limit cars start
+  pub counted : IsTallyAt (seed_of setup number start) (sheet_of setup) (all_steps setup.span) tally
+  pub told : point ≡ point_of setup cars tally
+
+-- the points of a sweep, in the order of its counts of cars; the road of a point has its number among
+-- them, which counts from 0
+pub record ArePoints (sweep : Sweep) (points : List Point) : Type 0 where
+  pub one_each : length points ≡ length sweep.cars
+  pub each : (i cars : ℕ) (point : Point) → i < length sweep.cars
+      → IsPoint sweep.setup i (slice_index_or sweep.cars i cars) (slice_index_or points i point)
+
+-- what is written for a sweep, which is no refusal
+abbrev pub SweepOutput : Sweep → Outputs
+SweepOutput sweep refused out =
+    (refused ≡ false) × ((points : List Point) × (ArePoints sweep points × (out ≡ points_text points)))
+
+-- the whole output for a sweep text, and whether it is a refusal
+abbrev pub IsSweepOutput : List ℕ → Outputs
+IsSweepOutput text refused out =
+    (says : Result Sweep Fault) × (SweepText text says × OutputFor SweepOutput says refused out)

@@ -1,0 +1,76 @@
+//! The engine of sweep texts: all points are there before the first line of their table is written.
+
+mod points;
+
+ghost use Rattle.std.specs.Prelude.{◌≡◌, ◌+◌, ◌≤◌, ◌||◌, ◌↔◌, true, false, IfSome};
+ghost use Rattle.std.specs.Io.KnownBytes.{Keeps};
+ghost use Rattle.trlab_campaign.specs.Device.{ConsumesUpTo};
+ghost use Rattle.trlab_campaign.specs.Ending.{EndsSo, OnWhole};
+ghost use Rattle.trlab_campaign.specs.SweepOutput.{IsSweepOutput};
+ghost use Rattle.trlab_campaign.specs.TooBig.{big_sweep};
+ghost use Rattle.trlab_campaign.specs.declared.end.End.TheVariants.{DeviceFault};
+
+use crate::device::{Sink, Source};
+use crate::end::End;
+use crate::engine::{Engine, run_engine};
+use crate::refusal::{refuse, write_output};
+use crate::sweep::points::table;
+use std::alloc::{AllocGlobal, Global};
+use trlab_bounds::runs::MOST_WORKERS;
+use trlab_bounds::texts::TEXT_LIMIT;
+use trlab_jobs::limits::MOST_RUNNERS;
+use trlab_jobs::read_sweep;
+use trlab_texts::TextFault;
+
+/// The engine of sweep texts, which writes the table of their points.
+#[derive(Drop)]
+struct Surveyor;
+
+impl Engine for Surveyor {
+    ghost outputs = { λ _ text. IsSweepOutput text };
+
+    fn write<K: Sink>(self, alloc: Global, text: &[u8], writer: &mut K) -> End {
+        let sweep = match read_sweep(alloc, text) {
+            Ok(sweep) => sweep,
+            Err(TextFault::At { line, cause }) => return refuse(alloc, line, cause, writer),
+            Err(TextFault::Memory) => return End::Memory,
+        };
+        match table(alloc, &sweep) {
+            Ok(table) => write_output(false, &table, writer),
+            Err(_) => End::Memory,
+        }
+    }
+
+    ghost too_big = { λ _. big_sweep };
+}
+
+/// Reads a sweep text, and writes the table of its points, or the line of the text's first fault.
+///
+/// The whole text is read and judged, and all points are there, before a byte is written. Where
+/// memory runs out or a call of the reader or writer fails, what was written is the front of the
+/// whole output. The output depends neither on the number of runners nor on that of workers, each
+/// 1 to 16; so far all work is done by the caller.
+pub fn run_sweep_text<R: AllocGlobal, S: Source, K: Sink>(
+    rt: &R,
+    reader: &mut S,
+    writer: &mut K,
+    runners: u32,
+    workers: u32,
+) -> End
+    requires reader_works { S.failed reader.old ≡ false }
+    requires writer_works { K.failed writer.old ≡ false }
+    requires some_runner { 1 ≤ runners }
+    requires few_runners { runners ≤ MOST_RUNNERS }
+    requires some_worker { 1 ≤ workers }
+    requires few_workers { workers ≤ MOST_WORKERS }
+    // Where the reader tells its bytes, and the writer those that it has.
+    ensures answer { IfSome (S.left reader.old)
+        (λ text. EndsSo (IsSweepOutput text) result (K.written writer.old) (K.written writer.new)) }
+    // Nothing was written where the text was not read, also by a reader that does not tell its bytes.
+    ensures silent { S.failed reader.new ≡ true → Keeps (K.written writer.old) (K.written writer.new) }
+    ensures handed { OnWhole result (K.handed_on writer.new ≡ true) }
+    ensures device { (result ≡ DeviceFault) ↔ ((S.failed reader.new || K.failed writer.new) ≡ true) }
+    ensures read { ConsumesUpTo (TEXT_LIMIT + 1) (S.left reader.old) (S.left reader.new) }
+{
+    run_engine(rt.alloc(), Surveyor, reader, writer)
+}

@@ -1,0 +1,94 @@
+-- The counts of cars, line after line.
+use Rattle.std.proofs.Common.{◌≡◌, ◌≢◌, ℕ, ◌+◌, List, [], ◌∷◌, ◌++◌, refl, sym, ◌∙◌, ap, append_assoc, append-nil}
+use Rattle.std.specs.Prelude.{Result, Ok, Err}
+use Rattle.trlab_asm.specs.Results.{◌>>=◌}
+use Rattle.trlab_texts.specs.declared.fault.Cause.{Cause}
+use Rattle.trlab_texts.specs.declared.fault.TextFault.{TextFault}
+use Rattle.trlab_texts.specs.declared.fault.TextFault.TheVariants.{At, Memory}
+use Rattle.trlab_texts.specs.Lines.{Rest}
+use Rattle.trlab_texts.specs.Reading.{Fault, LineSays, in_line, at_line, exactly, Reports}
+use Rattle.trlab_jobs.specs.Counts.{cars_line, counts_from}
+
+-- counts behind others
+abbrev pub behind : List ℕ → Result (List ℕ) Fault → Result (List ℕ) Fault
+behind first said = said >>= λ counts. Ok (first ++ counts)
+
+-- what the lines that are left say, behind the counts that were read, is what all lines say
+abbrev pub ReadSoFar : ℕ → ℕ → Rest → List ℕ → ℕ → Rest → Type 0
+ReadSoFar cells steps begin counts point place =
+    behind counts (counts_from cells steps point place.number place.left) ≡ counts_from cells steps 1 begin.number begin.left
+
+behind_none : (said : Result (List ℕ) Fault) → behind [] said ≡ said
+behind_none (Ok counts) = refl
+behind_none (Err fault) = refl
+
+-- before the first line
+pub none_read : (cells steps : ℕ) (begin : Rest) → ReadSoFar cells steps begin [] 1 begin
+none_read cells steps begin = behind_none (counts_from cells steps 1 begin.number begin.left)
+
+behind_more : (first : List ℕ) (count : ℕ) (said : Result (List ℕ) Fault) → behind first (said >>= λ counts. Ok (count ∷ counts)) ≡ behind (first ++ (count ∷ [])) said
+behind_more first count (Ok counts) = ap Ok (sym (append_assoc first (count ∷ []) counts))
+behind_more first count (Err fault) = refl
+
+-- what was said, or something else
+abbrev said_or : ℕ × Rest → Result (ℕ × Rest) Fault → ℕ × Rest
+said_or other (Ok found) = found
+said_or other (Err fault) = other
+
+-- what a line said, by what was told of it
+line_said : (number count : ℕ) (left : List (List ℕ)) (after : Rest) (says : Result ℕ Cause) → Ok (count, after) ≡ in_line number left says
+    → (says ≡ Ok count) × ((after.number ≡ number + 1) × (after.left ≡ left))
+line_said number count left after (Ok n) e =
+    let same = ap (said_or (count, after)) e in
+    (ap (λ found. Ok found.0) (sym same), (ap (λ found. found.1.number) same, ap (λ found. found.1.left) same))
+line_said number count left after (Err cause) e = absurd (cc e)
+
+line_wrong : (number : ℕ) (left : List (List ℕ)) (fault : Fault) (says : Result ℕ Cause) → Err fault ≡ in_line number left says → at_line number says ≡ Err fault
+line_wrong number left fault (Ok n) e = absurd (cc e)
+line_wrong number left fault (Err cause) e = cc e
+
+-- a count was read
+line_more : (cells steps point number count : ℕ) (left : List (List ℕ)) (after : Rest) → LineSays (exactly (cars_line cells steps point)) number left (Ok (count, after))
+    → counts_from cells steps point number left ≡ (counts_from cells steps (point + 1) after.number after.left >>= λ counts. Ok (count ∷ counts))
+unfolding counts_from
+line_more cells steps point number count [] after told = absurd (cc told)
+line_more cells steps point number count (text ∷ left) after told =
+    let said = line_said number count left after told.0 told.1.1 in
+    rw (said.1.0, said.1.1, sym told.1.0 ∙ said.0) refl
+
+-- a line has a fault
+line_fault : (cells steps point number : ℕ) (left : List (List ℕ)) (fault : Fault) → left ≢ []
+    → LineSays {A = ℕ} (exactly (cars_line cells steps point)) number left (Err fault) → counts_from cells steps point number left ≡ Err fault
+unfolding counts_from
+line_fault cells steps point number [] fault some told = absurd (some refl)
+line_fault cells steps point number (text ∷ left) fault some told =
+    let wrong = line_wrong number left fault told.0 told.1.1 in
+    let said = ap (at_line number) (sym told.1.0) ∙ wrong in
+    rw said refl
+
+pub one_more : (cells steps : ℕ) (begin : Rest) (counts : List ℕ) (point : ℕ) (place after : Rest) (count : ℕ) → ReadSoFar cells steps begin counts point place
+    → LineSays (exactly (cars_line cells steps point)) place.number place.left (Ok (count, after))
+    → ReadSoFar cells steps begin (counts ++ (count ∷ [])) (point + 1) after
+one_more cells steps begin counts point place after count so_far told =
+    sym (behind_more counts count (counts_from cells steps (point + 1) after.number after.left))
+    ∙ (ap (behind counts) (sym (line_more cells steps point place.number count place.left after told)) ∙ so_far)
+
+-- the reading stops at a fault
+pub stopped : (cells steps : ℕ) (begin : Rest) (counts : List ℕ) (point : ℕ) (place : Rest) (fault : TextFault) → ReadSoFar cells steps begin counts point place → place.left ≢ []
+    → Reports {A = ℕ × Rest} (LineSays (exactly (cars_line cells steps point)) place.number place.left) (Err fault)
+    → Reports {A = List ℕ} (λ says. says ≡ counts_from cells steps 1 begin.number begin.left) (Err fault)
+stopped cells steps begin counts point place (At line cause) so_far some told =
+    let fault : Fault = record { line = line; cause = cause } in
+    sym (ap (behind counts) (line_fault cells steps point place.number place.left fault some told)) ∙ so_far
+stopped cells steps begin counts point place Memory so_far some told = tt
+
+none_left : (cells steps point number : ℕ) (left : List (List ℕ)) → left ≡ [] → counts_from cells steps point number left ≡ Ok []
+unfolding counts_from
+none_left cells steps point number [] none = refl
+none_left cells steps point number (text ∷ left) none = absurd (cc none)
+
+-- all were read
+pub all_read : (cells steps : ℕ) (begin : Rest) (counts : List ℕ) (point : ℕ) (place : Rest) → ReadSoFar cells steps begin counts point place → place.left ≡ []
+    → Ok counts ≡ counts_from cells steps 1 begin.number begin.left
+all_read cells steps begin counts point place so_far none =
+    ap Ok (sym (append-nil counts)) ∙ (sym (ap (behind counts) (none_left cells steps point place.number place.left none)) ∙ so_far)

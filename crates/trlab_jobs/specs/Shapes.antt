@@ -1,0 +1,49 @@
+-- What the points of a sweep have in common: the shape of their roads, and how long each takes.
+use Rattle.std.specs.Prelude.{ℕ, ◌+◌, ◌*◌, List, codes, Result}
+use Rattle.trlab_bounds.specs.declared.roads.TheConstants.{GREATEST_LENGTH, MOST_LANES}
+use Rattle.trlab_bounds.specs.declared.runs.TheConstants.{MOST_STEPS}
+use Rattle.trlab_texts.specs.declared.fault.Cause.{Cause}
+use Rattle.trlab_texts.specs.Words.{word_behind, number_within}
+use Rattle.trlab_texts.specs.Reading.{Reading, say, ◌>>=◌, line, exactly}
+use Rattle.trlab_jobs.specs.declared.shape.Shape.{Shape}
+use Rattle.trlab_jobs.specs.declared.shape.Span.{Span}
+use Rattle.trlab_jobs.specs.Job.{limit_line}
+
+-- the line `length n`
+abbrev pub length_line : List ℕ → Result ℕ Cause
+length_line text = number_within 1 GREATEST_LENGTH (word_behind (codes "length ") text)
+
+-- the line `lanes n`
+abbrev pub lanes_line : List ℕ → Result ℕ Cause
+lanes_line text = number_within 1 MOST_LANES (word_behind (codes "lanes ") text)
+
+-- the line `warm n`
+abbrev pub warm_line : List ℕ → Result ℕ Cause
+warm_line text = number_within 0 MOST_STEPS (word_behind (codes "warm ") text)
+
+-- the line `measure n`
+abbrev pub measure_line : List ℕ → Result ℕ Cause
+measure_line text = number_within 1 MOST_STEPS (word_behind (codes "measure ") text)
+
+-- the lines of the roads, in their order
+abbrev pub shape : Reading Shape
+shape = do
+  limit ← line (exactly limit_line)
+  cells ← line (exactly length_line)
+  lanes ← line (exactly lanes_line)
+  say (record { limit = limit; cells = cells; lanes = lanes })
+
+-- the lines of the steps, in their order
+abbrev pub span : Reading Span
+span = do
+  warm ← line (exactly warm_line)
+  measure ← line (exactly measure_line)
+  say (record { warm = warm; measure = measure })
+
+-- how many cells a road has
+abbrev pub all_cells : Shape → ℕ
+all_cells shape = shape.lanes * shape.cells
+
+-- how many steps a point takes
+abbrev pub all_steps : Span → ℕ
+all_steps span = span.warm + span.measure
