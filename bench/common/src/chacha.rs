@@ -71,25 +71,35 @@ fn quarter(x: &mut [Lanes; 16], a: usize, b: usize, c: usize, d: usize) {
     x[b] = x[b].xor_rotated::<7, 25>(x[c]);
 }
 
-/// Word k, below 16, of each of four cars in a step of road 0.
+/// What the random words of a step go by, but for the car.
+#[derive(Clone, Copy)]
+pub struct Dice<'a> {
+    pub key: &'a [u32; 8],
+    /// The number of the road.
+    pub road: u32,
+    pub step: u32,
+}
+
+/// Word k, below 16, of each of four cars in a step.
 #[inline]
-pub fn word_of_cars(key: &[u32; 8], cars: [u32; 4], step: u32, k: usize) -> [u32; 4] {
+pub fn word_of_cars(dice: Dice, cars: [u32; 4], k: usize) -> [u32; 4] {
     // SAFETY: this is only compiled for machines with SSE 4.1.
-    unsafe { word_of_lanes(key, cars, step, k) }
+    unsafe { word_of_lanes(dice, cars, k) }
 }
 
 #[inline]
 #[target_feature(enable = "sse4.1")]
-fn word_of_lanes(key: &[u32; 8], cars: [u32; 4], step: u32, k: usize) -> [u32; 4] {
+fn word_of_lanes(dice: Dice, cars: [u32; 4], k: usize) -> [u32; 4] {
     let mut first = [Lanes::all(0); 16];
     for k in 0..4 {
         first[k] = Lanes::all(CONSTANTS[k]);
     }
     for k in 0..8 {
-        first[4 + k] = Lanes::all(key[k]);
+        first[4 + k] = Lanes::all(dice.key[k]);
     }
-    first[12] = Lanes::all(step);
+    first[12] = Lanes::all(dice.step);
     first[14] = Lanes::of(cars);
+    first[15] = Lanes::all(dice.road);
     let mut x = first;
     for _ in 0..10 {
         quarter(&mut x, 0, 4, 8, 12);
@@ -106,17 +116,15 @@ fn word_of_lanes(key: &[u32; 8], cars: [u32; 4], step: u32, k: usize) -> [u32; 4
 
 /// The random words of up to four cars of one step, made when the first of them is asked for.
 pub struct Words<'a> {
-    key: &'a [u32; 8],
-    step: u32,
+    dice: Dice<'a>,
     cars: [u32; 4],
     made: Option<(usize, [u32; 4])>,
 }
 
 impl<'a> Words<'a> {
-    pub fn new(key: &'a [u32; 8], step: u32, cars: [u32; 4]) -> Self {
+    pub fn new(dice: Dice<'a>, cars: [u32; 4]) -> Self {
         Words {
-            key,
-            step,
+            dice,
             cars,
             made: None,
         }
@@ -137,7 +145,7 @@ impl<'a> Words<'a> {
         match self.made {
             Some((of, words)) if of == k => words,
             _ => {
-                let words = word_of_cars(self.key, self.cars, self.step, k);
+                let words = word_of_cars(self.dice, self.cars, k);
                 self.made = Some((k, words));
                 words
             }
@@ -147,18 +155,26 @@ impl<'a> Words<'a> {
 
 #[cfg(test)]
 mod tests {
-    use super::word_of_cars;
+    use super::{word_of_cars, Dice};
+
+    fn dice(key: &[u32; 8], road: u32, step: u32) -> Dice<'_> {
+        Dice { key, road, step }
+    }
 
     #[test]
     fn the_zero_key_begins_as_published() {
-        assert_eq!(word_of_cars(&[0; 8], [0, 1, 2, 3], 0, 0)[0], 2917185654);
-        assert_eq!(word_of_cars(&[0; 8], [0, 1, 2, 3], 0, 1)[0], 2419978656);
+        let zero = dice(&[0; 8], 0, 0);
+        assert_eq!(word_of_cars(zero, [0, 1, 2, 3], 0)[0], 2917185654);
+        assert_eq!(word_of_cars(zero, [0, 1, 2, 3], 1)[0], 2419978656);
     }
 
     #[test]
     fn a_car_has_the_same_word_at_every_place_of_a_group() {
         let key = [1, 2, 3, 4, 5, 6, 7, 8];
-        let [a, b, c, d] = word_of_cars(&key, [9, 8, 7, 6], 5, 3);
-        assert_eq!(word_of_cars(&key, [6, 7, 8, 9], 5, 3), [d, c, b, a]);
+        let [a, b, c, d] = word_of_cars(dice(&key, 2, 5), [9, 8, 7, 6], 3);
+        assert_eq!(
+            word_of_cars(dice(&key, 2, 5), [6, 7, 8, 9], 3),
+            [d, c, b, a]
+        );
     }
 }

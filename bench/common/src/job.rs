@@ -1,4 +1,4 @@
-//! Job texts of a standard rule, or of programs in byte code.
+//! Job texts of a standard rule, or of programs in byte code; what other texts share with them.
 
 use crate::road::{Car, Road};
 
@@ -39,20 +39,7 @@ pub fn read_job(text: &str) -> Option<Job> {
                 length = words[1].len() as u32;
             }
             "rule" if words[1..] == ["own"] => {}
-            "rule" => {
-                rule = Some(match *words.get(1)? {
-                    "nasch" => Rule::Nasch { brake: number(2)? },
-                    "vdr" => Rule::Vdr {
-                        brake: number(2)?,
-                        start: number(3)?,
-                    },
-                    "rickert" => Rule::Rickert {
-                        brake: number(2)?,
-                        change: number(3)?,
-                    },
-                    _ => return None,
-                });
-            }
+            "rule" => rule = Some(read_rule(&words)?),
             "code" => codes.push(read_bytes(words.get(1)?)?),
             "steps" => steps = number(1)?,
             _ => return None,
@@ -68,7 +55,24 @@ pub fn read_job(text: &str) -> Option<Job> {
     })
 }
 
-fn read_key(hex: &str) -> Option<[u32; 8]> {
+/// The standard rule that the words of a line say.
+pub fn read_rule(words: &[&str]) -> Option<Rule> {
+    let number = |k: usize| words.get(k)?.parse().ok();
+    Some(match *words.get(1)? {
+        "nasch" => Rule::Nasch { brake: number(2)? },
+        "vdr" => Rule::Vdr {
+            brake: number(2)?,
+            start: number(3)?,
+        },
+        "rickert" => Rule::Rickert {
+            brake: number(2)?,
+            change: number(3)?,
+        },
+        _ => return None,
+    })
+}
+
+pub fn read_key(hex: &str) -> Option<[u32; 8]> {
     let mut key = [0; 8];
     for (k, word) in key.iter_mut().enumerate() {
         let digits = hex.get(8 * k..8 * k + 8)?;

@@ -1,12 +1,14 @@
-//! What the programs that trlab is compared with share: job texts, random words, roads as sorted
-//! lists of cars, and pictures. A program adds only the way in which its cars are driven.
+//! What the programs that trlab is compared with share: job and sweep texts, random words, roads as
+//! sorted lists of cars, pictures, and tables. A program adds only the way in which its cars are driven.
 
 mod chacha;
 mod job;
 mod road;
 mod run;
+mod sweep;
 
-pub use chacha::{word_of_cars, Words};
+pub use chacha::{word_of_cars, Dice, Words};
 pub use job::{read_job, Job, Rule};
 pub use road::{Car, Driver, Road, View};
-pub use run::{job_from_input, run};
+pub use run::{job_from_input, run, sweep_from_input};
+pub use sweep::Sweep;

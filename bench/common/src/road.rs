@@ -2,7 +2,7 @@
 
 use std::mem::swap;
 
-use crate::chacha::Words;
+use crate::chacha::{Dice, Words};
 
 /// What shows each speed in a picture.
 const SPEEDS: &[u8; 36] = b"0123456789abcdefghijklmnopqrstuvwxyz";
@@ -65,16 +65,34 @@ impl Road {
         &self.lanes
     }
 
-    /// The road one step on.
-    pub fn step(&mut self, driver: &impl Driver, key: &[u32; 8], step: u32) {
-        if driver.changes_lanes() {
-            self.exchange(driver, key, step);
+    /// The road of evenly spread cars, which stand.
+    pub fn even(lanes: u32, length: u32, limit: u32, cars: u32) -> Self {
+        let mut spread = vec![Vec::new(); lanes as usize];
+        for number in 0..cars {
+            let cells = u64::from(lanes) * u64::from(length);
+            let cell = (u64::from(number) * cells / u64::from(cars)) as u32;
+            spread[(cell % lanes) as usize].push(Car {
+                number,
+                place: cell / lanes,
+                speed: 0,
+            });
         }
-        self.drive(driver, key, step);
+        Road::new(length, limit, spread)
+    }
+
+    /// Makes the road one step on; the cars that crossed.
+    pub fn step(&mut self, driver: &impl Driver, dice: Dice) -> usize {
+        let crossed = if driver.changes_lanes() {
+            self.exchange(driver, dice)
+        } else {
+            0
+        };
+        self.drive(driver, dice);
+        crossed
     }
 
     /// The motion of all cars at once.
-    fn drive(&mut self, driver: &impl Driver, key: &[u32; 8], step: u32) {
+    fn drive(&mut self, driver: &impl Driver, dice: Dice) {
         let (length, limit) = (self.length, self.limit);
         for lane in &mut self.lanes {
             let Some(&first) = lane.first() else {
@@ -82,7 +100,7 @@ impl Road {
             };
             let (cars, mut wrapped) = (lane.len(), 0);
             for start in (0..cars).step_by(4) {
-                let mut words = Words::new(key, step, numbers(&lane[start..]));
+                let mut words = Words::new(dice, numbers(&lane[start..]));
                 for k in start..cars.min(start + 4) {
                     let next = lane.get(k + 1).copied().unwrap_or(first);
                     let car = &mut lane[k];
@@ -106,15 +124,16 @@ impl Road {
         }
     }
 
-    /// The lane change of all cars at once.
-    fn exchange(&mut self, driver: &impl Driver, key: &[u32; 8], step: u32) {
+    /// The lane change of all cars at once; the cars that crossed.
+    fn exchange(&mut self, driver: &impl Driver, dice: Dice) -> usize {
         for own in 0..2 {
             let mut leaving = std::mem::take(&mut self.leaving[own]);
             leaving.clear();
-            self.cars_that_leave(own, driver, key, step, &mut leaving);
+            self.cars_that_leave(own, driver, dice, &mut leaving);
             self.leaving[own] = leaving;
         }
-        if self.leaving.iter().any(|cars| !cars.is_empty()) {
+        let crossed = self.leaving.iter().map(Vec::len).sum();
+        if crossed > 0 {
             for own in 0..2 {
                 exchanged(
                     &self.lanes[own],
@@ -125,6 +144,7 @@ impl Road {
                 swap(&mut self.lanes[own], &mut self.made);
             }
         }
+        crossed
     }
 
     /// Finds the cars of a lane that go to the other one. A cursor walks along the other lane.
@@ -132,14 +152,13 @@ impl Road {
         &self,
         own: usize,
         driver: &impl Driver,
-        key: &[u32; 8],
-        step: u32,
+        dice: Dice,
         leaving: &mut Vec<Car>,
     ) {
         let (lane, other) = (&self.lanes[own], &self.lanes[1 - own]);
         let mut at = 0;
         for (start, group) in (0..).step_by(4).zip(lane.chunks(4)) {
-            let mut words = Words::new(key, step, numbers(group));
+            let mut words = Words::new(dice, numbers(group));
             for (k, car) in group.iter().enumerate() {
                 while other.get(at).is_some_and(|ahead| ahead.place < car.place) {
                     at += 1;

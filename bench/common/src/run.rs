@@ -2,17 +2,29 @@
 
 use std::io::{self, Read, Write};
 
+use crate::chacha::Dice;
 use crate::job::{read_job, Job};
 use crate::road::Driver;
+use crate::sweep::{read_sweep, Sweep};
 
 /// Pictures are handed on once there are so many bytes of them.
 const ENOUGH: usize = 1 << 16;
 
-/// The job that stands on standard input.
-pub fn job_from_input() -> io::Result<Job> {
+/// What a reader makes of the text on standard input.
+fn from_input<T>(read: impl FnOnce(&str) -> Option<T>) -> io::Result<T> {
     let mut text = String::new();
     io::stdin().read_to_string(&mut text)?;
-    read_job(&text).ok_or_else(|| io::Error::from(io::ErrorKind::InvalidData))
+    read(&text).ok_or_else(|| io::Error::from(io::ErrorKind::InvalidData))
+}
+
+/// The job that stands on standard input.
+pub fn job_from_input() -> io::Result<Job> {
+    from_input(read_job)
+}
+
+/// The sweep that stands on standard input.
+pub fn sweep_from_input() -> io::Result<Sweep> {
+    from_input(read_sweep)
 }
 
 /// Runs a job and writes what `trlab run` writes for it.
@@ -27,7 +39,8 @@ pub fn run(mut job: Job, driver: &impl Driver) -> io::Result<()> {
             pictures.clear();
         }
         if step < job.steps {
-            job.road.step(driver, &job.key, step);
+            let key = &job.key;
+            job.road.step(driver, Dice { key, road: 0, step });
         }
     }
     out.write_all(&pictures)?;

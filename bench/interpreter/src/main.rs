@@ -73,7 +73,7 @@ fn main() -> io::Result<()> {
 
 #[cfg(test)]
 mod tests {
-    use common::read_job;
+    use common::{read_job, Dice};
 
     use super::Programs;
 
@@ -84,7 +84,8 @@ mod tests {
             020006000000000002010200000000000a000001000000001400000000000000\nsteps 1\n";
         let mut job = read_job(text).expect("a job");
         let driver = Programs::of(&job).expect("a program");
-        job.road.step(&driver, &job.key, 0);
+        let (key, road, step) = (&job.key, 0, 0);
+        job.road.step(&driver, Dice { key, road, step });
         let mut picture = Vec::new();
         job.road.draw(&mut picture);
         assert_eq!(picture, b".1...3....\n");

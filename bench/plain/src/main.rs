@@ -2,13 +2,15 @@
 //! proofs.
 //!
 //! `plain` reads a job text of a standard rule and writes what `trlab run` writes for it. `plain
-//! floor` makes a random word of each car in each step, four at a time, and nothing else: less than
+//! sweep` reads a sweep text of a standard rule and writes what `trlab sweep` writes for it. `plain
+//! floor` reads a job text, makes a random word of each car in each step, four at a time, and nothing else: less than
 //! that no run can take in which each car draws.
 
 use std::hint::black_box;
-use std::io;
+use std::io::{self, Write};
 
-use common::{job_from_input, run, word_of_cars, Driver, Job, Rule, View, Words};
+use common::{job_from_input, run, sweep_from_input, word_of_cars};
+use common::{Dice, Driver, Job, Rule, View, Words};
 
 struct Plain(Rule);
 
@@ -47,14 +49,30 @@ fn make_words(job: &Job) {
     for step in 0..job.steps {
         for group in cars.chunks(4) {
             let four = std::array::from_fn(|k| group.get(k).copied().unwrap_or(0));
-            black_box(word_of_cars(&job.key, four, step, 0));
+            let dice = Dice {
+                key: &job.key,
+                road: 0,
+                step,
+            };
+            black_box(word_of_cars(dice, four, 0));
         }
     }
 }
 
+/// Writes the table of a sweep.
+fn write_table() -> io::Result<()> {
+    let sweep = sweep_from_input()?;
+    let table = sweep.table(&Plain(sweep.rule));
+    io::stdout().write_all(table.map_err(io::Error::other)?.as_bytes())
+}
+
 fn main() -> io::Result<()> {
+    let wanted = std::env::args().nth(1);
+    if wanted.as_deref() == Some("sweep") {
+        return write_table();
+    }
     let job = job_from_input()?;
-    if std::env::args().nth(1).as_deref() == Some("floor") {
+    if wanted.as_deref() == Some("floor") {
         make_words(&job);
         return Ok(());
     }
