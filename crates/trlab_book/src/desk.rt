@@ -3,8 +3,8 @@
 ghost use Rattle.std.specs.Prelude.{◌≡◌, ◌<◌, ◌≤◌, ◌-◌, ◌^◌, min, vec_len};
 
 use crate::kept::Kept;
-use std::sync::ledger::{self, Ledger, Share};
 use std::sync::Mutex;
+use std::sync::ledger::{self, Ledger, Share};
 
 /// A book with its history, beside the ledger's count of its events.
 #[derive(Drop)]

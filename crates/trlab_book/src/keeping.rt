@@ -9,13 +9,17 @@ ghost use Rattle.trlab_leases.specs.Machine.{is_full, start};
 ghost use Rattle.trlab_leases.specs.declared.event.BookFault.TheVariants.{HistoryFull};
 ghost use Rattle.trlab_leases.specs.declared.event.Call.TheVariants.{Cancel, GiveBack, Read, Replace, Revoke, Submit};
 ghost use Rattle.trlab_leases.specs.declared.event.Reply.TheVariants.{Refused};
-ghost use Rattle.trlab_book.specs.Keeping.{IsUnchanged, Makes, TellsFull};
+ghost use Rattle.trlab_book.specs.Keeping.{IsUnchanged, Lengthens, Makes, TellsFull};
 
 use crate::kept::Kept;
-use crate::replies::{reply_to_back, reply_to_done, reply_to_lease, reply_to_number, reply_to_order, reply_to_read};
+use crate::replies::{
+    reply_to_back, reply_to_done, reply_to_lease, reply_to_number, reply_to_order, reply_to_read,
+};
 use std::alloc::{AllocError, Global};
-use trlab_leases::{Book, BookFault, BoxedRule, BoxedSeed, Call, Event, Lease, Offered, Order, Rule, Seed, Snapshot};
-use trlab_leases::is_for_memory;
+use trlab_leases::{
+    Book, BookFault, BoxedRule, BoxedSeed, Call, Event, Lease, Offered, Order, Rule, Seed,
+    Snapshot, is_for_memory,
+};
 
 impl Kept {
     /// An empty book, of which no call was made.
@@ -33,6 +37,7 @@ impl Kept {
         ensures same { IsUnchanged self.old self.new }
         ensures room { OnOk result (vec_len self.new.history < vec_capacity self.new.history) }
         ensures full { (result ≡ Err HistoryFull) ↔ (is_full self.old.book ≡ true) }
+        ensures free { OnOk result (is_full self.new.book ≡ false) }
         ensures none { IfErr result (λ f. is_event (Refused f) ≡ false) }
     {
         if self.book.is_full() {
@@ -49,7 +54,13 @@ impl Kept {
     /// # Errors
     ///
     /// As the book's call; `Memory` also where the history can't grow or what it keeps can't be copied.
-    pub fn submit(&mut self, alloc: Global, seed: Seed, rule: Rule, steps: u32) -> Result<u32, BookFault>
+    pub fn submit(
+        &mut self,
+        alloc: Global,
+        seed: Seed,
+        rule: Rule,
+        steps: u32,
+    ) -> Result<u32, BookFault>
         ensures made { Makes self.old (Submit seed rule steps) (number_reply result) self.new }
         ensures full { TellsFull self.old (number_reply result) }
     {
@@ -163,6 +174,7 @@ impl Kept {
             → Makes self.old (OrderCall (offered lease.now same)) (order_reply result) self.new }
         ensures rule { IfOk result (λ o. IsRuleAt self.old.book.jobs o.0) }
         ensures full { TellsFull self.old (order_reply result) }
+        ensures length { Lengthens self.old (order_reply result) self.new }
     {
         self.make_room()?;
         let same = self.book.is_same(lease);
@@ -187,6 +199,7 @@ impl Kept {
             → Makes self.old (GiveBack (offered lease same)) (back_reply result) self.new }
         ensures err { IfErr result (λ e. e.0 ≡ lease) }
         ensures full { TellsFull self.old (back_reply result) }
+        ensures length { Lengthens self.old (back_reply result) self.new }
     {
         if let Err(fault) = self.make_room() {
             return Err((lease, fault));
@@ -265,10 +278,17 @@ impl Kept {
 }
 
 /// What the history keeps of a submitted job, in memory of its own.
-pub(crate) fn copied_job(alloc: Global, seed: &Seed, rule: &Rule) -> Result<(BoxedSeed, BoxedRule), AllocError>
+pub(crate) fn copied_job(
+    alloc: Global,
+    seed: &Seed,
+    rule: &Rule,
+) -> Result<(BoxedSeed, BoxedRule), AllocError>
     ensures { IfOk result (λ c. (c.0 ≡ seed.now) × (c.1 ≡ rule.now)) }
 {
-    Ok((BoxedSeed::copy_of(alloc, seed)?, BoxedRule::copy_of(alloc, rule)?))
+    Ok((
+        BoxedSeed::copy_of(alloc, seed)?,
+        BoxedRule::copy_of(alloc, rule)?,
+    ))
 }
 
 /// What the history keeps of a lease.

@@ -10,7 +10,10 @@ use trlab_leases::{BookFault, Lease, Order, Reply, Snapshot};
 pub fn is_event(reply: Reply) -> bool
     ensures { result ≡ is_event reply }
 {
-    !matches!(reply, Reply::Refused(BookFault::Memory | BookFault::HistoryFull))
+    !matches!(
+        reply,
+        Reply::Refused(BookFault::Memory | BookFault::HistoryFull)
+    )
 }
 
 pub fn reply_to_number(answer: &Result<u32, BookFault>) -> Reply
