@@ -24,6 +24,8 @@ use trlab_texts::TextFault;
 struct Judge;
 
 impl Engine for Judge {
+    ghost is_ready = { λ _. Unit {0} };
+
     ghost outputs = { λ _ text. IsCheckOutput text };
 
     fn write<K: Sink>(self, alloc: Global, text: &[u8], writer: &mut K) -> End {

@@ -16,12 +16,16 @@ use trlab_texts::Cause;
 
 /// What makes the output of a text.
 pub trait Engine: Drop {
+    // What has to hold for it to write: who lets workers ask says here what they need.
+    ghost is_ready: { Self → Type 0 };
+
     // The whole outputs that there may be for a text.
     ghost outputs: { Self → List ℕ → Outputs };
 
     /// Writes the output of a text, and hands it on.
     fn write<K: Sink>(self, alloc: Global, text: &[u8], writer: &mut K) -> End
-        requires { K.failed writer.old ≡ false }
+        requires ready { is_ready self }
+        requires works { K.failed writer.old ≡ false }
         ensures answer { EndsSo (outputs self text.now) result
             (K.written writer.old) (K.written writer.new) }
         ensures handed { OnWhole result (K.handed_on writer.new ≡ true) }
@@ -39,6 +43,7 @@ pub fn run_engine<E: Engine, S: Source, K: Sink>(
     reader: &mut S,
     writer: &mut K,
 ) -> End
+    requires engine_ready { E.is_ready engine }
     requires reader_works { S.failed reader.old ≡ false }
     requires writer_works { K.failed writer.old ≡ false }
     ensures answer { IfSome (S.left reader.old)

@@ -8,6 +8,7 @@ ghost use Rattle.trlab_campaign.specs.Device.{ConsumesUpTo};
 ghost use Rattle.trlab_campaign.specs.Ending.{EndsSo, OnWhole};
 ghost use Rattle.trlab_campaign.specs.Output.{IsOutput};
 ghost use Rattle.trlab_campaign.specs.TooBig.{big_job};
+ghost use Rattle.trlab_segments.specs.Answered.{HasTwoLanes};
 ghost use Rattle.trlab_campaign.specs.declared.end.End.TheVariants.{DeviceFault};
 
 use crate::device::{Sink, Source};
@@ -15,22 +16,33 @@ use crate::end::End;
 use crate::engine::{Engine, run_engine};
 use crate::refusal::refuse;
 use crate::run::pictures::run_job;
-use std::alloc::{AllocGlobal, Global};
+use std::alloc::{AllocError, AllocGlobal, Global};
+use std::thread::Threads;
 use trlab_bounds::runs::MOST_WORKERS;
 use trlab_bounds::texts::TEXT_LIMIT;
 use trlab_jobs::read_job;
+use trlab_machine::Dice;
+use trlab_road::Road;
+use trlab_segments::{Calls, Crew, OpenGate};
+use trlab_step::Asker;
 use trlab_texts::TextFault;
+use trlab_verify::{Change, Motion};
 
 /// The engine of job texts, which writes the pictures of their runs.
 #[derive(Drop)]
-struct Driver;
+struct Driver<'a, A> {
+    /// Who asks the cars.
+    asker: &'a A,
+}
 
-impl Engine for Driver {
+impl<'a, A: Asker> Engine for Driver<'a, A> {
+    ghost is_ready = { λ driver. A.is_ready driver.asker.now };
+
     ghost outputs = { λ _ text. IsOutput text };
 
     fn write<K: Sink>(self, alloc: Global, text: &[u8], writer: &mut K) -> End {
         match read_job(alloc, text) {
-            Ok(job) => run_job(alloc, job, writer),
+            Ok(job) => run_job(self.asker, alloc, job, writer),
             Err(TextFault::At { line, cause }) => refuse(alloc, line, cause, writer),
             Err(TextFault::Memory) => End::Memory,
         }
@@ -44,8 +56,8 @@ impl Engine for Driver {
 ///
 /// The whole text is read and judged before a byte is written. Where memory runs out or a call of
 /// the reader or writer fails, what was written is the front of the whole output. The output does
-/// not depend on the number of workers, which is 1 to 16; so far all work is done by the caller.
-pub fn run_job_text<R: AllocGlobal, S: Source, K: Sink>(
+/// not depend on the number of workers, 1 to 16, of whom only those are started that make the run faster.
+pub fn run_job_text<R: AllocGlobal + Threads + Sync, S: Source, K: Sink>(
     rt: &R,
     reader: &mut S,
     writer: &mut K,
@@ -64,5 +76,14 @@ pub fn run_job_text<R: AllocGlobal, S: Source, K: Sink>(
     ensures device { (result ≡ DeviceFault) ↔ ((S.failed reader.new || K.failed writer.new) ≡ true) }
     ensures read { ConsumesUpTo (TEXT_LIMIT + 1) (S.left reader.old) (S.left reader.new) }
 {
-    run_engine(rt.alloc(), Driver, reader, writer)
+    let crew = Crew::new(rt, workers, &OpenGate).sparing();
+    let asker = Calls::new(
+        |alloc: Global, road: &Road, motion: &Motion, dice: &Dice| crew.speeds(
+            alloc, road, motion, dice,
+        ),
+        |alloc: Global, road: &Road, change: &Change, dice: &Dice| -> Result<Vec<bool>, AllocError>
+            requires { HasTwoLanes road.now }
+        { crew.crossings(alloc, road, change, dice) },
+    );
+    run_engine(rt.alloc(), Driver { asker: &asker }, reader, writer)
 }

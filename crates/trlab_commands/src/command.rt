@@ -11,10 +11,11 @@ ghost use Rattle.trlab_commands.specs.Commands.{output_of};
 
 use crate::words::Wanted;
 use std::alloc::AllocGlobal;
+use std::thread::Threads;
 use trlab_campaign::{End, Sink, Source, check_text, run_job_text};
 
 /// Does what is wanted, from a reader to a writer.
-pub fn carry_out<R: AllocGlobal, S: Source, K: Sink>(
+pub fn carry_out<R: AllocGlobal + Threads + Sync, S: Source, K: Sink>(
     rt: &R,
     wanted: Wanted,
     reader: &mut S,

@@ -103,7 +103,8 @@ impl Run {
     ///
     /// Where an allocation was refused; then nothing changes.
     pub fn advance<A: Asker>(&mut self, asker: &A, alloc: Global) -> Result<(), AllocError>
-        requires { self.old.step + 1 < 2 ^ 32 }
+        requires ready { A.is_ready asker.now }
+        requires steps { self.old.step + 1 < 2 ^ 32 }
         ensures on { OnOk result (IsOneStepOn self.old self.new) }
         ensures same { OnErr result (self.new ≡ self.old) }
     {

@@ -3,3 +3,5 @@ pub mod Rule
 pub mod Drawers
 pub mod Segments
 pub mod Laws
+pub mod Answered
+pub mod Joined

@@ -3,13 +3,24 @@
 //! ticket is drawn once.
 #![tactic(auto)]
 
+mod asked;
+mod calls;
+mod crew;
 mod drawer;
 mod gate;
 pub mod laws;
+mod lineup;
+mod part;
+mod phase;
 mod segment;
+mod step;
 mod stock;
 mod tickets;
+mod work;
 
+pub use calls::Calls;
+pub use crew::Crew;
 pub use drawer::{Drawer, Tickets};
 pub use gate::{Gate, OpenGate};
 pub use segment::{Segment, segment_count};
+pub use step::step_shared;

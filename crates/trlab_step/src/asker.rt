@@ -14,6 +14,9 @@ use trlab_verify::{Change, Motion};
 /// Who asks all cars of a road in a step, and puts their answers in standing order into a list, in
 /// place of what stands there.
 pub trait Asker {
+    // What has to hold for it to ask: who starts threads says here what they may share.
+    ghost is_ready: { Self → Type 0 };
+
     /// The speeds, in cells a step, that a motion program answers.
     ///
     /// # Errors
@@ -27,6 +30,7 @@ pub trait Asker {
         motion: &Motion,
         dice: &Dice,
     ) -> Result<(), AllocError>
+        requires ready { is_ready self.now }
         ensures speeds { OnOk result (
             AnswersSpeedsPart motion.now dice.now road.now 0 (cars road.now) answers.new.items) }
         ensures fits { OnOk result (FitsPart road.now 0 answers.new.items) }
@@ -45,6 +49,7 @@ pub trait Asker {
         change: &Change,
         dice: &Dice,
     ) -> Result<(), AllocError>
+        requires ready { is_ready self.now }
         requires two_lanes { length road.now.lanes ≡ 2 }
         ensures crossings { OnOk result (
             AnswersCrossingsPart change.now dice.now road.now 0 (cars road.now) answers.new.items) }
@@ -56,6 +61,8 @@ pub trait Asker {
 pub struct Caller;
 
 impl Asker for Caller {
+    ghost is_ready = { λ _. Unit {0} };
+
     fn speeds(
         &self,
         _: Global,

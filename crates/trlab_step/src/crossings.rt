@@ -52,6 +52,10 @@ pub fn choose_part(
 }
 
 /// Puts the answers that `choose_part` tells into a list, in place of what stands there.
+///
+/// # Errors
+///
+/// Where an allocation was refused.
 pub fn ask_crossings(
     crosses: &mut Vec<bool>,
     road: &Road,

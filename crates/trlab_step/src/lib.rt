@@ -14,10 +14,10 @@ mod step;
 mod tally;
 
 pub use asker::{Asker, Caller};
-pub use crossings::choose_part;
+pub use crossings::{ask_crossings, choose_part};
 pub use fault::StepFault;
 pub use phases::{commit_change, commit_motion};
 pub use room::StepRoom;
-pub use speeds::move_part;
+pub use speeds::{ask_speeds, move_part};
 pub use step::{step_road, step_road_by, take_step};
 pub use tally::StepTally;

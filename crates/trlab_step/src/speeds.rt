@@ -50,6 +50,10 @@ pub fn move_part(
 }
 
 /// Puts the speeds that `move_part` tells into a list, in place of what stands there.
+///
+/// # Errors
+///
+/// Where an allocation was refused.
 pub fn ask_speeds(
     speeds: &mut Vec<u32>,
     road: &Road,

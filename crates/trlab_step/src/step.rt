@@ -36,6 +36,7 @@ pub fn step_road_by<A: Asker>(
     rule: &Rule,
     dice: &Dice,
 ) -> Result<(Road, StepTally), StepFault>
+    requires { A.is_ready asker.now }
     ensures { TellsNext rule.now dice.now road.now result }
 {
     if rule.change().is_some() && road.lanes() == 1 {
@@ -81,6 +82,7 @@ pub fn take_step<A: Asker>(
     rule: &Rule,
     dice: &Dice,
 ) -> Result<StepTally, AllocError>
+    requires ready { A.is_ready asker.now }
     requires lanes { IsSome rule.now.change → length road.old.lanes ≡ 2 }
     ensures next { IfOk result (λ tally. IsNext rule.now dice.now road.old road.new tally) }
     ensures clean { IfOk result (λ tally. IsCleanNext rule.now dice.now road.old road.new tally) }
@@ -109,7 +111,8 @@ fn change_lanes<A: Asker>(
     change: &Change,
     dice: &Dice,
 ) -> Result<(Road, u64), AllocError>
-    requires { length road.now.lanes ≡ 2 }
+    requires ready { A.is_ready asker.now }
+    requires two_lanes { length road.now.lanes ≡ 2 }
     ensures phase { IfOk result (λ after.
         LaneChangePhase (Some change.now) dice.now road.now after.0 after.1) }
     ensures clean { IfOk result (λ after. CleanLaneChange road.now after.0) }
@@ -129,6 +132,7 @@ fn move_cars<A: Asker>(
     motion: &Motion,
     dice: &Dice,
 ) -> Result<StepTally, AllocError>
+    requires { A.is_ready asker.now }
     ensures phase { OnOk result (MotionPhase motion.now dice.now road.old road.new) }
     ensures distance { IfOk result (λ tally. tally.distance ≡ total_speed road.new) }
     ensures stopped { IfOk result (λ tally. tally.stopped ≡ stopped_cars road.new) }

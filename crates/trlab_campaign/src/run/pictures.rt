@@ -17,7 +17,7 @@ use std::alloc::{AllocError, Global};
 use trlab_jobs::Job;
 use trlab_road::Road;
 use trlab_run::{Run, Sheet};
-use trlab_step::Caller;
+use trlab_step::Asker;
 
 /// Why the pictures were not all written.
 #[derive(Clone, Copy)]
@@ -80,7 +80,13 @@ fn run_of(alloc: Global, job: Job) -> Run
 }
 
 /// Writes the pictures of a job's road at each step, as they are made.
-fn write_pictures<K: Sink>(alloc: Global, job: Job, writer: &mut K) -> Result<(), WriteFault>
+fn write_pictures<A: Asker, K: Sink>(
+    asker: &A,
+    alloc: Global,
+    job: Job,
+    writer: &mut K,
+) -> Result<(), WriteFault>
+    requires ready { A.is_ready asker.now }
     requires works { K.failed writer.old ≡ false }
     ensures whole { OnOk result
         (WrotePictures job (K.written writer.old) (K.written writer.new)) }
@@ -94,19 +100,21 @@ fn write_pictures<K: Sink>(alloc: Global, job: Job, writer: &mut K) -> Result<()
     let mut buffer = Vec::new(alloc);
     for step in 0..steps {
         write_step(alloc, &mut buffer, step, run.road(), writer)?;
-        run.advance(&Caller, alloc)?;
+        run.advance(asker, alloc)?;
     }
     write_step(alloc, &mut buffer, steps, run.road(), writer)
 }
 
-/// Runs a job: writes the pictures of its road at each step, and hands them on at the end.
-pub fn run_job<K: Sink>(alloc: Global, job: Job, writer: &mut K) -> End
+/// Runs a job, in which the asker asks the cars: writes the pictures of its road at each step, and
+/// hands them on at the end.
+pub fn run_job<A: Asker, K: Sink>(asker: &A, alloc: Global, job: Job, writer: &mut K) -> End
+    requires ready { A.is_ready asker.now }
     requires works { K.failed writer.old ≡ false }
     ensures handed { OnWhole result (K.handed_on writer.new ≡ true) }
     ensures answer { JobEnds result job (K.written writer.old) (K.written writer.new) }
     ensures device { (result ≡ DeviceFault) ↔ (K.failed writer.new ≡ true) }
 {
-    match write_pictures(alloc, job, writer) {
+    match write_pictures(asker, alloc, job, writer) {
         Ok(()) => match writer.flush() {
             Ok(()) => End::Done,
             Err(_) => End::DeviceFault,

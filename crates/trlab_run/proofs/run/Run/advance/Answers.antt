@@ -22,7 +22,7 @@ by_dice_of dice key number step rule road next tally a b d is = subst (λ (one :
 pub take_step-requires : goal.take_step-requires
 take_step-requires g c =
     let suits = rule_here _ c.in_force.result.now c.self.invariant c.in_force.ensures in
-    record { lanes = suits.two_lanes }
+    record { ready = c.requires.ready; lanes = suits.two_lanes }
 
 pub tally_sum-self-inside-requires-clause-distance :
     goal.tally_sum-self-inside-requires-clause-distance
@@ -30,7 +30,7 @@ tally_sum-self-inside-requires-clause-distance g c =
     let room = room_for _ c.in_force.result.now c.take_step.new.road c.in_ok-tally.tally c.self.invariant c.in_ok-tally.ensures.legal (by_dice_of c.new-dice.result c.self.inside.key.0 c.self.inside.number c.self.inside.step c.in_force.result.now c.self.inside.road c.take_step.new.road c.in_ok-tally.tally c.new-dice.ensures.key c.new-dice.ensures.road c.new-dice.ensures.step c.in_ok-tally.ensures.next) in
     let few = room.distance in
     let same : c.self.inside.step ≡ c.args.self.now.step = ap (λ (run : Progress). run.step) c.self.view_is in
-    let early = c.requires in
+    let early = c.requires.steps in
     omega arith
 
 pub tally_sum-self-inside-requires-clause-stopped :
@@ -39,7 +39,7 @@ tally_sum-self-inside-requires-clause-stopped g c =
     let room = room_for _ c.in_force.result.now c.take_step.new.road c.in_ok-tally.tally c.self.invariant c.in_ok-tally.ensures.legal (by_dice_of c.new-dice.result c.self.inside.key.0 c.self.inside.number c.self.inside.step c.in_force.result.now c.self.inside.road c.take_step.new.road c.in_ok-tally.tally c.new-dice.ensures.key c.new-dice.ensures.road c.new-dice.ensures.step c.in_ok-tally.ensures.next) in
     let few = room.stopped in
     let same : c.self.inside.step ≡ c.args.self.now.step = ap (λ (run : Progress). run.step) c.self.view_is in
-    let early = c.requires in
+    let early = c.requires.steps in
     omega arith
 
 pub tally_sum-self-inside-requires-clause-changes :
@@ -48,7 +48,7 @@ tally_sum-self-inside-requires-clause-changes g c =
     let room = room_for _ c.in_force.result.now c.take_step.new.road c.in_ok-tally.tally c.self.invariant c.in_ok-tally.ensures.legal (by_dice_of c.new-dice.result c.self.inside.key.0 c.self.inside.number c.self.inside.step c.in_force.result.now c.self.inside.road c.take_step.new.road c.in_ok-tally.tally c.new-dice.ensures.key c.new-dice.ensures.road c.new-dice.ensures.step c.in_ok-tally.ensures.next) in
     let few = room.changes in
     let same : c.self.inside.step ≡ c.args.self.now.step = ap (λ (run : Progress). run.step) c.self.view_is in
-    let early = c.requires in
+    let early = c.requires.steps in
     omega arith
 
 pub invariant_of-self-2 : goal.invariant_of-self-2

@@ -1,0 +1,76 @@
+-- What the cars of a part of a road answer, and the parts that a worker asked.
+use Rattle.std.specs.Prelude.{◌≡◌, ℕ, ◌+◌, ◌<◌, true, Bool, List, All, map, length, slice_index_or, Result, IfOk, Vec}
+use Rattle.trlab_machine.specs.declared.dice.Dice.{Dice}
+use Rattle.trlab_road.specs.Cells.{Cells, cars}
+use Rattle.trlab_segments.specs.declared.part.Part.{Part}
+use Rattle.trlab_segments.specs.declared.phase.Phase.{Phase}
+use Rattle.trlab_segments.specs.declared.drawer.Drawer.{Drawer}
+use Rattle.trlab_segments.specs.declared.drawer.Tickets.{Tickets}
+use Rattle.trlab_segments.specs.Drawers.{IsFrom, is_ended, passes_of, tickets_of}
+use Rattle.trlab_segments.specs.Segments.{first_car}
+use Rattle.trlab_step.specs.Answers.{AnswersSpeedsPart, AnswersCrossingsPart, FitsPart, CrossesFreePart}
+use Rattle.trlab_verify.specs.CheckedProgram.{CheckedProgram}
+use Rattle.std.specs.Borrow.{Bor}
+use Rattle.trlab_road.specs.declared.road.Road.{Road}
+
+-- speeds can be asked on any road
+abbrev pub HasLanes : Cells → Type 0
+HasLanes road = Unit {0}
+
+-- lane changes are asked on a road of two lanes
+abbrev pub HasTwoLanes : Cells → Type 0
+HasTwoLanes road = length road.lanes ≡ 2
+
+-- a motion program answers these speeds to a part of the cars, within their gaps and the limit
+abbrev pub SpeedsPart : CheckedProgram → Dice → Cells → ℕ → ℕ → List ℕ → Type 0
+SpeedsPart motion dice road from to speeds =
+    AnswersSpeedsPart motion dice road from to speeds × FitsPart road from speeds
+
+-- a change program answers so whether a part of the cars cross, and they do so to empty cells only
+abbrev pub CrossesPart : CheckedProgram → Dice → Cells → ℕ → ℕ → List Bool → Type 0
+CrossesPart change dice road from to crosses =
+    AnswersCrossingsPart change dice road from to crosses × CrossesFreePart road from crosses
+
+-- the number of the segment of a part
+abbrev pub number_of : {A : Type 0} → Part A → ℕ
+number_of p = p.number
+
+-- a part has what the cars of its segment answer in a phase, where the cars are cut into so many
+abbrev pub IsPart : {P A : Type 0} → (P → Dice → Cells → ℕ → ℕ → List A → Type 0) → Phase P → ℕ → Part A → Type 0
+IsPart answers phase count p =
+    let first = first_car (cars phase.road.now) count in
+    answers phase.program.now phase.dice.now phase.road.now (first p.number) (first (p.number + 1)) p.answers.items
+
+-- a drawer has ended, and these are the parts of the tickets that it drew, in its order
+pub record HasParts {A : Type 0} (IsRight : Part A → Type 0) (d : Drawer) (parts : List (Part A)) : Type 0 where
+  pub tickets : map number_of parts ≡ tickets_of d
+  pub right : All IsRight parts
+  pub ended : is_ended d ≡ true
+
+-- what workers come back with: their drawer with its passes, and the parts, if memory was there
+abbrev pub HasWorked : {A B E : Type 0} → (Part A → Type 0) → Tickets → Drawer
+    → Drawer × Result (Vec (Part A) B) E → Type 0
+HasWorked IsRight tickets d told =
+    IsFrom tickets told.0 × (passes_of told.0 ≡ passes_of d)
+    × IfOk told.1 (λ parts. HasParts IsRight told.0 parts.items)
+
+-- the part at this place has this number
+abbrev pub HasNumber : {A : Type 0} → List (Part A) → ℕ → ℕ → Type 0
+HasNumber parts place number =
+    (place < length parts) × ((other : Part _) → number_of (slice_index_or parts place other) ≡ number)
+
+-- a call that can be made on any road, and tells the speeds of all its cars, if memory was there
+abbrev pub TellsSpeeds : {A B E : Type 0} → (A → Bor Road → Bor CheckedProgram → Bor Dice → Type 0)
+    → (A → Bor Road → Bor CheckedProgram → Bor Dice → Result (Vec ℕ B) E → Type 0) → Type 0
+TellsSpeeds pre post = (alloc : _) (road : Bor Road) (motion : Bor CheckedProgram) (dice : Bor Dice)
+    → pre alloc road motion dice
+    × ((told : _) → post alloc road motion dice told
+    → IfOk told (λ speeds. SpeedsPart motion.now dice.now road.now 0 (cars road.now) speeds.items))
+
+-- a call that can be made on a road of two lanes, and tells which of all its cars cross, if memory was there
+abbrev pub TellsCrosses : {A B E : Type 0} → (A → Bor Road → Bor CheckedProgram → Bor Dice → Type 0)
+    → (A → Bor Road → Bor CheckedProgram → Bor Dice → Result (Vec Bool B) E → Type 0) → Type 0
+TellsCrosses pre post = (alloc : _) (road : Bor Road) (change : Bor CheckedProgram) (dice : Bor Dice)
+    → HasTwoLanes road.now → pre alloc road change dice
+    × ((told : _) → post alloc road change dice told
+    → IfOk told (λ crosses. CrossesPart change.now dice.now road.now 0 (cars road.now) crosses.items))

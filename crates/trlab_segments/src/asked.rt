@@ -1,0 +1,103 @@
+//! What is asked of the cars in a phase: a motion program answers each a speed, a change program whether it
+//! crosses.
+
+ghost use Rattle.std.specs.Prelude.{◌≡◌, ◌≤◌, ◌++◌, [], ℕ, IfOk, List, length};
+ghost use Rattle.trlab_machine.specs.declared.dice.Dice.{Dice as TheDice};
+ghost use Rattle.trlab_road.specs.Cells.{Cells, cars};
+ghost use Rattle.trlab_segments.specs.Answered.{CrossesPart, SpeedsPart, HasTwoLanes, HasLanes};
+ghost use Rattle.trlab_segments.specs.Joined.{crosses_begin, crosses_join, speeds_begin, speeds_join};
+
+use std::alloc::{AllocError, Global};
+use trlab_machine::Dice;
+use trlab_road::Road;
+use trlab_step::{ask_crossings, ask_speeds};
+use trlab_verify::{Change, Motion};
+
+/// A program that answers something to each car of a road.
+pub trait Asked<A> {
+    /// The phase in which it is asked: 0 is the lane change, 1 the motion.
+    const PHASE: u32;
+
+    // The roads on which it can be asked.
+    ghost can_ask: { Cells → Type 0 };
+
+    // What it answers to the cars from an index of the standing order up to another.
+    ghost answers: { Self → TheDice → Cells → ℕ → ℕ → List A → Type 0 };
+
+    /// The answers to the cars from one index of the standing order up to another, which is not
+    /// included.
+    ///
+    /// # Errors
+    ///
+    /// Where an allocation was refused.
+    fn ask(
+        &self,
+        alloc: Global,
+        road: &Road,
+        dice: &Dice,
+        from: u32,
+        to: u32,
+    ) -> Result<Vec<A>, AllocError>
+        requires rising { from ≤ to }
+        requires within { to ≤ cars road.now }
+        requires lanes { can_ask road.now }
+        ensures { IfOk result (λ found. answers self.now dice.now road.now from to found.items) };
+
+    // No car answers nothing.
+    ghost begins: { (program : Self) (dice : TheDice) (road : Cells) → answers program dice road 0 0 [] };
+
+    // The answers of a part and then those of the part behind it are the answers of both.
+    ghost joins: { (program : Self) (dice : TheDice) (road : Cells) (from middle to : ℕ) (first second : List A)
+        → answers program dice road from middle first → answers program dice road middle to second
+        → answers program dice road from to (first ++ second) };
+}
+
+impl Asked<u32> for Motion {
+    const PHASE: u32 = 1;
+
+    ghost can_ask = { HasLanes };
+
+    ghost answers = { SpeedsPart };
+
+    fn ask(
+        &self,
+        alloc: Global,
+        road: &Road,
+        dice: &Dice,
+        from: u32,
+        to: u32,
+    ) -> Result<Vec<u32>, AllocError> {
+        let mut speeds = Vec::new(alloc);
+        ask_speeds(&mut speeds, road, self, dice, from, to)?;
+        Ok(speeds)
+    }
+
+    ghost begins = { speeds_begin };
+
+    ghost joins = { speeds_join };
+}
+
+impl Asked<bool> for Change {
+    const PHASE: u32 = 0;
+
+    ghost can_ask = { HasTwoLanes };
+
+    ghost answers = { CrossesPart };
+
+    fn ask(
+        &self,
+        alloc: Global,
+        road: &Road,
+        dice: &Dice,
+        from: u32,
+        to: u32,
+    ) -> Result<Vec<bool>, AllocError> {
+        let mut crosses = Vec::new(alloc);
+        ask_crossings(&mut crosses, road, self, dice, from, to)?;
+        Ok(crosses)
+    }
+
+    ghost begins = { crosses_begin };
+
+    ghost joins = { crosses_join };
+}

@@ -1,0 +1,12 @@
+//! A phase of a step, as all workers see it.
+
+use trlab_machine::Dice;
+use trlab_road::Road;
+
+/// A program that all cars of a road are asked by, on this very road and with these dice.
+#[derive(Clone, Copy)]
+pub struct Phase<'a, P> {
+    pub program: &'a P,
+    pub road: &'a Road,
+    pub dice: &'a Dice,
+}

@@ -1,0 +1,112 @@
+//! What workers do in a phase: each draws the numbers of segments, and asks their cars.
+
+ghost use Rattle.std.specs.Prelude.{◌≡◌, ◌<◌, ◌++◌, [], IfOk, IsOk};
+ghost use Rattle.std.specs.Thread.{IsSend, IsSync};
+ghost use Rattle.trlab_segments.specs.Answered.{HasParts, HasWorked, IsPart};
+ghost use Rattle.trlab_segments.specs.Drawers.{IsFrom, count_of, passes_of, tickets_of};
+
+use crate::asked::Asked;
+use crate::drawer::{Drawer, Tickets};
+use crate::gate::Gate;
+use crate::part::Part;
+use crate::phase::Phase;
+use crate::segment::Segment;
+use std::alloc::{AllocError, Global};
+use std::thread::{Threads, join};
+
+/// Asks the cars of the segment with a number, of so many.
+fn part_of<A, P: Asked<A>>(
+    alloc: Global,
+    phase: &Phase<P>,
+    count: u32,
+    number: u32,
+) -> Result<Part<A>, AllocError>
+    requires number { number < count }
+    requires lanes { P.can_ask phase.now.road.now }
+    ensures part { IfOk result (λ part. IsPart P.answers phase.now count part) }
+    ensures number { IfOk result (λ part. part.number ≡ number) }
+{
+    let Segment { from, to } = Segment::of(phase.road.cars(), count, number);
+    let answers = phase.program.ask(alloc, phase.road, phase.dice, from, to)?;
+    Ok(Part { number, answers })
+}
+
+/// Asks the cars of one segment after the other, as their numbers are drawn, until none is left.
+pub fn work<A: Drop, P: Asked<A>, G: Gate>(
+    alloc: Global,
+    phase: &Phase<P>,
+    tickets: &Tickets,
+    drawer: &mut Drawer,
+    worker: u32,
+    gate: &G,
+) -> Result<Vec<Part<A>>, AllocError>
+    requires from { IsFrom tickets.now drawer.old }
+    requires fresh { tickets_of drawer.old ≡ [] }
+    requires lanes { P.can_ask phase.now.road.now }
+    ensures from { IsFrom tickets.now drawer.new }
+    ensures passes { passes_of drawer.new ≡ passes_of drawer.old }
+    ensures parts { IfOk result (λ parts.
+        HasParts (IsPart P.answers phase.now (count_of tickets.now)) drawer.new parts.items) }
+{
+    let mut parts = Vec::new(alloc);
+    while let Some(number) = tickets.draw(drawer) {
+        gate.pass(phase.dice.road, worker, P::PHASE, number);
+        parts.push(part_of(alloc, phase, tickets.plan.count, number)?)?;
+    }
+    Ok(parts)
+}
+
+/// The parts of both, where both have theirs.
+fn both<A: Drop>(
+    some: Result<Vec<Part<A>>, AllocError>,
+    more: Result<Vec<Part<A>>, AllocError>,
+) -> Result<Vec<Part<A>>, AllocError>
+    ensures all { IfOk result (λ all. IfOk some (λ a. IfOk more (λ b. all.items ≡ a.items ++ b.items))) }
+    ensures both { IsOk result → IsOk some × IsOk more }
+{
+    let mut all = some?;
+    let mut more = more?;
+    all.append(&mut more)?;
+    Ok(all)
+}
+
+/// Lets as many workers ask the cars as the drawer has passes: each but the last in a thread of its own, and
+/// the last, which is worker 0, on this one, once the others were started. Where a thread can't be
+/// started, its work is done here too.
+pub fn share<A: Drop + Send, P: Asked<A> + Sync, R: Threads + Sync, G: Gate + Sync>(
+    rt: &R,
+    alloc: Global,
+    phase: &Phase<P>,
+    tickets: &Tickets,
+    drawer: Drawer,
+    gate: &G,
+) -> (Drawer, Result<Vec<Part<A>>, AllocError>)
+    requires from { IsFrom tickets.now drawer }
+    requires fresh { tickets_of drawer ≡ [] }
+    requires lanes { P.can_ask phase.now.road.now }
+    ensures { HasWorked (IsPart P.answers phase.now (count_of tickets.now)) tickets.now drawer result }
+{
+    let mut drawer = drawer;
+    let worker = drawer.passes() - 1;
+    if worker == 0 {
+        let parts = work(alloc, phase, tickets, &mut drawer, worker, gate);
+        return (drawer, parts);
+    }
+    let mut theirs = tickets.split(&mut drawer);
+    let ((theirs, some), (mine, more)) = join(
+        rt,
+        move || -> (Drawer, Result<Vec<Part<A>>, AllocError>)
+            requires { IsFrom tickets.now theirs × (tickets_of theirs ≡ []) × P.can_ask phase.now.road.now }
+            ensures { HasWorked (IsPart P.answers phase.entry.now (count_of tickets.entry.now)) tickets.entry.now theirs result }
+        {
+            let parts = work(alloc, phase, tickets, &mut theirs, worker, gate);
+            (theirs, parts)
+        },
+        move || -> (Drawer, Result<Vec<Part<A>>, AllocError>)
+            requires { IsSync R.row × IsSync G.row × IsSync P.row × IsSend A.row
+                × IsFrom tickets.now drawer × (tickets_of drawer ≡ []) × P.can_ask phase.now.road.now }
+            ensures { HasWorked (IsPart P.answers phase.entry.now (count_of tickets.entry.now)) tickets.entry.now drawer result }
+        { share(rt, alloc, phase, tickets, drawer, gate) },
+    );
+    (tickets.gather(theirs, mine), both(some, more))
+}
