@@ -1,6 +1,6 @@
 //! What one runner does: it takes jobs from the book, one lease after the other.
 
-ghost use Rattle.std.specs.Prelude.{◌≡◌};
+ghost use Rattle.std.specs.Prelude.{◌≡◌, ◌<◌, ◌≤◌};
 ghost use Rattle.trlab_book.specs.Desks.{parts_of};
 
 use crate::desk::{Desk, SharedBook};
@@ -8,23 +8,28 @@ use crate::fault::RunFault;
 use std::alloc::Global;
 use std::sync::Wait;
 use std::sync::ledger::Ledger;
+use std::thread::Threads;
 use trlab_leases::{BookFault, Lease, LeaseFault};
+use trlab_segments::Gate;
 
 /// How many steps a runner takes at most before it gives a lease back.
 const STEPS_A_TURN: u32 = 32;
 
 /// Takes leases until no job is free.
-pub fn run_one<L: Ledger, R: Wait>(
+pub fn run_one<L: Ledger, R: Threads + Wait + Sync, G: Gate + Sync>(
     rt: &R,
     alloc: Global,
     book: &SharedBook<L>,
     desk: &mut Desk<L>,
+    workers: u32,
+    gate: &G,
 ) -> Result<(), RunFault>
+    requires { (0 < workers) × (workers ≤ 16) }
     ensures { parts_of desk.new ≡ parts_of desk.old }
 {
     for _ in rt.forever() {
         match book.lease(rt, alloc, desk) {
-            Ok(Some(lease)) => take_turn(rt, alloc, book, desk, lease)?,
+            Ok(Some(lease)) => take_turn(rt, alloc, book, desk, lease, workers, gate)?,
             Ok(None) => return Ok(()),
             Err(BookFault::HistoryFull) => return Err(RunFault::HistoryFull),
             Err(_) => return Err(RunFault::Memory),
@@ -34,18 +39,21 @@ pub fn run_one<L: Ledger, R: Wait>(
 }
 
 /// Runs a lease for some steps and gives it back.
-fn take_turn<L: Ledger, R: Wait>(
+fn take_turn<L: Ledger, R: Threads + Wait + Sync, G: Gate + Sync>(
     rt: &R,
     alloc: Global,
     book: &SharedBook<L>,
     desk: &mut Desk<L>,
     lease: Lease,
+    workers: u32,
+    gate: &G,
 ) -> Result<(), RunFault>
+    requires { (0 < workers) × (workers ≤ 16) }
     ensures { parts_of desk.new ≡ parts_of desk.old }
 {
     let job = lease.job();
     let mut lease = lease;
-    if let Err(fault) = run_steps(rt, alloc, book, desk, &mut lease) {
+    if let Err(fault) = run_steps(rt, alloc, book, desk, &mut lease, workers, gate) {
         return end_lease(rt, book, desk, job, fault);
     }
     match book.give_back(rt, desk, lease) {
@@ -55,13 +63,16 @@ fn take_turn<L: Ledger, R: Wait>(
 }
 
 /// Orders a step and runs it, over and over. The lock is free while it runs.
-fn run_steps<L: Ledger, R: Wait>(
+fn run_steps<L: Ledger, R: Threads + Wait + Sync, G: Gate + Sync>(
     rt: &R,
     alloc: Global,
     book: &SharedBook<L>,
     desk: &mut Desk<L>,
     lease: &mut Lease,
+    workers: u32,
+    gate: &G,
 ) -> Result<(), BookFault>
+    requires { (0 < workers) × (workers ≤ 16) }
     ensures { parts_of desk.new ≡ parts_of desk.old }
 {
     for _ in 0..STEPS_A_TURN {
@@ -69,7 +80,7 @@ fn run_steps<L: Ledger, R: Wait>(
             return Ok(());
         }
         let order = book.order(rt, alloc, desk, lease)?;
-        match lease.advance(alloc, &order) {
+        match lease.advance(rt, alloc, &order, workers, gate) {
             Ok(()) => {}
             Err(LeaseFault::WrongOrder) => return Err(BookFault::StrangerLease),
             Err(LeaseFault::Memory) => return Err(BookFault::Memory),
