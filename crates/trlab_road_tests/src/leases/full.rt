@@ -3,7 +3,7 @@
 use super::{book_under, braking, seed_under, take_step};
 use crate::steps::{crossing, steady};
 use std::alloc::Global;
-use trlab_leases::{Book, BookFault, Lease, Seed};
+use trlab_leases::{Book, BookFault, Seed};
 use trlab_road::Road;
 use trlab_words::Key;
 
@@ -46,24 +46,26 @@ fn long_job(alloc: Global) -> Option<Book> {
     Some(book)
 }
 
-/// Has a lease take a step and then replaces its rule.
-fn replace_behind(alloc: Global, book: &mut Book, lease: &mut Lease) -> Option<Result<u32, BookFault>> {
-    take_step(alloc, book, lease)?;
-    Some(book.replace(0, braking(alloc)?))
+/// Has a lease take a step, and replaces its rule before it is given back.
+fn replace_behind(alloc: Global, book: &mut Book) -> Option<Result<u32, BookFault>> {
+    let mut lease = book.lease(alloc).ok()??;
+    take_step(alloc, book, &mut lease)?;
+    let answer = book.replace(0, braking(alloc)?);
+    book.give_back(lease).ok()?;
+    Some(answer)
 }
 
 /// Whether a rule for each step makes a sheet of 1024 entries and no more.
 fn takes_1024_entries(alloc: Global) -> Option<bool> {
     let mut book = long_job(alloc)?;
-    let mut lease = book.lease(alloc).ok()??;
     for step in 1..1024 {
-        if replace_behind(alloc, &mut book, &mut lease)? != Ok(step) {
+        if replace_behind(alloc, &mut book)? != Ok(step) {
             return None;
         }
     }
-    let full = replace_behind(alloc, &mut book, &mut lease)? == Err(BookFault::SheetFull);
+    let full = replace_behind(alloc, &mut book)? == Err(BookFault::SheetFull);
     let seen = book.read(alloc, 0).ok()?;
-    Some(full && seen.sheet().len() == 1024 && book.give_back(lease).is_ok())
+    Some(full && seen.sheet().len() == 1024 && seen.step() == 1024)
 }
 
 #[test]
