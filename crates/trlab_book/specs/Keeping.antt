@@ -1,6 +1,6 @@
 -- What a call does to a book with its history.
 use Rattle.std.specs.Prelude.{◌≡◌, ◌↔◌, ◌+◌, true, cond, ◌++◌, ◌∷◌, [], MatchBool, vec_len}
-use Rattle.trlab_leases.specs.declared.event.BookFault.TheVariants.{HistoryFull}
+use Rattle.trlab_leases.specs.declared.fault.BookFault.TheVariants.{HistoryFull}
 use Rattle.trlab_leases.specs.declared.event.Call.{Call}
 use Rattle.trlab_leases.specs.declared.event.Reply.{Reply}
 use Rattle.trlab_leases.specs.declared.event.Reply.TheVariants.{Refused}

@@ -1,8 +1,9 @@
 //! Calls of a shared book through a desk: each takes the lock once, and is one event.
 
 ghost use Rattle.std.specs.Prelude.{◌≡◌, IfErr};
-ghost use Rattle.trlab_leases.specs.Answers.{back_reply, done_reply, lease_reply, number_reply, seen_reply};
-ghost use Rattle.trlab_book.specs.Desks.{Counts, CountsOrder};
+ghost use Rattle.trlab_leases.specs.Answers.{back_reply, done_reply, lease_reply};
+ghost use Rattle.trlab_leases.specs.Answers.{number_reply, order_reply, seen_reply};
+ghost use Rattle.trlab_book.specs.Desks.{Counts};
 
 use crate::desk::{Desk, SharedBook};
 use crate::keeping::copied_job;
@@ -81,10 +82,9 @@ impl<L: Ledger> SharedBook<L> {
         desk: &mut Desk<L>,
         lease: &Lease,
     ) -> Result<Order, BookFault>
-        ensures { CountsOrder desk.old result desk.new }
+        ensures { Counts desk.old (order_reply result) desk.new }
     {
-        let (order, _) = self.lock.lock(rt).order(desk, alloc, lease)?;
-        Ok(order)
+        self.lock.lock(rt).order(desk, alloc, lease)
     }
 
     /// Gives a lease back: the job's steps and road become the lease's.

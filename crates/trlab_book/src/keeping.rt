@@ -4,9 +4,9 @@ ghost use Rattle.std.specs.Prelude.{◌≡◌, ◌↔◌, ◌<◌, Bool, true, f
 ghost use Rattle.std.specs.Vec.{vec_capacity};
 ghost use Rattle.trlab_leases.specs.Answers.{back_reply, done_reply, is_event, lease_reply};
 ghost use Rattle.trlab_leases.specs.Answers.{number_reply, order_reply, seen_reply};
-ghost use Rattle.trlab_leases.specs.Leases.{IsLent, IsRuleAt, IsSame, IsSeen, LeaseCall, OrderCall, offered};
+ghost use Rattle.trlab_leases.specs.Comparison.{IsLent, IsRuleAt, IsSame, IsSeen, LeaseCall, OrderCall, offered};
 ghost use Rattle.trlab_leases.specs.Machine.{is_full, start};
-ghost use Rattle.trlab_leases.specs.declared.event.BookFault.TheVariants.{HistoryFull};
+ghost use Rattle.trlab_leases.specs.declared.fault.BookFault.TheVariants.{HistoryFull};
 ghost use Rattle.trlab_leases.specs.declared.event.Call.TheVariants.{Cancel, GiveBack, Read, Replace, Revoke, Submit};
 ghost use Rattle.trlab_leases.specs.declared.event.Reply.TheVariants.{Refused};
 ghost use Rattle.trlab_book.specs.Keeping.{IsUnchanged, Lengthens, Makes, TellsFull};
@@ -163,16 +163,16 @@ impl Kept {
         answer
     }
 
-    /// The order for the step at which a lease stands, with the step from which its rule is in force.
+    /// Orders the step at which a lease stands.
     ///
     /// # Errors
     ///
     /// As the book's call; `Memory` also where the history can't grow.
     #[tactic(auto, using(crate::proofs::Replaying::replays_on))]
-    pub fn order(&mut self, alloc: Global, lease: &Lease) -> Result<(Order, u32), BookFault>
+    pub fn order(&mut self, alloc: Global, lease: &Lease) -> Result<Order, BookFault>
         ensures made { (same : Bool) → (IsTrue same ↔ IsSame self.old.book.jobs lease.now)
             → Makes self.old (OrderCall (offered lease.now same)) (order_reply result) self.new }
-        ensures rule { IfOk result (λ o. IsRuleAt self.old.book.jobs o.0) }
+        ensures rule { IfOk result (λ o. IsRuleAt self.old.book.jobs o) }
         ensures full { TellsFull self.old (order_reply result) }
         ensures length { Lengthens self.old (order_reply result) self.new }
     {

@@ -75,7 +75,7 @@ impl<L: Ledger> Locked<L> {
         desk: &mut Desk<L>,
         alloc: Global,
         lease: &Lease,
-    ) -> Result<(Order, u32), BookFault>
+    ) -> Result<Order, BookFault>
         ensures { Counts desk.old (order_reply result) desk.new }
     {
         let answer = self.kept.order(alloc, lease);

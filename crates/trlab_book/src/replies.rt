@@ -49,15 +49,15 @@ pub fn reply_to_lease(answer: &Result<Option<Lease>, BookFault>) -> Reply
     }
 }
 
-pub fn reply_to_order(answer: &Result<(Order, u32), BookFault>) -> Reply
+pub fn reply_to_order(answer: &Result<Order, BookFault>) -> Reply
     ensures { result ≡ order_reply answer.now }
 {
     match answer {
-        Ok((order, from)) => Reply::Ordered {
+        Ok(order) => Reply::Ordered {
             job: order.job(),
             number: order.lease(),
             step: order.step(),
-            from: *from,
+            from: order.from(),
         },
         Err(fault) => Reply::Refused(*fault),
     }
