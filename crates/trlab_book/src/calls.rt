@@ -10,7 +10,8 @@ use crate::keeping::copied_job;
 use std::alloc::Global;
 use std::sync::Wait;
 use std::sync::ledger::Ledger;
-use trlab_leases::{BookFault, BoxedRule, Lease, Order, Rule, Seed, Snapshot};
+use trlab_leases::{BookFault, BoxedRule, Lease, Order, Seed, Snapshot};
+use trlab_rules::Rule;
 
 impl<L: Ledger> SharedBook<L> {
     /// Submits a job, and answers its number. What the history keeps is copied before the lock is taken.

@@ -17,9 +17,10 @@ use crate::replies::{
 };
 use std::alloc::{AllocError, Global};
 use trlab_leases::{
-    Book, BookFault, BoxedRule, BoxedSeed, Call, Event, Lease, Offered, Order, Rule, Seed,
-    Snapshot, is_for_memory,
+    Book, BookFault, BoxedRule, BoxedSeed, Call, Event, Lease, Offered, Order, Seed, Snapshot,
+    is_for_memory,
 };
+use trlab_rules::Rule;
 
 impl Kept {
     /// An empty book, of which no call was made.

@@ -12,7 +12,8 @@ use crate::replies::{
 };
 use std::alloc::{AllocError, Global};
 use std::sync::ledger::{self, Ledger};
-use trlab_leases::{BookFault, BoxedRule, BoxedSeed, Lease, Order, Reply, Rule, Seed, Snapshot};
+use trlab_leases::{BookFault, BoxedRule, BoxedSeed, Lease, Order, Reply, Seed, Snapshot};
+use trlab_rules::Rule;
 
 /// Adds the event of a call, where its reply is of one, to the ledger and to the desk.
 fn count_event<L: Ledger>(events: &mut ledger::Book<L>, desk: &mut Desk<L>, reply: Reply)
