@@ -10,7 +10,7 @@ use Rattle.trlab_leases.specs.Machine.{State, after, is_full, next_after, reply_
 use Rattle.trlab_leases.specs.Replay.{Replays, call_of, event, replies_from, state_from, told_by}
 
 replies_more : (s : State) (cs : List Call) (c : Call)
-  → replies_from s (cs ++ c ∷ []) ≡ replies_from s cs ++ reply_of (state_from s cs) c ∷ []
+    → replies_from s (cs ++ c ∷ []) ≡ replies_from s cs ++ reply_of (state_from s cs) c ∷ []
 replies_more s [] c = refl
 replies_more s (d ∷ cs) c = ap (λ rs. reply_of s d ∷ rs) (replies_more (after s d) cs c)
 
@@ -19,12 +19,12 @@ state_more s [] c = refl
 state_more s (d ∷ cs) c = state_more (after s d) cs c
 
 replays_more : (history : List Event) (s : State) (c : Call) → Replays history s → is_full s ≡ false
-  → Replays (history ++ event c (reply_of s c) ∷ []) (after s c)
+    → Replays (history ++ event c (reply_of s c) ∷ []) (after s c)
 replays_more history s c r room =
     let calls : map call_of (history ++ event c (reply_of s c) ∷ []) ≡ map call_of history ++ c ∷ [] =
-        map-append call_of history (event c (reply_of s c) ∷ []) in
+    map-append call_of history (event c (reply_of s c) ∷ []) in
     let made : State =
-        record { count = s.count + 1; next = next_after s.next (served s c).reply; jobs = (served s c).jobs } in
+    record { count = s.count + 1; next = next_after s.next (served s c).reply; jobs = (served s c).jobs } in
     let count : (after s c).count ≡ s.count + 1 = ap (λ t. t.count) (cond-false (is_full s) s made room) in
     let len = length-append history (event c (reply_of s c) ∷ []) in
     record {
@@ -40,7 +40,7 @@ replays_more history s c r room =
 
 -- a history with a call and its reply behind it replays to the state after the call
 pub replays_on : (history items : List Event) (s t : State) (c : Call) (told : Reply)
-  → ∥ Replays history s ∥₁ → is_full s ≡ false → items ≡ history ++ event c told ∷ []
-  → told ≡ reply_of s c → t ≡ after s c → ∥ Replays items t ∥₁
+    → ∥ Replays history s ∥₁ → is_full s ≡ false → items ≡ history ++ event c told ∷ []
+    → told ≡ reply_of s c → t ≡ after s c → ∥ Replays items t ∥₁
 replays_on history items s t c told replays room items_are answered state_is =
     rw (items_are, answered, state_is) (∥∥₁_map replays (λ r. replays_more history s c r room))

@@ -73,11 +73,12 @@ impl<L: Ledger> Desk<L> {
         ensures parts { (parts_of self.new + 1 ≡ parts_of self.old) × (parts_of result ≡ 1) }
         ensures count { (count_of self.new ≡ count_of self.old) × (count_of result ≡ 0) }
     {
-        self.parts -= 1;
+        let Desk { parts, share, .. } = self;
+        *parts -= 1;
         Desk {
             parts: 1,
             count: 0,
-            share: self.share.split_off(1, 0),
+            share: share.split_off(1, 0),
         }
     }
 

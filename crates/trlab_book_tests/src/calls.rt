@@ -40,7 +40,8 @@ fn replaced<L: Ledger, R: Wait>(
     requires parts { (blank.parts ≡ L.parts) × (blank.parts ≡ 1024) }
 {
     let (book, mut desk) = SharedBook::<L>::start(alloc, blank);
-    book.submit(rt, alloc, &mut desk, seed(alloc, 0)?, steady(alloc)?, 4).ok()?;
+    book.submit(rt, alloc, &mut desk, seed(alloc, 0)?, steady(alloc)?, 4)
+        .ok()?;
     let first = step_on(rt, alloc, &book, &mut desk, true)?;
     let _ = book.revoke(rt, &mut desk, 0);
     let second = step_on(rt, alloc, &book, &mut desk, false)?;
@@ -50,7 +51,8 @@ fn replaced<L: Ledger, R: Wait>(
 
 /// Whether an event has the job of two cars with its first rule, and another the second rule.
 fn keeps_rules(alloc: Global, submit: &Event, replace: &Event) -> Option<bool> {
-    let (Call::Submit(from, first, _), Call::Replace(_, second)) = (&submit.call, &replace.call) else {
+    let (Call::Submit(from, first, _), Call::Replace(_, second)) = (&submit.call, &replace.call)
+    else {
         return None;
     };
     let shown = from.get().road.picture(alloc, 0).ok()?;
@@ -75,19 +77,39 @@ fn a_history_has_each_call_in_order(rt: HostRuntime) {
         (Made::Order(own(0, 0, 0)), ordered(0, 0, 0)),
         (Made::Replace(0), Reply::Number(1)),
         (Made::GiveBack(own(0, 0, 1)), Reply::Done),
-        (Made::Read(0), Reply::Seen { step: 1, entries: 2 }),
+        (
+            Made::Read(0),
+            Reply::Seen {
+                step: 1,
+                entries: 2,
+            },
+        ),
         (Made::Revoke(0), Reply::Refused(BookFault::StrangerLease)),
         (Made::Lease, went_out(1, 1)),
         (Made::Order(own(1, 1, 1)), ordered(1, 1, 1)),
         (Made::GiveBack(own(1, 1, 2)), Reply::Done),
-        (Made::Read(0), Reply::Seen { step: 2, entries: 2 }),
+        (
+            Made::Read(0),
+            Reply::Seen {
+                step: 2,
+                entries: 2,
+            },
+        ),
     ];
     assert!(rt; is_history(&history, &wanted));
-    assert_eq!(rt; keeps_rules(rt.alloc(), &history[0], &history[3]), Some(true));
+    assert_eq!(rt;
+        keeps_rules(rt.alloc(), &history[0], &history[3]),
+        Some(true)
+    );
 }
 
 /// Whether a lease that was revoked is handed back.
-fn is_handed_back<L: Ledger, R: Wait>(rt: &R, book: &SharedBook<L>, desk: &mut Desk<L>, lease: Lease) -> bool {
+fn is_handed_back<L: Ledger, R: Wait>(
+    rt: &R,
+    book: &SharedBook<L>,
+    desk: &mut Desk<L>,
+    lease: Lease,
+) -> bool {
     let number = lease.number();
     match book.give_back(rt, desk, lease) {
         Ok(()) => false,
@@ -101,7 +123,8 @@ fn revoked<L: Ledger, R: Wait>(rt: &R, alloc: Global, blank: Blank) -> Option<Ve
     requires parts { (blank.parts ≡ L.parts) × (blank.parts ≡ 1024) }
 {
     let (book, mut desk) = SharedBook::<L>::start(alloc, blank);
-    book.submit(rt, alloc, &mut desk, seed(alloc, 0)?, steady(alloc)?, 4).ok()?;
+    book.submit(rt, alloc, &mut desk, seed(alloc, 0)?, steady(alloc)?, 4)
+        .ok()?;
     let first = book.lease(rt, alloc, &mut desk).ok()??;
     book.order(rt, alloc, &mut desk, &first).ok()?;
     book.replace(rt, alloc, &mut desk, 0, braking(alloc)?).ok()?;
@@ -129,7 +152,10 @@ fn a_revoked_lease_is_not_taken_back(rt: HostRuntime) {
         (Made::Revoke(0), Reply::Done),
         (Made::Lease, went_out(1, 0)),
         (Made::Order(own(1, 0, 0)), ordered(1, 0, 0)),
-        (Made::GiveBack(own(0, 0, 0)), Reply::Refused(BookFault::StrangerLease)),
+        (
+            Made::GiveBack(own(0, 0, 0)),
+            Reply::Refused(BookFault::StrangerLease),
+        ),
         (Made::GiveBack(own(1, 0, 1)), Reply::Done),
     ];
     assert!(rt; is_history(&history, &wanted));
@@ -141,7 +167,8 @@ fn cancelled<L: Ledger, R: Wait>(rt: &R, alloc: Global, blank: Blank) -> Option<
     requires parts { (blank.parts ≡ L.parts) × (blank.parts ≡ 1024) }
 {
     let (book, mut desk) = SharedBook::<L>::start(alloc, blank);
-    book.submit(rt, alloc, &mut desk, seed(alloc, 0)?, steady(alloc)?, 4).ok()?;
+    book.submit(rt, alloc, &mut desk, seed(alloc, 0)?, steady(alloc)?, 4)
+        .ok()?;
     let lease = book.lease(rt, alloc, &mut desk).ok()??;
     book.cancel(rt, &mut desk, 0).ok()?;
     let ended = book.order(rt, alloc, &mut desk, &lease).err() == Some(BookFault::Ended);
@@ -163,10 +190,19 @@ fn a_cancelled_job_refuses_its_lease(rt: HostRuntime) {
         (Made::Lease, went_out(0, 0)),
         (Made::Cancel(0), Reply::Done),
         (Made::Order(own(0, 0, 0)), Reply::Refused(BookFault::Ended)),
-        (Made::GiveBack(own(0, 0, 0)), Reply::Refused(BookFault::StrangerLease)),
+        (
+            Made::GiveBack(own(0, 0, 0)),
+            Reply::Refused(BookFault::StrangerLease),
+        ),
         (Made::Cancel(0), Reply::Refused(BookFault::Ended)),
         (Made::Lease, Reply::NoLease),
-        (Made::Read(0), Reply::Seen { step: 0, entries: 1 }),
+        (
+            Made::Read(0),
+            Reply::Seen {
+                step: 0,
+                entries: 1,
+            },
+        ),
     ];
     assert!(rt; is_history(&history, &wanted));
 }

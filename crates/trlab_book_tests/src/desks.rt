@@ -23,7 +23,13 @@ fn wanted(number: u32, job: u32) -> (Made, Reply) {
     } else if number % 2 == 1 {
         (Made::Replace(job), Reply::Number(0))
     } else {
-        (Made::Read(job), Reply::Seen { step: 0, entries: 1 })
+        (
+            Made::Read(job),
+            Reply::Seen {
+                step: 0,
+                entries: 1,
+            },
+        )
     }
 }
 
@@ -34,7 +40,9 @@ fn make_calls<L: Ledger, R: Wait>(
     book: &SharedBook<L>,
     desk: &mut Desk<L>,
 ) -> Option<u32> {
-    let job = book.submit(rt, alloc, desk, seed(alloc, 0)?, steady(alloc)?, 4).ok()?;
+    let job = book
+        .submit(rt, alloc, desk, seed(alloc, 0)?, steady(alloc)?, 4)
+        .ok()?;
     for number in 1..CALLS {
         if number % 2 == 1 {
             let from = book.replace(rt, alloc, desk, job, steady(alloc)?).ok()?;
@@ -77,8 +85,16 @@ fn four_threads<L: Ledger + Send + Sync, R: Threads + Wait + Sync>(
     let fourth = first.split();
     let (((first, a), (second, b)), ((third, c), (fourth, d))) = join(
         rt,
-        || join(rt, || at_desk(rt, alloc, &book, first), || at_desk(rt, alloc, &book, second)),
-        || join(rt, || at_desk(rt, alloc, &book, third), || at_desk(rt, alloc, &book, fourth)),
+        || join(
+            rt,
+            || at_desk(rt, alloc, &book, first),
+            || at_desk(rt, alloc, &book, second),
+        ),
+        || join(
+            rt,
+            || at_desk(rt, alloc, &book, third),
+            || at_desk(rt, alloc, &book, fourth),
+        ),
     );
     let desk = first.gather(second).gather(third.gather(fourth));
     let (_, history) = book.close(desk).ok()?;

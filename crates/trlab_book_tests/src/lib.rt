@@ -7,6 +7,12 @@ mod calls;
 #[cfg(test)]
 mod desks;
 #[cfg(test)]
+mod example;
+#[cfg(test)]
+mod full;
+#[cfg(test)]
+mod gates;
+#[cfg(test)]
 mod histories;
 #[cfg(test)]
 mod jobs;

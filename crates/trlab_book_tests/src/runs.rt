@@ -20,7 +20,9 @@ fn submit_jobs<L: Ledger, R: Wait>(
     jobs: u32,
 ) -> Option<()> {
     for job in 0..jobs {
-        let number = book.submit(rt, alloc, desk, seed(alloc, job)?, steady(alloc)?, 4).ok()?;
+        let number = book
+            .submit(rt, alloc, desk, seed(alloc, job)?, steady(alloc)?, 4)
+            .ok()?;
         if number != job {
             return None;
         }
