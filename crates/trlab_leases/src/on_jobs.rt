@@ -88,10 +88,11 @@ pub(crate) fn order_in(
     ensures len { length jobs.new.items ≡ length jobs.old.items }
     ensures rule { IfOk result (λ order. IsRuleAt jobs.old.items order) }
 {
-    if lease.job() as usize >= jobs.len() {
+    let index = lease.job() as usize;
+    if index >= jobs.len() {
         return Err(BookFault::NoSuchJob);
     }
-    let found = &mut jobs[lease.job() as usize];
+    let found = &mut jobs[index];
     found.order(alloc, lease, same)
 }
 
