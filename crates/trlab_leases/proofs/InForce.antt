@@ -1,11 +1,14 @@
 -- The entry in force is the last whose step has come.
-use Rattle.std.proofs.Common.{◌≡◌, ℕ, zero, suc, ◌+◌, ◌<◌, ◌≤◌, Bool, [], ◌∷◌, length, get_or, refl, sym, ap, ◌∙◌, arith, true, false}
+use Rattle.std.proofs.Common.{◌≡◌, ℕ, zero, suc, ◌+◌, ◌<◌, ◌≤◌, Bool, List, [], ◌∷◌, subst, inl, inr, length, get_or, refl, sym, ap, ◌∙◌, arith, true, false}
 use Rattle.std.proofs.lemmas.Bool.{le-leb, lt-leb, false≢true}
-use Rattle.std.specs.Prelude.{Option, Some, None, nat_le, unwrap_or, option_map, if◌then◌else◌}
+use Rattle.std.proofs.lemmas.Option.{slice_get-get_or}
+use Rattle.std.proofs.Math.Nat.{eq-or-lt_of_le}
+use Rattle.std.specs.Prelude.{slice_get, Option, Some, None, nat_le, unwrap_or, option_map, if◌then◌else◌}
 use Rattle.std.specs.List.{AllWithin}
 use Rattle.trlab_rules.specs.Rules.{Programs}
 use Rattle.trlab_step.specs.Run.{Sheet, Rises, IsSheet, in_force}
-use Rattle.trlab_leases.specs.Sheets.{entry_in_force}
+use Rattle.trlab_leases.specs.declared.ran.Ran.{Ran}
+use Rattle.trlab_leases.specs.Sheets.{AreInForce, entry_in_force}
 
 -- the steps of a sheet rise from 0 on
 pub rises_from_0 : (sheet : Sheet) → IsSheet sheet → Rises 0 sheet
@@ -60,3 +63,35 @@ none_in_force [] least step rises below = refl
 none_in_force (entry ∷ sheet) least step rises below =
     let here = rises.0 in
     rw (lt-leb entry.0 step (omega arith)) refl
+
+-- the rules that were applied in the first steps are those in force
+pub record FirstInForce (sheet : Sheet) (step : ℕ) (applied : List Ran) (count : ℕ) : Type 0 where
+  pub each : (k : ℕ) (ran : Ran) → k < count → slice_get applied k ≡ Some ran → in_force sheet (step + k) ≡ Some ran.rule
+
+one_ran : {a b : Ran} → Some a ≡ Some b → a ≡ b
+one_ran e = cc
+
+-- one more of them
+pub one_more_in_force : (sheet : Sheet) (step : ℕ) (applied : List Ran) (i : ℕ) (item : Ran) → FirstInForce sheet step applied i → i < length applied → item ≡ get_or applied i item
+    → in_force sheet (step + i) ≡ Some item.rule → FirstInForce sheet step applied (i + 1)
+one_more_in_force sheet step applied i item before h e here = record {
+  each = λ k ran below at. (
+    let by : k ≤ i = omega arith in
+    elim (eq-or-lt_of_le by) [
+      | inl same ↦ (
+          let found : slice_get applied i ≡ Some item = slice_get-get_or applied i item h ∙ sym (ap Some e) in
+          let is : item ≡ ran = one_ran (sym found ∙ subst (λ n. slice_get applied n ≡ Some ran) same at) in
+          rw same (here ∙ ap (λ (r : Ran). Some r.rule) is))
+      | inr less ↦ before.each k ran less at
+    ]);
+}
+
+-- all of them
+pub all_in_force : (sheet : Sheet) (step : ℕ) (applied : List Ran) (count : ℕ) → FirstInForce sheet step applied count → length applied ≤ count → AreInForce sheet step applied
+all_in_force sheet step applied count first all k ran at = first.each k ran (within applied k ran count at all) at
+  where
+    within : (applied : List Ran) (k : ℕ) (ran : Ran) (count : ℕ) → slice_get applied k ≡ Some ran → length applied ≤ count → k < count
+    within [] k ran count at all = absurd cc
+    within (x ∷ xs) zero ran count at all = omega arith
+    within (x ∷ xs) (suc k) ran zero at all = absurd (omega arith)
+    within (x ∷ xs) (suc k) ran (suc count) at all = let rest = within xs k ran count at (omega arith) in omega arith

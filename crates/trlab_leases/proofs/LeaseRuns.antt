@@ -1,7 +1,11 @@
 -- The steps that a lease has run lead a job's road and its tally on.
-use Rattle.std.proofs.Common.{◌≡◌, ℕ, zero, suc, ◌+◌, ◌<◌, ◌≤◌, List, [], ◌∷◌, ◌++◌, refl, sym, ◌∙◌, ap, subst, length, arith, get_or}
+use Rattle.std.proofs.Common.{◌≡◌, ℕ, zero, suc, ◌+◌, ◌<◌, ◌≤◌, List, [], ◌∷◌, ◌++◌, refl, sym, ◌∙◌, ap, subst, length, length-append, arith, get_or, drop}
+use Rattle.std.proofs.lemmas.List.{drop_more}
 use Rattle.std.specs.Prelude.{Some, nat_le, slice_get, if◌then◌else◌}
 use Rattle.trlab_road.specs.Cells.{Cells}
+use Rattle.trlab_rules.specs.Rules.{Programs}
+use Rattle.trlab_machine.specs.declared.dice.Dice.{Dice}
+use Rattle.trlab_step.proofs.AskedCars.{same_dice}
 use Rattle.trlab_words.specs.declared.key.Key.{Key}
 use Rattle.trlab_step.specs.Answers.{dice_of}
 use Rattle.trlab_step.specs.Next.{IsNext}
@@ -12,7 +16,7 @@ use Rattle.trlab_run.specs.Progress.{Progress, IsUnderway}
 use Rattle.trlab_run.proofs.OnTheWay.{IsSmallSum, like_start, room_for}
 use Rattle.trlab_leases.specs.declared.ran.Ran.{Ran}
 use Rattle.trlab_leases.specs.Sheets.{AreInForce}
-use Rattle.trlab_leases.specs.Leases.{LeadsTo, LeaseState, IsLease}
+use Rattle.trlab_leases.specs.Leases.{LeadsTo, LeaseState, IsLease, one_more}
 use Rattle.trlab_leases.specs.Comparison.{IsOwnRun}
 use Rattle.trlab_leases.specs.Jobs.{start_of, run_of}
 use Rattle.trlab_leases.specs.Machine.{JobState}
@@ -21,9 +25,9 @@ use Rattle.trlab_leases.specs.Machine.{JobState}
 pub leads_push : (key : List ℕ) (number step : ℕ) (road last next : Cells) (xs : List Ran) (ran : Ran) → LeadsTo key number step road xs last
     → IsNext ran.rule (dice_of key number (step + length xs)) last next ran.tally → LeadsTo key number step road (xs ++ ran ∷ []) next
 leads_push key number step road last next [] ran leads is =
-    let e : step + length [] ≡ step = omega arith in
+    let e : step + 0 ≡ step = omega arith in
     let P : ℕ → Type 0 = λ s. IsNext ran.rule (dice_of key number s) road next ran.tally in
-    let Q : Cells → Type 0 = λ r. IsNext ran.rule (dice_of key number (step + length [])) r next ran.tally in
+    let Q : Cells → Type 0 = λ r. IsNext ran.rule (dice_of key number (step + 0)) r next ran.tally in
     (next, subst P e (subst Q leads is), refl)
 leads_push key number step road last next (x ∷ xs) ran leads is =
     let e : step + length (x ∷ xs) ≡ step + 1 + length xs = omega arith in
@@ -83,3 +87,31 @@ pub way_ends : (seed : Seed) (sheet : Sheet) (step : ℕ) (sum : StepTally) (las
     → IsUnderway (record { seed = seed; sheet = sheet; step = step; road = last; sum = sum })
 way_ends seed sheet step sum last way =
     subst (λ (r : Cells). IsUnderway (record { seed = seed; sheet = sheet; step = step; road = r; sum = sum })) (sym way.leads) way.run
+
+-- the same, where the job is seen through its model
+pub way_begins : (state now : JobState) (lease : LeaseState) (road : Cells) (sum : StepTally) → state ≡ now → IsUnderway (run_of state.seed state.sheet state.done road sum) → IsLease lease
+    → IsOwnRun now lease → lease.base_step ≡ now.done → WayOn (start_of now.seed) now.sheet state.done sum lease.applied lease.road
+way_begins state now lease road sum view run is own base =
+    let P : JobState → Type 0 = λ s. IsOwnRun s lease → lease.base_step ≡ s.done → WayOn (start_of s.seed) s.sheet state.done sum lease.applied lease.road in
+    subst P view (λ mine at. way_of_lease state lease road sum run is mine at) own base
+
+-- one step of a list of them
+pub go_on_at : (seed : Seed) (sheet : Sheet) (step : ℕ) (sum : StepTally) (xs : List Ran) (i : ℕ) (ran : Ran) (last : Cells) → i < length xs → ran ≡ get_or xs i ran
+    → WayOn seed sheet step sum (drop i xs) last → GoneOn seed sheet step sum ran (drop (i + 1) xs) last
+go_on_at seed sheet step sum xs i ran last h e way =
+    go_on seed sheet step sum ran (drop (i + 1) xs) last
+    (subst (λ (v : List Ran). WayOn seed sheet step sum v last) (drop_more xs i ran h ∙ ap (λ r. r ∷ drop (i + 1) xs) (sym e)) way)
+
+-- a lease that runs one step more stays one
+pub lease_goes_on : (lease : LeaseState) (rule : Programs) (tally : StepTally) (next : Cells) (dice : Dice) → dice.key ≡ lease.key.0 → dice.road ≡ lease.road_number → dice.step ≡ lease.step
+    → IsNext rule dice lease.road next tally → IsLease lease → IsLease (one_more lease rule tally next)
+lease_goes_on lease rule tally next dice a b d is on =
+    let ran : Ran = record { rule = rule; tally = tally } in
+    let more = length-append lease.applied (ran ∷ []) in
+    let at = on.steps_run in
+    let here : IsNext rule (dice_of lease.key.0 lease.road_number lease.step) lease.road next tally = subst (λ (one : Dice). IsNext rule one lease.road next tally) (same_dice dice lease.key.0 lease.road_number lease.step a b d) is in
+    record {
+      steps_run = omega arith;
+      leads = leads_push lease.key.0 lease.road_number lease.base_step lease.base_road lease.road next lease.applied ran on.leads
+          (subst (λ s. IsNext rule (dice_of lease.key.0 lease.road_number s) lease.road next tally) at here);
+    }

@@ -18,8 +18,7 @@ invariant_of-self c =
     let high = i.ordered in
     let within = i.within in
     let other = c.if-step-self.false in
-    let at = c.step.ensures.value in
-    let again = c.step-2.ensures.value in
+    let at = c.step-step.ensures.value in
     let most = c.max-self-inside.ensures in
     record {
       ordered = omega arith;
