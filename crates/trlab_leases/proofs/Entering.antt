@@ -1,5 +1,5 @@
 -- A rule that enters a sheet: the sheet stays one, and what was in force before stays in force.
-use Rattle.std.proofs.Common.{◌≡◌, ℕ, zero, suc, ◌+◌, ◌<◌, ◌≤◌, Bool, true, false, List, [], ◌∷◌, ◌++◌, ap, sym, ◌∙◌, refl, arith, length, ltb, length-append, append-nil, ◌≢◌, get_or}
+use Rattle.std.proofs.Common.{◌≡◌, ℕ, zero, suc, ◌+◌, ◌<◌, ◌≤◌, Bool, [], ◌∷◌, ◌++◌, ap, sym, ◌∙◌, refl, arith, length, ltb, length-append, append-nil, ◌≢◌}
 use Rattle.std.proofs.lemmas.Bool.{ltb-true, lt-ltb, le-ltb, lt-leb, cond_both, cond-true, cond-false, ltb-false}
 use Rattle.std.proofs.lemmas.List.Elements.{filter-append, All-filter, All-append}
 use Rattle.std.specs.Prelude.{Option, Some, None, All, filter, nat_le, unwrap_or, if◌then◌else◌}
@@ -7,7 +7,7 @@ use Rattle.trlab_rules.specs.Rules.{Programs}
 use Rattle.trlab_road.specs.Cells.{Cells}
 use Rattle.trlab_step.specs.declared.tally.StepTally.{StepTally}
 use Rattle.trlab_step.specs.Run.{Seed, Sheet, IsSheet, Rises, in_force, ComesTo}
-use Rattle.trlab_step.specs.Laws.{IsRuleFor, IsSheetFor}
+use Rattle.trlab_step.specs.Laws.{IsRuleFor}
 use Rattle.trlab_run.specs.Progress.{IsUnderway}
 use Rattle.trlab_leases.specs.Sheets.{BeginBy, IsBookSheet, entered}
 use Rattle.trlab_leases.proofs.InForce.{rises_from_0, none_in_force}
@@ -89,8 +89,8 @@ begin_entered from rule (x ∷ sheet) =
     let rest = filter (λ (entry : ℕ × Programs). ltb entry.0 from) sheet in
     let P : Sheet → Type 0 = λ v. BeginBy from (v ++ (from, rule) ∷ []) in
     cond_both (ltb x.0 from) (x ∷ rest) rest P
-      (λ h. let low = ltb-true x.0 from h in (omega arith, begin_entered from rule sheet))
-      (λ _. begin_entered from rule sheet)
+    (λ h. let low = ltb-true x.0 from h in (omega arith, begin_entered from rule sheet))
+    (λ _. begin_entered from rule sheet)
 
 pub begin_more : (a b : ℕ) (sheet : Sheet) → a ≤ b → BeginBy a sheet → BeginBy b sheet
 begin_more a b [] h begin = tt
@@ -104,9 +104,9 @@ in_force_entered (x ∷ sheet) least from step rule rises h =
     let same = in_force_entered sheet (x.0 + 1) from step rule rises.1 h in
     let P : Sheet → Type 0 = λ v. in_force (v ++ (from, rule) ∷ []) step ≡ in_force (x ∷ sheet) step in
     cond_both (ltb x.0 from) (x ∷ rest) rest P
-      (λ _. ap (λ (others : Option Programs). if nat_le x.0 step then Some (unwrap_or others x.1) else None) same)
-      (λ late. let high = ltb-false x.0 from late in
-        same ∙ none_in_force sheet (x.0 + 1) step rises.1 (omega arith) ∙ sym (rw (lt-leb x.0 step (omega arith)) refl))
+    (λ _. ap (λ (others : Option Programs). if nat_le x.0 step then Some (unwrap_or others x.1) else None) same)
+    (λ late. let high = ltb-false x.0 from late in
+    same ∙ none_in_force sheet (x.0 + 1) step rises.1 (omega arith) ∙ sym (rw (lt-leb x.0 step (omega arith)) refl))
 
 comes_entered : (seed : Seed) (sheet : Sheet) (from : ℕ) (rule : Programs) (step : ℕ) (road : Cells) (sum : StepTally) → step ≤ from → Rises 0 sheet → IsSheet (entered sheet from rule)
     → ComesTo seed sheet step road sum → ComesTo seed (entered sheet from rule) step road sum

@@ -76,14 +76,14 @@ pub one_more_in_force : (sheet : Sheet) (step : ℕ) (applied : List Ran) (i : �
     → in_force sheet (step + i) ≡ Some item.rule → FirstInForce sheet step applied (i + 1)
 one_more_in_force sheet step applied i item before h e here = record {
   each = λ k ran below at. (
-    let by : k ≤ i = omega arith in
-    elim (eq-or-lt_of_le by) [
-      | inl same ↦ (
-          let found : slice_get applied i ≡ Some item = slice_get-get_or applied i item h ∙ sym (ap Some e) in
-          let is : item ≡ ran = one_ran (sym found ∙ subst (λ n. slice_get applied n ≡ Some ran) same at) in
-          rw same (here ∙ ap (λ (r : Ran). Some r.rule) is))
-      | inr less ↦ before.each k ran less at
-    ]);
+      let by : k ≤ i = omega arith in
+      elim (eq-or-lt_of_le by) [
+        | inl same ↦ (
+            let found : slice_get applied i ≡ Some item = slice_get-get_or applied i item h ∙ sym (ap Some e) in
+            let is : item ≡ ran = one_ran (sym found ∙ subst (λ n. slice_get applied n ≡ Some ran) same at) in
+            rw same (here ∙ ap (λ (r : Ran). Some r.rule) is))
+        | inr less ↦ before.each k ran less at
+      ]);
 }
 
 -- all of them

@@ -1,7 +1,7 @@
 -- The steps that a lease has run lead a job's road and its tally on.
-use Rattle.std.proofs.Common.{◌≡◌, ℕ, zero, suc, ◌+◌, ◌<◌, ◌≤◌, List, [], ◌∷◌, ◌++◌, refl, sym, ◌∙◌, ap, subst, length, length-append, arith, get_or, drop}
+use Rattle.std.proofs.Common.{◌≡◌, ℕ, suc, ◌+◌, ◌<◌, List, [], ◌∷◌, ◌++◌, refl, sym, ◌∙◌, ap, subst, length, length-append, arith, get_or, drop}
 use Rattle.std.proofs.lemmas.List.{drop_more}
-use Rattle.std.specs.Prelude.{Some, nat_le, slice_get, if◌then◌else◌}
+use Rattle.std.specs.Prelude.{Some, nat_le, if◌then◌else◌}
 use Rattle.trlab_road.specs.Cells.{Cells}
 use Rattle.trlab_rules.specs.Rules.{Programs}
 use Rattle.trlab_machine.specs.declared.dice.Dice.{Dice}
@@ -12,7 +12,7 @@ use Rattle.trlab_step.specs.Next.{IsNext}
 use Rattle.trlab_step.specs.Run.{Seed, Sheet, ComesTo, in_force, tally_sum}
 use Rattle.trlab_step.specs.declared.tally.StepTally.{StepTally}
 use Rattle.trlab_step.proofs.RunLaws.{run_goes_on, road_at_is_one}
-use Rattle.trlab_run.specs.Progress.{Progress, IsUnderway}
+use Rattle.trlab_run.specs.Progress.{IsUnderway}
 use Rattle.trlab_run.proofs.OnTheWay.{IsSmallSum, like_start, room_for}
 use Rattle.trlab_leases.specs.declared.ran.Ran.{Ran}
 use Rattle.trlab_leases.specs.Sheets.{AreInForce}

@@ -1,4 +1,4 @@
-use Rattle.std.proofs.Common.{rules, arith, ◌≡◌, sym, ◌∙◌, subst, true}
+use Rattle.std.proofs.Common.{arith, ◌≡◌, sym, ◌∙◌, subst, true}
 use Rattle.trlab_leases.specs.Machine.{JobState, job_state, is_own}
 use Rattle.trlab_leases.specs.Comparison.{offered}
 use Rattle.trlab_leases.proofs.Booking.{own_parts}

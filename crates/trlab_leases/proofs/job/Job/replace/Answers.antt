@@ -1,4 +1,4 @@
-use Rattle.std.proofs.Common.{◌≡◌, sym, subst}
+use Rattle.std.proofs.Common.{subst}
 use Rattle.trlab_step.specs.Run.{IsSheet}
 use Rattle.trlab_leases.specs.Jobs.{start_of}
 use Rattle.trlab_leases.proofs.Entering.{begin_entered, underway_entered}

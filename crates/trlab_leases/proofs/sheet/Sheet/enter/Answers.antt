@@ -11,10 +11,11 @@ invariant_of-self c =
 pub returns-then-last-from-clause-ok : goal.returns-then-last-from-clause-ok
 returns-then-last-from-clause-ok c =
     let s = subst IsBookSheet c.in-Some.ensures.items c.self.invariant in
-    let e = sym c.self.view_is ∙ c.in-Some.ensures.items in
-    (c.push_reserved.ensures.items ∙ sym (ap (λ v. entered v c.args.from c.args.rule) e ∙ entered_at c.pop.new.self.items c.in-Some.last c.args.from c.args.rule s.is_sheet c.if-last-from.true),
-     (invariant_of-self c).few,
-     (invariant_of-self c).is_sheet)
+    let e = sym c.self.view_is ∙ c.in-Some.ensures.items in (
+      c.push_reserved.ensures.items ∙ sym (ap (λ v. entered v c.args.from c.args.rule) e ∙ entered_at c.pop.new.self.items c.in-Some.last c.args.from c.args.rule s.is_sheet c.if-last-from.true),
+      (invariant_of-self c).few,
+      (invariant_of-self c).is_sheet,
+    )
 
 pub returns-then-len-ge-MOST_ENTRIES-clause-err : goal.returns-then-len-ge-MOST_ENTRIES-clause-err
 returns-then-len-ge-MOST_ENTRIES-clause-err c =
@@ -35,14 +36,15 @@ invariant_of-self-2 c =
     let n : c.len.result ≡ length (c.pop.new.self.items ++ c.in-Some.last ∷ []) = search (rules, c.len.ensures, c.push_reserved-2.ensures) in
     let few = c.if-len-ge-MOST_ENTRIES.false in
     rw (c.push_reserved-3.ensures.items, c.reserve.ensures.items, c.push_reserved-2.ensures.items)
-      (sheet_after c.pop.new.self.items c.in-Some.last c.args.from c.args.rule s b (omega arith))
+    (sheet_after c.pop.new.self.items c.in-Some.last c.args.from c.args.rule s b (omega arith))
 
 pub returns-clause-ok : goal.returns-clause-ok
 returns-clause-ok c =
     let s = subst IsBookSheet c.in-Some.ensures.items c.self.invariant in
     let e = sym c.self.view_is ∙ c.in-Some.ensures.items in
     let b = begin_before c.args.from c.pop.new.self.items c.in-Some.last (subst (BeginBy c.args.from) e c.requires) c.if-last-from.false in
-    let all = ap (λ v. entered v c.args.from c.args.rule) e ∙ entered_after c.pop.new.self.items c.in-Some.last c.args.from c.args.rule s.is_sheet b in
-    (c.push_reserved-3.ensures.items ∙ ap (λ v. v ++ (c.args.from, c.args.rule) ∷ []) (c.reserve.ensures.items ∙ c.push_reserved-2.ensures.items) ∙ sym all,
-     (invariant_of-self-2 c).few,
-     (invariant_of-self-2 c).is_sheet)
+    let all = ap (λ v. entered v c.args.from c.args.rule) e ∙ entered_after c.pop.new.self.items c.in-Some.last c.args.from c.args.rule s.is_sheet b in (
+      c.push_reserved-3.ensures.items ∙ ap (λ v. v ++ (c.args.from, c.args.rule) ∷ []) (c.reserve.ensures.items ∙ c.push_reserved-2.ensures.items) ∙ sym all,
+      (invariant_of-self-2 c).few,
+      (invariant_of-self-2 c).is_sheet,
+    )
