@@ -11,7 +11,9 @@ use crate::fault::BookFault;
 use crate::job::Job;
 use crate::lease::Lease;
 use crate::limits::{MOST_EVENTS, MOST_JOBS};
-use crate::on_jobs::{cancel_in, free_in, give_back_in, is_same_in, order_in, read_in, replace_in, revoke_in};
+use crate::on_jobs::{
+    cancel_in, free_in, give_back_in, is_same_in, order_in, read_in, replace_in, revoke_in,
+};
 use crate::order::Order;
 use crate::seed::Seed;
 use crate::snapshot::Snapshot;
@@ -173,8 +175,7 @@ impl Book {
     ///
     /// Those of `order`.
     pub fn order_as(&mut self, alloc: Global, lease: &Lease, same: bool) -> Result<Order, BookFault>
-        ensures reply {
-            RepliesAs (is_memory result) (order_reply result) self.old (OrderCall (offered lease.now same)) }
+        ensures reply { RepliesAs (is_memory result) (order_reply result) self.old (OrderCall (offered lease.now same)) }
         ensures state { LeadsAs (is_memory result) self.old (OrderCall (offered lease.now same)) self.new }
         ensures full { is_full self.old ≡ true → result ≡ Err HistoryFull }
         ensures rule { IfOk result (λ order. IsRuleAt self.old.jobs order) }

@@ -154,11 +154,14 @@ impl Job {
     pub fn runs(&self, lease: &Lease) -> bool
         ensures { IsTrue result ↔ IsOwnRun self.now lease.now }
     {
-        let _ = lease.step();
-        lease.road_number() == self.seed.number
-            && same_key(lease.key(), &self.seed.key)
-            && lease.base_road().equals(&self.road)
-            && self.sheet.are_in_force(lease.base_step(), lease.applied())
+        let _end = lease.step();
+        if lease.road_number() != self.seed.number || !same_key(lease.key(), &self.seed.key) {
+            return false;
+        }
+        if !lease.base_road().equals(&self.road) {
+            return false;
+        }
+        self.sheet.are_in_force(lease.base_step(), lease.applied())
     }
 
     /// Whether a lease is the one that is out, and may be ordered or given back.
@@ -185,13 +188,13 @@ impl Job {
         ensures index { IfOk result (λ order. order.job ≡ lease.now.job) }
         ensures rule { IfOk result (λ order. in_force self.old.sheet order.step ≡ Some order.rule) }
     {
-        if self.cancelled || lease.step() == self.steps {
+        let step = lease.step();
+        if self.cancelled || step == self.steps {
             return Err(BookFault::Ended);
         }
         if !self.owns(lease, same) {
             return Err(BookFault::StrangerLease);
         }
-        let step = lease.step();
         let entry = self.sheet.at(step);
         let from = entry.0;
         let rule = entry.1.copy(alloc)?;
@@ -211,6 +214,7 @@ impl Job {
         requires own { IsOwnRun self.now lease.now }
         ensures { IsUnderway (run_of self.now.seed self.now.sheet lease.now.step lease.now.road result) }
     {
+        let _end = lease.step();
         let mut step = self.done;
         let mut sum = self.tally;
         for ran in lease.applied() {

@@ -82,16 +82,17 @@ pub(crate) fn order_in(
 ) -> Result<Order, BookFault>
     ensures reply { MatchBool (is_memory result) (Unit {0})
         (order_reply result
-            ≡ (on_job jobs.old.items lease.now.job (ordering (offered lease.now same))).reply) }
+        ≡ (on_job jobs.old.items lease.now.job (ordering (offered lease.now same))).reply) }
     ensures jobs { MatchBool (is_memory result) (jobs.new.items ≡ jobs.old.items)
         (jobs.new.items ≡ (on_job jobs.old.items lease.now.job (ordering (offered lease.now same))).jobs) }
     ensures len { length jobs.new.items ≡ length jobs.old.items }
     ensures rule { IfOk result (λ order. IsRuleAt jobs.old.items order) }
 {
-    if lease.job() as usize >= jobs.len() {
+    let index = lease.job() as usize;
+    if index >= jobs.len() {
         return Err(BookFault::NoSuchJob);
     }
-    let found = &mut jobs[lease.job() as usize];
+    let found = &mut jobs[index];
     found.order(alloc, lease, same)
 }
 

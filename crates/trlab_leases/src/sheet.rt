@@ -1,7 +1,7 @@
 //! Sheets of the book: up to 1024 rules, each in force from its step on, up to that of the next.
 
-ghost use Rattle.std.specs.Prelude.{◌≡◌, ◌≤◌, ◌<◌, ◌↔◌, ◌+◌, ◌^◌, ◌∷◌, [], IsTrue, IfOk, IfErr, OnErr, length, Some, slice_get};
-ghost use Rattle.trlab_step.specs.Run.{in_force};
+ghost use Rattle.std.specs.Prelude.{◌≡◌, ◌≤◌, ◌<◌, ◌↔◌, ◌+◌, ◌^◌, ◌∷◌, [], IsTrue, IfOk, IfErr, OnOk, OnErr, length, Some, slice_get};
+ghost use Rattle.trlab_step.specs.Run.{IsSheet, in_force};
 ghost use Rattle.trlab_leases.specs.Sheets.{AreInForce, BeginBy, MayRefuse, entered, entry_in_force};
 
 use crate::fault::BookFault;
@@ -99,7 +99,8 @@ impl Sheet {
     /// refused. Then nothing changes.
     pub(crate) fn enter(&mut self, from: u32, rule: Rule) -> Result<(), BookFault>
         requires { BeginBy from self.old }
-        ensures ok { IfOk result (λ _. (self.new ≡ entered self.old from rule) × (length self.new ≤ 1024)) }
+        ensures ok { OnOk result
+            ((self.new ≡ entered self.old from rule) × (length self.new ≤ 1024) × IsSheet self.new) }
         ensures err { IfErr result (λ fault. MayRefuse fault (entered self.old from rule)) }
         ensures same { OnErr result (self.new ≡ self.old) }
     {
