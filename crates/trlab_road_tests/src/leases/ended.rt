@@ -18,7 +18,8 @@ fn is_passed_over(alloc: Global) -> Option<bool> {
     let none = book.lease(alloc).ok()?.is_none();
     let ended = book.replace(0, steady(alloc)?) == Err(BookFault::Ended)
         && book.cancel(0) == Err(BookFault::Ended);
-    book.submit(alloc, seed_under(alloc, 0)?, steady(alloc)?, 1).ok()?;
+    book.submit(alloc, seed_under(alloc, 0)?, steady(alloc)?, 1)
+        .ok()?;
     let lease = book.lease(alloc).ok()??;
     Some(none && ended && lease.job() == 1 && lease.number() == 0)
 }
@@ -35,7 +36,14 @@ fn refuses_its_lease(alloc: Global) -> Option<bool> {
     let again = book.cancel(0) == Err(BookFault::Ended);
     let none = book.lease(alloc).ok()?.is_none();
     let seen = book.read(alloc, 0).ok()?;
-    Some(cancelled && ended && fault == BookFault::StrangerLease && again && none && seen.step() == 0)
+    Some(
+        cancelled
+            && ended
+            && fault == BookFault::StrangerLease
+            && again
+            && none
+            && seen.step() == 0,
+    )
 }
 
 #[test]

@@ -9,7 +9,8 @@ use trlab_words::Key;
 
 /// Why a book refuses a job of the two cars under the rule of two lanes.
 fn mismatch(alloc: Global, book: &mut Book) -> Option<BookFault> {
-    book.submit(alloc, seed_under(alloc, 0)?, crossing(alloc)?, 4).err()
+    book.submit(alloc, seed_under(alloc, 0)?, crossing(alloc)?, 4)
+        .err()
 }
 
 /// Whether a book takes 256 jobs and no more, and the rule of two lanes never.
@@ -17,13 +18,17 @@ fn takes_256_jobs(alloc: Global) -> Option<bool> {
     let mut book = Book::new(alloc);
     let before = mismatch(alloc, &mut book);
     for wanted in 0..256 {
-        let number = book.submit(alloc, seed_under(alloc, 0)?, steady(alloc)?, 4).ok()?;
+        let number = book
+            .submit(alloc, seed_under(alloc, 0)?, steady(alloc)?, 4)
+            .ok()?;
         if number != wanted {
             return None;
         }
     }
     let after = mismatch(alloc, &mut book);
-    let full = book.submit(alloc, seed_under(alloc, 0)?, steady(alloc)?, 4).err();
+    let full = book
+        .submit(alloc, seed_under(alloc, 0)?, steady(alloc)?, 4)
+        .err();
     let wanted = Some(BookFault::LanesMismatch);
     Some(before == wanted && after == wanted && full == Some(BookFault::Full))
 }

@@ -28,8 +28,9 @@ fn behind_first(alloc: Global, book: &mut Book) -> Option<Snapshot> {
 fn behind_second(alloc: Global, book: &mut Book) -> Option<Snapshot> {
     let mut lease = book.lease(alloc).ok()??;
     let order = book.order(alloc, &lease).ok()?;
-    let is_right =
-        is_lease(&lease, 1, 1) && order.step() == 1 && order.rule().equals(&braking(alloc)?);
+    let is_right = is_lease(&lease, 1, 1)
+        && order.step() == 1
+        && order.rule().equals(&braking(alloc)?);
     lease.advance_by(&Caller, alloc, &order).ok()?;
     book.give_back(lease).ok()?;
     is_right.then(|| book.read(alloc, 0).ok())?
@@ -59,11 +60,13 @@ fn a_rule_enters_behind_the_ordered_steps(rt: HostRuntime) {
 /// Whether rules that are replaced with no order between stand in one entry.
 fn replaces_twice(alloc: Global) -> Option<bool> {
     let mut book = book_under(alloc, 0, 4)?;
-    let first = book.replace(0, steady(alloc)?) == Ok(0) && book.replace(0, braking(alloc)?) == Ok(0);
+    let first = book.replace(0, steady(alloc)?) == Ok(0)
+        && book.replace(0, braking(alloc)?) == Ok(0);
     let new = book.read(alloc, 0).ok()?;
     let mut lease = book.lease(alloc).ok()??;
     take_step(alloc, &mut book, &mut lease)?;
-    let then = book.replace(0, braking(alloc)?) == Ok(1) && book.replace(0, steady(alloc)?) == Ok(1);
+    let then = book.replace(0, braking(alloc)?) == Ok(1)
+        && book.replace(0, steady(alloc)?) == Ok(1);
     let seen = book.read(alloc, 0).ok()?;
     Some(
         first
