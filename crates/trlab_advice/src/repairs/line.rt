@@ -43,10 +43,18 @@ fn other_command(subject: Subject, first: &[u8]) -> Option<Subject> {
     match subject {
         Subject::Job => {
             let is_program = [b"motion".as_slice(), b"change", b"code", b"notes"].contains(&name);
-            if is_program { Some(Subject::Check) } else { None }
+            if is_program {
+                Some(Subject::Check)
+            } else {
+                None
+            }
         }
         Subject::Check => {
-            if name == b"road".as_slice() { Some(Subject::Job) } else { None }
+            if name == b"road".as_slice() {
+                Some(Subject::Job)
+            } else {
+                None
+            }
         }
     }
 }
