@@ -9,6 +9,7 @@ mod keeping;
 mod kept;
 pub mod laws;
 mod locked;
+mod ordered;
 mod replies;
 mod running;
 mod sharing;
@@ -16,4 +17,5 @@ mod turn;
 
 pub use desk::{Desk, SharedBook};
 pub use fault::RunFault;
+pub use ordered::advance;
 pub use running::run_jobs;

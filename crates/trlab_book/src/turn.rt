@@ -1,20 +1,17 @@
 //! What one runner does: it takes jobs from the book, one lease after the other.
 
 ghost use Rattle.std.specs.Prelude.{◌≡◌, ◌<◌, ◌≤◌};
-ghost use Rattle.trlab_segments.specs.Answered.{HasTwoLanes};
 ghost use Rattle.trlab_book.specs.Desks.{parts_of};
 
 use crate::desk::{Desk, SharedBook};
 use crate::fault::RunFault;
-use std::alloc::{AllocError, Global};
+use crate::ordered::advance;
+use std::alloc::Global;
 use std::sync::Wait;
 use std::sync::ledger::Ledger;
 use std::thread::Threads;
-use trlab_leases::{BookFault, Lease, LeaseFault, Order};
-use trlab_machine::Dice;
-use trlab_road::Road;
-use trlab_segments::{Calls, Crew, Gate};
-use trlab_verify::{Change, Motion};
+use trlab_leases::{BookFault, Lease, LeaseFault};
+use trlab_segments::Gate;
 
 /// How many steps a runner takes at most before it gives a lease back.
 const STEPS_A_TURN: u32 = 32;
@@ -112,27 +109,4 @@ fn end_lease<L: Ledger, R: Wait>(
         },
         _ => Ok(()),
     }
-}
-
-/// Runs an ordered step of a lease by workers.
-fn advance<R: Threads + Sync, G: Gate + Sync>(
-    rt: &R,
-    alloc: Global,
-    lease: &mut Lease,
-    order: &Order,
-    workers: u32,
-    gate: &G,
-) -> Result<(), LeaseFault>
-    requires { (0 < workers) × (workers ≤ 16) }
-{
-    let crew = Crew::new(rt, workers, gate);
-    let calls = Calls::new(
-        |alloc: Global, road: &Road, motion: &Motion, dice: &Dice| crew.speeds(
-            alloc, road, motion, dice,
-        ),
-        |alloc: Global, road: &Road, change: &Change, dice: &Dice| -> Result<Vec<bool>, AllocError>
-            requires { HasTwoLanes road.now }
-        { crew.crossings(alloc, road, change, dice) },
-    );
-    lease.advance_by(&calls, alloc, order)
 }

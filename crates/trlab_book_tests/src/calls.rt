@@ -3,7 +3,7 @@
 ghost use Rattle.std.specs.Prelude.{◌≡◌};
 
 use crate::histories::{Made, is_history, ordered, own, went_out};
-use crate::jobs::{braking, is_seen, seed, steady};
+use crate::jobs::{braking, is_seen, seed, shows, steady};
 use std::alloc::Global;
 use std::marker::Brand;
 use std::sync::Wait;
@@ -49,15 +49,20 @@ fn replaced<L: Ledger, R: Wait>(
     Some((first, second, history))
 }
 
-/// Whether an event has the job of two cars with its first rule, and another the second rule.
-fn keeps_rules(alloc: Global, submit: &Event, replace: &Event) -> Option<bool> {
-    let (Call::Submit(from, first, _), Call::Replace(_, second)) = (&submit.call, &replace.call)
-    else {
+/// Whether the first event of a history has the job of two cars with its first rule, and the fourth the
+/// second rule.
+fn keeps_rules(alloc: Global, history: &[Event]) -> Option<bool> {
+    if history.len() < 4 {
+        return None;
+    }
+    let (Call::Submit(from, first, _), Call::Replace(_, second)) = (
+        &history[0].call,
+        &history[3].call,
+    ) else {
         return None;
     };
-    let shown = from.get().road.picture(alloc, 0).ok()?;
     Some(
-        shown.as_slice() == b"0.0.......".as_slice()
+        shows(alloc, &from.get().road, b"0.0.......")?
             && first.get().equals(&steady(alloc)?)
             && second.get().equals(&braking(alloc)?),
     )
@@ -97,10 +102,7 @@ fn a_history_has_each_call_in_order(rt: HostRuntime) {
         ),
     ];
     assert!(rt; is_history(&history, &wanted));
-    assert_eq!(rt;
-        keeps_rules(rt.alloc(), &history[0], &history[3]),
-        Some(true)
-    );
+    assert_eq!(rt; keeps_rules(rt.alloc(), &history), Some(true));
 }
 
 /// Whether a lease that was revoked is handed back.

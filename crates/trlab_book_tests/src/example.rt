@@ -1,18 +1,17 @@
 //! The example of the guide to the book: two runners, and a rule that is replaced while they run.
 
-ghost use Rattle.std.specs.Prelude.{◌≡◌};
+ghost use Rattle.std.specs.Prelude.{◌≡◌, ◌≤◌};
+ghost use Rattle.trlab_book.specs.Desks.{parts_of};
 
-use crate::jobs::{braking, seed, steady};
+use crate::jobs::{braking, road_alone, seed, steady};
 use std::alloc::Global;
 use std::marker::Brand;
 use std::sync::Wait;
 use std::sync::ledger::{Blank, Ledger};
 use std::thread::{Threads, join};
-use trlab_book::{Desk, SharedBook, run_jobs};
+use trlab_book::{Desk, RunFault, SharedBook, run_jobs};
 use trlab_leases::{Event, Reply, Snapshot};
-use trlab_road::Road;
 use trlab_segments::OpenGate;
-use trlab_step::step_road;
 
 /// Replaces the rule of job 0, whose steps are perhaps all ordered by then.
 fn replace_late<L: Ledger, R: Wait>(
@@ -55,41 +54,14 @@ fn run_and_replace<L: Ledger + Send + Sync, R: Threads + Wait + Sync>(
     let (theirs, ran) = join(
         rt,
         || replace_late(rt, alloc, &book, theirs),
-        || run_jobs(rt, alloc, &book, mine, 2, 1, &OpenGate),
+        || -> Result<Desk<L>, (Desk<L>, RunFault)>
+            requires { (L.parts ≡ 1024) × (2 ≤ parts_of mine) }
+        { run_jobs(rt, alloc, &book, mine, 2, 1, &OpenGate) },
     );
     let mut desk = ran.ok()?.gather(theirs);
     let seen = book.read(rt, alloc, &mut desk, 0).ok()?;
     let (_, history) = book.close(desk).ok()?;
     Some((seen, history))
-}
-
-/// The rule of a snapshot's sheet in force at a step, by the number of its entry: the one before, or the
-/// next where it begins there.
-fn entry_at(seen: &Snapshot, before: usize, step: u32) -> usize {
-    let next = before.saturating_add(1);
-    if next < seen.sheet().len() && seen.sheet().entry(next).0 <= step {
-        next
-    } else {
-        before
-    }
-}
-
-/// The road to which one worker comes from the seed of a snapshot, under its sheet.
-fn road_alone(alloc: Global, seen: &Snapshot) -> Option<Road> {
-    let start = seen.seed();
-    let mut road = start.road.copy(alloc).ok()?;
-    let mut index = 0;
-    for step in 0..seen.step() {
-        index = entry_at(seen, index, step);
-        if index >= seen.sheet().len() {
-            return None;
-        }
-        let rule = seen.sheet().entry(index).1;
-        road = step_road(alloc, &road, rule, &start.key, start.number, step)
-            .ok()?
-            .0;
-    }
-    Some(road)
 }
 
 /// Whether the last event is a read of a snapshot: its step, and how many rules its sheet has.

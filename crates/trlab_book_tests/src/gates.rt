@@ -11,7 +11,7 @@ use std::sync::Wait;
 use std::sync::atomic::{AtomicBool, Ordering};
 use std::sync::ledger::{Blank, Ledger};
 use std::thread::{Threads, join};
-use trlab_book::{Desk, SharedBook, run_jobs};
+use trlab_book::{Desk, RunFault, SharedBook, run_jobs};
 use trlab_leases::{BookFault, Event, Reply};
 use trlab_segments::Gate;
 
@@ -133,7 +133,7 @@ fn revoked_while_held<L: Ledger + Send + Sync, R: Threads + Wait + Sync>(
     requires parts { (blank.parts ≡ L.parts) × (blank.parts ≡ 1024) }
 {
     let (book, mut mine) = SharedBook::<L>::start(alloc, blank);
-    book.submit(rt, alloc, &mut mine, seed(alloc, 0)?, steady(alloc)?, 2)
+    book.submit(rt, alloc, &mut mine, seed(alloc, 0)?, steady(alloc)?, 4)
         .ok()?;
     let gate = Barrier {
         came: AtomicBool::new(false),
@@ -146,11 +146,13 @@ fn revoked_while_held<L: Ledger + Send + Sync, R: Threads + Wait + Sync>(
     let ((theirs, revoked), ran) = join(
         rt,
         || revoke_held(rt, alloc, &book, theirs, &gate),
-        || run_jobs(rt, alloc, &book, mine, 1, 1, &gate),
+        || -> Result<Desk<L>, (Desk<L>, RunFault)>
+            requires { L.parts ≡ 1024 }
+        { run_jobs(rt, alloc, &book, mine, 1, 1, &gate) },
     );
     let mut desk = ran.ok()?.gather(theirs);
     let seen = book.read(rt, alloc, &mut desk, 0).ok()?;
-    let right = is_seen(alloc, &seen, 2, b".0..1.....")? && seen.sheet().len() == 2;
+    let right = is_seen(alloc, &seen, 4, b".0....1...")? && seen.sheet().len() == 2;
     let (_, history) = book.close(desk).ok()?;
     Some((revoked && right, history))
 }

@@ -63,6 +63,10 @@ own_parts lease job h =
     not_true true h = sym h
     not_true false h = refl
 
+-- the run of a job, seen from inside
+of_job : (job now : JobState) (road : Cells) (sum : StepTally) → job ≡ now → IsUnderway (run_of now.seed now.sheet now.done road sum) → IsUnderway (run_of job.seed job.sheet job.done road sum)
+of_job job now road sum view run = subst (λ (s : JobState). IsUnderway (run_of s.seed s.sheet s.done road sum)) (sym view) run
+
 -- a lease that has just gone out runs the road of its job
 pub fresh_run : (job : JobState) (lease : LeaseState) (road : Cells) (sum : StepTally) → IsUnderway (run_of job.seed job.sheet job.done road sum)
     → lease.key ≡ job.seed.key → lease.road_number ≡ job.seed.number → lease.base_road ≡ road → lease.applied ≡ [] → IsOwnRun job lease
@@ -77,7 +81,7 @@ fresh_run job lease road sum run key number base none = record {
     no_run k ran at = cc
 
 -- what a lease has that goes out
-pub lent : (job now : JobState) (number : ℕ) (lease : LeaseState) (road : Cells) (sum : StepTally) → job ≡ now → IsUnderway (run_of job.seed job.sheet job.done road sum)
+pub lent : (job now : JobState) (number : ℕ) (lease : LeaseState) (road : Cells) (sum : StepTally) → job ≡ now → IsUnderway (run_of now.seed now.sheet now.done road sum)
     → lease.key ≡ job.seed.key → lease.road_number ≡ job.seed.number → lease.base_road ≡ road → lease.applied ≡ []
     → lease.number ≡ number → lease.steps ≡ job.steps → lease.base_step ≡ job.done → lease.step ≡ job.done → IsFresh now number lease
 lent job now number lease road sum view run key own base none number_is steps base_step step =
@@ -86,21 +90,21 @@ lent job now number lease road sum view run key own base none number_is steps ba
       steps = steps;
       base_step = base_step;
       step = step;
-      own = fresh_run job lease road sum run key own base none;
+      own = fresh_run job lease road sum (of_job job now road sum view run) key own base none;
     })
 
 -- a lease that began at the job's road, under its key and number, runs the road where its rules are in force
-pub runs_where : (job now : JobState) (lease : LeaseState) (road : Cells) (sum : StepTally) (b : Bool) → job ≡ now → IsUnderway (run_of job.seed job.sheet job.done road sum)
+pub runs_where : (job now : JobState) (lease : LeaseState) (road : Cells) (sum : StepTally) (b : Bool) → job ≡ now → IsUnderway (run_of now.seed now.sheet now.done road sum)
     → lease.key ≡ job.seed.key → lease.road_number ≡ job.seed.number → lease.base_road ≡ road
     → IsTrue b ↔ AreInForce job.sheet lease.base_step lease.applied → IsTrue b ↔ IsOwnRun now lease
 runs_where job now lease road sum b view run key number base same =
     let B : Cells → Type 0 = λ r. IsRoadAt (start_of job.seed) job.sheet job.done r in
+    let mine = of_job job now road sum view run in
     subst (λ (s : JobState). IsTrue b ↔ IsOwnRun s lease) view
-    (λ h. record { key = key; number = number; base = subst B (sym base) (sum, run.comes); rules = same.0 h }, λ own. same.1 own.rules)
+    (λ h. record { key = key; number = number; base = subst B (sym base) (sum, mine.comes); rules = same.0 h }, λ own. same.1 own.rules)
 
 -- one that began at another road does not run the job's
-pub runs_not : (job now : JobState) (lease : LeaseState) (road : Cells) (sum : StepTally) → job ≡ now → IsUnderway (run_of job.seed job.sheet job.done road sum)
+pub runs_not : (job now : JobState) (lease : LeaseState) (road : Cells) (sum : StepTally) → job ≡ now → IsUnderway (run_of now.seed now.sheet now.done road sum)
     → (lease.base_road ≡ road → ⊥) → IsOwnRun now lease → ⊥
 runs_not job now lease road sum view run other own =
-    let mine : IsOwnRun job lease = subst (λ (s : JobState). IsOwnRun s lease) (sym view) own in
-    other (road_at_is_one (start_of job.seed) job.sheet job.done lease.base_road road mine.base (sum, run.comes))
+    other (road_at_is_one (start_of now.seed) now.sheet now.done lease.base_road road own.base (sum, run.comes))

@@ -46,6 +46,7 @@ impl Lease {
         alloc: Global,
         order: &Order,
     ) -> Result<(), LeaseFault>
+        requires ready { A.is_ready asker.now }
         ensures ok { OnOk result (HasRun self.old order.now self.new) }
         ensures err { OnErr result (self.new ≡ self.old) }
         ensures wrong { (result ≡ Err WrongOrder) ↔ (FitsOrder self.old order.now → ⊥) }

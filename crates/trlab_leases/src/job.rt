@@ -1,6 +1,7 @@
 //! One job of the book.
 
 ghost use Rattle.std.specs.Prelude.{◌≡◌, IsTrue, IfOk, IfErr, OnErr, Some, length, ◌↔◌, MatchBool};
+ghost use Rattle.trlab_road.specs.Legal.{IsLegal};
 ghost use Rattle.trlab_run.specs.Progress.{IsUnderway};
 ghost use Rattle.trlab_step.specs.Laws.{IsRuleFor};
 ghost use Rattle.trlab_step.specs.Run.{in_force};
@@ -36,11 +37,13 @@ pub(crate) struct Job {
     cancelled: bool,
     /// The number of the lease that is out.
     out: Option<u32>,
-    road: Road,
+    /// The road at the steps done; none while it is that of the seed.
+    road: Option<Road>,
     tally: StepTally,
 }
 
 impl Model for Job {
+    ghost use Rattle.std.specs.Prelude.{unwrap_or};
     ghost use Rattle.trlab_leases.specs.Jobs.{IsJob};
     ghost use Rattle.trlab_leases.specs.Machine.{JobState, job_state};
 
@@ -50,16 +53,16 @@ impl Model for Job {
 
     ghost invariant = { λ job. IsJob
         (job_state job.seed job.sheet job.steps job.high job.done job.cancelled job.out)
-        job.road job.tally };
+        (unwrap_or job.road job.seed.road) job.tally };
 }
 
 impl Job {
     /// A job as it is submitted: no step is done.
     pub fn new(alloc: Global, seed: Seed, rule: Rule, steps: u32) -> Result<Job, AllocError>
-        requires { IsRuleFor (length seed.road.lanes) rule }
+        requires legal { IsLegal seed.road }
+        requires rule { IsRuleFor (length seed.road.lanes) rule }
         ensures { IfOk result (λ job. job ≡ new_job seed rule steps) }
     {
-        let road = seed.road.copy(alloc)?;
         let sheet = Sheet::new(alloc, rule)?;
         Ok(Job {
             seed,
@@ -69,13 +72,23 @@ impl Job {
             done: 0,
             cancelled: false,
             out: None,
-            road,
+            road: None,
             tally: StepTally {
                 distance: 0,
                 stopped: 0,
                 changes: 0,
             },
         })
+    }
+
+    /// The road and the tally at the steps done.
+    fn standing(&self) -> (&Road, StepTally)
+        ensures { IsUnderway (run_of self.now.seed self.now.sheet self.now.done result.0.now result.1) }
+    {
+        match &self.road {
+            Some(road) => (road, self.tally),
+            None => (&self.seed.road, self.tally),
+        }
     }
 
     /// Enters a rule, and answers the step from which on it is in force.
@@ -133,8 +146,9 @@ impl Job {
         ensures job { IfOk result (λ _. self.new ≡ (leasing index number self.old).job) }
         ensures same { OnErr result (self.new ≡ self.old) }
     {
-        let base_road = self.road.copy(alloc)?;
-        let road = self.road.copy(alloc)?;
+        let (standing, _) = self.standing();
+        let base_road = standing.copy(alloc)?;
+        let road = standing.copy(alloc)?;
         self.out = Some(number);
         Ok(Lease {
             job: index,
@@ -158,7 +172,8 @@ impl Job {
         if lease.road_number() != self.seed.number || !same_key(lease.key(), &self.seed.key) {
             return false;
         }
-        if !lease.base_road().equals(&self.road) {
+        let (standing, _) = self.standing();
+        if !lease.base_road().equals(standing) {
             return false;
         }
         self.sheet.are_in_force(lease.base_step(), lease.applied())
@@ -240,7 +255,7 @@ impl Job {
         }
         self.tally = self.tally_with(&lease);
         self.done = lease.step();
-        self.road = lease.into_road();
+        self.road = Some(lease.into_road());
         self.out = None;
         Ok(())
     }
@@ -251,13 +266,14 @@ impl Job {
     {
         let seed = self.seed.copy(alloc)?;
         let sheet = self.sheet.copy(alloc)?;
-        let road = self.road.copy(alloc)?;
+        let (standing, tally) = self.standing();
+        let road = standing.copy(alloc)?;
         Ok(Snapshot {
             seed,
             sheet,
             step: self.done,
             road,
-            tally: self.tally,
+            tally,
         })
     }
 }

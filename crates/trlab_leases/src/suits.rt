@@ -1,6 +1,7 @@
 //! Which rules suit which roads.
 
 ghost use Rattle.std.specs.Prelude.{◌≡◌, IsTrue, length};
+ghost use Rattle.trlab_road.specs.Legal.{IsLegal};
 ghost use Rattle.trlab_step.specs.Laws.{IsRuleFor};
 ghost use Rattle.trlab_leases.specs.Leases.{suits};
 
@@ -11,6 +12,8 @@ use trlab_rules::Rule;
 pub(crate) fn suits(rule: &Rule, road: &Road) -> bool
     ensures value { result ≡ suits rule.now road.now }
     ensures rule { IsTrue result → IsRuleFor (length road.now.lanes) rule.now }
+    ensures legal { IsLegal road.now }
 {
-    !(rule.change().is_some() && road.lanes() == 1)
+    let lanes = road.lanes();
+    !(rule.change().is_some() && lanes == 1)
 }

@@ -13,5 +13,5 @@ invariant_of-self-2 c =
       ordered = i.ordered;
       within = i.within;
       begin = begin_entered j.high c.args.rule j.sheet;
-      run = underway_entered (start_of j.seed) j.sheet j.high c.args.rule j.done j.road j.tally i.ordered (c.suits.ensures.rule c.if-not-suits.false) is i.run;
+      run = underway_entered (start_of j.seed) j.sheet j.high c.args.rule j.done _ j.tally i.ordered (c.suits.ensures.rule c.if-not-suits.false) is i.run;
     })

@@ -14,7 +14,7 @@ loop-ran-init c =
     let state = job_state j.seed j.sheet j.steps j.high j.done j.cancelled j.out in
     let at = ap (λ (s : JobState). s.done) c.self.view_is in
     let base = c.requires.base in
-    (omega arith, way_begins state c.args.self.now c.args.lease.now j.road j.tally c.self.view_is c.self.invariant.run c.applied-ran-items.ensures.lease c.requires.own c.requires.base)
+    (omega arith, way_begins state c.args.self.now c.args.lease.now _ j.tally c.self.view_is c.self.invariant.run c.applied-ran-items.ensures.lease c.requires.own c.requires.base)
 
 pub overflow_add-sum : goal.overflow_add-sum
 overflow_add-sum c =
