@@ -1,5 +1,5 @@
 //! Tests of roads and of what drives them by public calls, with values worked out by hand: random
-//! words, roads, steps, runs, tickets, segments and the job book.
+//! words, roads, steps, runs, tickets, segments, workers and the job book.
 #![tactic(auto)]
 
 #[cfg(test)]
@@ -14,3 +14,5 @@ mod segments;
 mod steps;
 #[cfg(test)]
 mod words;
+#[cfg(test)]
+mod workers;
