@@ -1,6 +1,5 @@
 //! Names that are spelled nearly alike.
 
-
 use std::alloc::{AllocError, Global};
 use strsim::generic_levenshtein;
 

@@ -29,9 +29,9 @@ fn push_meaning(page: &mut Page, cause: Cause) -> Result<(), AllocError> {
 fn push_place(page: &mut Page, cause: Cause) -> Result<(), AllocError> {
     let (words, place) = match cause {
         Cause::Code(CodeFault::Opcode(pc) | CodeFault::Field(pc)) => ("It is instruction ", pc),
-        Cause::Road(RoadFault::Character { place, .. } | RoadFault::SpeedAboveLimit { place, .. }) => {
-            ("It stands at cell ", place)
-        }
+        Cause::Road(
+            RoadFault::Character { place, .. } | RoadFault::SpeedAboveLimit { place, .. },
+        ) => { ("It stands at cell ", place) }
         _ => return Ok(()),
     };
     page.say(words)?;

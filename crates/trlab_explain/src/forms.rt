@@ -3,7 +3,8 @@
 use trlab_asm::Mnemonic;
 
 /// The names of the instructions.
-pub const INSTRUCTIONS: &str = "Expected: num, get, side, draw, copy, add, sub, mul, div, min, max, not, and, or, jump, jlt, jle, jtrue, jfalse, go, cross or stay.";
+pub const INSTRUCTIONS: &str =
+    "Expected: num, get, side, draw, copy, add, sub, mul, div, min, max, not, and, or, jump, jlt, jle, jtrue, jfalse, go, cross or stay.";
 
 /// The form of the operands of an instruction.
 pub fn form_of(name: Mnemonic) -> &'static str {
@@ -24,7 +25,8 @@ pub fn form_of(name: Mnemonic) -> &'static str {
         Mnemonic::Not => "Expected: `not rd, ra`.",
         Mnemonic::And => "Expected: `and rd, ra, rb`.",
         Mnemonic::Or => "Expected: `or rd, ra, rb`.",
-        Mnemonic::Jump => "Expected: `jump L`, L a label, or `@n`, n an instruction counted from 0.",
+        Mnemonic::Jump =>
+            "Expected: `jump L`, L a label, or `@n`, n an instruction counted from 0.",
         Mnemonic::JumpLess => "Expected: `jlt ra, rb, L`, L a label or `@n`.",
         Mnemonic::JumpAtMost => "Expected: `jle ra, rb, L`, L a label or `@n`.",
         Mnemonic::JumpTrue => "Expected: `jtrue ra, L`, L a label or `@n`.",

@@ -49,7 +49,9 @@ fn count_digits(number: u32) -> u64 {
 
 /// How many bytes a run writes: for each step its line, and the picture of each lane.
 fn output_bytes(road: &Road, steps: u32) -> u64 {
-    let pictures = u64::from(road.lanes()).saturating_mul(u64::from(road.length()).saturating_add(1));
+    let pictures = u64::from(road.lanes()).saturating_mul(u64::from(road.length()).saturating_add(
+        1,
+    ));
     let mut bytes = 0u64;
     for step in 0..=steps {
         let line = count_digits(step).saturating_add(6);

@@ -8,7 +8,8 @@ use trlab_prose::Page;
 fn plain_words(oddity: Oddity) -> &'static str {
     match oddity {
         Oddity::ByteOrderMark => "the text begins with a byte order mark: save it as plain ASCII.",
-        Oddity::CarriageReturn => "a carriage return: the text has line ends of Windows; end lines with LF alone.",
+        Oddity::CarriageReturn =>
+            "a carriage return: the text has line ends of Windows; end lines with LF alone.",
         Oddity::Empty => "the line is empty: there are no empty lines but in programs.",
         Oddity::Tab => "the line has a tab: put one space in its place.",
         Oddity::FirstSpace => "the line begins with a space: drop it.",
@@ -37,9 +38,11 @@ fn words_of(repair: Repair) -> &'static str {
         Repair::Zero => "numbers have no needless 0 in front.",
         Repair::SecondLane => "add a second `lane` line, or take a rule without a lane change.",
         Repair::End => "the last line of a program is `end`, with nothing beside it.",
-        Repair::NoEnd => "a check text has no line `end`: the program goes on to the end of the text.",
+        Repair::NoEnd =>
+            "a check text has no line `end`: the program goes on to the end of the text.",
         Repair::Comma => "put a comma between two operands.",
-        Repair::Register => "put the number into a register by `num` first: r0 to r7 must stand here.",
+        Repair::Register =>
+            "put the number into a register by `num` first: r0 to r7 must stand here.",
         Repair::Name(_)
         | Repair::Parts(_)
         | Repair::KeyLength(_)
@@ -68,10 +71,30 @@ pub fn push_mend(page: &mut Page, repair: Repair) -> Result<(), AllocError> {
             page.show_all(name)?;
             page.line("` is meant.")
         }
-        Repair::Parts(parts) => push_counted(page, "a chance is written as ", u64::from(parts), ", in parts of 2147483648."),
-        Repair::KeyLength(count) => push_counted(page, "this key has ", count as u64, " characters: it wants 64."),
-        Repair::OddDigits(count) => push_counted(page, "these are ", count as u64, " digits, and each byte wants two."),
-        Repair::NoDigit(place) => push_counted(page, "the character at place ", place as u64, " is no hexadecimal digit."),
+        Repair::Parts(parts) => push_counted(
+            page,
+            "a chance is written as ",
+            u64::from(parts),
+            ", in parts of 2147483648.",
+        ),
+        Repair::KeyLength(count) => push_counted(
+            page,
+            "this key has ",
+            count as u64,
+            " characters: it wants 64.",
+        ),
+        Repair::OddDigits(count) => push_counted(
+            page,
+            "these are ",
+            count as u64,
+            " digits, and each byte wants two.",
+        ),
+        Repair::NoDigit(place) => push_counted(
+            page,
+            "the character at place ",
+            place as u64,
+            " is no hexadecimal digit.",
+        ),
         _ => page.line(words_of(repair)),
     }
 }

@@ -89,5 +89,13 @@ pub fn push_part_refusal(
         code: &code,
         standing: &standing,
     };
-    push_refusal(alloc, page, &Refused { program, at, reason })
+    push_refusal(
+        alloc,
+        page,
+        &Refused {
+            program,
+            at,
+            reason,
+        },
+    )
 }

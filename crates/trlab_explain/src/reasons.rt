@@ -32,7 +32,8 @@ pub fn repair_of_reason(reason: u32, kind: Kind) -> &'static str {
         6 => "name an instruction: behind a label at the end of a program none stands.",
         7 => repair_of_end(kind),
         8 => "take the `min` with a smaller number first, or multiply by less.",
-        9 => "take away at most what is there: `min` the second with the first before, or jump past it.",
+        9 =>
+            "take away at most what is there: `min` the second with the first before, or jump past it.",
         10 => "`get` the gap again, and `min` the speed with it just before `go`.",
         11 => "`get` the limit again, and `min` the speed with it just before `go`.",
         12 => "ask first: `side r0`, `jfalse r0, no`, then `cross`, and at `no` stands `stay`.",
@@ -43,8 +44,10 @@ pub fn repair_of_reason(reason: u32, kind: Kind) -> &'static str {
 /// What a program of a kind does in place of an instruction or input of the other kind.
 fn repair_of_kind(kind: Kind) -> &'static str {
     match kind {
-        Kind::Motion => "a motion program sees its own lane only and ends with `go`; look at the gap.",
-        Kind::Change => "a change program ends with `cross` or `stay`; speeds are chosen in the motion program.",
+        Kind::Motion =>
+            "a motion program sees its own lane only and ends with `go`; look at the gap.",
+        Kind::Change =>
+            "a change program ends with `cross` or `stay`; speeds are chosen in the motion program.",
     }
 }
 

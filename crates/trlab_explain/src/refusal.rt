@@ -110,7 +110,11 @@ fn push_why(page: &mut Page, reason: u32, note: &Note, instr: Instr) -> Result<(
 fn count_ways(refused: &Refused<'_>) -> u32 {
     let mut ways = 0u32;
     for pc in 0..refused.at {
-        if leads_to(refused.program.code.instrs(), pc as usize, refused.at as usize) {
+        if leads_to(
+            refused.program.code.instrs(),
+            pc as usize,
+            refused.at as usize,
+        ) {
             ways = ways.saturating_add(1);
         }
     }
@@ -124,7 +128,11 @@ fn push_ways(alloc: Global, page: &mut Page, refused: &Refused<'_>) -> Result<()
     }
     page.line("Several ways lead to it, and only what all of them know is known there:")?;
     for pc in 0..refused.at {
-        if leads_to(refused.program.code.instrs(), pc as usize, refused.at as usize) {
+        if leads_to(
+            refused.program.code.instrs(),
+            pc as usize,
+            refused.at as usize,
+        ) {
             push_instruction(alloc, page, refused.program, pc)?;
         }
     }

@@ -29,12 +29,7 @@ fn standing_of(alloc: Global, text: &[u8]) -> Result<Standing, AllocError> {
 }
 
 /// The page on a program that is accepted.
-fn accepted_page(
-    alloc: Global,
-    text: &[u8],
-    code: &Code,
-    budget: u32,
-) -> Result<Page, AllocError> {
+fn accepted_page(alloc: Global, text: &[u8], code: &Code, budget: u32) -> Result<Page, AllocError> {
     let mut page = Page::new(alloc);
     let standing = standing_of(alloc, text)?;
     let program = Placed {
@@ -61,7 +56,15 @@ fn refused_body(
         code,
         standing: &standing,
     };
-    push_refusal(alloc, &mut page, &Refused { program, at, reason })?;
+    push_refusal(
+        alloc,
+        &mut page,
+        &Refused {
+            program,
+            at,
+            reason,
+        },
+    )?;
     Ok(page)
 }
 
@@ -109,11 +112,17 @@ pub fn explain_program(alloc: Global, text: &[u8], check: Check) -> Result<(bool
     let Check { code, .. } = check;
     match code.kind() {
         Kind::Motion => match verify_motion(alloc, code) {
-            Ok(motion) => Ok((false, accepted_page(alloc, text, motion.code(), motion.budget())?)),
+            Ok(motion) => Ok((
+                false,
+                accepted_page(alloc, text, motion.code(), motion.budget())?,
+            )),
             Err((code, fault)) => explain_refusal(alloc, text, &code, fault),
         },
         Kind::Change => match verify_change(alloc, code) {
-            Ok(change) => Ok((false, accepted_page(alloc, text, change.code(), change.budget())?)),
+            Ok(change) => Ok((
+                false,
+                accepted_page(alloc, text, change.code(), change.budget())?,
+            )),
             Err((code, fault)) => explain_refusal(alloc, text, &code, fault),
         },
     }

@@ -10,13 +10,19 @@ use crate::repairs::number::parts_of;
 use crate::subject::Subject;
 use std::alloc::{AllocError, Global};
 use trlab_asm::{
-    MNEMONICS, Mnemonic, cut, is_numeral, label_and_rest, mnemonic_named, mnemonic_text,
-    only_word, up_to_blank, without_comment, without_indent,
+    MNEMONICS, Mnemonic, cut, is_numeral, label_and_rest, mnemonic_named, mnemonic_text, only_word,
+    up_to_blank, without_comment, without_indent,
 };
 
 /// The names of what cars see.
 const INPUT_NAMES: [&[u8]; 7] = [
-    b"speed", b"limit", b"gap", b"sidegap", b"sideback", b"lane", b"headspeed",
+    b"speed",
+    b"limit",
+    b"gap",
+    b"sidegap",
+    b"sideback",
+    b"lane",
+    b"headspeed",
 ];
 
 /// The name of the instruction of a line, and what stands behind it.
@@ -48,7 +54,7 @@ pub fn word_repair(
     let (name, _) = name_and_operands(line);
     if name == b"end".as_slice() {
         return Ok(Some(match subject {
-            Subject::Job => Repair::End,
+            Subject::Job | Subject::Sweep => Repair::End,
             Subject::Check => Repair::NoEnd,
         }));
     }
@@ -60,11 +66,7 @@ pub fn word_repair(
 }
 
 /// What mends one operand, which is a word.
-fn operand_word(
-    alloc: Global,
-    name: Mnemonic,
-    word: &[u8],
-) -> Result<Option<Repair>, AllocError>
+fn operand_word(alloc: Global, name: Mnemonic, word: &[u8]) -> Result<Option<Repair>, AllocError>
     ensures { IfOk result (λ repair. IfSome repair (λ r. mends_operand r ≡ true)) }
 {
     if let Some(parts) = parts_of(word) {
