@@ -27,6 +27,8 @@ use trlab_texts::TextFault;
 struct Surveyor;
 
 impl Engine for Surveyor {
+    ghost is_ready = { λ _. Unit {0} };
+
     ghost outputs = { λ _ text. IsSweepOutput text };
 
     fn write<K: Sink>(self, alloc: Global, text: &[u8], writer: &mut K) -> End {
