@@ -23,7 +23,7 @@ use trlab_texts::Cause;
 pub enum Repair {
     /// What is odd about the line has to go.
     Plain(Oddity),
-    /// The text is for the other command.
+    /// The text is for another command.
     Other(Subject),
     /// The line stands too early: another is missing above it.
     Missing,

@@ -1,17 +1,24 @@
-//! Which line has to stand at a place of a job text, by the lines above it.
+//! Which line has to stand at a place of a job or sweep text, by the lines above it.
 
+use crate::subject::Subject;
 use trlab_asm::next_line;
 use trlab_texts::word::head_word;
 
-/// A line of a job text, by what has to stand there.
+/// A line of a job or sweep text, by what has to stand there.
 #[derive(Clone, Copy, Debug, PartialEq, Eq)]
 pub enum Spot {
     /// The line `road 1`.
     Road,
+    /// The line `sweep 1`.
+    Sweep,
     /// The line `key H`.
     Key,
     /// The line `limit n`.
     Limit,
+    /// The line `length n` of a sweep.
+    Length,
+    /// The line `lanes n` of a sweep.
+    Lanes,
     /// The first line `lane P`.
     Lane,
     /// A second line `lane P`, or the first rule.
@@ -30,21 +37,30 @@ pub enum Spot {
     Steps,
     /// A line `at s` with a rule, or the end of the text.
     Later,
+    /// The line `warm n` of a sweep.
+    Warm,
+    /// The line `measure n` of a sweep.
+    Measure,
+    /// A line `cars n` of a sweep.
+    Cars,
 }
 
-/// A place on the way down a job text: the line that has to stand there, and whether the lines
-/// `steps n` and above were passed.
+/// A place on the way down a text: the line that has to stand there, whether the text is a sweep, and
+/// whether the line `steps n` was passed.
 #[derive(Clone, Copy)]
 struct Walk {
     spot: Spot,
+    is_sweep: bool,
     is_later: bool,
 }
 
 impl Walk {
     /// The top of a text.
-    fn top() -> Walk {
+    fn top(subject: Subject) -> Walk {
+        let is_sweep = subject == Subject::Sweep;
         Walk {
-            spot: Spot::Road,
+            spot: if is_sweep { Spot::Sweep } else { Spot::Road },
+            is_sweep,
             is_later: false,
         }
     }
@@ -58,6 +74,8 @@ impl Walk {
     fn behind_rule(self) -> Walk {
         self.to(if self.is_later {
             Spot::Later
+        } else if self.is_sweep {
+            Spot::Warm
         } else {
             Spot::Steps
         })
@@ -85,6 +103,7 @@ impl Walk {
         let walk = Walk {
             spot: Spot::Later,
             is_later: true,
+            ..self
         };
         if head_word(line) == b"at".as_slice() {
             walk.behind_rule_line(line)
@@ -99,6 +118,8 @@ impl Walk {
             self.to(Spot::ChangeLine)
         } else if head_word(line) == b"code".as_slice() {
             self.behind_rule()
+        } else if self.is_sweep {
+            self.to(Spot::Measure)
         } else {
             self.behind_steps(line)
         }
@@ -107,8 +128,11 @@ impl Walk {
     /// The place behind a line.
     fn behind(self, line: &[u8]) -> Walk {
         match self.spot {
-            Spot::Road => self.to(Spot::Key),
+            Spot::Road | Spot::Sweep => self.to(Spot::Key),
             Spot::Key => self.to(Spot::Limit),
+            Spot::Limit if self.is_sweep => self.to(Spot::Length),
+            Spot::Length => self.to(Spot::Lanes),
+            Spot::Lanes => self.to(Spot::Rule),
             Spot::Limit => self.to(Spot::Lane),
             Spot::Lane => self.to(Spot::LaneOrRule),
             Spot::LaneOrRule if head_word(line) == b"lane".as_slice() => self.to(Spot::Rule),
@@ -119,13 +143,15 @@ impl Walk {
             Spot::ChangeOrMore => self.behind_motion(line),
             Spot::ChangeLine => self.behind_program_line(line, self.behind_rule()),
             Spot::Steps | Spot::Later => self.behind_steps(line),
+            Spot::Warm => self.to(Spot::Measure),
+            Spot::Measure | Spot::Cars => self.to(Spot::Cars),
         }
     }
 }
 
-/// Which line has to stand at a line of a job text, counted from 1, by the lines above it.
-pub fn spot_at(text: &[u8], number: u32) -> Spot {
-    let mut walk = Walk::top();
+/// Which line has to stand at a line of a job or sweep text, counted from 1, by the lines above it.
+pub fn spot_at(subject: Subject, text: &[u8], number: u32) -> Spot {
+    let mut walk = Walk::top(subject);
     let mut left = text;
     for _ in 1..number {
         let Some((line, rest)) = next_line(left) else {

@@ -12,16 +12,20 @@ use trlab_texts::word::head_word;
 pub enum Subject {
     /// A job text, which `run` reads.
     Job,
+    /// A sweep text, which `sweep` reads.
+    Sweep,
     /// A check text, which `check` reads.
     Check,
 }
 
-/// What a text is meant as, by its first word: a job where that is `road`, and else a check.
+/// What a text is meant as, by its first word: a job where that is `road`, a sweep where it
+/// is `sweep`, and else a check.
 pub fn subject_of(text: &[u8]) -> Subject
     ensures { result ≡ subject_of (lines_of text.now) }
 {
     match next_line(text) {
         Some((line, _)) if head_word(line) == b"road".as_slice() => Subject::Job,
+        Some((line, _)) if head_word(line) == b"sweep".as_slice() => Subject::Sweep,
         _ => Subject::Check,
     }
 }

@@ -13,7 +13,10 @@ pub fn meaning(cause: Cause) -> &'static str {
         Cause::Key => "This is no key: a key has exactly 64 hexadecimal digits.",
         Cause::OneLane => "A rule by which cars change lanes needs a road of two lanes.",
         Cause::Order => "The steps of the `at` lines must rise, and be below `steps`.",
-        Cause::TooMany => "This is one `at` line too many: a job has at most 1023.",
+        Cause::TooMany =>
+            "This is one line too many: a job has at most 1023 `at` lines, a sweep at most 200 `cars` lines.",
+        Cause::Work =>
+            "The points so far take more than 500000 steps together, `warm` and `measure` of each.",
         Cause::Hex => "X is not hexadecimal: two digits, 0 to 9 or a to f, for each byte.",
         Cause::TooBig => "The text is too big: it has more than 4194304 bytes.",
         Cause::Program(why) => meaning_of_why(why),

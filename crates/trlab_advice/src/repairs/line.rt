@@ -11,60 +11,79 @@ use crate::subject::Subject;
 use std::alloc::{AllocError, Global};
 use trlab_texts::word::head_word;
 
-/// The names of the lines of texts.
-const LINE_NAMES: [&[u8]; 12] = [
+/// The names of the lines of a job text: first those that stand there in this order.
+const JOB_NAMES: [&[u8]; 11] = [
     b"road", b"key", b"limit", b"lane", b"rule", b"steps", b"at", b"motion", b"change", b"code",
-    b"end", b"notes",
+    b"end",
 ];
 
-/// How far down a job text a line of a name stands.
-fn rank_of_name(name: &[u8]) -> Option<u32> {
-    let rank = LINE_NAMES[..7].iter().position(|line| *line == name)?;
+/// How many of them stand there in that order.
+const JOB_RANKS: usize = 7;
+
+/// The names of the lines of a sweep text: first those that stand there in this order.
+const SWEEP_NAMES: [&[u8]; 13] = [
+    b"sweep", b"key", b"limit", b"length", b"lanes", b"rule", b"warm", b"measure", b"cars",
+    b"motion", b"change", b"code", b"end",
+];
+
+/// How many of them stand there in that order.
+const SWEEP_RANKS: usize = 9;
+
+/// The names of the first lines of a check text.
+const CHECK_NAMES: [&[u8]; 4] = [b"motion", b"change", b"code", b"notes"];
+
+/// How far down a text a line of a name stands.
+fn rank_of_name(subject: Subject, name: &[u8]) -> Option<u32> {
+    let rank = if subject == Subject::Sweep {
+        SWEEP_NAMES[..SWEEP_RANKS]
+            .iter()
+            .position(|line| *line == name)?
+    } else {
+        JOB_NAMES[..JOB_RANKS]
+            .iter()
+            .position(|line| *line == name)?
+    };
     Some(rank as u32)
 }
 
-/// How far down a job text a place is.
-fn rank_of_spot(spot: Spot) -> u32 {
+/// How far down a text a place is.
+fn rank_of_spot(subject: Subject, spot: Spot) -> u32 {
+    let rule = if subject == Subject::Sweep { 5u32 } else { 4 };
     match spot {
-        Spot::Road => 0,
+        Spot::Road | Spot::Sweep => 0,
         Spot::Key => 1,
         Spot::Limit => 2,
-        Spot::Lane => 3,
-        Spot::LaneOrRule | Spot::Rule => 4,
-        Spot::Motion | Spot::MotionLine | Spot::ChangeOrMore | Spot::ChangeLine => 5,
-        Spot::Steps => 5,
+        Spot::Lane | Spot::Length => 3,
+        Spot::LaneOrRule | Spot::Lanes => 4,
+        Spot::Rule => rule,
+        Spot::Motion | Spot::MotionLine | Spot::ChangeOrMore | Spot::ChangeLine => rule + 1,
+        Spot::Steps | Spot::Warm => rule + 1,
         Spot::Later => 6,
+        Spot::Measure => 7,
+        Spot::Cars => 8,
     }
 }
 
-/// The command that a text is for, by its first line, where it is not read by that one.
-fn other_command(subject: Subject, first: &[u8]) -> Option<Subject> {
+/// The command that reads texts with this first line.
+fn command_of(first: &[u8]) -> Option<Subject> {
     let name = head_word(first);
-    match subject {
-        Subject::Job => {
-            let is_program = [b"motion".as_slice(), b"change", b"code", b"notes"].contains(&name);
-            if is_program {
-                Some(Subject::Check)
-            } else {
-                None
-            }
-        }
-        Subject::Check => {
-            if name == b"road".as_slice() {
-                Some(Subject::Job)
-            } else {
-                None
-            }
-        }
+    if name == b"road".as_slice() {
+        Some(Subject::Job)
+    } else if name == b"sweep".as_slice() {
+        Some(Subject::Sweep)
+    } else if [b"motion".as_slice(), b"change", b"code", b"notes"].contains(&name) {
+        Some(Subject::Check)
+    } else {
+        None
     }
 }
 
-/// Whether a line of a job text stands too early or too late, by its name.
-fn displaced(name: &[u8], spot: Spot) -> Option<Repair>
+/// Whether a line of a job or sweep text stands too early or too late, by its name.
+fn displaced(subject: Subject, name: &[u8], spot: Spot) -> Option<Repair>
     ensures { IfSome result (λ r. mends_line r ≡ true) }
 {
-    let rank = rank_of_name(name)?;
-    let here = rank_of_spot(spot);
+    let rank = rank_of_name(subject, name)?;
+    let here = rank_of_spot(subject, spot);
     if rank > here {
         Some(Repair::Missing)
     } else if rank < here {
@@ -75,10 +94,15 @@ fn displaced(name: &[u8], spot: Spot) -> Option<Repair>
 }
 
 /// The name that the first word of a line was meant to be.
-fn named(alloc: Global, name: &[u8]) -> Result<Option<Repair>, AllocError>
+fn named(alloc: Global, subject: Subject, name: &[u8]) -> Result<Option<Repair>, AllocError>
     ensures { IfOk result (λ repair. IfSome repair (λ r. mends_line r ≡ true)) }
 {
-    match nearest(alloc, name, &LINE_NAMES)? {
+    let nearest = match subject {
+        Subject::Job => nearest(alloc, name, &JOB_NAMES)?,
+        Subject::Sweep => nearest(alloc, name, &SWEEP_NAMES)?,
+        Subject::Check => nearest(alloc, name, &CHECK_NAMES)?,
+    };
+    match nearest {
         Some(meant) => Ok(Some(Repair::Name(meant))),
         None => Ok(None),
     }
@@ -99,16 +123,17 @@ pub fn line_repair(
         Some(oddity) => return Ok(Some(Repair::Plain(oddity))),
     }
     if number == 1 {
-        if let Some(other) = other_command(subject, line) {
-            return Ok(Some(Repair::Other(other)));
+        match command_of(line) {
+            Some(other) if other != subject => return Ok(Some(Repair::Other(other))),
+            _ => {}
         }
     }
     let name = head_word(line);
-    if let Some(repair) = named(alloc, name)? {
+    if let Some(repair) = named(alloc, subject, name)? {
         return Ok(Some(repair));
     }
-    if subject == Subject::Job {
-        if let Some(repair) = displaced(name, spot_at(text, number)) {
+    if subject != Subject::Check {
+        if let Some(repair) = displaced(subject, name, spot_at(subject, text, number)) {
             return Ok(Some(repair));
         }
     }

@@ -54,7 +54,7 @@ pub fn word_repair(
     let (name, _) = name_and_operands(line);
     if name == b"end".as_slice() {
         return Ok(Some(match subject {
-            Subject::Job => Repair::End,
+            Subject::Job | Subject::Sweep => Repair::End,
             Subject::Check => Repair::NoEnd,
         }));
     }
