@@ -1,6 +1,6 @@
 //! Jobs that several runners take.
 
-ghost use Rattle.std.specs.Prelude.{◌≡◌};
+ghost use Rattle.std.specs.Prelude.{◌≡◌, ◌<◌, ◌≤◌};
 
 use crate::jobs::{chancy, is_seen, road_alone, seed, seed_of, steady};
 use std::alloc::Global;
@@ -28,6 +28,25 @@ fn submit_jobs<L: Ledger, R: Wait>(
         }
     }
     Some(())
+}
+
+/// Runs the jobs of a book by so many runners, with so many workers each.
+fn run_by<L: Ledger + Send + Sync, R: Threads + Wait + Sync>(
+    rt: &R,
+    alloc: Global,
+    book: &SharedBook<L>,
+    desk: Desk<L>,
+    runners: u32,
+    workers: u32,
+) -> Option<Desk<L>>
+    requires ledger { L.parts ≡ 1024 }
+    requires workers { (0 < workers) × (workers ≤ 16) }
+    requires runners { (0 < runners) × (runners ≤ 16) }
+{
+    if desk.parts() < runners {
+        return None;
+    }
+    run_jobs(rt, alloc, book, desk, runners, workers, &OpenGate).ok()
 }
 
 /// Whether each job has come to its last step.
@@ -58,12 +77,7 @@ fn runs_all<L: Ledger + Send + Sync, R: Threads + Wait + Sync>(
 {
     let (book, mut desk) = SharedBook::<L>::start(alloc, blank);
     submit_jobs(rt, alloc, &book, &mut desk, 16)?;
-    if desk.parts() < 4 {
-        return None;
-    }
-    let Ok(mut desk) = run_jobs(rt, alloc, &book, desk, 4, 2, &OpenGate) else {
-        return None;
-    };
+    let mut desk = run_by(rt, alloc, &book, desk, 4, 2)?;
     let done = are_done(rt, alloc, &book, &mut desk, 16)?;
     Some(done && book.close(desk).is_ok())
 }
@@ -102,12 +116,7 @@ fn runs_as_one<L: Ledger + Send + Sync, R: Threads + Wait + Sync>(
 {
     let (book, mut desk) = SharedBook::<L>::start(alloc, blank);
     submit_few(rt, alloc, &book, &mut desk)?;
-    if desk.parts() < 16 {
-        return None;
-    }
-    let Ok(mut desk) = run_jobs(rt, alloc, &book, desk, 16, 16, &OpenGate) else {
-        return None;
-    };
+    let mut desk = run_by(rt, alloc, &book, desk, 16, 16)?;
     for job in 0..3 {
         let seen = book.read(rt, alloc, &mut desk, job).ok()?;
         if seen.step() != 40 || !road_alone(alloc, &seen)?.equals(seen.road()) {

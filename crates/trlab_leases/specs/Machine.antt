@@ -66,7 +66,10 @@ replacing rule job =
     if job.cancelled || (job.high == job.steps) then refused fault.Ended job
     else if not (suits rule job.seed.road) then refused fault.LanesMismatch job
     else if ltb 1024 (length (entered job.sheet job.high rule)) then refused fault.SheetFull job
-    else record { reply = reply.Number job.high; job = record job { sheet = entered job.sheet job.high rule } }
+    else record {
+      reply = reply.Number job.high;
+      job = record job { sheet = entered job.sheet job.high rule };
+    }
 
 -- the lease that is out has this number
 abbrev pub is_out : ℕ → Option ℕ → Bool

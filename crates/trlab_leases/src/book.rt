@@ -175,7 +175,8 @@ impl Book {
     ///
     /// Those of `order`.
     pub fn order_as(&mut self, alloc: Global, lease: &Lease, same: bool) -> Result<Order, BookFault>
-        ensures reply { RepliesAs (is_memory result) (order_reply result) self.old (OrderCall (offered lease.now same)) }
+        ensures reply { RepliesAs (is_memory result) (order_reply result) self.old
+            (OrderCall (offered lease.now same)) }
         ensures state { LeadsAs (is_memory result) self.old (OrderCall (offered lease.now same)) self.new }
         ensures full { is_full self.old ≡ true → result ≡ Err HistoryFull }
         ensures rule { IfOk result (λ order. IsRuleAt self.old.jobs order) }

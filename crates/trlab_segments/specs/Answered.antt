@@ -36,10 +36,12 @@ abbrev pub number_of : {A : Type 0} → Part A → ℕ
 number_of p = p.number
 
 -- a part has what the cars of its segment answer in a phase, where the cars are cut into so many
-abbrev pub IsPart : {P A : Type 0} → (P → Dice → Cells → ℕ → ℕ → List A → Type 0) → Phase P → ℕ → Part A → Type 0
+abbrev pub IsPart : {P A : Type 0} → (P → Dice → Cells → ℕ → ℕ → List A → Type 0)
+    → Phase P → ℕ → Part A → Type 0
 IsPart answers phase count p =
-    let first = first_car (cars phase.road.now) count in
-    answers phase.program.now phase.dice.now phase.road.now (first p.number) (first (p.number + 1)) p.answers.items
+    let from = first_car (cars phase.road.now) count p.number in
+    let to = first_car (cars phase.road.now) count (p.number + 1) in
+    answers phase.program.now phase.dice.now phase.road.now from to p.answers.items
 
 -- a drawer has ended, and these are the parts of the tickets that it drew, in its order
 pub record HasParts {A : Type 0} (IsRight : Part A → Type 0) (d : Drawer) (parts : List (Part A)) : Type 0 where

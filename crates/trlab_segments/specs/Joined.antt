@@ -1,5 +1,6 @@
 -- The answers of parts that follow on each other are those of the whole.
-use Rattle.std.proofs.Common.{◌≡◌, ℕ, ◌+◌, ◌-◌, ◌<◌, ◌≤◌, ◌++◌, Bool, true, false, List, [], length, get_or, refl, sym, subst, inl, inr, arith, length-append}
+use Rattle.std.proofs.Common.{◌≡◌, ℕ, ◌+◌, ◌-◌, ◌<◌, ◌≤◌, ◌++◌, Bool, true, false, List, [], length, get_or}
+use Rattle.std.proofs.Common.{refl, sym, subst, inl, inr, arith, length-append}
 use Rattle.std.proofs.lemmas.Bool.{cases_lt}
 use Rattle.std.proofs.lemmas.List.{get_or_append_left, get_or-append_right}
 use Rattle.trlab_machine.specs.declared.dice.Dice.{Dice}
@@ -12,7 +13,8 @@ use Rattle.trlab_verify.specs.CheckedProgram.{CheckedProgram}
 
 -- what holds of each element of two lists, by its index, holds of the elements of both together
 both : {X : Type 0} (none : X) (P : ℕ → X → Type 0) (xs ys : List X)
-    → ((k : ℕ) → k < length xs → P k (get_or xs k none)) → ((k : ℕ) → k < length ys → P (length xs + k) (get_or ys k none))
+    → ((k : ℕ) → k < length xs → P k (get_or xs k none))
+    → ((k : ℕ) → k < length ys → P (length xs + k) (get_or ys k none))
     → (k : ℕ) → k < length (xs ++ ys) → P k (get_or (xs ++ ys) k none)
 both none P xs ys first second k below =
     elim (cases_lt k (length xs)) [
@@ -21,46 +23,61 @@ both none P xs ys first second k below =
           let size = length-append xs ys in
           let j = k - length xs in
           let at : length xs + j ≡ k = omega (arith, past) in
-          subst (P k) (sym (get_or-append_right xs ys (length xs) k none refl past)) (subst (λ i. P i (get_or ys j none)) at (second j (omega (arith, size, below, past))))
+          let within : j < length ys = omega (arith, size, below, past) in
+          let there = subst (λ i. P i (get_or ys j none)) at (second j within) in
+          subst (P k) (sym (get_or-append_right xs ys (length xs) k none refl past)) there
     ]
 
 -- no car answers no speed
 pub speeds_begin : (motion : CheckedProgram) (dice : Dice) (road : Cells) → SpeedsPart motion dice road 0 0 []
 speeds_begin motion dice road = (
   record { one_each = refl; each = λ k car answer is here. absurd cc },
-  record { within_gaps = λ k below. absurd (omega (arith, below)); within_limit = λ k below. absurd (omega (arith, below)) },
+  record {
+    within_gaps = λ k below. absurd (omega (arith, below));
+    within_limit = λ k below. absurd (omega (arith, below));
+  },
 )
 
 -- the speeds of two parts, one behind the other, are those of both
-pub speeds_join : (motion : CheckedProgram) (dice : Dice) (road : Cells) (from middle to : ℕ) (first second : List ℕ)
-    → SpeedsPart motion dice road from middle first → SpeedsPart motion dice road middle to second → SpeedsPart motion dice road from to (first ++ second)
+pub speeds_join : (motion : CheckedProgram) (dice : Dice) (road : Cells) (from middle to : ℕ)
+    → (first second : List ℕ)
+    → SpeedsPart motion dice road from middle first → SpeedsPart motion dice road middle to second
+    → SpeedsPart motion dice road from to (first ++ second)
 speeds_join motion dice road from middle to first second a b =
     let size = a.0.one_each in
     let place : (k : ℕ) → middle + k ≡ from + (length first + k) = λ k. omega (arith, size) in (
       join_speeds motion dice road from middle to first second a.0 b.0,
       record {
         within_gaps = both 0 (λ i s. s ≤ get_or (gaps road) (from + i) 0) first second a.1.within_gaps
-            (λ k below. subst (λ i. get_or second k 0 ≤ get_or (gaps road) i 0) (place k) (b.1.within_gaps k below));
+            (λ k below.
+            subst (λ i. get_or second k 0 ≤ get_or (gaps road) i 0) (place k) (b.1.within_gaps k below));
         within_limit = both 0 (λ i s. s ≤ road.limit) first second a.1.within_limit b.1.within_limit;
       },
     )
 
 -- no car answers nothing
-pub crosses_begin : (change : CheckedProgram) (dice : Dice) (road : Cells) → CrossesPart change dice road 0 0 []
+pub crosses_begin : (change : CheckedProgram) (dice : Dice) (road : Cells)
+    → CrossesPart change dice road 0 0 []
 crosses_begin change dice road = (
   record { one_each = refl; each = λ k car answer is here. absurd cc },
   record { side_empty = λ k below. absurd (omega (arith, below)) },
 )
 
 -- who crosses in two parts, one behind the other, are those who cross in both
-pub crosses_join : (change : CheckedProgram) (dice : Dice) (road : Cells) (from middle to : ℕ) (first second : List Bool)
-    → CrossesPart change dice road from middle first → CrossesPart change dice road middle to second → CrossesPart change dice road from to (first ++ second)
+pub crosses_join : (change : CheckedProgram) (dice : Dice) (road : Cells) (from middle to : ℕ)
+    → (first second : List Bool)
+    → CrossesPart change dice road from middle first → CrossesPart change dice road middle to second
+    → CrossesPart change dice road from to (first ++ second)
 crosses_join change dice road from middle to first second a b =
     let size = a.0.one_each in
     let place : (k : ℕ) → middle + k ≡ from + (length first + k) = λ k. omega (arith, size) in (
       join_crossings change dice road from middle to first second a.0 b.0,
       record {
-        side_empty = both false (λ i c. c ≡ true → get_or (sides road) (from + i) false ≡ true) first second a.1.side_empty
-            (λ k below. subst (λ i. get_or second k false ≡ true → get_or (sides road) i false ≡ true) (place k) (b.1.side_empty k below));
+        side_empty =
+            both false (λ i c. c ≡ true → get_or (sides road) (from + i) false ≡ true) first second
+            a.1.side_empty
+            (λ k below.
+            subst (λ i. get_or second k false ≡ true → get_or (sides road) i false ≡ true) (place k)
+            (b.1.side_empty k below));
       },
     )

@@ -97,7 +97,8 @@ pub fn share<A: Drop + Send, P: Asked<A> + Sync, R: Threads + Sync, G: Gate + Sy
         rt,
         move || -> (Drawer, Result<Vec<Part<A>>, AllocError>)
             requires { IsFrom tickets.now theirs × (tickets_of theirs ≡ []) × P.can_ask phase.now.road.now }
-            ensures { HasWorked (IsPart P.answers phase.entry.now (count_of tickets.entry.now)) tickets.entry.now theirs result }
+            ensures { HasWorked (IsPart P.answers phase.entry.now (count_of tickets.entry.now))
+                tickets.entry.now theirs result }
         {
             let parts = work(alloc, phase, tickets, &mut theirs, worker, gate);
             (theirs, parts)
@@ -105,7 +106,8 @@ pub fn share<A: Drop + Send, P: Asked<A> + Sync, R: Threads + Sync, G: Gate + Sy
         move || -> (Drawer, Result<Vec<Part<A>>, AllocError>)
             requires { IsSync R.row × IsSync G.row × IsSync P.row × IsSend A.row
                 × IsFrom tickets.now drawer × (tickets_of drawer ≡ []) × P.can_ask phase.now.road.now }
-            ensures { HasWorked (IsPart P.answers phase.entry.now (count_of tickets.entry.now)) tickets.entry.now drawer result }
+            ensures { HasWorked (IsPart P.answers phase.entry.now (count_of tickets.entry.now))
+                tickets.entry.now drawer result }
         { share(rt, alloc, phase, tickets, drawer, gate) },
     );
     (tickets.gather(theirs, mine), both(some, more))
