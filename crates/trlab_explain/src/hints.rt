@@ -26,7 +26,7 @@ pub fn look_at(cause: Cause) -> Option<&'static str> {
 fn look_at_lines(why: Why) -> Option<&'static str> {
     match why {
         Why::Word => Some(
-            "the first word of the line; a label is letters, digits and `_`, then `:`.",
+            "the first word of the line; a label is at most 32 letters, digits and `_`, then `:`.",
         ),
         Why::Operand => Some("how many operands there are, with a comma between two."),
         Why::Number => Some("the range: numbers are decimal digits, 10 at most."),
