@@ -10,6 +10,7 @@ use std::thread::Threads;
 use trlab_asm::{AsmFault, Why, assemble, disassemble};
 use trlab_campaign::{End, Watched, check_text, run_job_text};
 use trlab_code::{Code, CodeFault, Kind, decode, encode};
+use trlab_explain::{Subject, explain_text};
 use trlab_verify::{Note, NotesFault, check_notes, notes};
 
 /// What is done with a text.
@@ -19,6 +20,8 @@ pub enum Command {
     Run,
     /// Checks a driver program.
     Check,
+    /// Explains a text, as what it is wanted to be or as what its first word says.
+    Explain(Option<Subject>),
     /// Assembles a program of this kind.
     Assemble(Kind),
     /// Decodes the bytes of a program.
@@ -50,6 +53,7 @@ pub fn answer_to<R: AllocGlobal + Threads + Sync>(
     match command {
         Command::Run => run(rt, bytes),
         Command::Check => Ok(check(rt, bytes)),
+        Command::Explain(subject) => Ok(explain(rt, subject, bytes)),
         Command::Assemble(kind) => assembled(rt.alloc(), kind, bytes),
         Command::Decode => decoded(rt.alloc(), bytes),
         Command::Notes(kind) => noted(rt.alloc(), kind, bytes),
@@ -89,6 +93,17 @@ fn check<R: AllocGlobal>(rt: &R, text: &[u8]) -> Answer {
     let mut reader = Watched::new(text);
     let mut writer = Watched::new(Vec::new(rt.alloc()));
     let end = check_text(rt, &mut reader, &mut writer);
+    Answer {
+        end,
+        output: writer.into_inner(),
+    }
+}
+
+/// What the explanation of a text gives.
+fn explain<R: AllocGlobal>(rt: &R, subject: Option<Subject>, text: &[u8]) -> Answer {
+    let mut reader = Watched::new(text);
+    let mut writer = Watched::new(Vec::new(rt.alloc()));
+    let end = explain_text(rt, subject, &mut reader, &mut writer);
     Answer {
         end,
         output: writer.into_inner(),

@@ -5,6 +5,7 @@ use crate::parts::{Broken, Part, read_parts};
 use std::alloc::Global;
 use trlab_campaign::End;
 use trlab_code::Kind;
+use trlab_explain::Subject;
 
 /// The answer that is wanted: the end, and the output or its first lines.
 #[derive(Drop)]
@@ -122,6 +123,10 @@ fn command(words: &str) -> Option<Command> {
     match words {
         "run" => Some(Command::Run),
         "check" => Some(Command::Check),
+        "explain" => Some(Command::Explain(None)),
+        "explain run" => Some(Command::Explain(Some(Subject::Job))),
+        "explain sweep" => Some(Command::Explain(Some(Subject::Sweep))),
+        "explain check" => Some(Command::Explain(Some(Subject::Check))),
         "motion" => Some(Command::Assemble(Kind::Motion)),
         "change" => Some(Command::Assemble(Kind::Change)),
         "code" => Some(Command::Decode),

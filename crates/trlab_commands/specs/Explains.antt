@@ -2,7 +2,7 @@
 use Rattle.std.specs.Prelude.{ℕ, ◌||◌, List, [], ◌∷◌, Option, None, Some, codes, if◌then◌else◌}
 use Rattle.std.specs.Str.{bytes_eq}
 use Rattle.trlab_advice.specs.declared.subject.Subject.{Subject}
-use Rattle.trlab_advice.specs.declared.subject.Subject.TheVariants.{Job, Check}
+use Rattle.trlab_advice.specs.declared.subject.Subject.TheVariants.{Job, Sweep, Check}
 use Rattle.trlab_commands.specs.declared.explain.Explaining.{Explaining}
 use Rattle.trlab_commands.specs.declared.explain.Explaining.TheVariants.{Text, Help, Nothing}
 
@@ -10,6 +10,7 @@ use Rattle.trlab_commands.specs.declared.explain.Explaining.TheVariants.{Text, H
 abbrev pub subject_named : List ℕ → Option Subject
 subject_named name =
     if bytes_eq name (codes "run") then Some Job
+    else if bytes_eq name (codes "sweep") then Some Sweep
     else if bytes_eq name (codes "check") then Some Check else None
 
 -- what a word asks for that names no command

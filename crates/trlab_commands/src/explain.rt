@@ -22,6 +22,8 @@ fn subject_named(name: &[u8]) -> Option<Subject>
 {
     if name == b"run".as_slice() {
         Some(Subject::Job)
+    } else if name == b"sweep".as_slice() {
+        Some(Subject::Sweep)
     } else if name == b"check".as_slice() {
         Some(Subject::Check)
     } else {

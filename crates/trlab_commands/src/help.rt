@@ -69,16 +69,18 @@ pub const WORKERS_HELP: &str =
 pub const EXPLAIN_HELP: &str = "\
 Says in words what is wrong with a text and how to mend it, or what a good one does
 
-Usage: trlab explain [run|check]
+Usage: trlab explain [run|sweep|check]
 
 Standard input:
-  A job text, as `trlab run` reads it, or a check text, as `trlab check` does.
-  Without a word it is a job text where its first word is `road`.
+  A job text, as `trlab run` reads it, a sweep text, as `trlab sweep` does, or
+  a check text, as `trlab check` does. Without a word it is a job text where its
+  first word is `road`, a sweep text where that is `sweep`, and else a check text.
 
 Standard output:
   Of a refused text the line that the command would write, the line of the
   text that is at fault, what was expected there, and a repair where one is
-  likely. Of a good text what it does.
+  likely. Of a good text what it does. Bytes of the text that are not printable
+  ASCII are written as \\x and two hexadecimal digits.
 
 Example:
   trlab explain run < examples/two_cars.job";

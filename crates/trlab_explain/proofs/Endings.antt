@@ -15,7 +15,7 @@ use Rattle.trlab_campaign.proofs.Endings.{output_ends}
 use Rattle.trlab_prose.specs.Plain.{IsPlain}
 use Rattle.trlab_advice.specs.Subjects.{subject_of}
 use Rattle.trlab_advice.specs.declared.subject.Subject.{Subject}
-use Rattle.trlab_advice.specs.declared.subject.Subject.TheVariants.{Job, Check}
+use Rattle.trlab_advice.specs.declared.subject.Subject.TheVariants.{Job, Sweep, Check}
 use Rattle.trlab_explain.specs.Explanations.{BeginsWith, Explained, ExplainedAs, ToldAs}
 
 -- two parts were put behind a text, the second unless memory ran out
@@ -41,6 +41,7 @@ told_ends wanted text (Err x) e old new told ends = rw ends.0 (inl ends.1)
 -- a text that is too big, as whatever it is read
 big_as : (subject : Subject) (text : List ℕ) (out : List ℕ) → TEXT_LIMIT < length text → BeginsWith too_big_line out → ToldAs subject text true out
 big_as Job text out big begins = (Err (record { line = 0; cause = TooBig }), rw (lt-ltb TEXT_LIMIT (length text) big) refl, (refl, (begins.0, begins.1 ∙ ap (λ t. t ++ begins.0) (sym (append-nil too_big_line)))))
+big_as Sweep text out big begins = (Err (record { line = 0; cause = TooBig }), rw (lt-ltb TEXT_LIMIT (length text) big) refl, (refl, (begins.0, begins.1 ∙ ap (λ t. t ++ begins.0) (sym (append-nil too_big_line)))))
 big_as Check text out big begins = (Err (record { line = 0; cause = TooBig }), rw (lt-ltb TEXT_LIMIT (length text) big) refl, (refl, (begins.0, begins.1 ∙ ap (λ t. t ++ begins.0) (sym (append-nil too_big_line)))))
 
 -- the page on a text that is too big was written so

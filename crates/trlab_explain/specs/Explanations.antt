@@ -6,12 +6,13 @@ use Rattle.trlab_verify.specs.Verdict.{IsAccepted, IsRefused}
 use Rattle.trlab_texts.specs.Reading.{Fault}
 use Rattle.trlab_jobs.specs.Job.{Job as JobSaid, JobText}
 use Rattle.trlab_jobs.specs.Check.{Check as CheckSaid, CheckText}
+use Rattle.trlab_jobs.specs.Sweep.{Sweep as SweepSaid, SweepText}
 use Rattle.trlab_campaign.specs.CheckOutput.{refused_line}
 use Rattle.trlab_campaign.specs.Refusal.{Outputs, fault_line}
 use Rattle.trlab_advice.specs.Quoting.{line_at}
 use Rattle.trlab_advice.specs.Subjects.{subject_of}
 use Rattle.trlab_advice.specs.declared.subject.Subject.{Subject}
-use Rattle.trlab_advice.specs.declared.subject.Subject.TheVariants.{Job, Check}
+use Rattle.trlab_advice.specs.declared.subject.Subject.TheVariants.{Job, Sweep, Check}
 
 -- a line of the text with its number; nothing where the text has no such line
 abbrev pub quote_line : ℕ → Option (List ℕ) → List ℕ
@@ -31,10 +32,10 @@ BeginsWith front out = (more : List ℕ) × (out ≡ front ++ more)
 abbrev pub FaultTold : List ℕ → Fault → Outputs
 FaultTold text fault refused out = (refused ≡ true) × BeginsWith (fault_head text fault) out
 
--- what is told by what a job text says
-abbrev pub JobTold : List ℕ → Result JobSaid Fault → Outputs
-JobTold text (Ok job) refused out = refused ≡ false
-JobTold text (Err fault) refused out = FaultTold text fault refused out
+-- what is told by what a job or sweep text says
+abbrev pub LinesTold : {A : Type 0} → List ℕ → Result A Fault → Outputs
+LinesTold text (Ok said) refused out = refused ≡ false
+LinesTold text (Err fault) refused out = FaultTold text fault refused out
 
 -- what is told of the program of a check
 abbrev pub ProgramTold : CheckSaid → Outputs
@@ -49,7 +50,9 @@ CheckTold text (Err fault) refused out = FaultTold text fault refused out
 
 -- what is told of a text that is read so
 abbrev pub ToldAs : Subject → List ℕ → Outputs
-ToldAs Job text refused out = (says : Result JobSaid Fault) × JobText text says × JobTold text says refused out
+ToldAs Job text refused out = (says : Result JobSaid Fault) × JobText text says × LinesTold text says refused out
+ToldAs Sweep text refused out =
+    (says : Result SweepSaid Fault) × SweepText text says × LinesTold text says refused out
 ToldAs Check text refused out =
     (says : Result CheckSaid Fault) × CheckText text says × CheckTold text says refused out
 

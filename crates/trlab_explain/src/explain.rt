@@ -13,6 +13,7 @@ ghost use Rattle.trlab_explain.specs.Explanations.{BeginsWith, Explained, ToldAs
 use crate::check::explain_check;
 use crate::fault::fault_page;
 use crate::job::explain_job;
+use crate::sweep::explain_sweep;
 use std::alloc::{AllocError, AllocGlobal, Global};
 use trlab_advice::{Subject, subject_of};
 use trlab_campaign::{Cause, End, ReadFault, Sink, Source, read_text, write_output};
@@ -24,6 +25,7 @@ fn explain_as(alloc: Global, subject: Subject, text: &[u8]) -> Result<(bool, Pag
 {
     match subject {
         Subject::Job => explain_job(alloc, text),
+        Subject::Sweep => explain_sweep(alloc, text),
         Subject::Check => explain_check(alloc, text),
     }
 }

@@ -5,7 +5,8 @@ ghost use Rattle.trlab_explain.specs.Explanations.{BeginsWith, fault_head};
 
 use crate::causes::meaning;
 use crate::forms::{INSTRUCTIONS, form_of};
-use crate::head::push_fault_head;
+use crate::head::{push_fault_head, push_read_as};
+use crate::hints::look_at;
 use crate::mends::push_mend;
 use crate::part::push_part_refusal;
 use crate::spots::{expected_at, expected_of_check};
@@ -47,7 +48,9 @@ fn push_expected(
     line: u32,
 ) -> Result<(), AllocError> {
     match subject {
-        Subject::Job => page.line(expected_at(spot_at(text, line))),
+        Subject::Job | Subject::Sweep => {
+            page.line(expected_at(subject, spot_at(subject, text, line)))
+        }
         Subject::Check => page.line(expected_of_check()),
     }
 }
@@ -77,11 +80,24 @@ fn push_expectation(
     cause: Cause,
 ) -> Result<(), AllocError> {
     match cause {
-        Cause::Line | Cause::Number | Cause::Key => push_expected(page, subject, text, line),
+        Cause::Line | Cause::Number | Cause::Key | Cause::Order => push_expected(
+            page, subject, text, line,
+        ),
         Cause::Program(Why::Operand | Why::Number) => push_form(page, text, line),
         Cause::Program(Why::Word) => page.line(INSTRUCTIONS),
         Cause::Verdict(_) => push_part_refusal(alloc, page, text, line),
         _ => push_place(page, cause),
+    }
+}
+
+/// Adds what to look at where no repair is likely.
+fn push_hint(page: &mut Page, cause: Cause) -> Result<(), AllocError> {
+    match look_at(cause) {
+        Some(hint) => {
+            page.say("Look at: ")?;
+            page.line(hint)
+        }
+        None => Ok(()),
     }
 }
 
@@ -94,10 +110,14 @@ fn fault_body(
     cause: Cause,
 ) -> Result<Page, AllocError> {
     let mut page = Page::new(alloc);
+    if cause != Cause::TooBig {
+        push_read_as(&mut page, subject)?;
+    }
     push_meaning(&mut page, cause)?;
     push_expectation(alloc, &mut page, subject, text, line, cause)?;
-    if let Some(repair) = likely_repair(alloc, subject, text, line, cause)? {
-        push_mend(&mut page, repair)?;
+    match likely_repair(alloc, subject, text, line, cause)? {
+        Some(repair) => push_mend(&mut page, repair)?,
+        None => push_hint(&mut page, cause)?,
     }
     Ok(page)
 }

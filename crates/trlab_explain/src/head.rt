@@ -7,7 +7,7 @@ ghost use Rattle.trlab_campaign.specs.CheckOutput.{refused_line};
 ghost use Rattle.trlab_explain.specs.Explanations.{fault_head, quote_line};
 
 use std::alloc::AllocError;
-use trlab_advice::line_at;
+use trlab_advice::{Subject, line_at};
 use trlab_prose::Page;
 use trlab_texts::Cause;
 
@@ -46,6 +46,15 @@ pub fn push_quote(page: &mut Page, number: u32, line: Option<&[u8]>) -> Result<(
     page.say(": ")?;
     page.quote(line)?;
     page.end_line()
+}
+
+/// Adds what a text is read as.
+pub fn push_read_as(page: &mut Page, subject: Subject) -> Result<(), AllocError> {
+    page.line(match subject {
+        Subject::Job => "It is read as a job text, as `trlab run` does.",
+        Subject::Sweep => "It is read as a sweep text, as `trlab sweep` does.",
+        Subject::Check => "It is read as a check text, as `trlab check` does.",
+    })
 }
 
 /// Adds how a fault of a text is told.

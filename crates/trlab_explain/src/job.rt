@@ -5,35 +5,14 @@ ghost use Rattle.trlab_explain.specs.Explanations.{ToldAs};
 ghost use Rattle.trlab_advice.specs.declared.subject.Subject.TheVariants.{Job as OfJob};
 
 use crate::fault::fault_page;
-use crate::head::push_quote;
+use crate::lines::{push_count, push_rules};
 use std::alloc::{AllocError, Global};
 use trlab_advice::Subject;
-use trlab_asm::next_line;
 use trlab_bounds::runs::MOST_LATER;
 use trlab_jobs::{Job, read_job};
 use trlab_prose::Page;
 use trlab_road::Road;
 use trlab_texts::TextFault;
-use trlab_texts::word::head_word;
-
-/// Adds the rule lines of a job text, which are those of a first word.
-fn push_rules(page: &mut Page, text: &[u8], name: &[u8], most: u32) -> Result<(), AllocError> {
-    let mut left = text;
-    let mut number = 1u32;
-    let mut told = 0u32;
-    for _ in 0..text.len() {
-        let Some((line, rest)) = next_line(left) else {
-            break;
-        };
-        if head_word(line) == name && told < most {
-            push_quote(page, number, Some(line))?;
-            told = told.saturating_add(1);
-        }
-        number = number.saturating_add(1);
-        left = rest;
-    }
-    Ok(())
-}
 
 /// How many decimal digits a number has.
 fn count_digits(number: u32) -> u64 {
@@ -58,13 +37,6 @@ fn output_bytes(road: &Road, steps: u32) -> u64 {
         bytes = bytes.saturating_add(line).saturating_add(pictures);
     }
     bytes
-}
-
-/// Adds a line with a number.
-fn push_count(page: &mut Page, front: &str, count: u64, behind: &str) -> Result<(), AllocError> {
-    page.say(front)?;
-    page.number(count)?;
-    page.line(behind)
 }
 
 /// Adds the road of a job: its lanes, cells, cars and limit.

@@ -9,7 +9,9 @@ mod explain;
 mod fault;
 mod forms;
 mod head;
+mod hints;
 mod job;
+mod lines;
 mod marks;
 mod mends;
 mod operands;
@@ -19,6 +21,7 @@ mod reasons;
 mod refusal;
 mod spots;
 mod standing;
+mod sweep;
 mod verdict;
 
 pub use explain::explain_text;

@@ -1,5 +1,6 @@
 //! Repairs, in words.
 
+use crate::lines::push_count;
 use std::alloc::AllocError;
 use trlab_advice::{Oddity, Repair, Subject};
 use trlab_prose::Page;
@@ -22,6 +23,7 @@ fn plain_words(oddity: Oddity) -> &'static str {
 fn command_words(subject: Subject) -> &'static str {
     match subject {
         Subject::Job => "this is a job text: `trlab run` reads it.",
+        Subject::Sweep => "this is a sweep text: `trlab sweep` reads it.",
         Subject::Check => "this is a driver program: `trlab check` reads it.",
     }
 }
@@ -51,13 +53,6 @@ fn words_of(repair: Repair) -> &'static str {
     }
 }
 
-/// Adds a number between words.
-fn push_counted(page: &mut Page, front: &str, count: u64, behind: &str) -> Result<(), AllocError> {
-    page.say(front)?;
-    page.number(count)?;
-    page.line(behind)
-}
-
 /// Adds a repair.
 ///
 /// # Errors
@@ -71,25 +66,25 @@ pub fn push_mend(page: &mut Page, repair: Repair) -> Result<(), AllocError> {
             page.show_all(name)?;
             page.line("` is meant.")
         }
-        Repair::Parts(parts) => push_counted(
+        Repair::Parts(parts) => push_count(
             page,
             "a chance is written as ",
             u64::from(parts),
             ", in parts of 2147483648.",
         ),
-        Repair::KeyLength(count) => push_counted(
+        Repair::KeyLength(count) => push_count(
             page,
             "this key has ",
             count as u64,
             " characters: it wants 64.",
         ),
-        Repair::OddDigits(count) => push_counted(
+        Repair::OddDigits(count) => push_count(
             page,
             "these are ",
             count as u64,
             " digits, and each byte wants two.",
         ),
-        Repair::NoDigit(place) => push_counted(
+        Repair::NoDigit(place) => push_count(
             page,
             "the character at place ",
             place as u64,

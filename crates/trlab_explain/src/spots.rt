@@ -1,11 +1,12 @@
 //! What has to stand at a place of a text, in words.
 
-use trlab_advice::Spot;
+use trlab_advice::{Spot, Subject};
 
-/// What has to stand at a place of a job text.
-pub fn expected_at(spot: Spot) -> &'static str {
+/// What has to stand at a place of a job or sweep text.
+pub fn expected_at(subject: Subject, spot: Spot) -> &'static str {
     match spot {
         Spot::Road => "Expected: `road 1`, the first line of a job text.",
+        Spot::Sweep => "Expected: `sweep 1`, the first line of a sweep text.",
         Spot::Key => "Expected: `key H`, H 64 hexadecimal digits.",
         Spot::Limit => "Expected: `limit n`, the greatest speed, n from 1 to 35.",
         Spot::Lane => {
@@ -20,10 +21,22 @@ pub fn expected_at(spot: Spot) -> &'static str {
         Spot::MotionLine | Spot::ChangeLine => {
             "Expected: a line of the program, or the line `end` and nothing else behind its last."
         }
+        Spot::Length => "Expected: `length n`, the cells of a lane, n from 1 to 100000.",
+        Spot::Lanes => "Expected: `lanes n`, n 1 or 2.",
+        Spot::ChangeOrMore if subject == Subject::Sweep => {
+            "Expected: `warm n`, n from 0 to 500000, or a change part: `change` to `end`, or `code X`."
+        }
         Spot::ChangeOrMore => {
             "Expected: `steps n`, n from 0 to 500000, or a change part: `change` to `end`, or `code X`."
         }
         Spot::Steps => "Expected: `steps n`, n from 0 to 500000.",
+        Spot::Warm => {
+            "Expected: `warm n`, the steps of a point before it is counted, n from 0 to 500000."
+        }
+        Spot::Measure => {
+            "Expected: `measure n`, the steps of a point that are counted, n from 1 to 500000."
+        }
+        Spot::Cars => "Expected: `cars n`, a point with n cars, n from 0 to 200000.",
         Spot::Later => "Expected: the end of the text, or `at s` and on the same line a rule.",
     }
 }

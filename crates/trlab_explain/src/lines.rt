@@ -1,0 +1,46 @@
+//! Lines of pages: those with a number, and those of a text.
+
+use crate::head::push_quote;
+use std::alloc::AllocError;
+use trlab_asm::next_line;
+use trlab_prose::Page;
+use trlab_texts::word::head_word;
+
+/// Adds a line with a number.
+///
+/// # Errors
+///
+/// Want of memory.
+pub fn push_count(
+    page: &mut Page,
+    front: &str,
+    count: u64,
+    behind: &str,
+) -> Result<(), AllocError> {
+    page.say(front)?;
+    page.number(count)?;
+    page.line(behind)
+}
+
+/// Adds the first lines of a text that have this first word, as many as there may be of them.
+///
+/// # Errors
+///
+/// Want of memory.
+pub fn push_rules(page: &mut Page, text: &[u8], name: &[u8], most: u32) -> Result<(), AllocError> {
+    let mut left = text;
+    let mut number = 1u32;
+    let mut told = 0u32;
+    for _ in 0..text.len() {
+        let Some((line, rest)) = next_line(left) else {
+            break;
+        };
+        if head_word(line) == name && told < most {
+            push_quote(page, number, Some(line))?;
+            told = told.saturating_add(1);
+        }
+        number = number.saturating_add(1);
+        left = rest;
+    }
+    Ok(())
+}

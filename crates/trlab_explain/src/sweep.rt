@@ -1,0 +1,89 @@
+//! The explanation of a sweep text.
+
+ghost use Rattle.std.specs.Prelude.{IfOk};
+ghost use Rattle.trlab_explain.specs.Explanations.{ToldAs};
+ghost use Rattle.trlab_advice.specs.declared.subject.Subject.TheVariants.{Sweep as OfSweep};
+
+use crate::fault::fault_page;
+use crate::lines::{push_count, push_rules};
+use std::alloc::{AllocError, Global};
+use trlab_advice::Subject;
+use trlab_jobs::{Sweep, read_sweep};
+use trlab_prose::Page;
+use trlab_texts::TextFault;
+
+/// The least and the greatest count of cars of a point.
+fn span_of(cars: &[u32]) -> (u32, u32) {
+    let mut least = u32::MAX;
+    let mut most = 0;
+    for count in cars {
+        least = least.min(*count);
+        most = most.max(*count);
+    }
+    (least, most)
+}
+
+/// Adds the roads of a sweep: their lanes, cells and limit, and from how many cars to how many.
+fn push_roads(page: &mut Page, sweep: &Sweep) -> Result<(), AllocError> {
+    let cells = u64::from(sweep.lanes).saturating_mul(u64::from(sweep.length));
+    let (least, most) = span_of(&sweep.cars);
+    push_count(page, "Lanes: ", u64::from(sweep.lanes), ", each a ring.")?;
+    push_count(page, "Cells of a lane: ", u64::from(sweep.length), ".")?;
+    push_count(page, "Limit: ", u64::from(sweep.limit), " cells a step.")?;
+    push_count(page, "Cells of a road: ", cells, ".")?;
+    push_count(page, "Fewest cars: ", u64::from(least), ".")?;
+    push_count(page, "Most cars: ", u64::from(most), ".")
+}
+
+/// Adds the points of a sweep, and the work that they are.
+fn push_points(page: &mut Page, sweep: &Sweep) -> Result<(), AllocError> {
+    let points = sweep.cars.len() as u64;
+    let steps = u64::from(sweep.warm).saturating_add(u64::from(sweep.measure));
+    push_count(page, "Points: ", points, ", each a line of the table.")?;
+    push_count(
+        page,
+        "Steps of a point before it is counted: ",
+        u64::from(sweep.warm),
+        ".",
+    )?;
+    push_count(
+        page,
+        "Steps of a point that are counted: ",
+        u64::from(sweep.measure),
+        ".",
+    )?;
+    push_count(
+        page,
+        "Work: ",
+        points.saturating_mul(steps),
+        " steps of roads.",
+    )
+}
+
+/// The page on what a sweep will do.
+fn sweep_page(alloc: Global, text: &[u8], sweep: &Sweep) -> Result<Page, AllocError> {
+    let mut page = Page::new(alloc);
+    page.line("This is a good sweep text: `trlab sweep` measures it.")?;
+    push_roads(&mut page, sweep)?;
+    page.line("The rule:")?;
+    push_rules(&mut page, text, b"rule", 1)?;
+    push_points(&mut page, sweep)?;
+    Ok(page)
+}
+
+/// Whether a sweep text is refused, and the page on it.
+///
+/// # Errors
+///
+/// Want of memory.
+pub fn explain_sweep(alloc: Global, text: &[u8]) -> Result<(bool, Page), AllocError>
+    ensures { IfOk result (λ told. ToldAs OfSweep text.now told.0 told.1) }
+{
+    match read_sweep(alloc, text) {
+        Ok(sweep) => Ok((false, sweep_page(alloc, text, &sweep)?)),
+        Err(TextFault::At { line, cause }) => {
+            Ok((true, fault_page(alloc, Subject::Sweep, text, line, cause)?))
+        }
+        Err(TextFault::Memory) => Err(AllocError),
+    }
+}
