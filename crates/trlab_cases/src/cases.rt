@@ -121,6 +121,7 @@ impl<'a> Reader<'a> {
 fn command(words: &str) -> Option<Command> {
     match words {
         "run" => Some(Command::Run),
+        "sweep" => Some(Command::Sweep),
         "check" => Some(Command::Check),
         "motion" => Some(Command::Assemble(Kind::Motion)),
         "change" => Some(Command::Assemble(Kind::Change)),
