@@ -1,6 +1,7 @@
 -- What the matches of a parse of the command line tell its caller.
 use Rattle.std.proofs.Common.{◌≡◌, ◌∙◌, ◌≤◌, ◌⊎◌, ℕ, true, false, inl, inr, refl, sym, ap, subst, List, [], ◌∷◌, Option, Some, None, Result, Ok, codes, arith}
 use Rattle.std.specs.Prelude.{option_map, unwrap_or, pos, Box}
+use Rattle.std.specs.List.{slice_index_or}
 use Rattle.std.specs.Str.{bytes_eq}
 use Rattle.std.specs.Str.Parse.{ParsesUnsigned, digits_value, without_leading_plus}
 use Rattle.std.specs.Box.{box_value}
@@ -91,16 +92,20 @@ rows_are : (o : Option Command) (p : Command) (rows : List Row) → o ≡ Some p
 rows_are o p rows is has = ap (λ t. unwrap_or t rows) (has ∙ ap (option_map (λ p. p.1)) is)
 
 -- no two commands have one name
-check_not_run : codes "check" ≡ codes "run" → ⊥
+pub check_not_run : codes "check" ≡ codes "run" → ⊥
 check_not_run e = absurd cc
 
-check_not_sweep : codes "check" ≡ codes "sweep" → ⊥
+pub check_not_sweep : codes "check" ≡ codes "sweep" → ⊥
 check_not_sweep e =
     let bad = ap (bytes_eq (codes "check")) e in
     absurd cc
 
-run_not_sweep : codes "run" ≡ codes "sweep" → ⊥
+pub run_not_sweep : codes "run" ≡ codes "sweep" → ⊥
 run_not_sweep e = absurd cc
+
+-- words that begin with a name, and are one name alone
+pub same_name : (words rest : List Text) (a b : Text) → words ≡ a ∷ rest → words ≡ b ∷ [] → a ≡ b
+same_name words rest a b is alone = ap (λ (ws : List Text). slice_index_or ws 0 a) (sym is ∙ alone)
 
 -- what is known where the command that was entered has this name
 pub at_check : (words : List Text) (o : Option Command) → Entered words o → Some (codes "check") ≡ option_map (λ p. p.0) o

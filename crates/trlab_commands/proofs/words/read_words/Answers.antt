@@ -1,7 +1,7 @@
 use Rattle.std.proofs.Common.{rules, ◌∙◌, sym, ap, ap₂, inl, inr, map, codes, string_bytes}
 use Rattle.clap.specs.Words.{found_of, rows_of}
 use Rattle.trlab_commands.specs.declared.words.Wanted.TheVariants.{Run, Sweep}
-use Rattle.trlab_commands.proofs.Matches.{alone_is_one, alone_has_one_runner, alone_has_one_worker, found, found_check, found_run, found_sweep, found_name, found_one}
+use Rattle.trlab_commands.proofs.Matches.{alone_is_one, alone_has_one_runner, alone_has_one_worker, check_not_run, check_not_sweep, run_not_sweep, same_name, found, found_check, found_run, found_sweep, found_name, found_one}
 use Rattle.trlab_commands.proofs.words.read_words.Goals as goal
 use Rattle.trlab_commands.proofs.words.read_words.Goals.{in_default-via-in-Some+in_default, in_default-via-in_default}
 
@@ -16,8 +16,8 @@ returns-in-Some-check-default c =
       fault = got.fault;
       counts = search rules;
       named = facts.1;
-      one = λ e. let bad = sym facts.1.1 ∙ e in absurd cc;
-      ones = λ e. let bad = sym facts.1.1 ∙ e in absurd cc;
+      one = λ e. absurd (check_not_run (same_name words facts.1.0 _ _ facts.1.1 e));
+      ones = λ e. absurd (check_not_sweep (same_name words facts.1.0 _ _ facts.1.1 e));
     }
 
 pub returns-in-Some-run-default : goal.returns-in-Some-run-default
@@ -34,7 +34,7 @@ returns-in-Some-run-default c =
       counts = (workers.some, workers.few);
       named = facts.1;
       one = λ e. ap Run (alone_is_one words rows c.count_of.result e facts.0 workers.number);
-      ones = λ e. let bad = sym facts.1.1 ∙ e in absurd cc;
+      ones = λ e. absurd (run_not_sweep (same_name words facts.1.0 _ _ facts.1.1 e));
     }
 
 pub returns-in-Some-sweep-default : goal.returns-in-Some-sweep-default
@@ -51,7 +51,7 @@ returns-in-Some-sweep-default c =
       fault = got.fault;
       counts = ((runners.some, runners.few), (workers.some, workers.few));
       named = facts.1;
-      one = λ e. let bad = sym facts.1.1 ∙ e in absurd cc;
+      one = λ e. absurd (run_not_sweep (sym (same_name words facts.1.0 _ _ facts.1.1 e)));
       ones = λ e. ap₂ Sweep (alone_has_one_runner words rows c.count_of-in-Some-sweep-default.result e facts.0 runners.number)
           (alone_has_one_worker words rows c.count_of-in-Some-sweep-default-2.result e facts.0 workers.number);
     }
