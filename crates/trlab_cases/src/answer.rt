@@ -2,13 +2,14 @@
 
 ghost use Rattle.std.specs.Prelude.{◌≤◌};
 ghost use Rattle.trlab_bounds.specs.declared.runs.TheConstants.{MOST_WORKERS};
+ghost use Rattle.trlab_jobs.specs.declared.limits.TheConstants.{MOST_RUNNERS};
 
 use crate::notes::note_line;
 use crate::roads::{pictured, spread, stepped};
 use std::alloc::{AllocError, AllocGlobal, Global};
 use std::thread::Threads;
 use trlab_asm::{AsmFault, Why, assemble, disassemble};
-use trlab_campaign::{End, Watched, check_text, run_job_text};
+use trlab_campaign::{End, Watched, check_text, run_job_text, run_sweep_text};
 use trlab_code::{Code, CodeFault, Kind, decode, encode};
 use trlab_explain::{Subject, explain_text};
 use trlab_verify::{Note, NotesFault, check_notes, notes};
@@ -18,6 +19,8 @@ use trlab_verify::{Note, NotesFault, check_notes, notes};
 pub enum Command {
     /// Runs a job text.
     Run,
+    /// Runs the roads of a sweep text.
+    Sweep,
     /// Checks a driver program.
     Check,
     /// Explains a text, as what it is wanted to be or as what its first word says.
@@ -52,6 +55,7 @@ pub fn answer_to<R: AllocGlobal + Threads + Sync>(
     let bytes = text.as_bytes();
     match command {
         Command::Run => run(rt, bytes),
+        Command::Sweep => sweep(rt, bytes),
         Command::Check => Ok(check(rt, bytes)),
         Command::Explain(subject) => Ok(explain(rt, subject, bytes)),
         Command::Assemble(kind) => assembled(rt.alloc(), kind, bytes),
@@ -65,12 +69,20 @@ pub fn answer_to<R: AllocGlobal + Threads + Sync>(
 
 /// What a run gives, where sixteen workers give the same as one.
 fn run<R: AllocGlobal + Threads + Sync>(rt: &R, text: &[u8]) -> Result<Answer, AllocError> {
-    let alone = run_by(rt, text, 1);
-    let together = run_by(rt, text, 16);
+    same(rt.alloc(), run_by(rt, text, 1), run_by(rt, text, 16))
+}
+
+/// What a sweep gives, where sixteen runners of sixteen workers give the same as one of one.
+fn sweep<R: AllocGlobal>(rt: &R, text: &[u8]) -> Result<Answer, AllocError> {
+    same(rt.alloc(), sweep_by(rt, text, 1), sweep_by(rt, text, 16))
+}
+
+/// The answer of one alone, where many together answer the same.
+fn same(alloc: Global, alone: Answer, together: Answer) -> Result<Answer, AllocError> {
     if alone.end == together.end && alone.output == together.output {
         Ok(alone)
     } else {
-        told(rt.alloc(), End::Done, "another answer by 16 workers\n")
+        told(alloc, End::Done, "another answer by 16 of them\n")
     }
 }
 
@@ -82,6 +94,21 @@ fn run_by<R: AllocGlobal + Threads + Sync>(rt: &R, text: &[u8], workers: u32) ->
     let mut reader = Watched::new(text);
     let mut writer = Watched::new(Vec::new(rt.alloc()));
     let end = run_job_text(rt, &mut reader, &mut writer, workers);
+    Answer {
+        end,
+        output: writer.into_inner(),
+    }
+}
+
+/// What a sweep by so many runners, of so many workers each, gives.
+fn sweep_by<R: AllocGlobal>(rt: &R, text: &[u8], number: u32) -> Answer
+    requires some { 1 ≤ number }
+    requires few_runners { number ≤ MOST_RUNNERS }
+    requires few_workers { number ≤ MOST_WORKERS }
+{
+    let mut reader = Watched::new(text);
+    let mut writer = Watched::new(Vec::new(rt.alloc()));
+    let end = run_sweep_text(rt, &mut reader, &mut writer, number, number);
     Answer {
         end,
         output: writer.into_inner(),

@@ -122,6 +122,7 @@ impl<'a> Reader<'a> {
 fn command(words: &str) -> Option<Command> {
     match words {
         "run" => Some(Command::Run),
+        "sweep" => Some(Command::Sweep),
         "check" => Some(Command::Check),
         "explain" => Some(Command::Explain(None)),
         "explain run" => Some(Command::Explain(Some(Subject::Job))),

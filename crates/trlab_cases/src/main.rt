@@ -12,8 +12,9 @@
 //!
 //! - `front`: what the text of each case behind it begins with, up to the next front.
 //! - a command, whose text is what is tried: `run`, a job text, by one worker and by sixteen;
-//!   `check`, a check text; `explain`, or behind that word `run`, `sweep` or `check`, a text that is
-//!   explained; `motion` or `change`, a program's lines, which are assembled: out come
+//!   `sweep`, a sweep text, by one runner and by sixteen; `check`, a check text; `explain`, or behind that
+//!   word `run`, `sweep` or `check`, a text that is explained; `motion` or `change`, a program's lines,
+//!   which are assembled: out come
 //!   its bytes in hexadecimal, eight on a line, and its canonical text, or `line N why K`; `code`, a
 //!   program's bytes in hexadecimal, which are decoded: out come its kind and its canonical text, or
 //!   the fault; `notes motion` or `notes change`, a program's lines: out come its notes, one on a line;
@@ -43,7 +44,7 @@ fn main(rt: HostRuntime) -> io::Result<()> {
     for name in names(&rt, ".", &[".cases"])? {
         trial::try_file(&rt, name.as_str())?;
     }
-    for name in names(&rt, "examples", &[".job", ".rule"])? {
+    for name in names(&rt, "examples", &[".job", ".rule", ".sweep"])? {
         examples::try_example(&rt, name.as_str())?;
     }
     Ok(())

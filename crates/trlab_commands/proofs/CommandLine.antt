@@ -11,7 +11,7 @@ use Rattle.clap.specs.Kinds.{Kinds, or_else}
 use Rattle.clap.specs.Values.{read_as}
 use Rattle.clap.specs.Walk.{Held, Names, Rule, Text, Walk, after_flag, Outcome, long_or_other, short_or_plain, value, bundle, bundle_met, bundle_step, has_long, has_short, idle, nothing_held, one_of, plain, reading_by, rows_after, subcommand_met, subcommand_or_other, walk, walk_from, walked}
 use Rattle.clap.specs.Takes.{value_passes}
-use Rattle.clap.specs.Simple.{Shape, built, entered, filled, help_rule, names_of, subcommand_of}
+use Rattle.clap.specs.Simple.{Shape, built, entered, filled, help_rule, names_of, subcommand_of, version_rule}
 use Rattle.clap.specs.Faults.{bundle_fault, bundle_step_fault, entered_fault, fault_of, flag_word_fault, flags_fault, level_fault, long_fault, other_fault, short_fault, step_fault, turn_fault, walk_fault}
 use Rattle.clap.specs.declared.error.kind.ErrorKind.TheVariants.{DisplayHelpOnMissingArgumentOrSubcommand}
 use Rattle.clap.proofs.OnLiterals.{clap_on_literals}
@@ -32,17 +32,29 @@ check_level = slice_index_or (built command_line).subs 0 top
 abbrev pub run_level : Shape
 run_level = slice_index_or (built command_line).subs 1 top
 
+abbrev pub sweep_level : Shape
+sweep_level = slice_index_or (built command_line).subs 2 top
+
 -- the flag that calls for help, which each command has
 abbrev help_flag : Rule
 help_flag = filled help_rule
 
+-- the flag that calls for the version, which the program alone has
+abbrev version_flag : Rule
+version_flag = filled version_rule
+
 -- ---- before a command is named
 
--- `--name` is unknown or calls for help
-long_fails : (b : Bool) (v : Option Text) → long_fault top.rules false (cond b (Some help_flag) None) v nothing_held ≡ [] → ⊥
-long_fails false v e = cc
-long_fails true None e = cc
-long_fails true (Some v) e = cc
+-- `--name` is unknown, or calls for help or the version
+abbrev asked : Bool → Bool → Option Rule
+asked for_help for_version = cond for_help (Some help_flag) (cond for_version (Some version_flag) None)
+
+long_fails : (b v : Bool) (value : Option Text) → long_fault top.rules false (asked b v) value nothing_held ≡ [] → ⊥
+long_fails false false o e = cc
+long_fails false true None e = cc
+long_fails false true (Some o) e = cc
+long_fails true v None e = cc
+long_fails true v (Some o) e = cc
 
 -- so do the flags of `-abc`, unless there are none
 flags_fail : (k : ℕ) (flags : Text) → flags_fault top.rules false k flags 0 nothing_held ≡ [] → bundle_met top.rules k flags 0 plain nothing_held ≡ (nothing_held, plain)
@@ -50,14 +62,15 @@ unfolding flags_fault bundle_met
 flags_fail zero flags e = refl
 flags_fail (suc k) flags e = go (slice_get (chars flags) 0) e
   where
-    flag : (b : Bool) (rest : Text) (next : Held → Kinds) → short_fault top.rules false (cond b (Some help_flag) None) rest nothing_held next ≡ [] → ⊥
-    flag false rest next h = cc
-    flag true rest next h = cc
+    flag : (b v : Bool) (rest : Text) (next : Held → Kinds) → short_fault top.rules false (asked b v) rest nothing_held next ≡ [] → ⊥
+    flag false false rest next h = cc
+    flag false true rest next h = cc
+    flag true v rest next h = cc
 
     go : (o : Option ℕ) → bundle_step_fault top.rules false o flags 0 nothing_held (flags_fault top.rules false k) ≡ []
         → bundle_step top.rules o flags 0 plain nothing_held (bundle_met top.rules k) ≡ (nothing_held, plain)
     go None h = refl
-    go (Some x) h = absurd (flag (not false && has_short help_flag x) (drop (length (encode_utf8 x)) flags) _ h)
+    go (Some x) h = absurd (flag (not false && has_short help_flag x) (not false && has_short version_flag x) (drop (length (encode_utf8 x)) flags) _ h)
 
 -- the word is no command's name and not `--`
 abbrev StrayFault : Text → Option Text → Kinds
@@ -85,12 +98,13 @@ stray_fails word other e = long (long_of word) (rw other at e)
     long : (o : Option (Text × Option Text)) → or_else (flag_word_fault top.rules false o word nothing_held)
         (step_fault top 1 (long_or_other top.rules idle word o nothing_held).0 (long_or_other top.rules idle word o nothing_held).1) ≡ [] → ⊥
     long None f = short (short_of word) f
-    long (Some p) f = long_fails (not false && has_long help_flag p.0) p.1 (none_fails (flag_word_fault top.rules false (Some p) word nothing_held) _ f).0
+    long (Some p) f = long_fails (not false && has_long help_flag p.0) (not false && has_long version_flag p.0) p.1 (none_fails (flag_word_fault top.rules false (Some p) word nothing_held) _ f).0
 
 -- the words, where no fault is met: a command's name, and words that it takes
 pub data Taken (words : List Text) : Type 0 where
   check : (rest : List Text) → words ≡ codes "check" ∷ rest → Taken words
   run : (rest : List Text) → words ≡ codes "run" ∷ rest → level_fault run_level [] nothing_held rest false [] ≡ [] → Taken words
+  sweep : (rest : List Text) → words ≡ codes "sweep" ∷ rest → level_fault sweep_level [] nothing_held rest false [] ≡ [] → Taken words
 
 abbrev start : Walk
 start = walk_from nothing_held
@@ -109,6 +123,10 @@ stop_run : (rest : List Text) → (walk top.rules names nothing_held (codes "run
 unfolding walked
 stop_run rest = stop_at (codes "run") rest refl
 
+stop_sweep : (rest : List Text) → (walk top.rules names nothing_held (codes "sweep" ∷ rest)).stopped ≡ Some (codes "sweep", rest)
+unfolding walked
+stop_sweep rest = stop_at (codes "sweep") rest refl
+
 -- the command that is entered, with its matches
 pub enters_check : (rest : List Text) → subcommand_of command_line (codes "check" ∷ rest) ≡ Some (codes "check", rows_after check_level.rules [] rest)
 enters_check rest = ap (entered (built command_line)) (stop_check rest)
@@ -116,13 +134,23 @@ enters_check rest = ap (entered (built command_line)) (stop_check rest)
 pub enters_run : (rest : List Text) → subcommand_of command_line (codes "run" ∷ rest) ≡ Some (codes "run", rows_after run_level.rules [] rest)
 enters_run rest = ap (entered (built command_line)) (stop_run rest)
 
--- the words of `run` have no fault of their own
-run_passes : (rest : List Text) → fault_of command_line (codes "run" ∷ rest) ≡ [] → level_fault run_level [] nothing_held rest false [] ≡ []
-run_passes rest e =
-    let stop = (walk top.rules names nothing_held (codes "run" ∷ rest)).stopped in
-    let steps = none_fails (walk_fault top names start (codes "run" ∷ rest)) _ e in
+pub enters_sweep : (rest : List Text) → subcommand_of command_line (codes "sweep" ∷ rest) ≡ Some (codes "sweep", rows_after sweep_level.rules [] rest)
+enters_sweep rest = ap (entered (built command_line)) (stop_sweep rest)
+
+-- the words behind a name have no fault of their own
+passes_behind : (name : Text) (rest : List Text) → fault_of command_line (name ∷ rest) ≡ []
+    → (walk top.rules names nothing_held (name ∷ rest)).stopped ≡ Some (name, rest) → entered_fault (built command_line) (Some (name, rest)) ≡ []
+passes_behind name rest e stops =
+    let stop = (walk top.rules names nothing_held (name ∷ rest)).stopped in
+    let steps = none_fails (walk_fault top names start (name ∷ rest)) _ e in
     let below : entered_fault (built command_line) stop ≡ [] = (none_fails (entered_fault (built command_line) stop) _ steps.1).0 in
-    subst (λ o. entered_fault (built command_line) o ≡ []) (stop_run rest) below
+    subst (λ o. entered_fault (built command_line) o ≡ []) stops below
+
+run_passes : (rest : List Text) → fault_of command_line (codes "run" ∷ rest) ≡ [] → level_fault run_level [] nothing_held rest false [] ≡ []
+run_passes rest e = passes_behind (codes "run") rest e (stop_run rest)
+
+sweep_passes : (rest : List Text) → fault_of command_line (codes "sweep" ∷ rest) ≡ [] → level_fault sweep_level [] nothing_held rest false [] ≡ []
+sweep_passes rest e = passes_behind (codes "sweep") rest e (stop_sweep rest)
 
 -- the walk over the words comes first
 walk_passes : (words : List Text) → fault_of command_line words ≡ [] → walk_fault top names start words ≡ []
@@ -161,15 +189,22 @@ first_word word rest e = by_check (bytes_eq (codes "check") word) refl
     by_dashes true is none = absurd (dashes_fail rest (subst (λ w. fault_of command_line (w ∷ rest) ≡ []) (is_word word _ is) e))
     by_dashes false is none = absurd (other_fails word rest none is (walk_passes (word ∷ rest) e))
 
-    by_help : (b : Bool) → bytes_eq (codes "help") word ≡ b → bytes_eq (codes "check") word ≡ false → bytes_eq (codes "run") word ≡ false → Taken (word ∷ rest)
-    by_help true is not_check not_run = absurd (help_fails rest (subst (λ w. walk_fault top names start (w ∷ rest) ≡ []) (sym (is_word _ word is)) (walk_passes (word ∷ rest) e)))
-    by_help false is not_check not_run = by_dashes (bytes_eq word (45 ∷ 45 ∷ [])) refl (rw (not_check, not_run, is) refl)
+    by_help : (b : Bool) → bytes_eq (codes "help") word ≡ b → bytes_eq (codes "check") word ≡ false → bytes_eq (codes "run") word ≡ false → bytes_eq (codes "sweep") word ≡ false
+        → Taken (word ∷ rest)
+    by_help true is not_check not_run not_sweep = absurd (help_fails rest (subst (λ w. walk_fault top names start (w ∷ rest) ≡ []) (sym (is_word _ word is)) (walk_passes (word ∷ rest) e)))
+    by_help false is not_check not_run not_sweep = by_dashes (bytes_eq word (45 ∷ 45 ∷ [])) refl (rw (not_check, not_run, not_sweep, is) refl)
+
+    by_sweep : (b : Bool) → bytes_eq (codes "sweep") word ≡ b → bytes_eq (codes "check") word ≡ false → bytes_eq (codes "run") word ≡ false → Taken (word ∷ rest)
+    by_sweep true is not_check not_run =
+        let same : codes "sweep" ≡ word = is_word _ word is in
+        sweep rest (ap (λ w. w ∷ rest) (sym same)) (sweep_passes rest (subst (λ w. fault_of command_line (w ∷ rest) ≡ []) (sym same) e))
+    by_sweep false is not_check not_run = by_help (bytes_eq (codes "help") word) refl not_check not_run is
 
     by_run : (b : Bool) → bytes_eq (codes "run") word ≡ b → bytes_eq (codes "check") word ≡ false → Taken (word ∷ rest)
     by_run true is not_check =
         let same : codes "run" ≡ word = is_word _ word is in
         run rest (ap (λ w. w ∷ rest) (sym same)) (run_passes rest (subst (λ w. fault_of command_line (w ∷ rest) ≡ []) (sym same) e))
-    by_run false is not_check = by_help (bytes_eq (codes "help") word) refl not_check is
+    by_run false is not_check = by_sweep (bytes_eq (codes "sweep") word) refl not_check is
 
     by_check : (b : Bool) → bytes_eq (codes "check") word ≡ b → Taken (word ∷ rest)
     by_check true is = check rest (ap (λ w. w ∷ rest) (sym (is_word _ word is)))
@@ -209,3 +244,47 @@ pub workers_value : (words : List Text) → level_fault run_level [] nothing_hel
 workers_value words e =
     own_value run_level.rules workers known (λ _. refl) run_level words [] (help_flag ∷ []) (codes "1") refl refl
     (inr (codes "1", refl, refl, λ _. refl), (inl refl, tt)) e
+
+-- ---- the options of `sweep`
+
+abbrev sweep_runners : Rule
+sweep_runners = slice_index_or sweep_level.rules 0 help_flag
+
+abbrev sweep_workers : Rule
+sweep_workers = slice_index_or sweep_level.rules 1 help_flag
+
+-- an argument of `sweep` is one of its two options, or calls for help
+sweep_known : (own : Rule) → (bytes_eq sweep_runners.id own.id ≡ true → sweep_runners ≡ own) → (bytes_eq sweep_workers.id own.id ≡ true → sweep_workers ≡ own)
+    → (test : Rule → Bool) (a : Rule) → find test sweep_level.rules ≡ Some a → (IsOption a × (bytes_eq a.id own.id ≡ true → a ≡ own)) ⊎ IsHelp a
+sweep_known own as_runners as_workers test a found = first (test sweep_runners) found
+  where
+    Known : Rule → Type 0
+    Known x = (IsOption x × (bytes_eq x.id own.id ≡ true → x ≡ own)) ⊎ IsHelp x
+
+    same : (x y : Rule) → Some x ≡ Some y → x ≡ y
+    same x y e = cc
+
+    third : (b : Bool) → cond b (Some help_flag) None ≡ Some a → Known a
+    third false e = absurd cc
+    third true e = inr (subst IsHelp (same help_flag a e) (record { action = refl; range = refl }))
+
+    second : (b : Bool) → cond b (Some sweep_workers) (cond (test help_flag) (Some help_flag) None) ≡ Some a → Known a
+    second true e = subst Known (same sweep_workers a e) (inl (record { action = refl; range = refl }, as_workers))
+    second false e = third (test help_flag) e
+
+    first : (b : Bool) → cond b (Some sweep_runners) (cond (test sweep_workers) (Some sweep_workers) (cond (test help_flag) (Some help_flag) None)) ≡ Some a → Known a
+    first true e = subst Known (same sweep_runners a e) (inl (record { action = refl; range = refl }, as_runners))
+    first false e = second (test sweep_workers) e
+
+-- where the words of `sweep` meet no fault, each option has a value that passed the option's parser
+pub sweep_runners_value : (words : List Text) → level_fault sweep_level [] nothing_held words false [] ≡ []
+    → (v : Text) × (one_of (codes "runners") (rows_after sweep_level.rules [] words) ≡ Some (read_as (reading_by sweep_runners) v)) × (value_passes sweep_runners v ≡ true)
+sweep_runners_value words e =
+    own_value sweep_level.rules sweep_runners (sweep_known sweep_runners (λ _. refl) (λ h. absurd cc)) (λ _. refl) sweep_level words [] (sweep_workers ∷ help_flag ∷ []) (codes "1") refl refl
+    (inr (codes "1", refl, refl, λ _. refl), (inr (codes "1", refl, refl, λ h. absurd cc), (inl refl, tt))) e
+
+pub sweep_workers_value : (words : List Text) → level_fault sweep_level [] nothing_held words false [] ≡ []
+    → (v : Text) × (one_of (codes "workers") (rows_after sweep_level.rules [] words) ≡ Some (read_as (reading_by sweep_workers) v)) × (value_passes sweep_workers v ≡ true)
+sweep_workers_value words e =
+    own_value sweep_level.rules sweep_workers (sweep_known sweep_workers (λ h. absurd cc) (λ _. refl)) (λ _. refl) sweep_level words (sweep_runners ∷ []) (help_flag ∷ []) (codes "1") refl refl
+    (inr (codes "1", refl, refl, λ h. absurd cc), (inr (codes "1", refl, refl, λ _. refl), (inl refl, tt))) e

@@ -1,12 +1,13 @@
 -- What the matches of a parse of the command line tell its caller.
 use Rattle.std.proofs.Common.{◌≡◌, ◌∙◌, ◌≤◌, ◌⊎◌, ℕ, true, false, inl, inr, refl, sym, ap, subst, List, [], ◌∷◌, Option, Some, None, Result, Ok, codes, arith}
 use Rattle.std.specs.Prelude.{option_map, unwrap_or, pos, Box}
+use Rattle.std.specs.List.{slice_index_or}
+use Rattle.std.specs.Str.{bytes_eq}
 use Rattle.std.specs.Str.Parse.{ParsesUnsigned, digits_value, without_leading_plus}
 use Rattle.std.specs.Box.{box_value}
 use Rattle.clap.specs.Lexer.{without_minus}
 use Rattle.std.specs.Borrow.{Bor}
 use Rattle.clap.specs.Matches.{ReadsOne, found_of, subcommand_name_of}
-use Rattle.clap.specs.Values.{IsSignedIn}
 use Rattle.clap.specs.Walk.{Row, Text, one_of, rows_after, rows_of}
 use Rattle.clap.specs.Simple.{App, HasMatchesOf, subcommand_of, subcommand_rows, subcommand_rows_of}
 use Rattle.clap.specs.Faults.{fault_of, is_simple_and_free}
@@ -18,9 +19,10 @@ use Rattle.clap.proofs.OnLiterals.{clap_on_literals}
 use Rattle.clap.proofs.CallerReads.{signed_reads}
 use Rattle.clap.proofs.ValueTestLemmas.{accepts-Accepts}
 use Rattle.trlab_bounds.specs.declared.runs.TheConstants.{MOST_WORKERS}
-use Rattle.trlab_commands.specs.Requests.{GivesNumber}
+use Rattle.trlab_jobs.specs.declared.limits.TheConstants.{MOST_RUNNERS}
+use Rattle.trlab_commands.specs.Requests.{GivesNumber, HasValue}
 use Rattle.trlab_commands.specs.CommandLine.{command_line}
-use Rattle.trlab_commands.proofs.CommandLine.{Taken, check, check_level, run_level, enters_check, enters_run, run, taken, workers_value}
+use Rattle.trlab_commands.proofs.CommandLine.{Taken, check, check_level, run_level, sweep_level, enters_check, enters_run, enters_sweep, run, sweep, taken, workers_value, sweep_runners_value, sweep_workers_value}
 
 -- the command that was entered, of a command that is the command line
 pub entered_of : (app : App) (words : List Text) (m : ArgMatches) → app ≡ command_line → HasMatchesOf app words m → subcommand_rows_of m ≡ subcommand_of command_line words
@@ -40,18 +42,26 @@ module _ {Z : Type 0} where
   name_of_rows None = refl
   name_of_rows (Some b) = refl
 
-abbrev WorkersGiven : List Row → Text → Type 0
-WorkersGiven rows v = (one_of (codes "workers") rows ≡ Some (without_minus v)) × IsSignedIn (pos 1) (pos MOST_WORKERS) v
+-- the options of a command have values
+abbrev WorkersGiven : List Row → Type 0
+WorkersGiven rows = (v : Text) × HasValue (codes "workers") MOST_WORKERS rows v
+
+abbrev RunnersGiven : List Row → Type 0
+RunnersGiven rows = (v : Text) × HasValue (codes "runners") MOST_RUNNERS rows v
 
 -- the command that was entered at these words, which name it first
 pub data Entered (words : List Text) (o : Option (Text × List Row)) : Type 0 where
   in_check : (rest : List Text) (rows : List Row) → words ≡ codes "check" ∷ rest → o ≡ Some (codes "check", rows) → Entered words o
-  in_run : (rest : List Text) (rows : List Row) (v : Text) → words ≡ codes "run" ∷ rest → o ≡ Some (codes "run", rows) → WorkersGiven rows v → Entered words o
+  in_run : (rest : List Text) (rows : List Row) → words ≡ codes "run" ∷ rest → o ≡ Some (codes "run", rows) → WorkersGiven rows → Entered words o
+  in_sweep : (rest : List Text) (rows : List Row) → words ≡ codes "sweep" ∷ rest → o ≡ Some (codes "sweep", rows) → RunnersGiven rows → WorkersGiven rows → Entered words o
 
 abbrev run_rows : List Text → List Row
 run_rows rest = rows_after run_level.rules [] rest
 
--- where no fault is met, one of the two is entered
+abbrev sweep_rows : List Text → List Row
+sweep_rows rest = rows_after sweep_level.rules [] rest
+
+-- where no fault is met, one of the commands is entered
 pub entered : (words : List Text) → fault_of command_line words ≡ [] → Entered words (subcommand_of command_line words)
 entered words e = go (taken words e)
   where
@@ -59,8 +69,14 @@ entered words e = go (taken words e)
     go (check rest is) = in_check rest (rows_after check_level.rules [] rest) is (ap (subcommand_of command_line) is ∙ enters_check rest)
     go (run rest is passes) =
         let value = workers_value rest passes in
-        in_run rest (run_rows rest) value.0 is (ap (subcommand_of command_line) is ∙ enters_run rest)
-        (value.1, accepts-Accepts false (Signed (pos 1) (pos MOST_WORKERS)) value.0 value.2)
+        in_run rest (run_rows rest) is (ap (subcommand_of command_line) is ∙ enters_run rest)
+        (value.0, (value.1, accepts-Accepts false (Signed (pos 1) (pos MOST_WORKERS)) value.0 value.2))
+    go (sweep rest is passes) =
+        let runners = sweep_runners_value rest passes in
+        let workers = sweep_workers_value rest passes in
+        in_sweep rest (sweep_rows rest) is (ap (subcommand_of command_line) is ∙ enters_sweep rest)
+        (runners.0, (runners.1, accepts-Accepts false (Signed (pos 1) (pos MOST_RUNNERS)) runners.0 runners.2))
+        (workers.0, (workers.1, accepts-Accepts false (Signed (pos 1) (pos MOST_WORKERS)) workers.0 workers.2))
 
 -- two commands with their rows
 abbrev Command : Type 0
@@ -75,38 +91,61 @@ name_is o p name is named = ap (λ t. unwrap_or t name) (named ∙ ap (option_ma
 rows_are : (o : Option Command) (p : Command) (rows : List Row) → o ≡ Some p → Some rows ≡ option_map (λ p. p.1) o → rows ≡ p.1
 rows_are o p rows is has = ap (λ t. unwrap_or t rows) (has ∙ ap (option_map (λ p. p.1)) is)
 
-check_not_run : codes "check" ≡ codes "run" → ⊥
+-- no two commands have one name
+pub check_not_run : codes "check" ≡ codes "run" → ⊥
 check_not_run e = absurd cc
+
+pub check_not_sweep : codes "check" ≡ codes "sweep" → ⊥
+check_not_sweep e =
+    let bad = ap (bytes_eq (codes "check")) e in
+    absurd cc
+
+pub run_not_sweep : codes "run" ≡ codes "sweep" → ⊥
+run_not_sweep e = absurd cc
+
+-- words that begin with a name, and are one name alone
+pub same_name : (words rest : List Text) (a b : Text) → words ≡ a ∷ rest → words ≡ b ∷ [] → a ≡ b
+same_name words rest a b is alone = ap (λ (ws : List Text). slice_index_or ws 0 a) (sym is ∙ alone)
 
 -- what is known where the command that was entered has this name
 pub at_check : (words : List Text) (o : Option Command) → Entered words o → Some (codes "check") ≡ option_map (λ p. p.0) o
     → ((rows : List Row) × (o ≡ Some (codes "check", rows))) × ((rest : List Text) × (words ≡ codes "check" ∷ rest))
 at_check words o (in_check rest rows is at) named = ((rows, at), (rest, is))
-at_check words o (in_run rest rows v is at given) named = absurd (check_not_run (name_is o (codes "run", rows) (codes "check") at named))
+at_check words o (in_run rest rows is at given) named = absurd (check_not_run (name_is o (codes "run", rows) (codes "check") at named))
+at_check words o (in_sweep rest rows is at runners workers) named = absurd (check_not_sweep (name_is o (codes "sweep", rows) (codes "check") at named))
 
 pub at_run : (words : List Text) (o : Option Command) (rows : List Row) → Entered words o → Some (codes "run") ≡ option_map (λ p. p.0) o → Some rows ≡ option_map (λ p. p.1) o
-    → (o ≡ Some (codes "run", rows)) × ((rest : List Text) × (words ≡ codes "run" ∷ rest)) × ((v : Text) × WorkersGiven rows v)
+    → (o ≡ Some (codes "run", rows)) × ((rest : List Text) × (words ≡ codes "run" ∷ rest)) × WorkersGiven rows
 at_run words o rows (in_check rest own is at) named has = absurd (check_not_run (sym (name_is o (codes "check", own) (codes "run") at named)))
-at_run words o rows (in_run rest own v is at given) named has =
+at_run words o rows (in_sweep rest own is at runners workers) named has = absurd (run_not_sweep (name_is o (codes "sweep", own) (codes "run") at named))
+at_run words o rows (in_run rest own is at given) named has =
     let same : rows ≡ own = rows_are o (codes "run", own) rows at has in
-    (at ∙ ap (λ rs. Some (codes "run", rs)) (sym same), (rest, is), (v, subst (λ rs. WorkersGiven rs v) (sym same) given))
+    (at ∙ ap (λ rs. Some (codes "run", rs)) (sym same), (rest, is), subst WorkersGiven (sym same) given)
 
--- the number that is read of the option
+pub at_sweep : (words : List Text) (o : Option Command) (rows : List Row) → Entered words o → Some (codes "sweep") ≡ option_map (λ p. p.0) o → Some rows ≡ option_map (λ p. p.1) o
+    → (o ≡ Some (codes "sweep", rows)) × ((rest : List Text) × (words ≡ codes "sweep" ∷ rest)) × RunnersGiven rows × WorkersGiven rows
+at_sweep words o rows (in_check rest own is at) named has = absurd (check_not_sweep (sym (name_is o (codes "check", own) (codes "sweep") at named)))
+at_sweep words o rows (in_run rest own is at given) named has = absurd (run_not_sweep (sym (name_is o (codes "run", own) (codes "sweep") at named)))
+at_sweep words o rows (in_sweep rest own is at runners workers) named has =
+    let same : rows ≡ own = rows_are o (codes "sweep", own) rows at has in
+    (at ∙ ap (λ rs. Some (codes "sweep", rs)) (sym same), (rest, is), subst RunnersGiven (sym same) runners, subst WorkersGiven (sym same) workers)
+
+-- the number that is read of an option
 module _ (E : Type 0) (G : List ℕ → Result ℕ E → Type 0) (only : (u : List ℕ) (x : Result ℕ E) → G u x → ParsesUnsigned 32 10 u x)
-    (rows : List Row) (v : Text) (given : WorkersGiven rows v) (r : Option ℕ) (read : (t : List ℕ) → one_of (codes "workers") rows ≡ Some t → ReadsOne G t r) where
-  bounds : (n : ℕ) × (r ≡ Some n) × (1 ≤ n) × (n ≤ MOST_WORKERS)
-  bounds = signed_reads E G 32 1 MOST_WORKERS v r (read (without_minus v) given.0) only (omega arith) given.1
+    (option : Text) (rows : List Row) (given : (v : Text) × HasValue option 16 rows v) (r : Option ℕ) (read : (t : List ℕ) → one_of option rows ≡ Some t → ReadsOne G t r) where
+  bounds : (n : ℕ) × (r ≡ Some n) × (1 ≤ n) × (n ≤ 16)
+  bounds = signed_reads E G 32 1 16 given.0 r (read (without_minus given.0) given.1.0) only (omega arith) given.1.1
 
   pub some_number : r ≡ None → ⊥
   some_number is =
       let bad = sym is ∙ bounds.1 in
       absurd cc
 
-  pub the_number : (n : ℕ) → r ≡ Some n → GivesNumber (codes "workers") rows n × ((1 ≤ n) × (n ≤ MOST_WORKERS))
+  pub the_number : (n : ℕ) → r ≡ Some n → GivesNumber option rows n × ((1 ≤ n) × (n ≤ 16))
   the_number n is =
       let same : bounds.0 ≡ n = ap (λ o. unwrap_or o n) (sym bounds.1 ∙ is) in
-      let parsed : ParsesUnsigned {E = E} 32 10 (without_minus v) (Ok n) = only (without_minus v) (Ok n) (subst (ReadsOne G (without_minus v)) is (read (without_minus v) given.0)) in
-      ((without_minus v, given.0, sym parsed.1), (subst (λ k. 1 ≤ k) same bounds.2, subst (λ k. k ≤ MOST_WORKERS) same bounds.3))
+      let parsed : ParsesUnsigned {E = E} 32 10 (without_minus given.0) (Ok n) = only (without_minus given.0) (Ok n) (subst (ReadsOne G (without_minus given.0)) is (read (without_minus given.0) given.1.0)) in
+      ((without_minus given.0, given.1.0, sym parsed.1), (subst (λ k. 1 ≤ k) same bounds.2, subst (λ k. k ≤ 16) same bounds.3))
 
 -- ---- by what the getters of the matches answer
 
@@ -136,20 +175,27 @@ found_check words m r p f is named =
     at_check words (subcommand_of command_line words) f.at (ap Some (sym named) ∙ ap (option_map (λ p. p.0.now)) (sym is) ∙ f.name)
 
 pub found_run : (words : List Text) (m : ArgMatches) (r : Option (Bor Text × Bor ArgMatches)) (p : Bor Text × Bor ArgMatches) → Found words m r → r ≡ Some p → p.0.now ≡ codes "run"
-    → (subcommand_of command_line words ≡ Some (codes "run", rows_of (found_of p.1.now))) × ((rest : List Text) × (words ≡ codes "run" ∷ rest))
-    × ((v : Text) × WorkersGiven (rows_of (found_of p.1.now)) v)
+    → (subcommand_of command_line words ≡ Some (codes "run", rows_of (found_of p.1.now))) × ((rest : List Text) × (words ≡ codes "run" ∷ rest)) × WorkersGiven (rows_of (found_of p.1.now))
 found_run words m r p f is named =
     at_run words (subcommand_of command_line words) (rows_of (found_of p.1.now)) f.at (ap Some (sym named) ∙ ap (option_map (λ p. p.0.now)) (sym is) ∙ f.name)
     (ap (option_map (λ p. rows_of (found_of p.1.now))) (sym is) ∙ f.rows)
 
--- the name is that of one of the two
+pub found_sweep : (words : List Text) (m : ArgMatches) (r : Option (Bor Text × Bor ArgMatches)) (p : Bor Text × Bor ArgMatches) → Found words m r → r ≡ Some p → p.0.now ≡ codes "sweep"
+    → (subcommand_of command_line words ≡ Some (codes "sweep", rows_of (found_of p.1.now))) × ((rest : List Text) × (words ≡ codes "sweep" ∷ rest))
+    × RunnersGiven (rows_of (found_of p.1.now)) × WorkersGiven (rows_of (found_of p.1.now))
+found_sweep words m r p f is named =
+    at_sweep words (subcommand_of command_line words) (rows_of (found_of p.1.now)) f.at (ap Some (sym named) ∙ ap (option_map (λ p. p.0.now)) (sym is) ∙ f.name)
+    (ap (option_map (λ p. rows_of (found_of p.1.now))) (sym is) ∙ f.rows)
+
+-- the name is that of one of the commands
 pub found_name : (words : List Text) (m : ArgMatches) (r : Option (Bor Text × Bor ArgMatches)) (p : Bor Text × Bor ArgMatches) → Found words m r → r ≡ Some p
-    → (p.0.now ≡ codes "check") ⊎ (p.0.now ≡ codes "run")
+    → (p.0.now ≡ codes "check") ⊎ ((p.0.now ≡ codes "run") ⊎ (p.0.now ≡ codes "sweep"))
 found_name words m r p f is = go (subcommand_of command_line words) f.at (ap (option_map (λ p. p.0.now)) (sym is) ∙ f.name)
   where
-    go : (o : Option Command) → Entered words o → Some p.0.now ≡ option_map (λ p. p.0) o → (p.0.now ≡ codes "check") ⊎ (p.0.now ≡ codes "run")
+    go : (o : Option Command) → Entered words o → Some p.0.now ≡ option_map (λ p. p.0) o → (p.0.now ≡ codes "check") ⊎ ((p.0.now ≡ codes "run") ⊎ (p.0.now ≡ codes "sweep"))
     go o (in_check rest rows first at) named = inl (name_is o (codes "check", rows) p.0.now at named)
-    go o (in_run rest rows v first at given) named = inr (name_is o (codes "run", rows) p.0.now at named)
+    go o (in_run rest rows first at given) named = inr (inl (name_is o (codes "run", rows) p.0.now at named))
+    go o (in_sweep rest rows first at runners workers) named = inr (inr (name_is o (codes "sweep", rows) p.0.now at named))
 
 -- a command was entered
 pub found_one : (words : List Text) (m : ArgMatches) (r : Option (Bor Text × Bor ArgMatches)) → Found words m r → r ≡ None → ⊥
@@ -157,18 +203,41 @@ found_one words m r f is = go (subcommand_of command_line words) f.at (ap (optio
   where
     go : (o : Option Command) → Entered words o → None ≡ option_map (λ p. p.0) o → ⊥
     go o (in_check rest rows first at) named = let bad = named ∙ ap (option_map (λ p. p.0)) at in absurd cc
-    go o (in_run rest rows v first at given) named = let bad = named ∙ ap (option_map (λ p. p.0)) at in absurd cc
+    go o (in_run rest rows first at given) named = let bad = named ∙ ap (option_map (λ p. p.0)) at in absurd cc
+    go o (in_sweep rest rows first at runners workers) named = let bad = named ∙ ap (option_map (λ p. p.0)) at in absurd cc
 
--- ---- the word `run` alone
+-- ---- the word `run` alone, and the word `sweep` alone
 
 run_alone : option_map (λ p. one_of (codes "workers") p.1) (subcommand_of command_line (codes "run" ∷ [])) ≡ Some (Some (codes "1"))
 unfolding clap_on_literals
 run_alone = refl
 
-pub alone_is_one : (words : List Text) (rows : List Row) (n : ℕ) → words ≡ codes "run" ∷ [] → subcommand_of command_line words ≡ Some (codes "run", rows)
-    → GivesNumber (codes "workers") rows n → n ≡ 1
-alone_is_one words rows n is at gives =
-    let here : option_map (λ (p : Command). one_of (codes "workers") p.1) (Some (codes "run", rows)) ≡ Some (Some (codes "1")) =
-    ap (option_map (λ (p : Command). one_of (codes "workers") p.1)) (sym at ∙ ap (subcommand_of command_line) is) ∙ run_alone in
+sweep_runners_alone : option_map (λ p. one_of (codes "runners") p.1) (subcommand_of command_line (codes "sweep" ∷ [])) ≡ Some (Some (codes "1"))
+unfolding clap_on_literals
+sweep_runners_alone = refl
+
+sweep_workers_alone : option_map (λ p. one_of (codes "workers") p.1) (subcommand_of command_line (codes "sweep" ∷ [])) ≡ Some (Some (codes "1"))
+unfolding clap_on_literals
+sweep_workers_alone = refl
+
+-- an option that has the numeral 1 where its command stands alone gives 1 there
+alone_gives : (command option : Text) (words : List Text) (rows : List Row) (n : ℕ)
+    → option_map (λ (p : Command). one_of option p.1) (subcommand_of command_line (command ∷ [])) ≡ Some (Some (codes "1")) → words ≡ command ∷ []
+    → subcommand_of command_line words ≡ Some (command, rows) → GivesNumber option rows n → n ≡ 1
+alone_gives command option words rows n alone is at gives =
+    let here : option_map (λ (p : Command). one_of option p.1) (Some (command, rows)) ≡ Some (Some (codes "1")) =
+    ap (option_map (λ (p : Command). one_of option p.1)) (sym at ∙ ap (subcommand_of command_line) is) ∙ alone in
     let same : gives.0 ≡ codes "1" = ap (λ o. unwrap_or (unwrap_or o None) gives.0) (ap Some (sym gives.1) ∙ here) in
     sym gives.2 ∙ ap (λ t. digits_value 10 (without_leading_plus t)) same
+
+pub alone_is_one : (words : List Text) (rows : List Row) (n : ℕ) → words ≡ codes "run" ∷ [] → subcommand_of command_line words ≡ Some (codes "run", rows)
+    → GivesNumber (codes "workers") rows n → n ≡ 1
+alone_is_one words rows n is at gives = alone_gives (codes "run") (codes "workers") words rows n run_alone is at gives
+
+pub alone_has_one_runner : (words : List Text) (rows : List Row) (n : ℕ) → words ≡ codes "sweep" ∷ [] → subcommand_of command_line words ≡ Some (codes "sweep", rows)
+    → GivesNumber (codes "runners") rows n → n ≡ 1
+alone_has_one_runner words rows n is at gives = alone_gives (codes "sweep") (codes "runners") words rows n sweep_runners_alone is at gives
+
+pub alone_has_one_worker : (words : List Text) (rows : List Row) (n : ℕ) → words ≡ codes "sweep" ∷ [] → subcommand_of command_line words ≡ Some (codes "sweep", rows)
+    → GivesNumber (codes "workers") rows n → n ≡ 1
+alone_has_one_worker words rows n is at gives = alone_gives (codes "sweep") (codes "workers") words rows n sweep_workers_alone is at gives

@@ -1,18 +1,27 @@
 -- The command line of `trlab`, as `clap` reads it.
-use Rattle.std.specs.Prelude.{[], ◌∷◌, Some, codes, pos, true}
-use Rattle.clap.specs.Words.{App, Rule, new_app, new_rule, with_rule, with_subcommand}
+use Rattle.std.specs.Prelude.{ℕ, [], ◌∷◌, Some, codes, pos, true}
+use Rattle.clap.specs.Words.{App, Rule, Text, new_app, new_rule, with_rule, with_subcommand}
 use Rattle.clap.specs.Simple.{on_top}
 use Rattle.clap.specs.declared.builder.value_parser.ValueParser.TheVariants.{Signed}
 use Rattle.trlab_bounds.specs.declared.runs.TheConstants.{MOST_WORKERS}
+use Rattle.trlab_jobs.specs.declared.limits.TheConstants.{MOST_RUNNERS}
 
--- the option `--workers n`: an integer from 1 to MOST_WORKERS, and 1 where the words give none
-abbrev pub workers_option : Rule
-workers_option = record (new_rule (codes "workers")) {
-  long = Some (codes "workers");
+-- the option `--name n`: an integer from 1 to a greatest one, and 1 where the words give none
+abbrev pub count_option : Text → ℕ → Rule
+count_option name most = record (new_rule name) {
+  long = Some name;
   value_names = 1;
-  parser = Some (Signed (pos 1) (pos MOST_WORKERS));
+  parser = Some (Signed (pos 1) (pos most));
   defaults = codes "1" ∷ [];
 }
+
+-- the option `--workers n`
+abbrev pub workers_option : Rule
+workers_option = count_option (codes "workers") MOST_WORKERS
+
+-- the option `--runners n`
+abbrev pub runners_option : Rule
+runners_option = count_option (codes "runners") MOST_RUNNERS
 
 -- the command `check`, which has no options
 abbrev pub check_command : App
@@ -22,14 +31,22 @@ check_command = new_app (codes "check")
 abbrev pub run_command : App
 run_command = with_rule (new_app (codes "run")) workers_option
 
--- the program, which no command line may call without a command; its words begin behind its name
+-- the command `sweep`, with the options `--runners` and `--workers`
+abbrev pub sweep_command : App
+sweep_command = with_rule (with_rule (new_app (codes "sweep")) runners_option) workers_option
+
+-- the program, which has a version, and which no command line may call without a command; its words
+-- begin behind its name
 abbrev pub program : App
 program = on_top (λ s. record s {
   no_binary_name = true;
   subcommand_required = true;
   arg_required_else_help = true;
+  has_version = true;
 }) (new_app (codes "trlab"))
 
--- the command line: the program with its two commands
+-- the command line: the program with its commands
 abbrev pub command_line : App
-command_line = with_subcommand (with_subcommand program check_command.top) run_command.top
+command_line =
+    with_subcommand (with_subcommand (with_subcommand program check_command.top) run_command.top)
+    sweep_command.top

@@ -3,11 +3,14 @@ use Rattle.std.specs.Prelude.{ℕ, List}
 use Rattle.trlab_campaign.specs.CheckOutput.{IsCheckOutput}
 use Rattle.trlab_campaign.specs.Refusal.{Outputs}
 use Rattle.trlab_campaign.specs.Output.{IsOutput}
+use Rattle.trlab_campaign.specs.SweepOutput.{IsSweepOutput}
 use Rattle.trlab_commands.specs.declared.words.Wanted.{Wanted}
-use Rattle.trlab_commands.specs.declared.words.Wanted.TheVariants.{Check, Run}
+use Rattle.trlab_commands.specs.declared.words.Wanted.TheVariants.{Check, Run, Sweep}
 
 -- the whole output of a command for a text, and whether it is a refusal: `check` writes a verdict on a
--- program, `run` the pictures of a job, whatever the number of workers
+-- program, `run` the pictures of a job and `sweep` the table of a sweep, whatever the number of workers
+-- and of runners
 abbrev pub output_of : Wanted → List ℕ → Outputs
 output_of Check text = IsCheckOutput text
 output_of (Run workers) text = IsOutput text
+output_of (Sweep runners workers) text = IsSweepOutput text

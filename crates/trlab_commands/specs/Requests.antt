@@ -1,15 +1,22 @@
 -- What the words of the command line ask for.
-use Rattle.std.specs.Prelude.{◌≡◌, ◌≤◌, ⊤, ℕ, List, ◌∷◌, Option, Some, codes}
+use Rattle.std.specs.Prelude.{◌≡◌, ◌≤◌, ⊤, ℕ, List, ◌∷◌, Option, Some, codes, pos}
 use Rattle.std.specs.Str.Parse.{digits_value, without_leading_plus}
 use Rattle.clap.specs.Words.{Row, Text, one_of}
+use Rattle.clap.specs.Lexer.{without_minus}
+use Rattle.clap.specs.Values.{IsSignedIn}
 use Rattle.trlab_commands.specs.declared.words.Wanted.{Wanted}
-use Rattle.trlab_commands.specs.declared.words.Wanted.TheVariants.{Check, Run}
+use Rattle.trlab_commands.specs.declared.words.Wanted.TheVariants.{Check, Run, Sweep}
 use Rattle.trlab_bounds.specs.declared.runs.TheConstants.{MOST_WORKERS}
+use Rattle.trlab_jobs.specs.declared.limits.TheConstants.{MOST_RUNNERS}
 
 -- among the matches of a command, the value of the option is the decimal numeral of this number
 abbrev pub GivesNumber : Text → List Row → ℕ → Type 0
 GivesNumber option rows number = (numeral : Text) × (one_of option rows ≡ Some numeral)
     × (digits_value 10 (without_leading_plus numeral) ≡ number)
+
+-- among the matches of a command, the option has a value that its parser took: from 1 to a greatest one
+abbrev pub HasValue : Text → ℕ → List Row → Text → Type 0
+HasValue option most rows v = (one_of option rows ≡ Some (without_minus v)) × IsSignedIn (pos 1) (pos most) v
 
 -- what is asked for where a command was entered and has these matches: the command of that name,
 -- with the numbers of its options
@@ -17,16 +24,21 @@ abbrev pub Asks : Option (Text × List Row) → Wanted → Type 0
 Asks entered Check = (rows : List Row) × (entered ≡ Some (codes "check", rows))
 Asks entered (Run workers) = (rows : List Row) × (entered ≡ Some (codes "run", rows))
     × GivesNumber (codes "workers") rows workers
+Asks entered (Sweep runners workers) = (rows : List Row) × (entered ≡ Some (codes "sweep", rows))
+    × GivesNumber (codes "runners") rows runners × GivesNumber (codes "workers") rows workers
 
--- a number of workers is one that an engine takes
+-- numbers of runners and of workers are those that an engine takes
 abbrev pub HasCounts : Wanted → Type 0
 HasCounts Check = ⊤
 HasCounts (Run workers) = (1 ≤ workers) × (workers ≤ MOST_WORKERS)
+HasCounts (Sweep runners workers) =
+    ((1 ≤ runners) × (runners ≤ MOST_RUNNERS)) × ((1 ≤ workers) × (workers ≤ MOST_WORKERS))
 
 -- the name of the command that is asked for
 abbrev pub name_of : Wanted → Text
 name_of Check = codes "check"
 name_of (Run workers) = codes "run"
+name_of (Sweep runners workers) = codes "sweep"
 
 -- the first of the words is the name of what is asked for
 abbrev pub IsNamedFirst : List Text → Wanted → Type 0

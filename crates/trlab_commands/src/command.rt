@@ -12,7 +12,7 @@ ghost use Rattle.trlab_commands.specs.Commands.{output_of};
 use crate::words::Wanted;
 use std::alloc::AllocGlobal;
 use std::thread::Threads;
-use trlab_campaign::{End, Sink, Source, check_text, run_job_text};
+use trlab_campaign::{End, Sink, Source, check_text, run_job_text, run_sweep_text};
 
 /// Does what is wanted, from a reader to a writer.
 pub fn carry_out<R: AllocGlobal + Threads + Sync, S: Source, K: Sink>(
@@ -35,5 +35,6 @@ pub fn carry_out<R: AllocGlobal + Threads + Sync, S: Source, K: Sink>(
     match wanted {
         Wanted::Check => check_text(rt, reader, writer),
         Wanted::Run { workers } => run_job_text(rt, reader, writer, workers),
+        Wanted::Sweep { runners, workers } => run_sweep_text(rt, reader, writer, runners, workers),
     }
 }

@@ -4,13 +4,18 @@
 pub const ABOUT: &str =
     "Judges driver programs, and drives cars by them: cellular automaton road traffic";
 
+/// The version of the program, and on a line of its own that of the toolchain which proved it.
+pub const VERSION: &str = "0.1.0
+rattle-kit-13b logic dac8208d650f15bf";
+
 /// Below the commands: an example, the exit statuses, and where to read on.
 pub const AFTER: &str = "\
 Each command reads one text on standard input and writes to standard output.
-`trlab help check` and `trlab help run` say which.
+`trlab help check`, `trlab help run` and `trlab help sweep` say which.
 
-Example:
+Examples:
   trlab run < examples/two_cars.job
+  trlab sweep < examples/fundamental_diagram.sweep > flow.csv
 
 A refused text is told by its line and the number of a cause:
   trlab explain < FILE    says in words what is wrong there and how to mend it
@@ -61,9 +66,49 @@ Standard output:
 Example:
   trlab run < examples/two_cars.job";
 
-/// What the option of `run` is for.
+/// What `sweep` does.
+pub const SWEEP_ABOUT: &str =
+    "Counts the flow of cars at many densities, for a fundamental diagram";
+
+/// What `sweep` reads and writes.
+pub const SWEEP_AFTER: &str = "\
+Standard input:
+  A sweep text: what all its roads have in common, the program that drives
+  their cars, the key of the random numbers, how many steps to go before the
+  cars are counted and how many while they are, and a line for each road that
+  says how many cars it has. They start evenly spread, with speed 0.
+
+Standard output:
+  A table of comma-separated values, a line for each road: its cars, its
+  cells, the steps that were counted, and over these the cells that the cars
+  went, how often a car was stopped, how often one changed lanes, and the
+  flow: how many cars pass a cell in a step, in millionths. Or `fault line N
+  cause K`, where the text has a fault. docs/TEXTS.md explains sweep texts and
+  the causes, docs/STUDIES.md whole studies.
+
+Example:
+  trlab sweep < examples/fundamental_diagram.sweep > flow.csv
+
+A small text of three roads of 100 cells, which one can begin with:
+  sweep 1
+  key 0000000000000000000000000000000000000000000000000000000000000000
+  limit 5
+  length 100
+  lanes 1
+  rule nasch 536870912
+  warm 100
+  measure 100
+  cars 5
+  cars 15
+  cars 50";
+
+/// What the option of `run` and `sweep` is for.
 pub const WORKERS_HELP: &str =
     "How many workers may share the work, 1 to 16; the output is the same";
+
+/// What the other option of `sweep` is for.
+pub const RUNNERS_HELP: &str =
+    "How many runners may share the roads, 1 to 16; the output is the same";
 
 /// The help of `explain`.
 pub const EXPLAIN_HELP: &str = "\

@@ -51,6 +51,22 @@ fn words_ask_for_commands(rt: HostRuntime) -> Result<(), Fail> {
 }
 
 #[test]
+fn sweeps_take_runners_and_workers(rt: HostRuntime) -> Result<(), Fail> {
+    for (line, runners, workers) in [
+        ("sweep", 1, 1),
+        ("sweep --", 1, 1),
+        ("sweep --runners 16", 16, 1),
+        ("sweep --workers=16", 1, 16),
+        ("sweep --runners 4 --workers 2", 4, 2),
+        ("sweep --workers 2 --runners 4", 4, 2),
+    ] {
+        let wanted = Wanted::Sweep { runners, workers };
+        assert_eq!(rt; asked(&rt, line)?, wanted, "at {line:?}");
+    }
+    Ok(())
+}
+
+#[test]
 fn other_words_are_refused(rt: HostRuntime) {
     for line in [
         "",
@@ -58,8 +74,9 @@ fn other_words_are_refused(rt: HostRuntime) {
         "rum",
         "--",
         "-- run",
-        "--version",
+        "-v",
         "--workers 2 run",
+        "check --version",
         "check --workers 1",
         "check run",
         "run run",
@@ -77,6 +94,14 @@ fn other_words_are_refused(rt: HostRuntime) {
         "run --workers 2 2",
         "run --workers 2 --workers 2",
         "run --workers -- 2",
+        "run --runners 2",
+        "sweep 2",
+        "sweep --runners",
+        "sweep --runners 0",
+        "sweep --runners 17",
+        "sweep --runners 2 --workers 17",
+        "sweep --runners 2 --runners 2",
+        "sweep run",
         "help walk",
     ] {
         assert_eq!(rt; status(&rt, line), Some(2), "at {line:?}");
@@ -95,6 +120,10 @@ fn help_is_no_fault(rt: HostRuntime) {
         "run --help",
         "run -h",
         "run --workers 2 --help",
+        "sweep --help",
+        "help sweep",
+        "--version",
+        "-V",
     ] {
         assert_eq!(rt; status(&rt, line), Some(0), "at {line:?}");
     }
@@ -134,6 +163,11 @@ fn commands_write_their_own_output(rt: HostRuntime) -> Result<(), Fail> {
         "road 1\nkey 0000000000000000000000000000000000000000000000000000000000000000\n",
         "limit 5\nlane 0.\nrule nasch 0\nsteps 1\n",
     );
+    let sweep = concat!(
+        "sweep 1\nkey 0000000000000000000000000000000000000000000000000000000000000000\n",
+        "limit 5\nlength 10\nlanes 1\nrule nasch 0\nwarm 10\nmeasure 10\ncars 2\n",
+    );
+    let table = "cars,cells,steps,distance,stopped,changes,flow\n2,10,10,80,0,0,800000\n";
     for (line, text, status, wanted) in [
         ("check", "change\nstay", 0, "accepted budget 1\nstay\n"),
         ("check", "change\ncross", 1, "refused at 0 reason 12\n"),
@@ -142,6 +176,10 @@ fn commands_write_their_own_output(rt: HostRuntime) -> Result<(), Fail> {
         ("run", job, 0, "step 0\n0.\nstep 1\n.1\n"),
         ("run --workers 16", job, 0, "step 0\n0.\nstep 1\n.1\n"),
         ("run", "change\nstay", 1, "fault line 1 cause 1\n"),
+        ("run", sweep, 1, "fault line 1 cause 1\n"),
+        ("sweep", sweep, 0, table),
+        ("sweep --runners 16 --workers 16", sweep, 0, table),
+        ("sweep", job, 1, "fault line 1 cause 1\n"),
     ] {
         assert!(rt; writes(&rt, line, text, status, wanted)?, "at {line:?}");
     }
@@ -150,7 +188,7 @@ fn commands_write_their_own_output(rt: HostRuntime) -> Result<(), Fail> {
 
 #[test]
 fn a_writer_without_room_is_a_failed_write(rt: HostRuntime) -> Result<(), Fail> {
-    for line in ["check", "run"] {
+    for line in ["check", "run", "sweep"] {
         let mut room = [0; 5];
         let mut reader = Watched::new(b"walk".as_slice());
         let mut writer = Watched::new(room.as_mut_slice());
@@ -186,7 +224,7 @@ fn told(rt: &impl AllocGlobal, line: &str) -> Option<(u8, u8)> {
 
 #[test]
 fn help_that_is_not_written_is_a_failed_write(rt: HostRuntime) {
-    for (line, written, not_written) in [("--help", 0, 4), ("help run", 0, 4), ("walk", 2, 2)] {
+    for (line, written, not_written) in [("--help", 0, 4), ("--version", 0, 4), ("walk", 2, 2)] {
         assert!(rt;
             told(&rt, line) == Some((written, not_written)),
             "at {line}"

@@ -1,9 +1,7 @@
-use Rattle.std.proofs.Common.{rules, ◌∙◌, sym, ap, inl, inr, map, codes, string_bytes}
-use Rattle.std.specs.Str.Parse.{ParsesUnsigned, ExplainsUnsignedError, HasUnsignedDigitsIfOk}
+use Rattle.std.proofs.Common.{rules, ◌∙◌, sym, ap, ap₂, inl, inr, map, codes, string_bytes}
 use Rattle.clap.specs.Words.{found_of, rows_of}
-use Rattle.clap.proofs.WalkLemmas.{one_text-rows}
-use Rattle.trlab_commands.specs.declared.words.Wanted.TheVariants.{Run}
-use Rattle.trlab_commands.proofs.Matches.{alone_is_one, found, found_check, found_run, found_name, found_one, some_number, the_number}
+use Rattle.trlab_commands.specs.declared.words.Wanted.TheVariants.{Run, Sweep}
+use Rattle.trlab_commands.proofs.Matches.{alone_is_one, alone_has_one_runner, alone_has_one_worker, check_not_run, check_not_sweep, run_not_sweep, same_name, found, found_check, found_run, found_sweep, found_name, found_one}
 use Rattle.trlab_commands.proofs.words.read_words.Goals as goal
 use Rattle.trlab_commands.proofs.words.read_words.Goals.{in_default-via-in-Some+in_default, in_default-via-in_default}
 
@@ -18,37 +16,69 @@ returns-in-Some-check-default c =
       fault = got.fault;
       counts = search rules;
       named = facts.1;
-      one = λ e. let bad = sym facts.1.1 ∙ e in absurd cc;
+      one = λ e. absurd (check_not_run (same_name words facts.1.0 _ _ facts.1.1 e));
+      ones = λ e. absurd (check_not_sweep (same_name words facts.1.0 _ _ facts.1.1 e));
     }
 
-pub returns-in-Some : goal.returns-in-Some
-returns-in-Some c =
+pub returns-in-Some-run-default : goal.returns-in-Some-run-default
+returns-in-Some-run-default c =
     let words = map string_bytes c.args.words.now in
     let parsed = c.in_ok-matches.ensures in
     let got = found _ words c.in_ok-matches.matches c.subcommand.result c.in_ok-command_line.ensures parsed.matches parsed.kinds c.subcommand.ensures.name c.subcommand.ensures.rows in
     let facts = found_run words c.in_ok-matches.matches c.subcommand.result _ got c.in-Some-run-default.is c.in-Some-run-default.is-run in
     let rows = rows_of (found_of c.in-Some-run-default.run'.now) in
-    let number = the_number _ (λ bs r. ParsesUnsigned 32 10 bs r × ExplainsUnsignedError 10 bs r × HasUnsignedDigitsIfOk bs r) (λ u x g. g.0) rows facts.2.0 facts.2.1 c.get_one.result
-    (λ t is. c.get_one.ensures.value t (one_text-rows (found_of c.in-Some-run-default.run'.now) (codes "workers") ∙ is)) c.in-Some.workers c.in-Some.is in
+    let workers = c.count_of.ensures in
     record {
-      answer = (rows, facts.0, number.0);
+      answer = (rows, facts.0, workers.number);
       fault = got.fault;
-      counts = number.1;
+      counts = (workers.some, workers.few);
       named = facts.1;
-      one = λ e. ap Run (alone_is_one words rows c.in-Some.workers e facts.0 number.0);
+      one = λ e. ap Run (alone_is_one words rows c.count_of.result e facts.0 workers.number);
+      ones = λ e. absurd (run_not_sweep (same_name words facts.1.0 _ _ facts.1.1 e));
     }
 
-pub unreachable-requires : goal.unreachable-requires
-unreachable-requires c =
+pub returns-in-Some-sweep-default : goal.returns-in-Some-sweep-default
+returns-in-Some-sweep-default c =
     let words = map string_bytes c.args.words.now in
     let parsed = c.in_ok-matches.ensures in
     let got = found _ words c.in_ok-matches.matches c.subcommand.result c.in_ok-command_line.ensures parsed.matches parsed.kinds c.subcommand.ensures.name c.subcommand.ensures.rows in
-    let facts = found_run words c.in_ok-matches.matches c.subcommand.result _ got c.in-Some-run-default.is c.in-Some-run-default.is-run in
-    some_number _ (λ bs r. ParsesUnsigned 32 10 bs r × ExplainsUnsignedError 10 bs r × HasUnsignedDigitsIfOk bs r) (λ u x g. g.0) (rows_of (found_of c.in-Some-run-default.run'.now))
-    facts.2.0 facts.2.1 c.get_one.result (λ t is. c.get_one.ensures.value t (one_text-rows (found_of c.in-Some-run-default.run'.now) (codes "workers") ∙ is)) c.in-None.is
+    let facts = found_sweep words c.in_ok-matches.matches c.subcommand.result _ got c.in-Some-sweep-default.is c.in-Some-sweep-default.is-sweep in
+    let rows = rows_of (found_of c.in-Some-sweep-default.sweep.now) in
+    let runners = c.count_of-in-Some-sweep-default.ensures in
+    let workers = c.count_of-in-Some-sweep-default-2.ensures in
+    record {
+      answer = (rows, facts.0, runners.number, workers.number);
+      fault = got.fault;
+      counts = ((runners.some, runners.few), (workers.some, workers.few));
+      named = facts.1;
+      one = λ e. absurd (run_not_sweep (sym (same_name words facts.1.0 _ _ facts.1.1 e)));
+      ones = λ e. ap₂ Sweep (alone_has_one_runner words rows c.count_of-in-Some-sweep-default.result e facts.0 runners.number)
+          (alone_has_one_worker words rows c.count_of-in-Some-sweep-default-2.result e facts.0 workers.number);
+    }
 
-pub unreachable-requires-in_default : goal.unreachable-requires-in_default
-unreachable-requires-in_default c =
+pub count_of-requires : goal.count_of-requires
+count_of-requires c =
+    let words = map string_bytes c.args.words.now in
+    let parsed = c.in_ok-matches.ensures in
+    let got = found _ words c.in_ok-matches.matches c.subcommand.result c.in_ok-command_line.ensures parsed.matches parsed.kinds c.subcommand.ensures.name c.subcommand.ensures.rows in
+    (found_run words c.in_ok-matches.matches c.subcommand.result _ got c.in-Some-run-default.is c.in-Some-run-default.is-run).2
+
+pub count_of-requires-in-Some-sweep-default : goal.count_of-requires-in-Some-sweep-default
+count_of-requires-in-Some-sweep-default c =
+    let words = map string_bytes c.args.words.now in
+    let parsed = c.in_ok-matches.ensures in
+    let got = found _ words c.in_ok-matches.matches c.subcommand.result c.in_ok-command_line.ensures parsed.matches parsed.kinds c.subcommand.ensures.name c.subcommand.ensures.rows in
+    (found_sweep words c.in_ok-matches.matches c.subcommand.result _ got c.in-Some-sweep-default.is c.in-Some-sweep-default.is-sweep).2
+
+pub count_of-requires-in-Some-sweep-default-2 : goal.count_of-requires-in-Some-sweep-default-2
+count_of-requires-in-Some-sweep-default-2 c =
+    let words = map string_bytes c.args.words.now in
+    let parsed = c.in_ok-matches.ensures in
+    let got = found _ words c.in_ok-matches.matches c.subcommand.result c.in_ok-command_line.ensures parsed.matches parsed.kinds c.subcommand.ensures.name c.subcommand.ensures.rows in
+    (found_sweep words c.in_ok-matches.matches c.subcommand.result _ got c.in-Some-sweep-default.is c.in-Some-sweep-default.is-sweep).3
+
+pub unreachable-requires : goal.unreachable-requires
+unreachable-requires c =
     let words = map string_bytes c.args.words.now in
     let parsed = c.in_ok-matches.ensures in
     let got = found _ words c.in_ok-matches.matches c.subcommand.result c.in_ok-command_line.ensures parsed.matches parsed.kinds c.subcommand.ensures.name c.subcommand.ensures.rows in
@@ -56,7 +86,10 @@ unreachable-requires-in_default c =
       | in_default-via-in-Some+in_default w ↦
           elim (found_name words c.in_ok-matches.matches c.subcommand.result w.in_default.field-0 got w.in_default.is) [
             | inl is ↦ search (rules, is)
-            | inr is ↦ search (rules, is)
+            | inr is ↦ elim is [
+              | inl is ↦ search (rules, is)
+              | inr is ↦ search (rules, is)
+            ]
           ]
       | in_default-via-in_default w ↦ found_one words c.in_ok-matches.matches c.subcommand.result got w.in_default.is
     ]
