@@ -28,8 +28,14 @@ pub fn table<R: Threads + Wait + Sync>(
     requires workers { (0 < workers) × (workers ≤ 16) }
     ensures { IfOk result (λ text. SweepOutput sweep.now false text.items) }
 {
-    let points =
-        points_by_runners::<Brand, R>(rt, alloc, Blank::new(1024), sweep, runners, workers)?;
+    let points = points_by_runners::<Brand, R>(
+        rt,
+        alloc,
+        Blank::new(1024),
+        sweep,
+        runners,
+        workers,
+    )?;
     match points_text(alloc, &points) {
         Ok(text) => Ok(text),
         Err(_) => Err(AllocError),
