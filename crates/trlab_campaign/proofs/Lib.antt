@@ -8,6 +8,7 @@ pub mod Endings
 pub mod OneOutput
 pub mod OneVerdict
 pub mod SomeVerdict
+pub mod OneEntry
 pub mod Points
 pub mod OnePoints
 pub mod SomePoints

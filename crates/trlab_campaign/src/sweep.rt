@@ -1,8 +1,11 @@
 //! The engine of sweep texts: all points are there before the first line of their table is written.
 
 mod points;
+mod runners;
+mod snapshots;
+mod table;
 
-ghost use Rattle.std.specs.Prelude.{◌≡◌, ◌+◌, ◌≤◌, ◌||◌, ◌↔◌, true, false, IfSome};
+ghost use Rattle.std.specs.Prelude.{◌≡◌, ◌+◌, ◌<◌, ◌≤◌, ◌||◌, ◌↔◌, true, false, IfSome};
 ghost use Rattle.std.specs.Io.KnownBytes.{Keeps};
 ghost use Rattle.trlab_campaign.specs.Device.{ConsumesUpTo};
 ghost use Rattle.trlab_campaign.specs.Ending.{EndsSo, OnWhole};
@@ -14,8 +17,10 @@ use crate::device::{Sink, Source};
 use crate::end::End;
 use crate::engine::{Engine, run_engine};
 use crate::refusal::{refuse, write_output};
-use crate::sweep::points::table;
+use crate::sweep::table::table;
 use std::alloc::{AllocGlobal, Global};
+use std::sync::Wait;
+use std::thread::Threads;
 use trlab_bounds::runs::MOST_WORKERS;
 use trlab_bounds::texts::TEXT_LIMIT;
 use trlab_jobs::limits::MOST_RUNNERS;
@@ -24,9 +29,15 @@ use trlab_texts::TextFault;
 
 /// The engine of sweep texts, which writes the table of their points.
 #[derive(Drop)]
-struct Surveyor;
+struct Surveyor<'a, R> {
+    rt: &'a R,
+    runners: u32,
+    workers: u32,
+    ghost runners: { (0 < runners) × (runners ≤ 16) },
+    ghost workers: { (0 < workers) × (workers ≤ 16) },
+}
 
-impl Engine for Surveyor {
+impl<'a, R: Threads + Wait + Sync> Engine for Surveyor<'a, R> {
     ghost is_ready = { λ _. Unit {0} };
 
     ghost outputs = { λ _ text. IsSweepOutput text };
@@ -37,7 +48,7 @@ impl Engine for Surveyor {
             Err(TextFault::At { line, cause }) => return refuse(alloc, line, cause, writer),
             Err(TextFault::Memory) => return End::Memory,
         };
-        match table(alloc, &sweep) {
+        match table(self.rt, alloc, &sweep, self.runners, self.workers) {
             Ok(table) => write_output(false, &table, writer),
             Err(_) => End::Memory,
         }
@@ -50,9 +61,9 @@ impl Engine for Surveyor {
 ///
 /// The whole text is read and judged, and all points are there, before a byte is written. Where
 /// memory runs out or a call of the reader or writer fails, what was written is the front of the
-/// whole output. The output depends neither on the number of runners nor on that of workers, each
-/// 1 to 16; so far all work is done by the caller.
-pub fn run_sweep_text<R: AllocGlobal, S: Source, K: Sink>(
+/// whole output. The roads are the jobs of a book, which so many runners take, each with so many
+/// workers, 1 to 16; the output depends on neither number.
+pub fn run_sweep_text<R: AllocGlobal + Threads + Wait + Sync, S: Source, K: Sink>(
     rt: &R,
     reader: &mut S,
     writer: &mut K,
@@ -74,5 +85,10 @@ pub fn run_sweep_text<R: AllocGlobal, S: Source, K: Sink>(
     ensures device { (result ≡ DeviceFault) ↔ ((S.failed reader.new || K.failed writer.new) ≡ true) }
     ensures read { ConsumesUpTo (TEXT_LIMIT + 1) (S.left reader.old) (S.left reader.new) }
 {
-    run_engine(rt.alloc(), Surveyor, reader, writer)
+    let surveyor = Surveyor {
+        rt,
+        runners,
+        workers,
+    };
+    run_engine(rt.alloc(), surveyor, reader, writer)
 }

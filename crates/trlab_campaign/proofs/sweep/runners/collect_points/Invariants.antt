@@ -1,6 +1,6 @@
 use Rattle.std.proofs.Common.{◌≡◌, length}
 use Rattle.trlab_campaign.proofs.Points.{FirstPoints}
-use Rattle.trlab_campaign.proofs.sweep.points.sweep_points.Given as goal
+use Rattle.trlab_campaign.proofs.sweep.runners.collect_points.Given as goal
 
 abbrev pub invariant-loop-number : goal.invariant-loop-number
 invariant-loop-number l = record {

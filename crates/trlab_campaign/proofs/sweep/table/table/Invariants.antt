@@ -1,0 +1,4 @@
+use Rattle.trlab_campaign.proofs.sweep.table.table.Given as goal
+
+abbrev pub ghosts-points_by_runners : goal.ghosts-points_by_runners
+ghosts-points_by_runners g a = record { name = a.blank.name; parts = a.blank.parts }

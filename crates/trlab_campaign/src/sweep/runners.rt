@@ -1,0 +1,118 @@
+//! The roads of a sweep as jobs of a book, which runners take. What they leave undone, the caller runs.
+
+ghost use Rattle.std.specs.Prelude.{◌≡◌, ◌<◌, ◌≤◌, All, IfOk, get_or, length};
+ghost use Rattle.trlab_diagram.specs.Flow.{IsMeasured};
+ghost use Rattle.trlab_book.specs.Desks.{parts_of};
+ghost use Rattle.trlab_campaign.specs.SweepOutput.{ArePoints, IsPoint};
+
+use crate::sweep::points::{even_road, run_point};
+use crate::sweep::snapshots::point_seen;
+use std::alloc::{AllocError, Global};
+use std::sync::Wait;
+use std::sync::ledger::{Blank, Ledger};
+use std::thread::Threads;
+use trlab_book::{Desk, SharedBook, run_jobs};
+use trlab_diagram::Point;
+use trlab_jobs::Sweep;
+use trlab_leases::Seed;
+use trlab_segments::OpenGate;
+
+/// Submits the road of each point, so that a job has the number of its point. Where the book takes no
+/// more, the roads that are left have no job.
+fn submit_roads<L: Ledger, R: Wait>(
+    rt: &R,
+    alloc: Global,
+    book: &SharedBook<L>,
+    desk: &mut Desk<L>,
+    sweep: &Sweep,
+) -> Result<(), AllocError>
+    ensures { parts_of desk.new ≡ parts_of desk.old }
+{
+    for number in 0..sweep.cars.len() {
+        let seed = Seed {
+            road: even_road(alloc, sweep, sweep.cars[number])?,
+            key: sweep.key,
+            number: number as u32,
+            warm: sweep.warm,
+        };
+        let rule = sweep.rule.copy(alloc)?;
+        let submitted = book.submit(rt, alloc, desk, seed, rule, sweep.warm + sweep.measure);
+        if submitted.is_err() {
+            return Ok(());
+        }
+    }
+    Ok(())
+}
+
+/// The point with this number and so many cars: that of the book's job, or where the job has not come
+/// to its last step, that of a run by the caller.
+fn point_of_job<L: Ledger, R: Wait>(
+    rt: &R,
+    alloc: Global,
+    book: &SharedBook<L>,
+    desk: &mut Desk<L>,
+    sweep: &Sweep,
+    number: u32,
+) -> Result<Point, AllocError>
+    requires inside { number < length sweep.now.cars }
+    ensures is { IfOk result
+        (λ point. IsPoint sweep.now.setup number (get_or sweep.now.cars number 0) point) }
+    ensures measured { IfOk result IsMeasured }
+{
+    let cars = sweep.cars[number as usize];
+    let road = even_road(alloc, sweep, cars)?;
+    if let Ok(seen) = book.read(rt, alloc, desk, number) {
+        if let Some(point) = point_seen(sweep, number, cars, &road, &seen) {
+            return Ok(point);
+        }
+    }
+    run_point(alloc, sweep, number, cars, road)
+}
+
+/// The points of a sweep whose roads were run.
+fn collect_points<L: Ledger, R: Wait>(
+    rt: &R,
+    alloc: Global,
+    book: &SharedBook<L>,
+    desk: &mut Desk<L>,
+    sweep: &Sweep,
+) -> Result<Vec<Point>, AllocError>
+    ensures are { IfOk result (λ points. ArePoints sweep.now points.items) }
+    ensures measured { IfOk result (λ points. All IsMeasured points.items) }
+{
+    let mut points = Vec::new(alloc);
+    for number in 0..sweep.cars.len() {
+        let point = point_of_job(rt, alloc, book, desk, sweep, number as u32)?;
+        points.push(point)?;
+    }
+    Ok(points)
+}
+
+/// The points of a sweep, whose roads are run by 1 to 16 runners with 1 to 16 workers each.
+///
+/// # Errors
+///
+/// Want of memory.
+pub fn points_by_runners<L: Ledger + Send + Sync, R: Threads + Wait + Sync>(
+    rt: &R,
+    alloc: Global,
+    blank: Blank,
+    sweep: &Sweep,
+    runners: u32,
+    workers: u32,
+) -> Result<Vec<Point>, AllocError>
+    requires name { blank.name ≡ L.name }
+    requires parts { (blank.parts ≡ L.parts) × (blank.parts ≡ 1024) }
+    requires runners { (0 < runners) × (runners ≤ 16) }
+    requires workers { (0 < workers) × (workers ≤ 16) }
+    ensures are { IfOk result (λ points. ArePoints sweep.now points.items) }
+    ensures measured { IfOk result (λ points. All IsMeasured points.items) }
+{
+    let (book, mut desk) = SharedBook::<L>::start(alloc, blank);
+    submit_roads(rt, alloc, &book, &mut desk, sweep)?;
+    let mut desk = match run_jobs(rt, alloc, &book, desk, runners, workers, &OpenGate) {
+        Ok(desk) => desk,
+        Err((desk, _)) => desk,
+    };
+    collect_points(rt, alloc, &book, &mut desk, sweep)
+}

@@ -1,0 +1,43 @@
+//! The table of a sweep's points.
+
+ghost use Rattle.std.specs.Prelude.{◌≡◌, ◌<◌, ◌≤◌, IfOk, false};
+ghost use Rattle.trlab_campaign.specs.SweepOutput.{SweepOutput};
+
+use crate::sweep::runners::points_by_runners;
+use std::alloc::{AllocError, Global};
+use std::marker::Brand;
+use std::sync::Wait;
+use std::sync::ledger::Blank;
+use std::thread::Threads;
+use trlab_diagram::points_text;
+use trlab_jobs::Sweep;
+
+/// The table of the points of a sweep, which is made once all of them are there.
+///
+/// # Errors
+///
+/// Want of memory.
+pub fn table<R: Threads + Wait + Sync>(
+    rt: &R,
+    alloc: Global,
+    sweep: &Sweep,
+    runners: u32,
+    workers: u32,
+) -> Result<Vec<u8>, AllocError>
+    requires runners { (0 < runners) × (runners ≤ 16) }
+    requires workers { (0 < workers) × (workers ≤ 16) }
+    ensures { IfOk result (λ text. SweepOutput sweep.now false text.items) }
+{
+    let points = points_by_runners::<Brand, R>(
+        rt,
+        alloc,
+        Blank::new(1024),
+        sweep,
+        runners,
+        workers,
+    )?;
+    match points_text(alloc, &points) {
+        Ok(text) => Ok(text),
+        Err(_) => Err(AllocError),
+    }
+}
