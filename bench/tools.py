@@ -1,6 +1,7 @@
-"""What the benchmarks share: the programs that are measured, job texts, and timed runs.
+"""What the benchmarks share: the programs that are measured, job texts, timed and compared runs.
 
 Build the proved program first by a run of ./trlab at the top; or name another one in TRLAB."""
+import filecmp
 import os
 import random
 import subprocess
@@ -9,6 +10,7 @@ import time
 
 TOP = os.path.dirname(os.path.dirname(os.path.abspath(__file__)))
 BENCH = os.path.join(TOP, "bench")
+PLAIN = os.path.join(BENCH, "target", "release", "plain")
 BUILT = os.path.join(TOP, "crates", "trlab_program", "out", "trlab_program")
 
 
@@ -18,6 +20,11 @@ def trlab():
     if not os.access(path, os.X_OK):
         sys.exit(f"{path} is not there; build it first: ./trlab run < examples/two_cars.job")
     return path
+
+
+def build_plain():
+    """Builds the programs of plain Rust, PLAIN among them."""
+    subprocess.run(["cargo", "build", "--release", "--quiet", "--offline"], cwd=BENCH, check=True)
 
 
 def machine():
@@ -50,6 +57,15 @@ def seconds(command, path):
     return took
 
 
+def best_seconds(runs, times):
+    """The best time of each run, which is a command and its text; they take turns so many times."""
+    best = {name: float("inf") for name in runs}
+    for _ in range(times):
+        for name, (command, path) in runs.items():
+            best[name] = min(best[name], seconds(command, path))
+    return best
+
+
 def memory(command, path, output=os.devnull):
     """The peak memory in bytes of a run on the text in a file."""
     peak = 0
@@ -61,6 +77,16 @@ def memory(command, path, output=os.devnull):
     if program.returncode != 0:
         sys.exit(f"{' '.join(command)} ended with {program.returncode}")
     return peak
+
+
+def compare(commands, path, folder):
+    """Runs each on the text once and stops where two outputs differ; the peak memory of each."""
+    outputs = [os.path.join(folder, f"output{k}") for k in range(len(commands))]
+    peaks = [memory(command, path, output) for command, output in zip(commands, outputs)]
+    for command, output in zip(commands[1:], outputs[1:]):
+        if not filecmp.cmp(outputs[0], output, shallow=False):
+            sys.exit(f"{command[0]} writes something else than {commands[0][0]} on {path}")
+    return peaks
 
 
 def peak_of(pid):

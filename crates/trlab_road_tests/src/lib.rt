@@ -1,7 +1,9 @@
 //! Tests of roads and of what drives them by public calls, with values worked out by hand: random
-//! words, roads, steps, runs, tickets and segments.
+//! words, roads, steps, runs, tickets, segments, workers and the job book.
 #![tactic(auto)]
 
+#[cfg(test)]
+mod leases;
 #[cfg(test)]
 mod roads;
 #[cfg(test)]
@@ -12,3 +14,5 @@ mod segments;
 mod steps;
 #[cfg(test)]
 mod words;
+#[cfg(test)]
+mod workers;

@@ -10,12 +10,12 @@ use trlab_verify::{verify_change, verify_motion};
 use trlab_words::{CERTAIN, Chance, Key};
 
 /// The rule of 1992, by which no car brakes by chance.
-fn steady(alloc: Global) -> Option<Rule> {
+pub fn steady(alloc: Global) -> Option<Rule> {
     nasch(alloc, Chance::new(0)?).ok()
 }
 
 /// The rule of 1996, by which no car brakes by chance and each one crosses where it may.
-fn crossing(alloc: Global) -> Option<Rule> {
+pub fn crossing(alloc: Global) -> Option<Rule> {
     rickert(alloc, Chance::new(0)?, Chance::new(CERTAIN)?).ok()
 }
 

@@ -1,0 +1,33 @@
+-- What a call does to a book with its history.
+use Rattle.std.specs.Prelude.{◌≡◌, ◌↔◌, ◌+◌, true, cond, ◌++◌, ◌∷◌, [], MatchBool, vec_len}
+use Rattle.trlab_leases.specs.declared.fault.BookFault.TheVariants.{HistoryFull}
+use Rattle.trlab_leases.specs.declared.event.Call.{Call}
+use Rattle.trlab_leases.specs.declared.event.Reply.{Reply}
+use Rattle.trlab_leases.specs.declared.event.Reply.TheVariants.{Refused}
+use Rattle.trlab_book.specs.declared.kept.Kept.{Kept}
+use Rattle.trlab_leases.specs.Machine.{after, is_full, reply_of}
+use Rattle.trlab_leases.specs.Answers.{is_event}
+use Rattle.trlab_leases.specs.Replay.{event}
+
+-- one event more, which is this call with the machine's reply, and that reply is the answer
+pub record Appends (old : Kept) (c : Call) (told : Reply) (new : Kept) : Type 0 where
+  pub history : new.history.items ≡ old.history.items ++ event c (reply_of old.book c) ∷ []
+  pub book : new.book ≡ after old.book c
+  pub answered : told ≡ reply_of old.book c
+
+-- the same book, and the same events
+pub record IsUnchanged (old new : Kept) : Type 0 where
+  pub history : new.history.items ≡ old.history.items
+  pub book : new.book ≡ old.book
+
+-- a call that is an event appends it; another changes nothing
+abbrev pub Makes : Kept → Call → Reply → Kept → Type 0
+Makes old c told new = MatchBool (is_event told) (Appends old c told new) (IsUnchanged old new)
+
+-- the answer says that the history is full exactly where it is
+abbrev pub TellsFull : Kept → Reply → Type 0
+TellsFull old told = (told ≡ Refused HistoryFull) ↔ (is_full old.book ≡ true)
+
+-- the history is longer by one event, or as long where the answer is no event
+abbrev pub Lengthens : Kept → Reply → Kept → Type 0
+Lengthens old told new = vec_len new.history ≡ vec_len old.history + cond (is_event told) 1 0

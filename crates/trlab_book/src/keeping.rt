@@ -1,0 +1,306 @@
+//! Calls of a book with its history: each appends one event, or changes nothing.
+
+ghost use Rattle.std.specs.Prelude.{◌≡◌, ◌↔◌, ◌<◌, Bool, true, false, IsTrue, IfOk, IfErr, OnOk, [], vec_len};
+ghost use Rattle.std.specs.Vec.{vec_capacity};
+ghost use Rattle.trlab_leases.specs.Answers.{back_reply, done_reply, is_event, lease_reply};
+ghost use Rattle.trlab_leases.specs.Answers.{number_reply, order_reply, seen_reply};
+ghost use Rattle.trlab_leases.specs.Comparison.{IsLent, IsRuleAt, IsSame, IsSeen, LeaseCall, OrderCall, offered};
+ghost use Rattle.trlab_leases.specs.Machine.{is_full, start};
+ghost use Rattle.trlab_leases.specs.declared.fault.BookFault.TheVariants.{HistoryFull};
+ghost use Rattle.trlab_leases.specs.declared.event.Call.TheVariants.{Cancel, GiveBack, Read, Replace, Revoke, Submit};
+ghost use Rattle.trlab_leases.specs.declared.event.Reply.TheVariants.{Refused};
+ghost use Rattle.trlab_book.specs.Keeping.{IsUnchanged, Lengthens, Makes, TellsFull};
+
+use crate::kept::Kept;
+use crate::replies::{
+    reply_to_back, reply_to_done, reply_to_lease, reply_to_number, reply_to_order, reply_to_read,
+};
+use std::alloc::{AllocError, Global};
+use trlab_leases::{
+    Book, BookFault, BoxedRule, BoxedSeed, Call, Event, Lease, Offered, Order, Seed, Snapshot,
+    is_for_memory,
+};
+use trlab_rules::Rule;
+
+impl Kept {
+    /// An empty book, of which no call was made.
+    pub fn new(alloc: Global) -> Kept
+        ensures { (result.history.items ≡ []) × (result.book ≡ start) }
+    {
+        Kept {
+            book: Book::new(alloc),
+            history: Vec::new(alloc),
+        }
+    }
+
+    /// Has room for one event more.
+    fn make_room(&mut self) -> Result<(), BookFault>
+        ensures same { IsUnchanged self.old self.new }
+        ensures room { OnOk result (vec_len self.new.history < vec_capacity self.new.history) }
+        ensures full { (result ≡ Err HistoryFull) ↔ (is_full self.old.book ≡ true) }
+        ensures free { OnOk result (is_full self.new.book ≡ false) }
+        ensures none { IfErr result (λ f. is_event (Refused f) ≡ false) }
+    {
+        if self.book.is_full() {
+            return Err(BookFault::HistoryFull);
+        }
+        if self.history.reserve(1).is_err() {
+            return Err(BookFault::Memory);
+        }
+        Ok(())
+    }
+
+    /// Submits a job.
+    ///
+    /// # Errors
+    ///
+    /// As the book's call; `Memory` also where the history can't grow or what it keeps can't be copied.
+    pub fn submit(
+        &mut self,
+        alloc: Global,
+        seed: Seed,
+        rule: Rule,
+        steps: u32,
+    ) -> Result<u32, BookFault>
+        ensures made { Makes self.old (Submit seed rule steps) (number_reply result) self.new }
+        ensures full { TellsFull self.old (number_reply result) }
+    {
+        let copied = copied_job(alloc, &seed, &rule);
+        self.submit_copied(alloc, seed, rule, steps, copied)
+    }
+
+    /// Submits a job of which the history keeps this copy.
+    #[tactic(auto, using(crate::proofs::Replaying::replays_on))]
+    pub(crate) fn submit_copied(
+        &mut self,
+        alloc: Global,
+        seed: Seed,
+        rule: Rule,
+        steps: u32,
+        copied: Result<(BoxedSeed, BoxedRule), AllocError>,
+    ) -> Result<u32, BookFault>
+        requires { IfOk copied (λ c. (c.0 ≡ seed) × (c.1 ≡ rule)) }
+        ensures made { Makes self.old (Submit seed rule steps) (number_reply result) self.new }
+        ensures full { TellsFull self.old (number_reply result) }
+    {
+        self.make_room()?;
+        let Ok((seed_kept, rule_kept)) = copied else {
+            return Err(BookFault::Memory);
+        };
+        let answer = self.book.submit(alloc, seed, rule, steps);
+        if is_for_memory(&answer) {
+            return answer;
+        }
+        let reply = reply_to_number(&answer);
+        self.history.push_reserved(Event {
+            call: Call::Submit(seed_kept, rule_kept, steps),
+            reply,
+        });
+        answer
+    }
+
+    /// Enters a rule, which is in force from the answered step on.
+    ///
+    /// # Errors
+    ///
+    /// As the book's call; `Memory` also where the history can't grow or the rule can't be copied.
+    pub fn replace(&mut self, alloc: Global, job: u32, rule: Rule) -> Result<u32, BookFault>
+        ensures made { Makes self.old (Replace job rule) (number_reply result) self.new }
+        ensures full { TellsFull self.old (number_reply result) }
+    {
+        let copied = BoxedRule::copy_of(alloc, &rule);
+        self.replace_copied(job, rule, copied)
+    }
+
+    /// Enters a rule of which the history keeps this copy.
+    #[tactic(auto, using(crate::proofs::Replaying::replays_on))]
+    pub(crate) fn replace_copied(
+        &mut self,
+        job: u32,
+        rule: Rule,
+        copied: Result<BoxedRule, AllocError>,
+    ) -> Result<u32, BookFault>
+        requires { IfOk copied (λ c. c ≡ rule) }
+        ensures made { Makes self.old (Replace job rule) (number_reply result) self.new }
+        ensures full { TellsFull self.old (number_reply result) }
+    {
+        self.make_room()?;
+        let Ok(rule_kept) = copied else {
+            return Err(BookFault::Memory);
+        };
+        let answer = self.book.replace(job, rule);
+        if is_for_memory(&answer) {
+            return answer;
+        }
+        let reply = reply_to_number(&answer);
+        self.history.push_reserved(Event {
+            call: Call::Replace(job, rule_kept),
+            reply,
+        });
+        answer
+    }
+
+    /// Leases the least job that is free, or answers that there is none.
+    ///
+    /// # Errors
+    ///
+    /// As the book's call; `Memory` also where the history can't grow.
+    #[tactic(auto, using(crate::proofs::Replaying::replays_on))]
+    pub fn lease(&mut self, alloc: Global) -> Result<Option<Lease>, BookFault>
+        ensures made { Makes self.old LeaseCall (lease_reply result) self.new }
+        ensures lent { IfOk result (λ o. IsLent self.old.book.jobs self.old.book.next o) }
+        ensures full { TellsFull self.old (lease_reply result) }
+    {
+        self.make_room()?;
+        let answer = self.book.lease(alloc);
+        if is_for_memory(&answer) {
+            return answer;
+        }
+        let reply = reply_to_lease(&answer);
+        self.history.push_reserved(Event {
+            call: Call::Lease,
+            reply,
+        });
+        answer
+    }
+
+    /// Orders the step at which a lease stands.
+    ///
+    /// # Errors
+    ///
+    /// As the book's call; `Memory` also where the history can't grow.
+    #[tactic(auto, using(crate::proofs::Replaying::replays_on))]
+    pub fn order(&mut self, alloc: Global, lease: &Lease) -> Result<Order, BookFault>
+        ensures made { (same : Bool) → (IsTrue same ↔ IsSame self.old.book.jobs lease.now)
+            → Makes self.old (OrderCall (offered lease.now same)) (order_reply result) self.new }
+        ensures rule { IfOk result (λ o. IsRuleAt self.old.book.jobs o) }
+        ensures full { TellsFull self.old (order_reply result) }
+        ensures length { Lengthens self.old (order_reply result) self.new }
+    {
+        self.make_room()?;
+        let same = self.book.is_same(lease);
+        let call = Call::Order(parts_of_lease(lease, same));
+        let answer = self.book.order_as(alloc, lease, same);
+        if is_for_memory(&answer) {
+            return answer;
+        }
+        let reply = reply_to_order(&answer);
+        self.history.push_reserved(Event { call, reply });
+        answer
+    }
+
+    /// Gives a lease back: the job's steps and road become the lease's.
+    ///
+    /// # Errors
+    ///
+    /// As the book's call, with the lease; `Memory` where the history can't grow.
+    #[tactic(auto, using(crate::proofs::Replaying::replays_on))]
+    pub fn give_back(&mut self, lease: Lease) -> Result<(), (Lease, BookFault)>
+        ensures made { (same : Bool) → (IsTrue same ↔ IsSame self.old.book.jobs lease)
+            → Makes self.old (GiveBack (offered lease same)) (back_reply result) self.new }
+        ensures err { IfErr result (λ e. e.0 ≡ lease) }
+        ensures full { TellsFull self.old (back_reply result) }
+        ensures length { Lengthens self.old (back_reply result) self.new }
+    {
+        if let Err(fault) = self.make_room() {
+            return Err((lease, fault));
+        }
+        let same = self.book.is_same(&lease);
+        let call = Call::GiveBack(parts_of_lease(&lease, same));
+        let answer = self.book.give_back_as(lease, same);
+        let reply = reply_to_back(&answer);
+        self.history.push_reserved(Event { call, reply });
+        answer
+    }
+
+    /// Ends the lease of a job.
+    ///
+    /// # Errors
+    ///
+    /// As the book's call; `Memory` where the history can't grow.
+    #[tactic(auto, using(crate::proofs::Replaying::replays_on))]
+    pub fn revoke(&mut self, job: u32) -> Result<(), BookFault>
+        ensures made { Makes self.old (Revoke job) (done_reply result) self.new }
+        ensures full { TellsFull self.old (done_reply result) }
+    {
+        self.make_room()?;
+        let answer = self.book.revoke(job);
+        let reply = reply_to_done(&answer);
+        self.history.push_reserved(Event {
+            call: Call::Revoke(job),
+            reply,
+        });
+        answer
+    }
+
+    /// Ends a job, and its lease.
+    ///
+    /// # Errors
+    ///
+    /// As the book's call; `Memory` where the history can't grow.
+    #[tactic(auto, using(crate::proofs::Replaying::replays_on))]
+    pub fn cancel(&mut self, job: u32) -> Result<(), BookFault>
+        ensures made { Makes self.old (Cancel job) (done_reply result) self.new }
+        ensures full { TellsFull self.old (done_reply result) }
+    {
+        self.make_room()?;
+        let answer = self.book.cancel(job);
+        let reply = reply_to_done(&answer);
+        self.history.push_reserved(Event {
+            call: Call::Cancel(job),
+            reply,
+        });
+        answer
+    }
+
+    /// A snapshot of a job.
+    ///
+    /// # Errors
+    ///
+    /// As the book's call; `Memory` also where the history can't grow.
+    #[tactic(auto, using(crate::proofs::Replaying::replays_on))]
+    pub fn read(&mut self, alloc: Global, job: u32) -> Result<Snapshot, BookFault>
+        ensures made { Makes self.old (Read job) (seen_reply result) self.new }
+        ensures seen { IfOk result (λ s. IsSeen self.old.book.jobs job s) }
+        ensures full { TellsFull self.old (seen_reply result) }
+    {
+        self.make_room()?;
+        let answer = self.book.read(alloc, job);
+        if is_for_memory(&answer) {
+            return answer;
+        }
+        let reply = reply_to_read(&answer);
+        self.history.push_reserved(Event {
+            call: Call::Read(job),
+            reply,
+        });
+        answer
+    }
+}
+
+/// What the history keeps of a submitted job, in memory of its own.
+pub(crate) fn copied_job(
+    alloc: Global,
+    seed: &Seed,
+    rule: &Rule,
+) -> Result<(BoxedSeed, BoxedRule), AllocError>
+    ensures { IfOk result (λ c. (c.0 ≡ seed.now) × (c.1 ≡ rule.now)) }
+{
+    Ok((
+        BoxedSeed::copy_of(alloc, seed)?,
+        BoxedRule::copy_of(alloc, rule)?,
+    ))
+}
+
+/// What the history keeps of a lease.
+fn parts_of_lease(lease: &Lease, same: bool) -> Offered
+    ensures { result ≡ offered lease.now same }
+{
+    Offered {
+        job: lease.job(),
+        number: lease.number(),
+        base: lease.base_step(),
+        step: lease.step(),
+        same,
+    }
+}

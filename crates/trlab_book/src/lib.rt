@@ -1,0 +1,21 @@
+//! The shared job book: a book under one lock, with the history of all its calls, desks through which
+//! threads call it, and runners that take its jobs.
+#![tactic(auto)]
+
+mod calls;
+mod desk;
+mod fault;
+mod keeping;
+mod kept;
+pub mod laws;
+mod locked;
+mod ordered;
+mod replies;
+mod running;
+mod sharing;
+mod turn;
+
+pub use desk::{Desk, SharedBook};
+pub use fault::RunFault;
+pub use ordered::advance;
+pub use running::run_jobs;

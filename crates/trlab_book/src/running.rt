@@ -1,0 +1,95 @@
+//! Runners that share a book.
+
+ghost use Rattle.std.specs.Prelude.{◌≡◌, ◌<◌, ◌≤◌, MatchResult};
+ghost use Rattle.std.specs.Thread.{IsSend, IsSync};
+ghost use Rattle.trlab_book.specs.Desks.{parts_of};
+
+use crate::desk::{Desk, SharedBook};
+use crate::fault::RunFault;
+use crate::turn::run_one;
+use std::alloc::Global;
+use std::sync::Wait;
+use std::sync::ledger::Ledger;
+use std::thread::{Threads, join};
+use trlab_segments::Gate;
+
+/// Runs the jobs of a book by 1 to 16 runners, until none is free, and gives the desk back, which has
+/// counted all their calls. Each step is taken by 1 to 16 workers, who pass the gate.
+///
+/// The desk has a part for each runner. The calling thread is runner 0; it begins once the others were
+/// started, and does the work of those that can't be started.
+///
+/// # Errors
+///
+/// The fault that a runner met, `HistoryFull` before `Memory`, with the desk.
+pub fn run_jobs<L: Ledger + Send + Sync, R: Threads + Wait + Sync, G: Gate + Sync>(
+    rt: &R,
+    alloc: Global,
+    book: &SharedBook<L>,
+    desk: Desk<L>,
+    runners: u32,
+    workers: u32,
+    gate: &G,
+) -> Result<Desk<L>, (Desk<L>, RunFault)>
+    requires ledger { L.parts ≡ 1024 }
+    requires workers { (0 < workers) × (workers ≤ 16) }
+    requires runners { (0 < runners) × (runners ≤ 16) × (runners ≤ parts_of desk) }
+    ensures { MatchResult result (λ d. parts_of d ≡ parts_of desk) (λ e. parts_of e.0 ≡ parts_of desk) }
+{
+    let (desk, ended) = run_all(rt, alloc, book, desk, runners, workers, gate);
+    match ended {
+        Ok(()) => Ok(desk),
+        Err(fault) => Err((desk, fault)),
+    }
+}
+
+/// Gives one part to each other runner, and the rest to this thread.
+fn run_all<L: Ledger + Send + Sync, R: Threads + Wait + Sync, G: Gate + Sync>(
+    rt: &R,
+    alloc: Global,
+    book: &SharedBook<L>,
+    desk: Desk<L>,
+    runners: u32,
+    workers: u32,
+    gate: &G,
+) -> (Desk<L>, Result<(), RunFault>)
+    requires ledger { L.parts ≡ 1024 }
+    requires workers { (0 < workers) × (workers ≤ 16) }
+    requires runners { (0 < runners) × (runners ≤ parts_of desk) }
+    ensures { parts_of result.0 ≡ parts_of desk }
+{
+    let mut desk = desk;
+    let others = runners - 1;
+    if others == 0 {
+        let ended = run_one(rt, alloc, book, &mut desk, workers, gate);
+        return (desk, ended);
+    }
+    let mut theirs = desk.split();
+    let ((theirs, one), (mine, other)) = join(
+        rt,
+        move || -> (Desk<L>, Result<(), RunFault>)
+            requires { IsSync R.row × IsSync G.row × (0 < workers) × (workers ≤ 16) }
+            ensures { parts_of result.0 ≡ parts_of theirs }
+        {
+            let ended = run_one(rt, alloc, book, &mut theirs, workers, gate);
+            (theirs, ended)
+        },
+        move || -> (Desk<L>, Result<(), RunFault>)
+            requires { IsSync R.row × IsSync G.row × IsSend L.row × IsSync L.row × (L.parts ≡ 1024)
+                × (0 < workers) × (workers ≤ 16) × (0 < others) × (others ≤ parts_of desk) }
+            ensures { parts_of result.0 ≡ parts_of desk }
+        { run_all(rt, alloc, book, desk, others, workers, gate) },
+    );
+    (theirs.gather(mine), first_fault(one, other))
+}
+
+/// The fault of two runners that is told: `HistoryFull` before `Memory`.
+fn first_fault(one: Result<(), RunFault>, other: Result<(), RunFault>) -> Result<(), RunFault> {
+    match (one, other) {
+        (Err(RunFault::HistoryFull), _) | (_, Err(RunFault::HistoryFull)) => {
+            Err(RunFault::HistoryFull)
+        }
+        (Err(fault), _) | (_, Err(fault)) => Err(fault),
+        (Ok(()), Ok(())) => Ok(()),
+    }
+}

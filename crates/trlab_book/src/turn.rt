@@ -1,0 +1,112 @@
+//! What one runner does: it takes jobs from the book, one lease after the other.
+
+ghost use Rattle.std.specs.Prelude.{◌≡◌, ◌<◌, ◌≤◌};
+ghost use Rattle.trlab_book.specs.Desks.{parts_of};
+
+use crate::desk::{Desk, SharedBook};
+use crate::fault::RunFault;
+use crate::ordered::advance;
+use std::alloc::Global;
+use std::sync::Wait;
+use std::sync::ledger::Ledger;
+use std::thread::Threads;
+use trlab_leases::{BookFault, Lease, LeaseFault};
+use trlab_segments::Gate;
+
+/// How many steps a runner takes at most before it gives a lease back.
+const STEPS_A_TURN: u32 = 32;
+
+/// Takes leases until no job is free.
+pub fn run_one<L: Ledger, R: Threads + Wait + Sync, G: Gate + Sync>(
+    rt: &R,
+    alloc: Global,
+    book: &SharedBook<L>,
+    desk: &mut Desk<L>,
+    workers: u32,
+    gate: &G,
+) -> Result<(), RunFault>
+    requires { (0 < workers) × (workers ≤ 16) }
+    ensures { parts_of desk.new ≡ parts_of desk.old }
+{
+    for _ in rt.forever() {
+        match book.lease(rt, alloc, desk) {
+            Ok(Some(lease)) => take_turn(rt, alloc, book, desk, lease, workers, gate)?,
+            Ok(None) => return Ok(()),
+            Err(BookFault::HistoryFull) => return Err(RunFault::HistoryFull),
+            Err(_) => return Err(RunFault::Memory),
+        }
+    }
+    Ok(())
+}
+
+/// Runs a lease for some steps and gives it back.
+fn take_turn<L: Ledger, R: Threads + Wait + Sync, G: Gate + Sync>(
+    rt: &R,
+    alloc: Global,
+    book: &SharedBook<L>,
+    desk: &mut Desk<L>,
+    lease: Lease,
+    workers: u32,
+    gate: &G,
+) -> Result<(), RunFault>
+    requires { (0 < workers) × (workers ≤ 16) }
+    ensures { parts_of desk.new ≡ parts_of desk.old }
+{
+    let job = lease.job();
+    let mut lease = lease;
+    if let Err(fault) = run_steps(rt, alloc, book, desk, &mut lease, workers, gate) {
+        return end_lease(rt, book, desk, job, fault);
+    }
+    match book.give_back(rt, desk, lease) {
+        Ok(()) => Ok(()),
+        Err((_, fault)) => end_lease(rt, book, desk, job, fault),
+    }
+}
+
+/// Orders a step and runs it, over and over. The lock is free while it runs.
+fn run_steps<L: Ledger, R: Threads + Wait + Sync, G: Gate + Sync>(
+    rt: &R,
+    alloc: Global,
+    book: &SharedBook<L>,
+    desk: &mut Desk<L>,
+    lease: &mut Lease,
+    workers: u32,
+    gate: &G,
+) -> Result<(), BookFault>
+    requires { (0 < workers) × (workers ≤ 16) }
+    ensures { parts_of desk.new ≡ parts_of desk.old }
+{
+    for _ in 0..STEPS_A_TURN {
+        if lease.step() >= lease.steps() {
+            return Ok(());
+        }
+        let order = book.order(rt, alloc, desk, lease)?;
+        match advance(rt, alloc, lease, &order, workers, gate) {
+            Ok(()) => {}
+            Err(LeaseFault::WrongOrder) => return Err(BookFault::StrangerLease),
+            Err(LeaseFault::Memory) => return Err(BookFault::Memory),
+        }
+    }
+    Ok(())
+}
+
+/// What becomes of a lease after a fault. Where memory ran out it is revoked, so that others can take
+/// the job; a lease that the book no longer takes is dropped, and the runner goes on.
+fn end_lease<L: Ledger, R: Wait>(
+    rt: &R,
+    book: &SharedBook<L>,
+    desk: &mut Desk<L>,
+    job: u32,
+    fault: BookFault,
+) -> Result<(), RunFault>
+    ensures { parts_of desk.new ≡ parts_of desk.old }
+{
+    match fault {
+        BookFault::HistoryFull => Err(RunFault::HistoryFull),
+        BookFault::Memory => match book.revoke(rt, desk, job) {
+            Err(BookFault::HistoryFull) => Err(RunFault::HistoryFull),
+            _ => Err(RunFault::Memory),
+        },
+        _ => Ok(()),
+    }
+}

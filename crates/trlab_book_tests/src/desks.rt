@@ -1,0 +1,160 @@
+//! Desks in several threads, and books that are closed with some of them.
+
+ghost use Rattle.std.specs.Prelude.{◌≡◌};
+
+use crate::histories::{Made, made_by};
+use crate::jobs::{seed, steady};
+use std::alloc::Global;
+use std::marker::Brand;
+use std::sync::Wait;
+use std::sync::ledger::{Blank, Ledger};
+use std::thread::{Threads, join};
+use trlab_book::{Desk, SharedBook};
+use trlab_leases::{Event, Reply};
+
+/// How many calls each of four threads makes.
+const CALLS: u32 = 50;
+
+/// The call with a number that a thread makes on its job, and the reply to it: it submits the job, and
+/// then replaces its rule and reads it by turns.
+fn wanted(number: u32, job: u32) -> (Made, Reply) {
+    if number == 0 {
+        (Made::Submit(4), Reply::Number(job))
+    } else if number % 2 == 1 {
+        (Made::Replace(job), Reply::Number(0))
+    } else {
+        (
+            Made::Read(job),
+            Reply::Seen {
+                step: 0,
+                entries: 1,
+            },
+        )
+    }
+}
+
+/// Makes the calls of one thread, and answers its job.
+fn make_calls<L: Ledger, R: Wait>(
+    rt: &R,
+    alloc: Global,
+    book: &SharedBook<L>,
+    desk: &mut Desk<L>,
+) -> Option<u32> {
+    let job = book
+        .submit(rt, alloc, desk, seed(alloc, 0)?, steady(alloc)?, 4)
+        .ok()?;
+    for number in 1..CALLS {
+        if number % 2 == 1 {
+            let from = book.replace(rt, alloc, desk, job, steady(alloc)?).ok()?;
+            if from != 0 {
+                return None;
+            }
+        } else {
+            let seen = book.read(rt, alloc, desk, job).ok()?;
+            if seen.step() != 0 || seen.sheet().len() != 1 {
+                return None;
+            }
+        }
+    }
+    Some(job)
+}
+
+/// Makes the calls of one thread at its own desk.
+fn at_desk<L: Ledger, R: Wait>(
+    rt: &R,
+    alloc: Global,
+    book: &SharedBook<L>,
+    mut desk: Desk<L>,
+) -> (Desk<L>, bool) {
+    let made = make_calls(rt, alloc, book, &mut desk).is_some();
+    (desk, made)
+}
+
+/// The history of four threads.
+fn four_threads<L: Ledger + Send + Sync, R: Threads + Wait + Sync>(
+    rt: &R,
+    alloc: Global,
+    blank: Blank,
+) -> Option<Vec<Event>>
+    requires name { blank.name ≡ L.name }
+    requires parts { (blank.parts ≡ L.parts) × (blank.parts ≡ 1024) }
+{
+    let (book, mut first) = SharedBook::<L>::start(alloc, blank);
+    let second = first.split();
+    let third = first.split();
+    let fourth = first.split();
+    let (((first, a), (second, b)), ((third, c), (fourth, d))) = join(
+        rt,
+        || join(
+            rt,
+            || at_desk(rt, alloc, &book, first),
+            || at_desk(rt, alloc, &book, second),
+        ),
+        || join(
+            rt,
+            || at_desk(rt, alloc, &book, third),
+            || at_desk(rt, alloc, &book, fourth),
+        ),
+    );
+    let desk = first.gather(second).gather(third.gather(fourth));
+    let (_, history) = book.close(desk).ok()?;
+    (a && b && c && d).then(|| history)
+}
+
+/// Whether an event is of a job: its call is on the job, or has submitted it.
+fn is_of(event: &Event, job: u32) -> bool {
+    match made_by(&event.call) {
+        Made::Submit(_) => event.reply == Reply::Number(job),
+        Made::Replace(number) | Made::Read(number) => number == job,
+        _ => false,
+    }
+}
+
+/// Whether the events of a job are those of its thread, in order.
+fn has_thread(history: &[Event], job: u32) -> bool {
+    let mut number = 0;
+    for event in history {
+        if is_of(event, job) {
+            let (call, reply) = wanted(number, job);
+            if number >= CALLS || made_by(&event.call) != call || event.reply != reply {
+                return false;
+            }
+            number += 1;
+        }
+    }
+    number == CALLS
+}
+
+#[test]
+fn four_threads_have_their_calls_in_order(rt: HostRuntime) {
+    let Some(history) = four_threads::<Brand, HostRuntime>(&rt, rt.alloc(), Blank::new(1024)) else {
+        panic!(rt; "a call was not answered as it is to be")
+    };
+    assert_eq!(rt; history.len(), 200);
+    for job in 0..4 {
+        assert!(rt; has_thread(&history, job));
+    }
+}
+
+/// The parts of two desks that can't close the book alone, and how many events the history has when it
+/// closes.
+fn half_a_desk<L: Ledger, R: Wait>(rt: &R, alloc: Global, blank: Blank) -> Option<(u32, u32, usize)>
+    requires name { blank.name ≡ L.name }
+    requires parts { (blank.parts ≡ L.parts) × (blank.parts ≡ 1024) }
+{
+    let (book, mut mine) = SharedBook::<L>::start(alloc, blank);
+    let mut theirs = mine.split();
+    let _ = book.revoke(rt, &mut theirs, 0);
+    let Err((book, mine)) = book.close(mine) else {
+        return None;
+    };
+    let (some, one) = (mine.parts(), theirs.parts());
+    let (_, history) = book.close(mine.gather(theirs)).ok()?;
+    Some((some, one, history.len()))
+}
+
+#[test]
+fn half_a_desk_does_not_close_the_book(rt: HostRuntime) {
+    let closed = half_a_desk::<Brand, HostRuntime>(&rt, rt.alloc(), Blank::new(1024));
+    assert_eq!(rt; closed, Some((1023, 1, 1)));
+}

@@ -1,0 +1,34 @@
+//! Books that have had all their events.
+
+ghost use Rattle.std.specs.Prelude.{◌≡◌};
+
+use std::alloc::Global;
+use std::marker::Brand;
+use std::sync::Wait;
+use std::sync::ledger::{Blank, Ledger};
+use trlab_book::SharedBook;
+use trlab_leases::BookFault;
+
+/// The length of the history of a book that was called once more than it has events.
+fn full_history<L: Ledger, R: Wait>(rt: &R, alloc: Global, blank: Blank) -> Option<usize>
+    requires name { blank.name ≡ L.name }
+    requires parts { (blank.parts ≡ L.parts) × (blank.parts ≡ 1024) }
+{
+    let (book, mut desk) = SharedBook::<L>::start(alloc, blank);
+    for _ in 0..1000000 {
+        if book.revoke(rt, &mut desk, 0) != Err(BookFault::NoSuchJob) {
+            return None;
+        }
+    }
+    if book.revoke(rt, &mut desk, 0) != Err(BookFault::HistoryFull) {
+        return None;
+    }
+    let (_, history) = book.close(desk).ok()?;
+    Some(history.len())
+}
+
+#[test]
+fn a_full_history_closes(rt: HostRuntime) {
+    let found = full_history::<Brand, HostRuntime>(&rt, rt.alloc(), Blank::new(1024));
+    assert_eq!(rt; found, Some(1000000));
+}

@@ -1,0 +1,110 @@
+-- Facts of the book machine.
+use Rattle.std.proofs.Common.{◌≡◌, ℕ, ◌<◌, ◌≤◌, ◌==◌, ◌&&◌, ◌↔◌, IsTrue, not, ltb, [], Bool, true, false, List, Option, Some, None, length, ap, sym, ◌∙◌, refl, slice_get, slice_set, slice_index_or, MatchBool, MatchOption, IfOk, Result, Ok, Err, subst}
+use Rattle.std.proofs.lemmas.Option.{slice_get-get_or, get_or_from_slice_get}
+use Rattle.std.proofs.lemmas.List.{set-get_or}
+use Rattle.std.proofs.lemmas.Bool.{and_parts, eqb-true, ltb-false}
+use Rattle.trlab_road.specs.Cells.{Cells}
+use Rattle.trlab_step.specs.declared.tally.StepTally.{StepTally}
+use Rattle.trlab_run.specs.Progress.{IsUnderway}
+use Rattle.trlab_leases.specs.declared.event.Offered.{Offered}
+use Rattle.trlab_leases.specs.declared.ran.Ran.{Ran}
+use Rattle.trlab_step.proofs.RunLaws.{road_at_is_one}
+use Rattle.trlab_leases.specs.Jobs.{run_of, start_of}
+use Rattle.trlab_leases.specs.Sheets.{AreInForce}
+use Rattle.trlab_leases.specs.Leases.{LeaseState}
+use Rattle.trlab_leases.specs.declared.fault.BookFault.{BookFault}
+use Rattle.trlab_leases.specs.declared.fault.BookFault.TheVariants.{NoSuchJob}
+use Rattle.trlab_leases.specs.declared.event.Reply.TheVariants.{Refused}
+use Rattle.trlab_leases.specs.declared.order.Order.{Order}
+use Rattle.trlab_step.specs.Run.{IsRoadAt, in_force}
+use Rattle.trlab_leases.specs.Comparison.{IsFresh, IsOwnRun, IsRuleAt}
+use Rattle.trlab_leases.specs.Machine.{JobState, Outcome, Served, is_out, is_own, on_job, reading}
+
+-- a job that is there
+pub found : (jobs : List JobState) (i : ℕ) (j : JobState) → i < length jobs → j ≡ slice_index_or jobs i j → slice_get jobs i ≡ Some j
+found jobs i j h e = slice_get-get_or jobs i j h ∙ sym (ap Some e)
+
+pub on_found : (jobs : List JobState) (i : ℕ) (j : JobState) (f : JobState → Outcome) → slice_get jobs i ≡ Some j → on_job jobs i f ≡ record { reply = (f j).reply; jobs = slice_set jobs i (f j).job }
+on_found jobs i j f e =
+    let t : Option JobState → Served = λ o. elim o [ None ↦ record { reply = Refused NoSuchJob; jobs = jobs } | Some k ↦ record { reply = (f k).reply; jobs = slice_set jobs i (f k).job } ] in
+    ap t e
+
+pub jobs_made : (jobs : List JobState) (i : ℕ) (old new : JobState) (f : JobState → Outcome) (m : Bool) → i < length jobs → old ≡ slice_index_or jobs i old → MatchBool m (new ≡ old) (new ≡ (f old).job) → MatchBool m (slice_set jobs i new ≡ jobs) (slice_set jobs i new ≡ (on_job jobs i f).jobs)
+jobs_made jobs i old new f true h e n = ap (slice_set jobs i) (n ∙ e) ∙ set-get_or jobs i old
+jobs_made jobs i old new f false h e n = ap (slice_set jobs i) n ∙ sym (ap (λ s. s.jobs) (on_found jobs i old f (found jobs i old h e)))
+
+stays : (jobs : List JobState) (i : ℕ) (o : Option JobState) → slice_get jobs i ≡ o → (on_job jobs i reading).jobs ≡ jobs
+stays jobs i None e =
+    let t : Option JobState → Served = λ o. elim o [ None ↦ record { reply = Refused NoSuchJob; jobs = jobs } | Some k ↦ record { reply = (reading k).reply; jobs = slice_set jobs i (reading k).job } ] in
+    ap (λ s. s.jobs) (ap t e)
+stays jobs i (Some j) e =
+    ap (λ s. s.jobs) (on_found jobs i j reading e) ∙ sym (ap (slice_set jobs i) (get_or_from_slice_get jobs i j j e)) ∙ set-get_or jobs i j
+
+-- a read changes no job
+pub reading_stays : (jobs : List JobState) (i : ℕ) → (on_job jobs i reading).jobs ≡ jobs
+reading_stays jobs i = stays jobs i (slice_get jobs i) refl
+
+pub rule_found : (jobs : List JobState) (i : ℕ) (j : JobState) (r : Result Order BookFault) → i < length jobs → j ≡ slice_index_or jobs i j → IfOk r (λ o. o.job ≡ i) → IfOk r (λ o. in_force j.sheet o.step ≡ Some o.rule) → IfOk r (λ o. IsRuleAt jobs o)
+rule_found jobs i j (Err f) h e at k = tt
+rule_found jobs i j (Ok o) h e at k =
+    let here : slice_get jobs o.job ≡ Some j = ap (slice_get jobs) at ∙ found jobs i j h e in
+    let P : Option JobState → Type 0 = λ x. MatchOption x ⊥ (λ s. in_force s.sheet o.step ≡ Some o.rule) in
+    subst P (sym here) k
+
+-- what it means that a lease is the one that is out
+pub own_parts : (lease : Offered) (job : JobState) → is_own lease job ≡ true → (lease.base ≡ job.done) × (lease.step ≤ job.high) × (lease.same ≡ true)
+own_parts lease job h =
+    let a = (and_parts (is_out lease.number job.out) ((lease.base == job.done) && (not (ltb job.high lease.step) && lease.same)) h).1 in
+    let b = and_parts (lease.base == job.done) (not (ltb job.high lease.step) && lease.same) a in
+    let d = and_parts (not (ltb job.high lease.step)) lease.same b.1 in
+    (eqb-true lease.base job.done b.0, ltb-false job.high lease.step (not_true (ltb job.high lease.step) d.0), d.1)
+  where
+    not_true : (b : Bool) → not b ≡ true → b ≡ false
+    not_true true h = sym h
+    not_true false h = refl
+
+-- the run of a job, seen from inside
+of_job : (job now : JobState) (road : Cells) (sum : StepTally) → job ≡ now → IsUnderway (run_of now.seed now.sheet now.done road sum) → IsUnderway (run_of job.seed job.sheet job.done road sum)
+of_job job now road sum view run = subst (λ (s : JobState). IsUnderway (run_of s.seed s.sheet s.done road sum)) (sym view) run
+
+-- a lease that has just gone out runs the road of its job
+pub fresh_run : (job : JobState) (lease : LeaseState) (road : Cells) (sum : StepTally) → IsUnderway (run_of job.seed job.sheet job.done road sum)
+    → lease.key ≡ job.seed.key → lease.road_number ≡ job.seed.number → lease.base_road ≡ road → lease.applied ≡ [] → IsOwnRun job lease
+fresh_run job lease road sum run key number base none = record {
+  key = key;
+  number = number;
+  base = subst (λ (r : Cells). IsRoadAt (start_of job.seed) job.sheet job.done r) (sym base) (sum, run.comes);
+  rules = λ k ran at. absurd (no_run k ran (subst (λ (xs : List Ran). slice_get xs k ≡ Some ran) none at));
+}
+  where
+    no_run : (k : ℕ) (ran : Ran) → slice_get [] k ≡ Some ran → ⊥
+    no_run k ran at = cc
+
+-- what a lease has that goes out
+pub lent : (job now : JobState) (number : ℕ) (lease : LeaseState) (road : Cells) (sum : StepTally) → job ≡ now → IsUnderway (run_of now.seed now.sheet now.done road sum)
+    → lease.key ≡ job.seed.key → lease.road_number ≡ job.seed.number → lease.base_road ≡ road → lease.applied ≡ []
+    → lease.number ≡ number → lease.steps ≡ job.steps → lease.base_step ≡ job.done → lease.step ≡ job.done → IsFresh now number lease
+lent job now number lease road sum view run key own base none number_is steps base_step step =
+    subst (λ (s : JobState). IsFresh s number lease) view (record {
+      number_is = number_is;
+      steps = steps;
+      base_step = base_step;
+      step = step;
+      own = fresh_run job lease road sum (of_job job now road sum view run) key own base none;
+    })
+
+-- a lease that began at the job's road, under its key and number, runs the road where its rules are in force
+pub runs_where : (job now : JobState) (lease : LeaseState) (road : Cells) (sum : StepTally) (b : Bool) → job ≡ now → IsUnderway (run_of now.seed now.sheet now.done road sum)
+    → lease.key ≡ job.seed.key → lease.road_number ≡ job.seed.number → lease.base_road ≡ road
+    → IsTrue b ↔ AreInForce job.sheet lease.base_step lease.applied → IsTrue b ↔ IsOwnRun now lease
+runs_where job now lease road sum b view run key number base same =
+    let B : Cells → Type 0 = λ r. IsRoadAt (start_of job.seed) job.sheet job.done r in
+    let mine = of_job job now road sum view run in
+    subst (λ (s : JobState). IsTrue b ↔ IsOwnRun s lease) view
+    (λ h. record { key = key; number = number; base = subst B (sym base) (sum, mine.comes); rules = same.0 h }, λ own. same.1 own.rules)
+
+-- one that began at another road does not run the job's
+pub runs_not : (job now : JobState) (lease : LeaseState) (road : Cells) (sum : StepTally) → job ≡ now → IsUnderway (run_of now.seed now.sheet now.done road sum)
+    → (lease.base_road ≡ road → ⊥) → IsOwnRun now lease → ⊥
+runs_not job now lease road sum view run other own =
+    other (road_at_is_one (start_of now.seed) now.sheet now.done lease.base_road road own.base (sum, run.comes))

@@ -1,0 +1,4 @@
+pub mod InForce
+pub mod Entering
+pub mod LeaseRuns
+pub mod Booking

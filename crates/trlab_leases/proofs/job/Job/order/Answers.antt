@@ -1,0 +1,28 @@
+use Rattle.std.proofs.Common.{arith, ◌≡◌, sym, ◌∙◌, subst, true}
+use Rattle.trlab_leases.specs.Machine.{JobState, job_state, is_own}
+use Rattle.trlab_leases.specs.Comparison.{offered}
+use Rattle.trlab_leases.proofs.Booking.{own_parts}
+use Rattle.trlab_leases.proofs.Entering.{begin_more}
+use Rattle.trlab_leases.proofs.job.Job.order.Goals as goal
+
+pub invariant_of-self : goal.invariant_of-self
+invariant_of-self c =
+    let j = c.self.inside in
+    let i = c.self.invariant in
+    let l = c.args.lease.now in
+    let own : is_own (offered l c.args.same) c.args.self.now ≡ true = sym c.owns.ensures ∙ c.if-not-owns.false in
+    let state = job_state j.seed j.sheet j.steps j.high j.done j.cancelled j.out in
+    let P : JobState → Type 0 = λ s. is_own (offered l c.args.same) s ≡ true in
+    let parts = own_parts (offered l c.args.same) state (subst P (sym c.self.view_is) own) in
+    let by = parts.1 in
+    let high = i.ordered in
+    let within = i.within in
+    let other = c.if-step-self.false in
+    let at = c.step-step.ensures.value in
+    let most = c.max-self-inside.ensures in
+    record {
+      ordered = omega arith;
+      within = omega arith;
+      begin = begin_more j.high c.max-self-inside.result j.sheet (omega arith) i.begin;
+      run = i.run;
+    }

@@ -1,0 +1,77 @@
+//! One ordered step of a lease.
+
+ghost use Rattle.std.specs.Prelude.{◌≡◌, ◌↔◌, IsTrue, OnOk, OnErr, length};
+ghost use Rattle.trlab_step.specs.Laws.{IsRuleFor};
+ghost use Rattle.trlab_leases.specs.Leases.{FitsOrder, HasRun};
+ghost use Rattle.trlab_leases.specs.declared.advance.LeaseFault.TheVariants.{Memory, WrongOrder};
+
+use crate::lease::Lease;
+use crate::order::Order;
+use crate::ran::Ran;
+use crate::suits::suits;
+use std::alloc::{AllocError, Global};
+use thiserror::Error;
+use trlab_machine::Dice;
+use trlab_step::{Asker, StepRoom, take_step};
+
+/// Why a lease ran no step.
+#[derive(Clone, Copy, Debug, PartialEq, Eq, Error)]
+pub enum LeaseFault {
+    /// The order is for another job, lease or step, or its rule does not suit the road.
+    #[error("the order is not for this lease")]
+    WrongOrder,
+    /// Memory ran out.
+    #[error("memory ran out")]
+    Memory,
+}
+
+impl From<AllocError> for LeaseFault {
+    ghost from_gives = { λ _ fault. fault ≡ Memory };
+
+    fn from(_: AllocError) -> LeaseFault {
+        LeaseFault::Memory
+    }
+}
+
+impl Lease {
+    /// Runs the ordered step, in which the asker asks the cars.
+    ///
+    /// # Errors
+    ///
+    /// `WrongOrder` where the order is for another job, lease or step, or has a change program and the
+    /// road one lane; `Memory` where an allocation was refused. Then nothing changes.
+    pub fn advance_by<A: Asker>(
+        &mut self,
+        asker: &A,
+        alloc: Global,
+        order: &Order,
+    ) -> Result<(), LeaseFault>
+        requires ready { A.is_ready asker.now }
+        ensures ok { OnOk result (HasRun self.old order.now self.new) }
+        ensures err { OnErr result (self.new ≡ self.old) }
+        ensures wrong { (result ≡ Err WrongOrder) ↔ (FitsOrder self.old order.now → ⊥) }
+    {
+        if !self.fits(order) {
+            return Err(LeaseFault::WrongOrder);
+        }
+        self.applied.reserve(1)?;
+        let rule = order.rule.copy(alloc)?;
+        let dice = Dice::new(&self.key, self.road_number, self.step);
+        let mut room = StepRoom::new(alloc);
+        let tally = take_step(asker, alloc, &mut self.road, &mut room, &rule, &dice)?;
+        self.applied.push_reserved(Ran { rule, tally });
+        self.step += 1;
+        Ok(())
+    }
+
+    /// Whether an order is for this lease at its step, and its rule suits the road.
+    fn fits(&self, order: &Order) -> bool
+        ensures value { IsTrue result ↔ FitsOrder self.now order.now }
+        ensures rule { IsTrue result → IsRuleFor (length self.now.road.lanes) order.now.rule }
+    {
+        order.job == self.job
+            && order.lease == self.number
+            && order.step == self.step
+            && suits(&order.rule, &self.road)
+    }
+}

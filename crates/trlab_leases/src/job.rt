@@ -1,0 +1,286 @@
+//! One job of the book.
+
+ghost use Rattle.std.specs.Prelude.{◌≡◌, IsTrue, IfOk, IfErr, OnErr, Some, length, ◌↔◌, MatchBool};
+ghost use Rattle.trlab_road.specs.Legal.{IsLegal};
+ghost use Rattle.trlab_run.specs.Progress.{IsUnderway};
+ghost use Rattle.trlab_step.specs.Laws.{IsRuleFor};
+ghost use Rattle.trlab_step.specs.Run.{in_force};
+ghost use Rattle.trlab_leases.specs.Answers.{back_reply, done_reply, is_memory, number_reply, order_reply};
+ghost use Rattle.trlab_leases.specs.Comparison.{IsFresh, IsOwnRun, IsSnapshotOf, offered};
+ghost use Rattle.trlab_leases.specs.Jobs.{run_of};
+ghost use Rattle.trlab_leases.specs.Machine.{cancelling, giving_back, is_free, is_own, leasing, new_job, ordering, replacing, revoking};
+
+use crate::fault::BookFault;
+use crate::lease::Lease;
+use crate::order::Order;
+use crate::seed::Seed;
+use crate::sheet::Sheet;
+use crate::snapshot::Snapshot;
+use crate::suits::suits;
+use std::alloc::{AllocError, Global};
+use std::marker::Model;
+use trlab_road::Road;
+use trlab_rules::Rule;
+use trlab_step::StepTally;
+use trlab_words::Key;
+
+/// A job. Contracts see all of it but its road and its tally, which are those of its seed and its sheet.
+#[derive(Drop)]
+pub(crate) struct Job {
+    seed: Seed,
+    sheet: Sheet,
+    steps: u32,
+    /// How many steps were ever ordered.
+    high: u32,
+    /// How many steps are done.
+    done: u32,
+    cancelled: bool,
+    /// The number of the lease that is out.
+    out: Option<u32>,
+    /// The road at the steps done; none while it is that of the seed.
+    road: Option<Road>,
+    tally: StepTally,
+}
+
+impl Model for Job {
+    ghost use Rattle.std.specs.Prelude.{unwrap_or};
+    ghost use Rattle.trlab_leases.specs.Jobs.{IsJob};
+    ghost use Rattle.trlab_leases.specs.Machine.{JobState, job_state};
+
+    ghost Value = { JobState };
+
+    ghost view = { λ job. job_state job.seed job.sheet job.steps job.high job.done job.cancelled job.out };
+
+    ghost invariant = { λ job. IsJob
+        (job_state job.seed job.sheet job.steps job.high job.done job.cancelled job.out)
+        (unwrap_or job.road job.seed.road) job.tally };
+}
+
+impl Job {
+    /// A job as it is submitted: no step is done.
+    pub fn new(alloc: Global, seed: Seed, rule: Rule, steps: u32) -> Result<Job, AllocError>
+        requires legal { IsLegal seed.road }
+        requires rule { IsRuleFor (length seed.road.lanes) rule }
+        ensures { IfOk result (λ job. job ≡ new_job seed rule steps) }
+    {
+        let sheet = Sheet::new(alloc, rule)?;
+        Ok(Job {
+            seed,
+            sheet,
+            steps,
+            high: 0,
+            done: 0,
+            cancelled: false,
+            out: None,
+            road: None,
+            tally: StepTally {
+                distance: 0,
+                stopped: 0,
+                changes: 0,
+            },
+        })
+    }
+
+    /// The road and the tally at the steps done.
+    fn standing(&self) -> (&Road, StepTally)
+        ensures { IsUnderway (run_of self.now.seed self.now.sheet self.now.done result.0.now result.1) }
+    {
+        match &self.road {
+            Some(road) => (road, self.tally),
+            None => (&self.seed.road, self.tally),
+        }
+    }
+
+    /// Enters a rule, and answers the step from which on it is in force.
+    pub fn replace(&mut self, rule: Rule) -> Result<u32, BookFault>
+        ensures reply { MatchBool (is_memory result) (Unit {0})
+            (number_reply result ≡ (replacing rule self.old).reply) }
+        ensures job { MatchBool (is_memory result) (self.new ≡ self.old)
+            (self.new ≡ (replacing rule self.old).job) }
+    {
+        if self.cancelled || self.high == self.steps {
+            return Err(BookFault::Ended);
+        }
+        if !suits(&rule, &self.seed.road) {
+            return Err(BookFault::LanesMismatch);
+        }
+        self.sheet.enter(self.high, rule)?;
+        Ok(self.high)
+    }
+
+    /// Ends the lease that is out.
+    pub fn revoke(&mut self) -> Result<(), BookFault>
+        ensures reply { done_reply result ≡ (revoking self.old).reply }
+        ensures job { self.new ≡ (revoking self.old).job }
+    {
+        if self.out.is_none() {
+            return Err(BookFault::StrangerLease);
+        }
+        self.out = None;
+        Ok(())
+    }
+
+    /// Ends the job, and its lease.
+    pub fn cancel(&mut self) -> Result<(), BookFault>
+        ensures reply { done_reply result ≡ (cancelling self.old).reply }
+        ensures job { self.new ≡ (cancelling self.old).job }
+    {
+        if self.cancelled || self.done == self.steps {
+            return Err(BookFault::Ended);
+        }
+        self.cancelled = true;
+        self.out = None;
+        Ok(())
+    }
+
+    /// Whether the job can go out.
+    pub fn is_free(&self) -> bool
+        ensures { result ≡ is_free self.now }
+    {
+        self.out.is_none() && !self.cancelled && self.done < self.steps
+    }
+
+    /// The job, which has this index, goes out under a number.
+    pub fn lend(&mut self, alloc: Global, index: u32, number: u32) -> Result<Lease, AllocError>
+        ensures lease { IfOk result (λ lease. (lease.job ≡ index) × IsFresh self.old number lease) }
+        ensures job { IfOk result (λ _. self.new ≡ (leasing index number self.old).job) }
+        ensures same { OnErr result (self.new ≡ self.old) }
+    {
+        let (standing, _) = self.standing();
+        let base_road = standing.copy(alloc)?;
+        let road = standing.copy(alloc)?;
+        self.out = Some(number);
+        Ok(Lease {
+            job: index,
+            number,
+            steps: self.steps,
+            key: self.seed.key,
+            road_number: self.seed.number,
+            base_step: self.done,
+            base_road,
+            step: self.done,
+            road,
+            applied: Vec::new(alloc),
+        })
+    }
+
+    /// Whether a lease runs this job's road.
+    pub fn runs(&self, lease: &Lease) -> bool
+        ensures { IsTrue result ↔ IsOwnRun self.now lease.now }
+    {
+        let _end = lease.step();
+        if lease.road_number() != self.seed.number || !same_key(lease.key(), &self.seed.key) {
+            return false;
+        }
+        let (standing, _) = self.standing();
+        if !lease.base_road().equals(standing) {
+            return false;
+        }
+        self.sheet.are_in_force(lease.base_step(), lease.applied())
+    }
+
+    /// Whether a lease is the one that is out, and may be ordered or given back.
+    fn owns(&self, lease: &Lease, same: bool) -> bool
+        ensures { result ≡ is_own (offered lease.now same) self.now }
+    {
+        match self.out {
+            Some(number) => {
+                number == lease.number()
+                    && lease.base_step() == self.done
+                    && lease.step() <= self.high
+                    && same
+            }
+            None => false,
+        }
+    }
+
+    /// The order for the step at which a lease stands.
+    pub fn order(&mut self, alloc: Global, lease: &Lease, same: bool) -> Result<Order, BookFault>
+        ensures reply { MatchBool (is_memory result) (Unit {0})
+            (order_reply result ≡ (ordering (offered lease.now same) self.old).reply) }
+        ensures job { MatchBool (is_memory result) (self.new ≡ self.old)
+            (self.new ≡ (ordering (offered lease.now same) self.old).job) }
+        ensures index { IfOk result (λ order. order.job ≡ lease.now.job) }
+        ensures rule { IfOk result (λ order. in_force self.old.sheet order.step ≡ Some order.rule) }
+    {
+        let step = lease.step();
+        if self.cancelled || step == self.steps {
+            return Err(BookFault::Ended);
+        }
+        if !self.owns(lease, same) {
+            return Err(BookFault::StrangerLease);
+        }
+        let entry = self.sheet.at(step);
+        let from = entry.0;
+        let rule = entry.1.copy(alloc)?;
+        self.high = self.high.max(step + 1);
+        Ok(Order {
+            job: lease.job(),
+            lease: lease.number(),
+            step,
+            from,
+            rule,
+        })
+    }
+
+    /// The tally at the step to which a lease of this job's road has come.
+    fn tally_with(&self, lease: &Lease) -> StepTally
+        requires base { lease.now.base_step ≡ self.now.done }
+        requires own { IsOwnRun self.now lease.now }
+        ensures { IsUnderway (run_of self.now.seed self.now.sheet lease.now.step lease.now.road result) }
+    {
+        let _end = lease.step();
+        let mut step = self.done;
+        let mut sum = self.tally;
+        for ran in lease.applied() {
+            if self.seed.warm <= step {
+                sum.distance += ran.tally.distance;
+                sum.stopped += ran.tally.stopped;
+                sum.changes += ran.tally.changes;
+            }
+            step += 1;
+        }
+        sum
+    }
+
+    /// The job comes to stand where a lease stands.
+    pub fn give_back(&mut self, lease: Lease, same: bool) -> Result<(), (Lease, BookFault)>
+        requires { IsTrue same → IsOwnRun self.old lease }
+        ensures reply { back_reply result ≡ (giving_back (offered lease same) self.old).reply }
+        ensures job { self.new ≡ (giving_back (offered lease same) self.old).job }
+        ensures handed { IfErr result (λ handed. handed.0 ≡ lease) }
+    {
+        if !self.owns(&lease, same) {
+            return Err((lease, BookFault::StrangerLease));
+        }
+        self.tally = self.tally_with(&lease);
+        self.done = lease.step();
+        self.road = Some(lease.into_road());
+        self.out = None;
+        Ok(())
+    }
+
+    /// A snapshot of the job.
+    pub fn read(&self, alloc: Global) -> Result<Snapshot, AllocError>
+        ensures { IfOk result (λ seen. IsSnapshotOf self.now seen) }
+    {
+        let seed = self.seed.copy(alloc)?;
+        let sheet = self.sheet.copy(alloc)?;
+        let (standing, tally) = self.standing();
+        let road = standing.copy(alloc)?;
+        Ok(Snapshot {
+            seed,
+            sheet,
+            step: self.done,
+            road,
+            tally,
+        })
+    }
+}
+
+/// Whether two keys are one.
+fn same_key(key: &Key, other: &Key) -> bool
+    ensures { IsTrue result ↔ (key.now ≡ other.now) }
+{
+    key.0 == other.0
+}

@@ -1,0 +1,139 @@
+//! Leases: jobs that are out, whose steps are run outside the book.
+
+ghost use Rattle.std.specs.Prelude.{◌≡◌};
+ghost use Rattle.trlab_leases.specs.Leases.{IsLease};
+
+use crate::ran::Ran;
+use std::marker::Model;
+use trlab_road::Road;
+use trlab_words::Key;
+
+/// A job that is out: the road from which the lease began, the rules that it has applied since, and the
+/// road to which these have led.
+#[derive(Drop)]
+pub struct Lease {
+    pub(crate) job: u32,
+    pub(crate) number: u32,
+    pub(crate) steps: u32,
+    pub(crate) key: Key,
+    pub(crate) road_number: u32,
+    pub(crate) base_step: u32,
+    pub(crate) base_road: Road,
+    pub(crate) step: u32,
+    pub(crate) road: Road,
+    pub(crate) applied: Vec<Ran>,
+}
+
+impl Model for Lease {
+    ghost use Rattle.trlab_leases.specs.Leases.{IsLease, LeaseState};
+
+    ghost Value = { LeaseState };
+
+    ghost view = { λ lease. record {
+      job = lease.job;
+      number = lease.number;
+      steps = lease.steps;
+      key = lease.key;
+      road_number = lease.road_number;
+      base_step = lease.base_step;
+      base_road = lease.base_road;
+      step = lease.step;
+      road = lease.road;
+      applied = lease.applied.items;
+    } };
+
+    ghost invariant = { λ lease. IsLease (record {
+      job = lease.job;
+      number = lease.number;
+      steps = lease.steps;
+      key = lease.key;
+      road_number = lease.road_number;
+      base_step = lease.base_step;
+      base_road = lease.base_road;
+      step = lease.step;
+      road = lease.road;
+      applied = lease.applied.items;
+    }) };
+}
+
+impl Lease {
+    /// The number of the job.
+    pub fn job(&self) -> u32
+        ensures { result ≡ self.now.job }
+    {
+        self.job
+    }
+
+    /// The number of the lease.
+    pub fn number(&self) -> u32
+        ensures { result ≡ self.now.number }
+    {
+        self.number
+    }
+
+    /// The steps of the job.
+    pub fn steps(&self) -> u32
+        ensures { result ≡ self.now.steps }
+    {
+        self.steps
+    }
+
+    /// The key by which the random words go.
+    pub(crate) fn key(&self) -> &Key
+        ensures { result.now ≡ self.now.key }
+    {
+        &self.key
+    }
+
+    /// The number of the road.
+    pub(crate) fn road_number(&self) -> u32
+        ensures { result ≡ self.now.road_number }
+    {
+        self.road_number
+    }
+
+    /// The step at which the lease began.
+    pub fn base_step(&self) -> u32
+        ensures { result ≡ self.now.base_step }
+    {
+        self.base_step
+    }
+
+    /// The road from which it began.
+    pub fn base_road(&self) -> &Road
+        ensures { result.now ≡ self.now.base_road }
+    {
+        &self.base_road
+    }
+
+    /// The step to which it has come.
+    pub fn step(&self) -> u32
+        ensures value { result ≡ self.now.step }
+        ensures lease { IsLease self.now }
+    {
+        self.step
+    }
+
+    /// The road to which it has come.
+    pub fn road(&self) -> &Road
+        ensures value { result.now ≡ self.now.road }
+        ensures lease { IsLease self.now }
+    {
+        &self.road
+    }
+
+    /// The steps that it has run.
+    pub(crate) fn applied(&self) -> &[Ran]
+        ensures value { result.now ≡ self.now.applied }
+        ensures lease { IsLease self.now }
+    {
+        &self.applied
+    }
+
+    /// The road to which it has come, of a lease that ends.
+    pub(crate) fn into_road(self) -> Road
+        ensures { result ≡ self.road }
+    {
+        self.road
+    }
+}

@@ -1,0 +1,132 @@
+//! Calls on one job of a list.
+
+ghost use Rattle.std.specs.Prelude.{◌≡◌, ◌↔◌, ◌<◌, IsTrue, IfOk, IfErr, IfSome, MatchBool, length};
+ghost use Rattle.std.specs.List.{position};
+ghost use Rattle.trlab_leases.specs.Answers.{back_reply, done_reply, is_memory, number_reply, order_reply, seen_reply};
+ghost use Rattle.trlab_leases.specs.Comparison.{IsRuleAt, IsSame, IsSeen, offered};
+ghost use Rattle.trlab_leases.specs.Machine.{cancelling, giving_back, is_free, on_job, ordering, reading, replacing, revoking};
+
+use crate::fault::BookFault;
+use crate::job::Job;
+use crate::lease::Lease;
+use crate::order::Order;
+use crate::snapshot::Snapshot;
+use std::alloc::Global;
+use trlab_rules::Rule;
+
+/// Enters a rule.
+pub(crate) fn replace_in(jobs: &mut Vec<Job>, index: u32, rule: Rule) -> Result<u32, BookFault>
+    ensures reply { MatchBool (is_memory result) (Unit {0})
+        (number_reply result ≡ (on_job jobs.old.items index (replacing rule)).reply) }
+    ensures jobs { MatchBool (is_memory result) (jobs.new.items ≡ jobs.old.items)
+        (jobs.new.items ≡ (on_job jobs.old.items index (replacing rule)).jobs) }
+    ensures len { length jobs.new.items ≡ length jobs.old.items }
+{
+    if index as usize >= jobs.len() {
+        return Err(BookFault::NoSuchJob);
+    }
+    let found = &mut jobs[index as usize];
+    found.replace(rule)
+}
+
+/// Ends the lease that is out.
+pub(crate) fn revoke_in(jobs: &mut Vec<Job>, index: u32) -> Result<(), BookFault>
+    ensures reply { done_reply result ≡ (on_job jobs.old.items index revoking).reply }
+    ensures jobs { jobs.new.items ≡ (on_job jobs.old.items index revoking).jobs }
+    ensures len { length jobs.new.items ≡ length jobs.old.items }
+{
+    if index as usize >= jobs.len() {
+        return Err(BookFault::NoSuchJob);
+    }
+    let found = &mut jobs[index as usize];
+    found.revoke()
+}
+
+/// Ends a job, and its lease.
+pub(crate) fn cancel_in(jobs: &mut Vec<Job>, index: u32) -> Result<(), BookFault>
+    ensures reply { done_reply result ≡ (on_job jobs.old.items index cancelling).reply }
+    ensures jobs { jobs.new.items ≡ (on_job jobs.old.items index cancelling).jobs }
+    ensures len { length jobs.new.items ≡ length jobs.old.items }
+{
+    if index as usize >= jobs.len() {
+        return Err(BookFault::NoSuchJob);
+    }
+    let found = &mut jobs[index as usize];
+    found.cancel()
+}
+
+/// The least job that can go out.
+pub(crate) fn free_in(jobs: &[Job]) -> Option<usize>
+    ensures place { result ≡ position is_free jobs.now }
+    ensures within { IfSome result (λ index. index < length jobs.now) }
+{
+    jobs.iter().position(|job| job.is_free())
+}
+
+/// Whether there is the job of a lease, and the lease runs its road.
+pub(crate) fn is_same_in(jobs: &[Job], lease: &Lease) -> bool
+    ensures { IsTrue result ↔ IsSame jobs.now lease.now }
+{
+    let Some(found) = jobs.get(lease.job() as usize) else {
+        return false;
+    };
+    found.runs(lease)
+}
+
+/// The order for the step at which a lease stands.
+pub(crate) fn order_in(
+    jobs: &mut Vec<Job>,
+    alloc: Global,
+    lease: &Lease,
+    same: bool,
+) -> Result<Order, BookFault>
+    ensures reply { MatchBool (is_memory result) (Unit {0})
+        (order_reply result
+        ≡ (on_job jobs.old.items lease.now.job (ordering (offered lease.now same))).reply) }
+    ensures jobs { MatchBool (is_memory result) (jobs.new.items ≡ jobs.old.items)
+        (jobs.new.items ≡ (on_job jobs.old.items lease.now.job (ordering (offered lease.now same))).jobs) }
+    ensures len { length jobs.new.items ≡ length jobs.old.items }
+    ensures rule { IfOk result (λ order. IsRuleAt jobs.old.items order) }
+{
+    let index = lease.job() as usize;
+    if index >= jobs.len() {
+        return Err(BookFault::NoSuchJob);
+    }
+    let found = &mut jobs[index];
+    found.order(alloc, lease, same)
+}
+
+/// The job of a lease comes to stand where the lease stands.
+pub(crate) fn give_back_in(
+    jobs: &mut Vec<Job>,
+    lease: Lease,
+    same: bool,
+) -> Result<(), (Lease, BookFault)>
+    requires { IsTrue same → IsSame jobs.old.items lease }
+    ensures reply { back_reply result
+        ≡ (on_job jobs.old.items lease.job (giving_back (offered lease same))).reply }
+    ensures jobs { jobs.new.items ≡ (on_job jobs.old.items lease.job (giving_back (offered lease same))).jobs }
+    ensures len { length jobs.new.items ≡ length jobs.old.items }
+    ensures handed { IfErr result (λ handed. handed.0 ≡ lease) }
+{
+    let index = lease.job() as usize;
+    if index >= jobs.len() {
+        return Err((lease, BookFault::NoSuchJob));
+    }
+    let found = &mut jobs[index];
+    found.give_back(lease, same)
+}
+
+/// A snapshot of a job.
+#[tactic(auto, using(crate::proofs::Booking::reading_stays))]
+pub(crate) fn read_in(jobs: &[Job], alloc: Global, index: u32) -> Result<Snapshot, BookFault>
+    ensures reply { MatchBool (is_memory result) (Unit {0})
+        (seen_reply result ≡ (on_job jobs.now index reading).reply) }
+    ensures seen { IfOk result (λ seen. IsSeen jobs.now index seen) }
+    ensures jobs { (on_job jobs.now index reading).jobs ≡ jobs.now }
+{
+    let Some(found) = jobs.get(index as usize) else {
+        return Err(BookFault::NoSuchJob);
+    };
+    Ok(found.read(alloc)?)
+}

@@ -1,0 +1,53 @@
+//! Orders: the rule for the next step of a lease.
+
+ghost use Rattle.std.specs.Prelude.{◌≡◌, ◌+◌, ◌<◌, ◌^◌};
+
+use trlab_rules::Rule;
+
+/// The rule in force at the step where a lease stands, which the lease is to run.
+#[derive(Drop)]
+pub struct Order {
+    pub(crate) job: u32,
+    pub(crate) lease: u32,
+    pub(crate) step: u32,
+    pub(crate) from: u32,
+    pub(crate) rule: Rule,
+    ghost fits: { step + 1 < 2 ^ 32 },
+}
+
+impl Order {
+    /// The number of the job.
+    pub fn job(&self) -> u32
+        ensures { result ≡ self.now.job }
+    {
+        self.job
+    }
+
+    /// The number of the lease.
+    pub fn lease(&self) -> u32
+        ensures { result ≡ self.now.lease }
+    {
+        self.lease
+    }
+
+    /// The step, from 0 on.
+    pub fn step(&self) -> u32
+        ensures { result ≡ self.now.step }
+    {
+        self.step
+    }
+
+    /// The step from which on the rule is in force.
+    pub fn from(&self) -> u32
+        ensures { result ≡ self.now.from }
+    {
+        self.from
+    }
+
+    /// The rule.
+    pub fn rule(&self) -> &Rule
+        ensures { result.now ≡ self.now.rule }
+    {
+        &self.rule
+    }
+}

@@ -1,0 +1,134 @@
+//! Sheets of the book: up to 1024 rules, each in force from its step on, up to that of the next.
+
+ghost use Rattle.std.specs.Prelude.{◌≡◌, ◌≤◌, ◌<◌, ◌↔◌, ◌+◌, ◌^◌, ◌∷◌, [], IsTrue, IfOk, IfErr, OnOk, OnErr, length, Some, slice_get};
+ghost use Rattle.trlab_step.specs.Run.{IsSheet, in_force};
+ghost use Rattle.trlab_leases.specs.Sheets.{AreInForce, BeginBy, MayRefuse, entered, entry_in_force};
+
+use crate::fault::BookFault;
+use crate::limits::MOST_ENTRIES;
+use crate::ran::Ran;
+use std::alloc::{AllocError, Global};
+use std::marker::Model;
+use trlab_rules::Rule;
+
+/// The rules of a job, each with the step from which on it is in force; the first begins at step 0.
+#[derive(Drop)]
+pub struct Sheet {
+    entries: Vec<(u32, Rule)>,
+}
+
+impl Model for Sheet {
+    ghost use Rattle.trlab_step.specs.Run.{Sheet as Rules};
+    ghost use Rattle.trlab_leases.specs.Sheets.{IsBookSheet};
+
+    ghost Value = { Rules };
+
+    ghost view = { λ sheet. sheet.entries.items };
+
+    ghost invariant = { λ sheet. IsBookSheet sheet.entries.items };
+}
+
+impl Sheet {
+    /// The sheet of one rule.
+    pub(crate) fn new(alloc: Global, rule: Rule) -> Result<Sheet, AllocError>
+        ensures { IfOk result (λ sheet. sheet ≡ (0, rule) ∷ []) }
+    {
+        let mut entries = Vec::new(alloc);
+        entries.push((0, rule))?;
+        Ok(Sheet { entries })
+    }
+
+    /// How many entries there are, from 1 to 1024.
+    pub fn len(&self) -> usize
+        ensures value { result ≡ length self.now }
+        ensures few { result ≤ 1024 }
+    {
+        self.entries.len()
+    }
+
+    /// An entry: the step from which on it is in force, and its rule.
+    pub fn entry(&self, index: usize) -> (u32, &Rule)
+        requires { index < length self.now }
+        ensures { slice_get self.now index ≡ Some (result.0, result.1.now) }
+    {
+        let entry = &self.entries[index];
+        (entry.0, &entry.1)
+    }
+
+    /// The entry in force at a step.
+    pub(crate) fn at(&self, step: u32) -> &(u32, Rule)
+        ensures entry { entry_in_force self.now step ≡ Some result.now }
+        ensures rule { in_force self.now step ≡ Some result.now.1 }
+    {
+        let begun = self.entries.partition_point(|entry| entry.0 <= step);
+        &self.entries[begun - 1]
+    }
+
+    /// A copy of the sheet.
+    ///
+    /// # Errors
+    ///
+    /// Where memory runs out.
+    pub(crate) fn copy(&self, alloc: Global) -> Result<Sheet, AllocError>
+        ensures { IfOk result (λ copy. copy ≡ self.now) }
+    {
+        let entries = copy_entries(alloc, &self.entries)?;
+        Ok(Sheet { entries })
+    }
+
+    /// Whether the rules that were applied, the first at a step, are those in force.
+    pub(crate) fn are_in_force(&self, first: u32, applied: &[Ran]) -> bool
+        requires { first + length applied.now < 2 ^ 32 }
+        ensures { IsTrue result ↔ AreInForce self.now first applied.now }
+    {
+        let mut step = first;
+        for ran in applied {
+            if !self.at(step).1.equals(&ran.rule) {
+                return false;
+            }
+            step += 1;
+        }
+        true
+    }
+
+    /// Enters a rule that is in force from a step on.
+    ///
+    /// # Errors
+    ///
+    /// `SheetFull` where the sheet would have more than 1024 entries, `Memory` where an allocation was
+    /// refused. Then nothing changes.
+    pub(crate) fn enter(&mut self, from: u32, rule: Rule) -> Result<(), BookFault>
+        requires { BeginBy from self.old }
+        ensures ok { OnOk result
+            ((self.new ≡ entered self.old from rule) × (length self.new ≤ 1024) × IsSheet self.new) }
+        ensures err { IfErr result (λ fault. MayRefuse fault (entered self.old from rule)) }
+        ensures same { OnErr result (self.new ≡ self.old) }
+    {
+        let Some(last) = self.entries.pop() else {
+            unreachable!()
+        };
+        if last.0 == from {
+            self.entries.push_reserved((from, rule));
+            return Ok(());
+        }
+        self.entries.push_reserved(last);
+        if self.entries.len() >= MOST_ENTRIES {
+            return Err(BookFault::SheetFull);
+        }
+        self.entries.reserve(1)?;
+        self.entries.push_reserved((from, rule));
+        Ok(())
+    }
+}
+
+/// A copy of a list of entries.
+fn copy_entries(alloc: Global, entries: &[(u32, Rule)]) -> Result<Vec<(u32, Rule)>, AllocError>
+    ensures { IfOk result (λ copies. copies.items ≡ entries.now) }
+{
+    let mut copies = Vec::new(alloc);
+    for entry in entries {
+        let rule = entry.1.copy(alloc)?;
+        copies.push((entry.0, rule))?;
+    }
+    Ok(copies)
+}

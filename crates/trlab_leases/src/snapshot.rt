@@ -1,0 +1,71 @@
+//! Snapshots: what a read tells of a job.
+
+ghost use Rattle.std.specs.Prelude.{◌≡◌};
+ghost use Rattle.trlab_step.specs.Run.{IsRoadAt, IsTallyAt};
+ghost use Rattle.trlab_leases.specs.Jobs.{start_of};
+
+use crate::seed::Seed;
+use crate::sheet::Sheet;
+use std::marker::Model;
+use trlab_road::Road;
+use trlab_step::StepTally;
+
+/// A job at a step: its road and its tally are those to which its seed comes under its sheet.
+#[derive(Drop)]
+pub struct Snapshot {
+    pub(crate) seed: Seed,
+    pub(crate) sheet: Sheet,
+    pub(crate) step: u32,
+    pub(crate) road: Road,
+    pub(crate) tally: StepTally,
+}
+
+impl Model for Snapshot {
+    ghost use Rattle.trlab_run.specs.Progress.{IsUnderway, Progress};
+    ghost use Rattle.trlab_leases.specs.Jobs.{run_of};
+
+    ghost Value = { Progress };
+
+    ghost view = { λ seen. run_of seen.seed seen.sheet seen.step seen.road seen.tally };
+
+    ghost invariant = { λ seen. IsUnderway (run_of seen.seed seen.sheet seen.step seen.road seen.tally) };
+}
+
+impl Snapshot {
+    /// Where the job started.
+    pub fn seed(&self) -> &Seed
+        ensures { start_of result.now ≡ self.now.seed }
+    {
+        &self.seed
+    }
+
+    /// The rules of the job, those of later steps included.
+    pub fn sheet(&self) -> &Sheet
+        ensures { result.now ≡ self.now.sheet }
+    {
+        &self.sheet
+    }
+
+    /// How many steps are done.
+    pub fn step(&self) -> u32
+        ensures { result ≡ self.now.step }
+    {
+        self.step
+    }
+
+    /// The road at this step.
+    pub fn road(&self) -> &Road
+        ensures value { result.now ≡ self.now.road }
+        ensures run { IsRoadAt self.now.seed self.now.sheet self.now.step result.now }
+    {
+        &self.road
+    }
+
+    /// The sum of the tallies of the steps done, without those before `warm`.
+    pub fn tally(&self) -> StepTally
+        ensures value { result ≡ self.now.sum }
+        ensures run { IsTallyAt self.now.seed self.now.sheet self.now.step result }
+    {
+        self.tally
+    }
+}
