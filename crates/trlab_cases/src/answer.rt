@@ -7,6 +7,7 @@ ghost use Rattle.trlab_jobs.specs.declared.limits.TheConstants.{MOST_RUNNERS};
 use crate::notes::note_line;
 use crate::roads::{pictured, spread, stepped};
 use std::alloc::{AllocError, AllocGlobal, Global};
+use std::sync::Wait;
 use std::thread::Threads;
 use trlab_asm::{AsmFault, Why, assemble, disassemble};
 use trlab_campaign::{End, Watched, check_text, run_job_text, run_sweep_text};
@@ -47,7 +48,7 @@ pub struct Answer {
 }
 
 /// The answer to a text.
-pub fn answer_to<R: AllocGlobal + Threads + Sync>(
+pub fn answer_to<R: AllocGlobal + Threads + Wait + Sync>(
     rt: &R,
     command: Command,
     text: &str,
@@ -68,7 +69,7 @@ pub fn answer_to<R: AllocGlobal + Threads + Sync>(
 }
 
 /// What a run gives, where sixteen workers give the same as one.
-fn run<R: AllocGlobal + Threads + Sync>(rt: &R, text: &[u8]) -> Result<Answer, AllocError> {
+fn run<R: AllocGlobal + Threads + Wait + Sync>(rt: &R, text: &[u8]) -> Result<Answer, AllocError> {
     same(rt.alloc(), run_by(rt, text, 1), run_by(rt, text, 16))
 }
 
@@ -87,7 +88,7 @@ fn same(alloc: Global, alone: Answer, together: Answer) -> Result<Answer, AllocE
 }
 
 /// What a run by so many workers gives.
-fn run_by<R: AllocGlobal + Threads + Sync>(rt: &R, text: &[u8], workers: u32) -> Answer
+fn run_by<R: AllocGlobal + Threads + Wait + Sync>(rt: &R, text: &[u8], workers: u32) -> Answer
     requires some { 1 ≤ workers }
     requires few { workers ≤ MOST_WORKERS }
 {

@@ -4,13 +4,14 @@
 use crate::answer::{Command, answer_to};
 use std::alloc::{AllocError, AllocGlobal, Global};
 use std::rt::Files;
+use std::sync::Wait;
 use std::thread::Threads;
 use std::{fs, io};
 use trlab_campaign::End;
 
 /// Prints whether an example is done and gives what stands in the file beside it.
 pub fn try_example(
-    rt: &(impl AllocGlobal + Files + Print + Threads + Sync),
+    rt: &(impl AllocGlobal + Files + Print + Threads + Wait + Sync),
     name: &str,
 ) -> io::Result<()> {
     let path = format!(in rt.alloc(); "examples/{name}")?;

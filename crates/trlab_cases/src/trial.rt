@@ -6,12 +6,13 @@ use crate::parts::Broken;
 use std::alloc::AllocGlobal;
 use std::io::Write;
 use std::rt::Files;
+use std::sync::Wait;
 use std::thread::Threads;
 use std::{fs, io};
 
 /// Tries the cases of a file, and prints which gave something else, and how many there are.
 pub fn try_file(
-    rt: &(impl AllocGlobal + Files + Print + Threads + Sync),
+    rt: &(impl AllocGlobal + Files + Print + Threads + Wait + Sync),
     name: &str,
 ) -> io::Result<()> {
     let text = fs::read_to_string(rt, name)?;
@@ -23,7 +24,7 @@ pub fn try_file(
 }
 
 fn try_cases(
-    rt: &(impl AllocGlobal + Files + Print + Threads + Sync),
+    rt: &(impl AllocGlobal + Files + Print + Threads + Wait + Sync),
     name: &str,
     cases: &[Case<'_>],
 ) -> io::Result<()> {

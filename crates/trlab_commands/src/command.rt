@@ -11,11 +11,12 @@ ghost use Rattle.trlab_commands.specs.Commands.{output_of};
 
 use crate::words::Wanted;
 use std::alloc::AllocGlobal;
+use std::sync::Wait;
 use std::thread::Threads;
 use trlab_campaign::{End, Sink, Source, check_text, run_job_text, run_sweep_text};
 
 /// Does what is wanted, from a reader to a writer.
-pub fn carry_out<R: AllocGlobal + Threads + Sync, S: Source, K: Sink>(
+pub fn carry_out<R: AllocGlobal + Threads + Wait + Sync, S: Source, K: Sink>(
     rt: &R,
     wanted: Wanted,
     reader: &mut S,

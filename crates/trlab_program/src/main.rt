@@ -9,6 +9,7 @@ use clap::Error;
 use clap::error::ErrorKind;
 use std::process::ExitCode;
 use std::rt::Env;
+use std::sync::Wait;
 use std::thread::Threads;
 use std::{env, io};
 use trlab_campaign::{End, Sink, Source, Watched};
@@ -37,7 +38,7 @@ fn main(rt: HostRuntime) -> ExitCode {
 }
 
 /// Does what the words ask for, and answers the exit status.
-fn act<R: AllocGlobal + Threads + Sync + Print + Eprint, S: Source, K: Sink>(
+fn act<R: AllocGlobal + Threads + Wait + Sync + Print + Eprint, S: Source, K: Sink>(
     rt: &R,
     words: &[String],
     reader: &mut S,

@@ -6,6 +6,7 @@ ghost use Rattle.trlab_commands.specs.Requests.{HasCounts};
 use clap::Error;
 use std::io;
 use std::test::Fail;
+use std::sync::Wait;
 use std::thread::Threads;
 use trlab_campaign::{End, Sink, Source, Watched};
 use trlab_commands::{
@@ -131,7 +132,7 @@ fn help_is_no_fault(rt: HostRuntime) {
 
 /// The exit status of the command of a line, from a reader to a writer.
 fn carried<S: Source, K: Sink>(
-    rt: &(impl AllocGlobal + Threads + Sync),
+    rt: &(impl AllocGlobal + Threads + Wait + Sync),
     line: &str,
     reader: &mut S,
     writer: &mut K,
@@ -145,7 +146,7 @@ fn carried<S: Source, K: Sink>(
 
 /// Whether the command of a line ends with this status over a text, and writes this output.
 fn writes(
-    rt: &(impl AllocGlobal + Threads + Sync),
+    rt: &(impl AllocGlobal + Threads + Wait + Sync),
     line: &str,
     text: &str,
     status: u8,
