@@ -74,7 +74,7 @@ fn run<R: AllocGlobal + Threads + Wait + Sync>(rt: &R, text: &[u8]) -> Result<An
 }
 
 /// What a sweep gives, where sixteen runners of sixteen workers give the same as one of one.
-fn sweep<R: AllocGlobal>(rt: &R, text: &[u8]) -> Result<Answer, AllocError> {
+fn sweep<R: AllocGlobal + Threads + Wait + Sync>(rt: &R, text: &[u8]) -> Result<Answer, AllocError> {
     same(rt.alloc(), sweep_by(rt, text, 1), sweep_by(rt, text, 16))
 }
 
@@ -102,7 +102,7 @@ fn run_by<R: AllocGlobal + Threads + Wait + Sync>(rt: &R, text: &[u8], workers: 
 }
 
 /// What a sweep by so many runners, of so many workers each, gives.
-fn sweep_by<R: AllocGlobal>(rt: &R, text: &[u8], number: u32) -> Answer
+fn sweep_by<R: AllocGlobal + Threads + Wait + Sync>(rt: &R, text: &[u8], number: u32) -> Answer
     requires some { 1 ≤ number }
     requires few_runners { number ≤ MOST_RUNNERS }
     requires few_workers { number ≤ MOST_WORKERS }

@@ -1,15 +1,18 @@
 //! The words of `explain`: which text is explained, and as what.
 
 ghost use Rattle.std.specs.Prelude.{◌≡◌, map, string_bytes};
-ghost use Rattle.trlab_commands.specs.Explains.{explain_word, explain_words, subject_named};
+ghost use Rattle.trlab_commands.specs.Explains.{explain_word, explain_words, number_page, subject_named, topic_named};
 
-use trlab_explain::Subject;
+use trlab_explain::{Subject, Topic};
+use trlab_texts::word::number_from;
 
 /// What the words of `explain` ask for.
 #[derive(Clone, Copy, Debug, PartialEq, Eq)]
 pub enum Explaining {
     /// The text on standard input, as what it is wanted to be, or as what its first word says.
     Text(Option<Subject>),
+    /// What the cause or the reason of a number means.
+    Number(Topic, u32),
     /// Help.
     Help,
     /// Nothing that there is: the words are refused.
@@ -42,6 +45,29 @@ fn explain_word(word: &[u8]) -> Explaining
     }
 }
 
+/// What is named by the word before a number.
+fn topic_named(name: &[u8]) -> Option<Topic>
+    ensures { result ≡ topic_named name.now }
+{
+    if name == b"cause".as_slice() {
+        Some(Topic::Cause)
+    } else if name == b"reason".as_slice() {
+        Some(Topic::Reason)
+    } else {
+        None
+    }
+}
+
+/// What a name and a number behind `explain` ask for.
+fn number_page(name: &[u8], word: &[u8]) -> Explaining
+    ensures { result ≡ number_page name.now word.now }
+{
+    match (topic_named(name), number_from(1, 99, word)) {
+        (Some(topic), Ok(number)) => Explaining::Number(topic, number),
+        _ => Explaining::Nothing,
+    }
+}
+
 /// What the words after the program's name ask for, where the first is `explain`.
 pub fn explain_words(words: &[String]) -> Option<Explaining>
     ensures { result ≡ explain_words (map string_bytes words.now) }
@@ -52,7 +78,12 @@ pub fn explain_words(words: &[String]) -> Option<Explaining>
     }
     match rest.split_first() {
         None => Some(Explaining::Text(None)),
-        Some((word, more)) if more.is_empty() => Some(explain_word(word.as_bytes())),
-        Some(_) => Some(Explaining::Nothing),
+        Some((word, more)) => match more.split_first() {
+            None => Some(explain_word(word.as_bytes())),
+            Some((number, others)) if others.is_empty() => {
+                Some(number_page(word.as_bytes(), number.as_bytes()))
+            }
+            Some(_) => Some(Explaining::Nothing),
+        },
     }
 }

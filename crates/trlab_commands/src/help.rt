@@ -115,6 +115,8 @@ pub const EXPLAIN_HELP: &str = "\
 Says in words what is wrong with a text and how to mend it, or what a good one does
 
 Usage: trlab explain [run|sweep|check]
+       trlab explain cause K
+       trlab explain reason R
 
 Standard input:
   A job text, as `trlab run` reads it, a sweep text, as `trlab sweep` does, or
@@ -126,6 +128,9 @@ Standard output:
   text that is at fault, what was expected there, and a repair where one is
   likely. Of a good text what it does. Bytes of the text that are not printable
   ASCII are written as \\x and two hexadecimal digits.
+
+  With `cause K` or `reason R` nothing is read: what the cause K of a line
+  `fault line N cause K` means, or the reason R of `refused at N reason R`.
 
 Example:
   trlab explain run < examples/two_cars.job";

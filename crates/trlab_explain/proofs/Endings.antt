@@ -16,7 +16,8 @@ use Rattle.trlab_prose.specs.Plain.{IsPlain}
 use Rattle.trlab_advice.specs.Subjects.{subject_of}
 use Rattle.trlab_advice.specs.declared.subject.Subject.{Subject}
 use Rattle.trlab_advice.specs.declared.subject.Subject.TheVariants.{Job, Sweep, Check}
-use Rattle.trlab_explain.specs.Explanations.{BeginsWith, Explained, ExplainedAs, ToldAs}
+use Rattle.trlab_explain.specs.Explanations.{BeginsWith, Explained, ExplainedAs, NumberTold, ToldAs, topic_front}
+use Rattle.trlab_explain.specs.declared.topics.Topic.{Topic}
 
 -- two parts were put behind a text, the second unless memory ran out
 pub parts_put : {A E : Type 0} (r : Result A E) (old mid new first last : List ℕ) → mid ≡ old ++ first → OnOk r (new ≡ mid ++ last) → OnOk r (new ≡ old ++ (first ++ last))
@@ -54,3 +55,12 @@ big_ends wanted (Err x) e (Some all) old new big refused begins ends = rw ends.0
 big_ends wanted (Ok t) e (Some all) old new big refused begins ends =
     let told : ToldAs (unwrap_or wanted (subject_of (lines_of all))) all t.0 t.1 = rw refused (big_as (unwrap_or wanted (subject_of (lines_of all))) all t.1 big begins) in
     output_ends (Explained wanted all) t.0 t.1 e old new (explained_as wanted all t.0 t.1 (told, ends.0)) ends.1
+
+-- the page on a number was written so
+pub number_ends : {E : Type 0} (topic : Topic) (number : ℕ) (told : Result (Bool × List ℕ) E) (e : End) (old new : Option (List ℕ))
+    → IfOk told (λ t. BeginsWith (topic_front topic number) t.1)
+    → MatchResult told (λ t. All IsPlain t.1 × OutputEnds t.0 t.1 e old new) (λ _. (e ≡ Memory) × Keeps old new)
+    → EndsSo (NumberTold topic number) e old new
+number_ends topic number (Ok t) e old new told ends =
+    output_ends (NumberTold topic number) t.0 t.1 e old new (told, ends.0) ends.1
+number_ends topic number (Err x) e old new told ends = rw ends.0 (inl ends.1)

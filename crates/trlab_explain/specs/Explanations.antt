@@ -13,6 +13,8 @@ use Rattle.trlab_advice.specs.Quoting.{line_at}
 use Rattle.trlab_advice.specs.Subjects.{subject_of}
 use Rattle.trlab_advice.specs.declared.subject.Subject.{Subject}
 use Rattle.trlab_advice.specs.declared.subject.Subject.TheVariants.{Job, Sweep, Check}
+use Rattle.trlab_explain.specs.declared.topics.Topic.{Topic}
+use Rattle.trlab_explain.specs.declared.topics.Topic.TheVariants.{Cause, Reason}
 
 -- a line of the text with its number; nothing where the text has no such line
 abbrev pub quote_line : ℕ → Option (List ℕ) → List ℕ
@@ -65,3 +67,12 @@ ExplainedAs subject text refused out = ToldAs subject text refused out × All Is
 abbrev pub Explained : Option Subject → List ℕ → Outputs
 Explained (Some subject) text = ExplainedAs subject text
 Explained None text = ExplainedAs (subject_of (lines_of text)) text
+
+-- how the page on a number begins
+abbrev pub topic_front : Topic → ℕ → List ℕ
+topic_front Cause number = codes "Cause " ++ (decimal number ++ codes ": ")
+topic_front Reason number = codes "Reason " ++ (decimal number ++ codes ": ")
+
+-- the whole pages that there may be on a number
+abbrev pub NumberTold : Topic → ℕ → Outputs
+NumberTold topic number refused out = BeginsWith (topic_front topic number) out × All IsPlain out

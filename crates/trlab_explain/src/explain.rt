@@ -40,7 +40,7 @@ fn too_big_page(alloc: Global) -> Result<(bool, Page), AllocError>
 }
 
 /// Writes a page, which tells a refusal or none, and hands it on.
-fn write_told<K: Sink>(told: Result<(bool, Page), AllocError>, writer: &mut K) -> End
+pub fn write_told<K: Sink>(told: Result<(bool, Page), AllocError>, writer: &mut K) -> End
     requires { K.failed writer.old ≡ false }
     ensures answer { MatchResult told
         (λ told. All IsPlain told.1 × OutputEnds told.0 told.1 result (K.written writer.old) (K.written writer.new))

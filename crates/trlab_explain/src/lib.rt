@@ -14,6 +14,7 @@ mod job;
 mod lines;
 mod marks;
 mod mends;
+mod numbered;
 mod operands;
 mod part;
 mod placed;
@@ -22,7 +23,9 @@ mod refusal;
 mod spots;
 mod standing;
 mod sweep;
+mod topics;
 mod verdict;
 
 pub use explain::explain_text;
+pub use topics::{Topic, explain_number};
 pub use trlab_advice::Subject;

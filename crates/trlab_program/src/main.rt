@@ -14,8 +14,8 @@ use std::thread::Threads;
 use std::{env, io};
 use trlab_campaign::{End, Sink, Source, Watched};
 use trlab_commands::{
-    EXPLAIN_HELP, Explaining, REFUSED_WORDS, carry_out, explain_text, explain_words, read_words,
-    status_of_end, status_of_print,
+    EXPLAIN_HELP, Explaining, REFUSED_WORDS, carry_out, explain_number, explain_text,
+    explain_words, read_words, status_of_end, status_of_print,
 };
 
 fn main(rt: HostRuntime) -> ExitCode {
@@ -65,6 +65,9 @@ fn explain<R: AllocGlobal + Print + Eprint, S: Source, K: Sink>(
 {
     match wanted {
         Explaining::Text(subject) => status_of_end(explain_text(rt, subject, reader, writer)),
+        Explaining::Number(topic, number) => {
+            status_of_end(explain_number(rt, topic, number, writer))
+        }
         Explaining::Help => match println!(rt; "{EXPLAIN_HELP}") {
             Ok(()) => status_of_end(End::Done),
             Err(_) => status_of_end(End::DeviceFault),

@@ -1,0 +1,63 @@
+//! The cause of a number.
+
+ghost use Rattle.std.specs.Prelude.{◌≡◌, IfSome};
+ghost use Rattle.trlab_texts.specs.Causes.{cause_number};
+
+use trlab_asm::Why;
+use trlab_code::CodeFault;
+use trlab_road::RoadFault;
+use trlab_texts::Cause;
+
+/// The causes that a text may be refused for; of those that name a place in it, one for any place.
+const CAUSES: [Cause; 30] = [
+    Cause::Line,
+    Cause::Number,
+    Cause::Key,
+    Cause::OneLane,
+    Cause::Order,
+    Cause::TooMany,
+    Cause::Work,
+    Cause::Hex,
+    Cause::TooBig,
+    Cause::Program(Why::Word),
+    Cause::Program(Why::Operand),
+    Cause::Program(Why::Number),
+    Cause::Program(Why::LabelTwice),
+    Cause::Program(Why::NoLabel),
+    Cause::Program(Why::TooLong),
+    Cause::Program(Why::Empty),
+    Cause::Code(CodeFault::Short),
+    Cause::Code(CodeFault::Magic),
+    Cause::Code(CodeFault::Version),
+    Cause::Code(CodeFault::Kind),
+    Cause::Code(CodeFault::Count),
+    Cause::Code(CodeFault::Opcode(0)),
+    Cause::Code(CodeFault::Field(0)),
+    Cause::Code(CodeFault::Trailing),
+    Cause::Code(CodeFault::NeedlessVersion),
+    Cause::Road(RoadFault::Length),
+    Cause::Road(RoadFault::Character { lane: 0, place: 0 }),
+    Cause::Road(RoadFault::SpeedAboveLimit { lane: 0, place: 0 }),
+    Cause::Road(RoadFault::TooManyCars),
+    Cause::StandardRefused,
+];
+
+/// The reasons that the verifier may have.
+pub const MOST_REASON: u32 = 12;
+
+/// The cause of a number, where a text may be refused for it.
+pub fn cause_numbered(number: u32) -> Option<Cause>
+    ensures { IfSome result (λ cause. cause_number cause ≡ number) }
+{
+    for cause in CAUSES {
+        if cause.number() == u64::from(number) {
+            return Some(cause);
+        }
+    }
+    for reason in 1..=MOST_REASON {
+        if Cause::Verdict(reason).number() == u64::from(number) {
+            return Some(Cause::Verdict(reason));
+        }
+    }
+    None
+}

@@ -1,0 +1,125 @@
+//! The pages on what a number means that refused texts and programs tell.
+
+ghost use Rattle.std.specs.Prelude.{◌≡◌, ◌++◌, ◌↔◌, IfOk, OnOk, true};
+ghost use Rattle.trlab_campaign.specs.Ending.{EndsSo, OnWhole};
+ghost use Rattle.trlab_campaign.specs.declared.end.End.TheVariants.{DeviceFault};
+ghost use Rattle.trlab_explain.specs.Explanations.{BeginsWith, NumberTold, topic_front};
+
+use crate::causes::meaning;
+use crate::explain::write_told;
+use crate::hints::look_at;
+use crate::numbered::{MOST_REASON, cause_numbered};
+use crate::reasons::{meaning_of_reason, repair_of_reason};
+use std::alloc::{AllocError, AllocGlobal, Global};
+use trlab_campaign::{End, Sink};
+use trlab_code::Kind;
+use trlab_prose::Page;
+use trlab_texts::Cause;
+
+/// What has a number that a refusal tells.
+#[derive(Clone, Copy, Debug, PartialEq, Eq)]
+pub enum Topic {
+    /// The cause of a line `fault line N cause K`.
+    Cause,
+    /// The reason of a line `refused at N reason R`.
+    Reason,
+}
+
+/// Adds how the page on a number begins.
+fn push_topic(page: &mut Page, topic: Topic, number: u32) -> Result<(), AllocError>
+    ensures { OnOk result (page.new ≡ page.old ++ topic_front topic number) }
+{
+    match topic {
+        Topic::Cause => page.say("Cause ")?,
+        Topic::Reason => page.say("Reason ")?,
+    }
+    page.number(u64::from(number))?;
+    page.say(": ")
+}
+
+/// Adds the usual repairs of a reason.
+fn push_repairs(page: &mut Page, reason: u32) -> Result<(), AllocError> {
+    let motion = repair_of_reason(reason, Kind::Motion);
+    let change = repair_of_reason(reason, Kind::Change);
+    if motion == change {
+        page.say("Repair: ")?;
+        return page.line(motion);
+    }
+    page.say("Repair of a motion program: ")?;
+    page.line(motion)?;
+    page.say("Repair of a change program: ")?;
+    page.line(change)
+}
+
+/// What is told of a cause behind its number.
+fn cause_body(alloc: Global, cause: Cause) -> Result<Page, AllocError> {
+    let mut page = Page::new(alloc);
+    page.line(meaning(cause))?;
+    if let Cause::Verdict(reason) = cause {
+        page.say("It is refused for this reason: ")?;
+        page.line(meaning_of_reason(reason))?;
+        push_repairs(&mut page, reason)?;
+    }
+    if let Some(hint) = look_at(cause) {
+        page.say("Look at: ")?;
+        page.line(hint)?;
+    }
+    page.line(
+        "`trlab explain < FILE` tells it of a text that has it; docs/TEXTS.md has all causes.",
+    )?;
+    Ok(page)
+}
+
+/// What is told of a reason behind its number.
+fn reason_body(alloc: Global, reason: u32) -> Result<Page, AllocError> {
+    let mut page = Page::new(alloc);
+    page.line(meaning_of_reason(reason))?;
+    push_repairs(&mut page, reason)?;
+    page.line(
+        "`trlab explain < FILE` tells it of a program that has it; docs/PROGRAMS.md has all reasons.",
+    )?;
+    Ok(page)
+}
+
+/// What is told of a number behind it, and whether there is no such number.
+fn number_body(alloc: Global, topic: Topic, number: u32) -> Result<(bool, Page), AllocError> {
+    match (topic, cause_numbered(number)) {
+        (Topic::Cause, Some(cause)) => Ok((false, cause_body(alloc, cause)?)),
+        (Topic::Reason, _) if 1 <= number && number <= MOST_REASON => {
+            Ok((false, reason_body(alloc, number)?))
+        }
+        _ => {
+            let mut page = Page::new(alloc);
+            page.line("there is none of this number.")?;
+            Ok((true, page))
+        }
+    }
+}
+
+/// The page on a number, and whether there is no such number.
+fn number_page(alloc: Global, topic: Topic, number: u32) -> Result<(bool, Page), AllocError>
+    ensures { IfOk result (λ told. BeginsWith (topic_front topic number) told.1) }
+{
+    let mut page = Page::new(alloc);
+    push_topic(&mut page, topic, number)?;
+    let (is_none, body) = number_body(alloc, topic, number)?;
+    page.add(&body)?;
+    Ok((is_none, page))
+}
+
+/// Writes what the cause or the reason of a number means, and how it is usually mended; it is
+/// refused where there is none of this number.
+pub fn explain_number<R: AllocGlobal, K: Sink>(
+    rt: &R,
+    topic: Topic,
+    number: u32,
+    writer: &mut K,
+) -> End
+    requires writer_works { K.failed writer.old ≡ false }
+    // Where the writer tells the bytes that it has.
+    ensures answer { EndsSo (NumberTold topic number) result (K.written writer.old) (K.written writer.new) }
+    ensures handed { OnWhole result (K.handed_on writer.new ≡ true) }
+    ensures device { (result ≡ DeviceFault) ↔ (K.failed writer.new ≡ true) }
+{
+    write_told(number_page(rt.alloc(), topic, number), writer)
+}
