@@ -12,7 +12,8 @@ use std::thread::Threads;
 use trlab_asm::{AsmFault, Why, assemble, disassemble};
 use trlab_campaign::{End, Watched, check_text, run_job_text, run_sweep_text};
 use trlab_code::{Code, CodeFault, Kind, decode, encode};
-use trlab_explain::{Subject, explain_text};
+use trlab_explain::{Subject, Topic, explain_number, explain_text};
+use trlab_texts::word::number_from;
 use trlab_verify::{Note, NotesFault, check_notes, notes};
 
 /// What is done with a text.
@@ -26,6 +27,8 @@ pub enum Command {
     Check,
     /// Explains a text, as what it is wanted to be or as what its first word says.
     Explain(Option<Subject>),
+    /// Explains the cause or the reason of a number.
+    ExplainNumber(Topic),
     /// Assembles a program of this kind.
     Assemble(Kind),
     /// Decodes the bytes of a program.
@@ -59,6 +62,7 @@ pub fn answer_to<R: AllocGlobal + Threads + Wait + Sync>(
         Command::Sweep => sweep(rt, bytes),
         Command::Check => Ok(check(rt, bytes)),
         Command::Explain(subject) => Ok(explain(rt, subject, bytes)),
+        Command::ExplainNumber(topic) => numbered(rt, topic, bytes),
         Command::Assemble(kind) => assembled(rt.alloc(), kind, bytes),
         Command::Decode => decoded(rt.alloc(), bytes),
         Command::Notes(kind) => noted(rt.alloc(), kind, bytes),
@@ -74,7 +78,10 @@ fn run<R: AllocGlobal + Threads + Wait + Sync>(rt: &R, text: &[u8]) -> Result<An
 }
 
 /// What a sweep gives, where sixteen runners of sixteen workers give the same as one of one.
-fn sweep<R: AllocGlobal + Threads + Wait + Sync>(rt: &R, text: &[u8]) -> Result<Answer, AllocError> {
+fn sweep<R: AllocGlobal + Threads + Wait + Sync>(
+    rt: &R,
+    text: &[u8],
+) -> Result<Answer, AllocError> {
     same(rt.alloc(), sweep_by(rt, text, 1), sweep_by(rt, text, 16))
 }
 
@@ -136,6 +143,19 @@ fn explain<R: AllocGlobal>(rt: &R, subject: Option<Subject>, text: &[u8]) -> Ans
         end,
         output: writer.into_inner(),
     }
+}
+
+/// What the explanation of a number gives, which stands on a line of its own.
+fn numbered<R: AllocGlobal>(rt: &R, topic: Topic, text: &[u8]) -> Result<Answer, AllocError> {
+    let Ok(number) = number_from(1, 99, text.trim_ascii()) else {
+        return told(rt.alloc(), End::Refused, "no number\n");
+    };
+    let mut writer = Watched::new(Vec::new(rt.alloc()));
+    let end = explain_number(rt, topic, number, &mut writer);
+    Ok(Answer {
+        end,
+        output: writer.into_inner(),
+    })
 }
 
 /// The bytes and the canonical text of the program that is assembled, or the fault.

@@ -5,7 +5,7 @@ use crate::parts::{Broken, Part, read_parts};
 use std::alloc::Global;
 use trlab_campaign::End;
 use trlab_code::Kind;
-use trlab_explain::Subject;
+use trlab_explain::{Subject, Topic};
 
 /// The answer that is wanted: the end, and the output or its first lines.
 #[derive(Drop)]
@@ -128,6 +128,8 @@ fn command(words: &str) -> Option<Command> {
         "explain run" => Some(Command::Explain(Some(Subject::Job))),
         "explain sweep" => Some(Command::Explain(Some(Subject::Sweep))),
         "explain check" => Some(Command::Explain(Some(Subject::Check))),
+        "explain cause" => Some(Command::ExplainNumber(Topic::Cause)),
+        "explain reason" => Some(Command::ExplainNumber(Topic::Reason)),
         "motion" => Some(Command::Assemble(Kind::Motion)),
         "change" => Some(Command::Assemble(Kind::Change)),
         "code" => Some(Command::Decode),

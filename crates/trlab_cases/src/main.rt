@@ -13,9 +13,9 @@
 //! - `front`: what the text of each case behind it begins with, up to the next front.
 //! - a command, whose text is what is tried: `run`, a job text, by one worker and by sixteen;
 //!   `sweep`, a sweep text, by one runner and by sixteen; `check`, a check text; `explain`, or behind that
-//!   word `run`, `sweep` or `check`, a text that is explained; `motion` or `change`, a program's lines,
-//!   which are assembled: out come
-//!   its bytes in hexadecimal, eight on a line, and its canonical text, or `line N why K`; `code`, a
+//!   word `run`, `sweep` or `check`, a text that is explained; `explain cause` or `explain reason`, the
+//!   number of one; `motion` or `change`, a program's lines, which are assembled: out come its bytes in
+//!   hexadecimal, eight on a line, and its canonical text, or `line N why K`; `code`, a
 //!   program's bytes in hexadecimal, which are decoded: out come its kind and its canonical text, or
 //!   the fault; `notes motion` or `notes change`, a program's lines: out come its notes, one on a line;
 //!   `road`, a limit and the pictures of lanes, or `even`, a count of lanes, a length, a limit and a
