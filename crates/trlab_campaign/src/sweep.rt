@@ -7,6 +7,7 @@ mod table;
 
 ghost use Rattle.std.specs.Prelude.{◌≡◌, ◌+◌, ◌<◌, ◌≤◌, ◌||◌, ◌↔◌, true, false, IfSome};
 ghost use Rattle.std.specs.Io.KnownBytes.{Keeps};
+ghost use Rattle.std.specs.Thread.{IsSync};
 ghost use Rattle.trlab_campaign.specs.Device.{ConsumesUpTo};
 ghost use Rattle.trlab_campaign.specs.Ending.{EndsSo, OnWhole};
 ghost use Rattle.trlab_campaign.specs.SweepOutput.{IsSweepOutput};
@@ -33,12 +34,12 @@ struct Surveyor<'a, R> {
     rt: &'a R,
     runners: u32,
     workers: u32,
-    ghost runners: { (0 < runners) × (runners ≤ 16) },
-    ghost workers: { (0 < workers) × (workers ≤ 16) },
+    ghost some_runners: { (0 < runners) × (runners ≤ 16) },
+    ghost some_workers: { (0 < workers) × (workers ≤ 16) },
 }
 
 impl<'a, R: Threads + Wait + Sync> Engine for Surveyor<'a, R> {
-    ghost is_ready = { λ _. Unit {0} };
+    ghost is_ready = { λ _. IsSync R.row };
 
     ghost outputs = { λ _ text. IsSweepOutput text };
 

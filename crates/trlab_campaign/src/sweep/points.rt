@@ -53,6 +53,7 @@ fn count_run(alloc: Global, mut run: Run, steps: u32) -> Result<StepTally, Alloc
 
 /// The point at which so much was counted of so many cars.
 pub fn point_of(sweep: &Sweep, cars: u32, tally: StepTally) -> Point
+    requires { Spreads sweep.now.setup.shape cars }
     ensures point { result ≡ point_of sweep.now.setup cars tally }
     ensures measured { IsMeasured result }
 {
@@ -74,6 +75,7 @@ pub fn run_point(
     cars: u32,
     road: Road,
 ) -> Result<Point, AllocError>
+    requires spreads { Spreads sweep.now.setup.shape cars }
     requires even { IsEven sweep.now.setup.shape.lanes
         sweep.now.setup.shape.cells sweep.now.setup.shape.limit cars road }
     ensures is { IfOk result (λ point. IsPoint sweep.now.setup number cars point) }

@@ -4,6 +4,7 @@ ghost use Rattle.std.specs.Prelude.{◌≡◌, ◌↔◌, IsTrue, IfSome};
 ghost use Rattle.trlab_diagram.specs.Flow.{IsMeasured};
 ghost use Rattle.trlab_road.specs.Spreading.{IsEven};
 ghost use Rattle.trlab_leases.specs.Jobs.{start_of};
+ghost use Rattle.trlab_jobs.specs.Stored.{Spreads};
 ghost use Rattle.trlab_campaign.specs.SweepOutput.{IsPoint, seed_of, sheet_of};
 
 use crate::sweep::points::point_of;
@@ -43,6 +44,7 @@ pub fn point_seen(
     road: &Road,
     seen: &Snapshot,
 ) -> Option<Point>
+    requires spreads { Spreads sweep.now.setup.shape cars }
     requires even { IsEven sweep.now.setup.shape.lanes
         sweep.now.setup.shape.cells sweep.now.setup.shape.limit cars road.now }
     ensures is { IfSome result (λ point. IsPoint sweep.now.setup number cars point) }
