@@ -1,18 +1,19 @@
 //! The job book: its jobs, leases, orders and snapshots, call by call.
 
+mod calls;
 mod ended;
 mod full;
 mod replaced;
 mod revoked;
 mod strange;
 
+use crate::leases::calls::{obey, order_for, submit};
 use crate::roads::shows;
 use crate::steps::steady;
 use std::alloc::Global;
 use trlab_leases::{Book, Lease, Seed, Snapshot};
 use trlab_road::Road;
 use trlab_rules::{Rule, nasch};
-use trlab_step::Caller;
 use trlab_words::{CERTAIN, Chance, Key};
 
 /// The road of two cars on one lane, under a key of one byte.
@@ -33,16 +34,21 @@ fn braking(alloc: Global) -> Option<Rule> {
 /// A book with one job of the two cars, which never brake by chance.
 fn book_under(alloc: Global, byte: u8, steps: u32) -> Option<Book> {
     let mut book = Book::new(alloc);
-    let number = book
-        .submit(alloc, seed_under(alloc, byte)?, steady(alloc)?, steps)
-        .ok()?;
+    let number = submit(
+        alloc,
+        &mut book,
+        seed_under(alloc, byte)?,
+        steady(alloc)?,
+        steps,
+    )
+    .ok()?;
     (number == 0).then(|| book)
 }
 
 /// Has a lease take the step that the book orders.
 fn take_step(alloc: Global, book: &mut Book, lease: &mut Lease) -> Option<()> {
-    let order = book.order(alloc, lease).ok()?;
-    lease.advance_by(&Caller, alloc, &order).ok()
+    let order = order_for(alloc, book, lease).ok()?;
+    obey(alloc, lease, &order)
 }
 
 /// Whether a snapshot of a road of one lane is of a step, with this picture.

@@ -1,6 +1,7 @@
 //! Full books and full sheets.
 
 use super::{book_under, braking, seed_under, take_step};
+use crate::leases::calls::{cancel, lend, look_at, replace, revoke, submit, take_back};
 use crate::steps::{crossing, steady};
 use std::alloc::Global;
 use trlab_leases::{Book, BookFault, Seed};
@@ -9,8 +10,7 @@ use trlab_words::Key;
 
 /// Why a book refuses a job of the two cars under the rule of two lanes.
 fn mismatch(alloc: Global, book: &mut Book) -> Option<BookFault> {
-    book.submit(alloc, seed_under(alloc, 0)?, crossing(alloc)?, 4)
-        .err()
+    submit(alloc, book, seed_under(alloc, 0)?, crossing(alloc)?, 4).err()
 }
 
 /// Whether a book takes 256 jobs and no more, and the rule of two lanes never.
@@ -18,17 +18,13 @@ fn takes_256_jobs(alloc: Global) -> Option<bool> {
     let mut book = Book::new(alloc);
     let before = mismatch(alloc, &mut book);
     for wanted in 0..256 {
-        let number = book
-            .submit(alloc, seed_under(alloc, 0)?, steady(alloc)?, 4)
-            .ok()?;
+        let number = submit(alloc, &mut book, seed_under(alloc, 0)?, steady(alloc)?, 4).ok()?;
         if number != wanted {
             return None;
         }
     }
     let after = mismatch(alloc, &mut book);
-    let full = book
-        .submit(alloc, seed_under(alloc, 0)?, steady(alloc)?, 4)
-        .err();
+    let full = submit(alloc, &mut book, seed_under(alloc, 0)?, steady(alloc)?, 4).err();
     let wanted = Some(BookFault::LanesMismatch);
     Some(before == wanted && after == wanted && full == Some(BookFault::Full))
 }
@@ -47,16 +43,16 @@ fn long_job(alloc: Global) -> Option<Book> {
         warm: 0,
     };
     let mut book = Book::new(alloc);
-    book.submit(alloc, seed, steady(alloc)?, 2000).ok()?;
+    submit(alloc, &mut book, seed, steady(alloc)?, 2000).ok()?;
     Some(book)
 }
 
 /// Has a lease take a step, and replaces its rule before it is given back.
 fn replace_behind(alloc: Global, book: &mut Book) -> Option<Result<u32, BookFault>> {
-    let mut lease = book.lease(alloc).ok()??;
+    let mut lease = lend(alloc, book)?;
     take_step(alloc, book, &mut lease)?;
-    let answer = book.replace(0, braking(alloc)?);
-    book.give_back(lease).ok()?;
+    let answer = replace(book, 0, braking(alloc)?);
+    take_back(book, lease).ok()?;
     Some(answer)
 }
 
@@ -69,7 +65,7 @@ fn takes_1024_entries(alloc: Global) -> Option<bool> {
         }
     }
     let full = replace_behind(alloc, &mut book)? == Err(BookFault::SheetFull);
-    let seen = book.read(alloc, 0).ok()?;
+    let seen = look_at(alloc, &mut book, 0).ok()?;
     Some(full && seen.sheet().len() == 1024 && seen.step() == 1024)
 }
 
@@ -82,12 +78,12 @@ fn a_sheet_has_1024_entries(rt: HostRuntime) {
 fn takes_1000000_calls(alloc: Global) -> bool {
     let mut book = Book::new(alloc);
     for _ in 0..1000000 {
-        if book.revoke(0) != Err(BookFault::NoSuchJob) {
+        if revoke(&mut book, 0) != Err(BookFault::NoSuchJob) {
             return false;
         }
     }
-    book.revoke(0) == Err(BookFault::HistoryFull)
-        && book.cancel(0) == Err(BookFault::HistoryFull)
+    revoke(&mut book, 0) == Err(BookFault::HistoryFull)
+        && cancel(&mut book, 0) == Err(BookFault::HistoryFull)
         && book.lease(alloc).err() == Some(BookFault::HistoryFull)
 }
 

@@ -1,10 +1,10 @@
 //! A rule is replaced while a step under the one before is ordered.
 
 use super::{book_under, braking, has_entry, is_seen, take_step};
+use crate::leases::calls::{is_order, lend, look_at, obey, order_for, replace, revoke, take_back};
 use crate::steps::steady;
 use std::alloc::Global;
 use trlab_leases::{Book, BookFault, Lease, Snapshot};
-use trlab_step::Caller;
 
 /// Whether a lease is this one of job 0, at a step of four.
 fn is_lease(lease: &Lease, number: u32, step: u32) -> bool {
@@ -13,34 +13,31 @@ fn is_lease(lease: &Lease, number: u32, step: u32) -> bool {
 
 /// The snapshot behind the first step, during which the rule is replaced.
 fn behind_first(alloc: Global, book: &mut Book) -> Option<Snapshot> {
-    let mut lease = book.lease(alloc).ok()??;
-    let order = book.order(alloc, &lease).ok()?;
+    let mut lease = lend(alloc, book)?;
+    let order = order_for(alloc, book, &lease).ok()?;
     let is_right = is_lease(&lease, 0, 0)
-        && order.step() == 0
-        && order.rule().equals(&steady(alloc)?)
-        && book.replace(0, braking(alloc)?) == Ok(1);
-    lease.advance_by(&Caller, alloc, &order).ok()?;
-    book.give_back(lease).ok()?;
-    is_right.then(|| book.read(alloc, 0).ok())?
+        && is_order(&order, 0, &steady(alloc)?)
+        && replace(book, 0, braking(alloc)?) == Ok(1);
+    obey(alloc, &mut lease, &order)?;
+    take_back(book, lease).ok()?;
+    is_right.then(|| look_at(alloc, book, 0).ok())?
 }
 
 /// The snapshot behind the second step.
 fn behind_second(alloc: Global, book: &mut Book) -> Option<Snapshot> {
-    let mut lease = book.lease(alloc).ok()??;
-    let order = book.order(alloc, &lease).ok()?;
-    let is_right = is_lease(&lease, 1, 1)
-        && order.step() == 1
-        && order.rule().equals(&braking(alloc)?);
-    lease.advance_by(&Caller, alloc, &order).ok()?;
-    book.give_back(lease).ok()?;
-    is_right.then(|| book.read(alloc, 0).ok())?
+    let mut lease = lend(alloc, book)?;
+    let order = order_for(alloc, book, &lease).ok()?;
+    let is_right = is_lease(&lease, 1, 1) && is_order(&order, 1, &braking(alloc)?);
+    obey(alloc, &mut lease, &order)?;
+    take_back(book, lease).ok()?;
+    is_right.then(|| look_at(alloc, book, 0).ok())?
 }
 
 /// Whether both snapshots are right, also the first once the second is there.
 fn replaces(alloc: Global) -> Option<bool> {
     let mut book = book_under(alloc, 0, 4)?;
     let first = behind_first(alloc, &mut book)?;
-    let refused = book.revoke(0) == Err(BookFault::StrangerLease);
+    let refused = revoke(&mut book, 0) == Err(BookFault::StrangerLease);
     let second = behind_second(alloc, &mut book)?;
     Some(
         refused
@@ -60,14 +57,14 @@ fn a_rule_enters_behind_the_ordered_steps(rt: HostRuntime) {
 /// Whether rules that are replaced with no order between stand in one entry.
 fn replaces_twice(alloc: Global) -> Option<bool> {
     let mut book = book_under(alloc, 0, 4)?;
-    let first = book.replace(0, steady(alloc)?) == Ok(0)
-        && book.replace(0, braking(alloc)?) == Ok(0);
-    let new = book.read(alloc, 0).ok()?;
-    let mut lease = book.lease(alloc).ok()??;
+    let first = replace(&mut book, 0, steady(alloc)?) == Ok(0)
+        && replace(&mut book, 0, braking(alloc)?) == Ok(0);
+    let new = look_at(alloc, &mut book, 0).ok()?;
+    let mut lease = lend(alloc, &mut book)?;
     take_step(alloc, &mut book, &mut lease)?;
-    let then = book.replace(0, braking(alloc)?) == Ok(1)
-        && book.replace(0, steady(alloc)?) == Ok(1);
-    let seen = book.read(alloc, 0).ok()?;
+    let then = replace(&mut book, 0, braking(alloc)?) == Ok(1)
+        && replace(&mut book, 0, steady(alloc)?) == Ok(1);
+    let seen = look_at(alloc, &mut book, 0).ok()?;
     Some(
         first
             && new.sheet().len() == 1

@@ -1,6 +1,7 @@
 //! Leases of other books: a lease is taken where it runs the road of its job there, and nowhere else.
 
 use super::{book_under, is_seen, take_step};
+use crate::leases::calls::{lend, look_at, order_for, take_back};
 use std::alloc::Global;
 use trlab_leases::{BookFault, Lease};
 
@@ -16,23 +17,23 @@ fn handed_back(answer: Result<(), (Lease, BookFault)>) -> Option<Lease> {
 fn refuses_another_key(alloc: Global) -> Option<bool> {
     let mut own = book_under(alloc, 0, 4)?;
     let mut other = book_under(alloc, 255, 4)?;
-    let lease = own.lease(alloc).ok()??;
-    let _out = other.lease(alloc).ok()??;
-    let lease = handed_back(other.give_back(lease))?;
-    Some(own.give_back(lease).is_ok())
+    let lease = lend(alloc, &mut own)?;
+    let _out = lend(alloc, &mut other)?;
+    let lease = handed_back(take_back(&mut other, lease))?;
+    Some(take_back(&mut own, lease).is_ok())
 }
 
 /// Whether a lease of the same run is taken as soon as its step is ordered.
 fn takes_the_same_run(alloc: Global) -> Option<bool> {
     let mut own = book_under(alloc, 0, 4)?;
     let mut other = book_under(alloc, 0, 4)?;
-    let mut lease = own.lease(alloc).ok()??;
-    let out = other.lease(alloc).ok()??;
+    let mut lease = lend(alloc, &mut own)?;
+    let out = lend(alloc, &mut other)?;
     take_step(alloc, &mut own, &mut lease)?;
-    let lease = handed_back(other.give_back(lease))?;
-    let _order = other.order(alloc, &out).ok()?;
-    other.give_back(lease).ok()?;
-    let seen = other.read(alloc, 0).ok()?;
+    let lease = handed_back(take_back(&mut other, lease))?;
+    let _order = order_for(alloc, &mut other, &out).ok()?;
+    take_back(&mut other, lease).ok()?;
+    let seen = look_at(alloc, &mut other, 0).ok()?;
     is_seen(alloc, &seen, 1, b".1.1......")
 }
 
