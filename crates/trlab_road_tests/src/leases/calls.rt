@@ -1,68 +1,73 @@
-//! Calls of the job book. They promise nothing, so that a test of many calls is proved to be safe in little
-//! time: what comes out is what the tests are for.
+//! Calls of a job book, as data.
 
+use crate::steps::{crossing, steady};
 use std::alloc::Global;
-use trlab_leases::{Book, BookFault, Lease, Order, Seed, Snapshot};
-use trlab_rules::Rule;
-use trlab_step::Caller;
+use trlab_rules::{Rule, nasch};
+use trlab_words::{CERTAIN, Chance};
 
-/// Submits a job.
-pub fn submit(
-    alloc: Global,
-    book: &mut Book,
-    seed: Seed,
-    rule: Rule,
-    steps: u32,
-) -> Result<u32, BookFault> {
-    book.submit(alloc, seed, rule, steps)
+/// A rule with a name.
+#[derive(Clone, Copy, Debug, PartialEq, Eq)]
+pub enum Named {
+    /// The rule of 1992, by which no car brakes by chance.
+    Steady,
+    /// The rule of 1992, by which each car brakes in each step.
+    Braking,
+    /// The rule of 1996, which wants two lanes.
+    Crossing,
 }
 
-/// The lease of the least job that is free.
-pub fn lend(alloc: Global, book: &mut Book) -> Option<Lease> {
-    book.lease(alloc).ok()?
+/// A call of a book. Leases are named by their place on the table, jobs by their number.
+#[derive(Clone, Copy, Debug, PartialEq, Eq)]
+pub enum Call {
+    /// Submits the road of two cars under a key of this byte, for so many steps.
+    Submit(u8, u32, Named),
+    /// Leases the least job that is free.
+    Lease,
+    /// Orders the next step of a lease.
+    Order(usize),
+    /// Has a lease take the step that is ordered.
+    Step(usize),
+    /// Gives a lease back.
+    GiveBack(usize),
+    /// Replaces the rule of a job.
+    Replace(u32, Named),
+    /// Revokes the lease of a job.
+    Revoke(u32),
+    /// Cancels a job.
+    Cancel(u32),
+    /// Reads a job.
+    Read(u32),
 }
 
-/// Whether no job is free.
-pub fn is_idle(alloc: Global, book: &mut Book) -> Option<bool> {
-    Some(book.lease(alloc).ok()?.is_none())
+/// The rule by which each car brakes in each step.
+fn braking(alloc: Global) -> Option<Rule> {
+    nasch(alloc, Chance::new(CERTAIN)?).ok()
 }
 
-/// Orders the next step of a lease.
-pub fn order_for(alloc: Global, book: &mut Book, lease: &Lease) -> Result<Order, BookFault> {
-    book.order(alloc, lease)
+/// The rule of a name.
+pub fn rule_named(alloc: Global, named: Named) -> Option<Rule> {
+    match named {
+        Named::Steady => steady(alloc),
+        Named::Braking => braking(alloc),
+        Named::Crossing => crossing(alloc),
+    }
 }
 
-/// Has a lease take the step of an order.
-pub fn obey(alloc: Global, lease: &mut Lease, order: &Order) -> Option<()> {
-    lease.advance_by(&Caller, alloc, order).ok()
+/// Whether a rule has this name.
+fn is_named(alloc: Global, rule: &Rule, named: Named) -> bool {
+    match rule_named(alloc, named) {
+        Some(wanted) => rule.equals(&wanted),
+        None => false,
+    }
 }
 
-/// Takes a lease back.
-pub fn take_back(book: &mut Book, lease: Lease) -> Result<(), (Lease, BookFault)> {
-    book.give_back(lease)
-}
-
-/// Replaces the rule of a job.
-pub fn replace(book: &mut Book, job: u32, rule: Rule) -> Result<u32, BookFault> {
-    book.replace(job, rule)
-}
-
-/// Revokes the lease of a job.
-pub fn revoke(book: &mut Book, job: u32) -> Result<(), BookFault> {
-    book.revoke(job)
-}
-
-/// Cancels a job.
-pub fn cancel(book: &mut Book, job: u32) -> Result<(), BookFault> {
-    book.cancel(job)
-}
-
-/// What is seen of a job.
-pub fn look_at(alloc: Global, book: &mut Book, job: u32) -> Result<Snapshot, BookFault> {
-    book.read(alloc, job)
-}
-
-/// Whether an order is of a step, under this rule.
-pub fn is_order(order: &Order, step: u32, rule: &Rule) -> bool {
-    order.step() == step && order.rule().equals(rule)
+/// The name of a rule.
+pub fn name_of(alloc: Global, rule: &Rule) -> &'static str {
+    if is_named(alloc, rule, Named::Steady) {
+        "steady"
+    } else if is_named(alloc, rule, Named::Braking) {
+        "braking"
+    } else {
+        "another"
+    }
 }

@@ -1,93 +1,86 @@
 //! Full books and full sheets.
 
-use super::{book_under, braking, seed_under, take_step};
-use crate::leases::calls::{cancel, lend, look_at, replace, revoke, submit, take_back};
-use crate::steps::{crossing, steady};
+use crate::leases::calls::{Call, Named};
+use crate::leases::table::Table;
 use std::alloc::Global;
-use trlab_leases::{Book, BookFault, Seed};
-use trlab_road::Road;
-use trlab_words::Key;
 
-/// Why a book refuses a job of the two cars under the rule of two lanes.
-fn mismatch(alloc: Global, book: &mut Book) -> Option<BookFault> {
-    submit(alloc, book, seed_under(alloc, 0)?, crossing(alloc)?, 4).err()
-}
-
-/// Whether a book takes 256 jobs and no more, and the rule of two lanes never.
-fn takes_256_jobs(alloc: Global) -> Option<bool> {
-    let mut book = Book::new(alloc);
-    let before = mismatch(alloc, &mut book);
-    for wanted in 0..256 {
-        let number = submit(alloc, &mut book, seed_under(alloc, 0)?, steady(alloc)?, 4).ok()?;
-        if number != wanted {
-            return None;
+/// How many of some calls, which are all the same, tell what begins so.
+fn count_told(alloc: Global, table: &mut Table, call: Call, front: &str, most: u32) -> u32 {
+    for count in 0..most {
+        match table.make(alloc, call) {
+            Some(told) if told.as_str().starts_with(front) => (),
+            _ => return count,
         }
     }
-    let after = mismatch(alloc, &mut book);
-    let full = submit(alloc, &mut book, seed_under(alloc, 0)?, steady(alloc)?, 4).err();
-    let wanted = Some(BookFault::LanesMismatch);
-    Some(before == wanted && after == wanted && full == Some(BookFault::Full))
+    most
+}
+
+/// Whether a call tells this.
+fn tells(alloc: Global, table: &mut Table, call: Call, wanted: &str) -> bool {
+    match table.make(alloc, call) {
+        Some(told) => told.as_str() == wanted,
+        None => false,
+    }
 }
 
 #[test]
 fn a_book_has_256_jobs(rt: HostRuntime) {
-    assert_eq!(rt; takes_256_jobs(rt.alloc()), Some(true));
+    let mut table = Table::new(rt.alloc());
+    let submit = Call::Submit(0, 4, Named::Steady);
+    let mismatch = Call::Submit(0, 4, Named::Crossing);
+    assert!(rt; tells(rt.alloc(), &mut table, mismatch, "LanesMismatch"));
+    assert_eq!(rt;
+        count_told(rt.alloc(), &mut table, submit, "job ", 300),
+        256
+    );
+    assert!(rt; tells(rt.alloc(), &mut table, submit, "Full"));
+    assert!(rt; tells(rt.alloc(), &mut table, mismatch, "LanesMismatch"));
 }
 
-/// A book with a job of 2000 steps, of one car on one cell.
-fn long_job(alloc: Global) -> Option<Book> {
-    let seed = Seed {
-        road: Road::parse(alloc, 5, &[b"0"]).ok()?,
-        key: Key([0; 32]),
-        number: 0,
-        warm: 0,
+/// Whether the lease of a place takes its step, and the rule is replaced behind it, from this step on.
+fn is_replaced_behind(alloc: Global, table: &mut Table, place: usize, wanted: &str) -> bool {
+    let ordered = table.make(alloc, Call::Lease).is_some()
+        && table.make(alloc, Call::Order(place)).is_some()
+        && tells(alloc, table, Call::Step(place), "done");
+    let named = if place % 2 == 0 {
+        Named::Braking
+    } else {
+        Named::Steady
     };
-    let mut book = Book::new(alloc);
-    submit(alloc, &mut book, seed, steady(alloc)?, 2000).ok()?;
-    Some(book)
+    ordered
+        && tells(alloc, table, Call::Replace(0, named), wanted)
+        && tells(alloc, table, Call::GiveBack(place), "done")
 }
 
-/// Has a lease take a step, and replaces its rule before it is given back.
-fn replace_behind(alloc: Global, book: &mut Book) -> Option<Result<u32, BookFault>> {
-    let mut lease = lend(alloc, book)?;
-    take_step(alloc, book, &mut lease)?;
-    let answer = replace(book, 0, braking(alloc)?);
-    take_back(book, lease).ok()?;
-    Some(answer)
-}
-
-/// Whether a rule for each step makes a sheet of 1024 entries and no more.
-fn takes_1024_entries(alloc: Global) -> Option<bool> {
-    let mut book = long_job(alloc)?;
-    for step in 1..1024 {
-        if replace_behind(alloc, &mut book)? != Ok(step) {
-            return None;
+/// How many entries a sheet takes behind its first.
+fn count_entries(alloc: Global, table: &mut Table) -> Option<u32> {
+    for step in 1..2000 {
+        let wanted = format!(in alloc; "from {step}").ok()?;
+        if !is_replaced_behind(alloc, table, step as usize - 1, wanted.as_str()) {
+            return Some(step - 1);
         }
     }
-    let full = replace_behind(alloc, &mut book)? == Err(BookFault::SheetFull);
-    let seen = look_at(alloc, &mut book, 0).ok()?;
-    Some(full && seen.sheet().len() == 1024 && seen.step() == 1024)
+    None
 }
 
 #[test]
 fn a_sheet_has_1024_entries(rt: HostRuntime) {
-    assert_eq!(rt; takes_1024_entries(rt.alloc()), Some(true));
-}
-
-/// Whether a book takes 1000000 calls and no more.
-fn takes_1000000_calls(alloc: Global) -> bool {
-    let mut book = Book::new(alloc);
-    for _ in 0..1000000 {
-        if revoke(&mut book, 0) != Err(BookFault::NoSuchJob) {
-            return false;
-        }
-    }
-    revoke(&mut book, 0) == Err(BookFault::HistoryFull)
-        && cancel(&mut book, 0) == Err(BookFault::HistoryFull)
-        && book.lease(alloc).err() == Some(BookFault::HistoryFull)
+    let mut table = Table::new(rt.alloc());
+    let submit = Call::Submit(0, 2000, Named::Steady);
+    assert!(rt; tells(rt.alloc(), &mut table, submit, "job 0"));
+    assert_eq!(rt; count_entries(rt.alloc(), &mut table), Some(1023));
+    let replace = Call::Replace(0, Named::Steady);
+    assert!(rt; tells(rt.alloc(), &mut table, replace, "SheetFull"));
 }
 
 #[test]
 fn a_book_has_1000000_events(rt: HostRuntime) {
-    assert!(rt; takes_1000000_calls(rt.alloc()));
+    let mut table = Table::new(rt.alloc());
+    let revoke = Call::Revoke(0);
+    assert_eq!(rt;
+        count_told(rt.alloc(), &mut table, revoke, "NoSuchJob", 1000001),
+        1000000
+    );
+    assert!(rt; tells(rt.alloc(), &mut table, Call::Cancel(0), "HistoryFull"));
+    assert!(rt; tells(rt.alloc(), &mut table, Call::Lease, "HistoryFull"));
 }
