@@ -18,3 +18,5 @@ mod histories;
 mod jobs;
 #[cfg(test)]
 mod runs;
+#[cfg(test)]
+mod table;
