@@ -1,6 +1,6 @@
 -- Which causes a repair is for.
 use Rattle.std.specs.Prelude.{Bool, true, false}
-use Rattle.trlab_asm.specs.declared.fault.Why.TheVariants.{Word, Operand}
+use Rattle.trlab_asm.specs.declared.fault.Why.TheVariants.{Word, Operand, NoLabel}
 use Rattle.trlab_texts.specs.declared.fault.Cause.{Cause}
 use Rattle.trlab_texts.specs.declared.fault.Cause.TheVariants.{Line, Number, Key, OneLane, Hex, Program}
 use Rattle.trlab_advice.specs.declared.repairs.Repair.{Repair}
@@ -12,6 +12,8 @@ mends_line (mend.Plain oddity) = true
 mends_line (mend.Other subject) = true
 mends_line mend.Missing = true
 mends_line mend.Ended = true
+mends_line mend.Endless = true
+mends_line (mend.EndBeside line) = true
 mends_line mend.Late = true
 mends_line (mend.Name name) = true
 mends_line _ = false
@@ -60,6 +62,11 @@ mends_operand mend.Comma = true
 mends_operand mend.Register = true
 mends_operand _ = false
 
+-- a repair of a jump to a label that there is not
+abbrev pub mends_label : Repair → Bool
+mends_label (mend.Label line) = true
+mends_label _ = false
+
 -- whether a repair is for a cause
 abbrev pub mends : Repair → Cause → Bool
 mends repair Line = mends_line repair
@@ -69,4 +76,5 @@ mends repair Hex = mends_hex repair
 mends repair OneLane = mends_lanes repair
 mends repair (Program Word) = mends_word repair
 mends repair (Program Operand) = mends_operand repair
+mends repair (Program NoLabel) = mends_label repair
 mends repair _ = false

@@ -1,5 +1,7 @@
 //! Repairs: what most likely mends a fault.
 
+mod ending;
+mod label;
 mod line;
 mod number;
 mod program;
@@ -9,6 +11,8 @@ ghost use Rattle.trlab_advice.specs.Repairs.{mends};
 
 use crate::line::line_at;
 use crate::odd::Oddity;
+use crate::repairs::ending::ending_repair;
+use crate::repairs::label::label_repair;
 use crate::repairs::line::line_repair;
 use crate::repairs::number::{hex_repair, key_repair, number_repair};
 pub use crate::repairs::program::name_and_operands;
@@ -29,10 +33,16 @@ pub enum Repair {
     Missing,
     /// The text has ended too early.
     Ended,
+    /// The text has ended, and its last program has no line `end`.
+    Endless,
+    /// The text has ended, and `end` has something beside it at the line with this number.
+    EndBeside(u32),
     /// The line stands too late, or a second time.
     Late,
     /// A name is meant that is spelled nearly alike.
     Name(&'static [u8]),
+    /// A label is meant that is spelled nearly alike: that of the line with this number.
+    Label(u32),
     /// A fraction is meant, which is so many parts of 2^31.
     Parts(u32),
     /// The number has a sign.
@@ -76,6 +86,7 @@ fn repair_of(
         Cause::OneLane => Ok(Some(Repair::SecondLane)),
         Cause::Program(Why::Word) => word_repair(alloc, subject, line),
         Cause::Program(Why::Operand) => operand_repair(alloc, line),
+        Cause::Program(Why::NoLabel) => label_repair(alloc, text, line, number),
         _ => Ok(None),
     }
 }
@@ -96,7 +107,7 @@ pub fn likely_repair(
 {
     match line_at(text, number) {
         Some(line) => repair_of(alloc, subject, text, line, number, cause),
-        None if cause == Cause::Line => Ok(Some(Repair::Ended)),
+        None if cause == Cause::Line => Ok(Some(ending_repair(subject, text, number))),
         None => Ok(None),
     }
 }

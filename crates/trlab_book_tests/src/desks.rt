@@ -3,7 +3,7 @@
 ghost use Rattle.std.specs.Prelude.{◌≡◌};
 
 use crate::histories::{Made, made_by};
-use crate::jobs::{seed, steady};
+use crate::jobs::{steady, submit};
 use std::alloc::Global;
 use std::marker::Brand;
 use std::sync::Wait;
@@ -40,9 +40,7 @@ fn make_calls<L: Ledger, R: Wait>(
     book: &SharedBook<L>,
     desk: &mut Desk<L>,
 ) -> Option<u32> {
-    let job = book
-        .submit(rt, alloc, desk, seed(alloc, 0)?, steady(alloc)?, 4)
-        .ok()?;
+    let job = submit(rt, alloc, book, desk, 0, 4)?;
     for number in 1..CALLS {
         if number % 2 == 1 {
             let from = book.replace(rt, alloc, desk, job, steady(alloc)?).ok()?;

@@ -1,11 +1,11 @@
-//! Runners that are held by gates: they work at the same time, and a book can be called while they do.
+//! A runner that is held by a gate: its book can be called meanwhile.
 
 ghost use Rattle.std.specs.Prelude.{◌≡◌};
 
 use crate::histories::{Made, made_by};
-use crate::jobs::{braking, is_seen, seed, steady};
+use crate::jobs::{braking, is_seen, submit};
+use crate::meeting::waits_for;
 use std::alloc::Global;
-use std::hint;
 use std::marker::Brand;
 use std::sync::Wait;
 use std::sync::atomic::{AtomicBool, Ordering};
@@ -14,82 +14,6 @@ use std::thread::{Threads, join};
 use trlab_book::{Desk, RunFault, SharedBook, run_jobs};
 use trlab_leases::{BookFault, Event, Reply};
 use trlab_segments::Gate;
-
-/// How many turns a thread waits for another at most.
-const TURNS: u32 = 100_000_000;
-
-/// Waits until something has come, and says whether it came in time.
-fn waits_for(came: &AtomicBool) -> bool {
-    for _ in 0..TURNS {
-        if came.load(Ordering::SeqCst) {
-            return true;
-        }
-        hint::spin_loop();
-    }
-    false
-}
-
-/// Holds the first segment of each of the roads 0 and 1 until one of the other has come.
-#[derive(Drop)]
-struct Meeting {
-    first: AtomicBool,
-    second: AtomicBool,
-    gave_up: AtomicBool,
-}
-
-impl Gate for Meeting {
-    fn pass(&self, number: u32, _worker: u32, _phase: u32, _segment: u32) {
-        let (mine, other) = if number == 0 {
-            (&self.first, &self.second)
-        } else {
-            (&self.second, &self.first)
-        };
-        mine.store(true, Ordering::SeqCst);
-        if !waits_for(other) {
-            self.gave_up.store(true, Ordering::SeqCst);
-        }
-    }
-}
-
-/// Whether two runners with one worker each run two jobs at the same time.
-fn runs_both_at_once<L: Ledger + Send + Sync, R: Threads + Wait + Sync>(
-    rt: &R,
-    alloc: Global,
-    blank: Blank,
-) -> Option<bool>
-    requires name { blank.name ≡ L.name }
-    requires parts { (blank.parts ≡ L.parts) × (blank.parts ≡ 1024) }
-{
-    let (book, mut desk) = SharedBook::<L>::start(alloc, blank);
-    for number in 0..2 {
-        book.submit(
-            rt,
-            alloc,
-            &mut desk,
-            seed(alloc, number)?,
-            steady(alloc)?,
-            4,
-        )
-        .ok()?;
-    }
-    if desk.parts() < 2 {
-        return None;
-    }
-    let gate = Meeting {
-        first: AtomicBool::new(false),
-        second: AtomicBool::new(false),
-        gave_up: AtomicBool::new(false),
-    };
-    let desk = run_jobs(rt, alloc, &book, desk, 2, 1, &gate).ok()?;
-    let met = !gate.gave_up.load(Ordering::SeqCst);
-    Some(met && book.close(desk).is_ok())
-}
-
-#[test]
-fn two_runners_run_at_once(rt: HostRuntime) {
-    let found = runs_both_at_once::<Brand, HostRuntime>(&rt, rt.alloc(), Blank::new(1024));
-    assert_eq!(rt; found, Some(true));
-}
 
 /// Tells that a segment has come, and holds it until it may go on.
 #[derive(Drop)]
@@ -123,6 +47,17 @@ fn revoke_held<L: Ledger, R: Wait>(
     (desk, came && revoked && replaced)
 }
 
+/// Whether the job has come to its end under two rules.
+fn is_replaced<L: Ledger, R: Wait>(
+    rt: &R,
+    alloc: Global,
+    book: &SharedBook<L>,
+    desk: &mut Desk<L>,
+) -> Option<bool> {
+    let seen = book.read(rt, alloc, desk, 0).ok()?;
+    Some(seen.sheet().len() == 2 && is_seen(alloc, &seen, 4, b".0....1...")?)
+}
+
 /// The history of a runner whose lease is revoked while it takes the first step.
 fn revoked_while_held<L: Ledger + Send + Sync, R: Threads + Wait + Sync>(
     rt: &R,
@@ -133,15 +68,14 @@ fn revoked_while_held<L: Ledger + Send + Sync, R: Threads + Wait + Sync>(
     requires parts { (blank.parts ≡ L.parts) × (blank.parts ≡ 1024) }
 {
     let (book, mut mine) = SharedBook::<L>::start(alloc, blank);
-    book.submit(rt, alloc, &mut mine, seed(alloc, 0)?, steady(alloc)?, 4)
-        .ok()?;
+    let submitted = submit(rt, alloc, &book, &mut mine, 0, 4);
+    if submitted != Some(0) || mine.parts() < 2 {
+        return None;
+    }
     let gate = Barrier {
         came: AtomicBool::new(false),
         goes_on: AtomicBool::new(false),
     };
-    if mine.parts() < 2 {
-        return None;
-    }
     let theirs = mine.split();
     let ((theirs, revoked), ran) = join(
         rt,
@@ -151,10 +85,9 @@ fn revoked_while_held<L: Ledger + Send + Sync, R: Threads + Wait + Sync>(
         { run_jobs(rt, alloc, &book, mine, 1, 1, &gate) },
     );
     let mut desk = ran.ok()?.gather(theirs);
-    let seen = book.read(rt, alloc, &mut desk, 0).ok()?;
-    let right = is_seen(alloc, &seen, 4, b".0....1...")? && seen.sheet().len() == 2;
+    let right = is_replaced(rt, alloc, &book, &mut desk);
     let (_, history) = book.close(desk).ok()?;
-    Some((revoked && right, history))
+    Some((revoked && right == Some(true), history))
 }
 
 /// How many events refuse the order of a lease that is no longer the one that is out.

@@ -1,6 +1,9 @@
 //! Jobs of two cars on one lane, and what is seen of them.
 
 use std::alloc::Global;
+use std::sync::Wait;
+use std::sync::ledger::Ledger;
+use trlab_book::{Desk, SharedBook};
 use trlab_leases::{Seed, Snapshot};
 use trlab_road::Road;
 use trlab_rules::{Rule, nasch};
@@ -40,6 +43,19 @@ pub fn steady(alloc: Global) -> Option<Rule> {
 /// The rule of 1992, by which each car brakes in each step.
 pub fn braking(alloc: Global) -> Option<Rule> {
     rule_of(alloc, 2147483648)
+}
+
+/// Submits a job of so many steps, whose cars never brake by chance, and answers its number.
+pub fn submit<L: Ledger, R: Wait>(
+    rt: &R,
+    alloc: Global,
+    book: &SharedBook<L>,
+    desk: &mut Desk<L>,
+    number: u32,
+    steps: u32,
+) -> Option<u32> {
+    let (seed, rule) = (seed(alloc, number)?, steady(alloc)?);
+    book.submit(rt, alloc, desk, seed, rule, steps).ok()
 }
 
 /// Whether a snapshot is of a step, and its one lane has this picture.

@@ -17,6 +17,8 @@ mod histories;
 #[cfg(test)]
 mod jobs;
 #[cfg(test)]
+mod meeting;
+#[cfg(test)]
 mod runs;
 #[cfg(test)]
 mod table;

@@ -1,15 +1,27 @@
-//! Jobs that several runners take.
+//! Jobs that several runners take. Each trial fills a new book, has it run, looks at its jobs and closes it.
 
 ghost use Rattle.std.specs.Prelude.{◌≡◌, ◌<◌, ◌≤◌};
 
-use crate::jobs::{chancy, is_seen, road_alone, seed, seed_of, steady};
+use crate::jobs::{chancy, is_seen, road_alone, seed_of, submit};
+use crate::meeting::Meeting;
 use std::alloc::Global;
 use std::marker::Brand;
 use std::sync::Wait;
 use std::sync::ledger::{Blank, Ledger};
 use std::thread::Threads;
 use trlab_book::{Desk, SharedBook, run_jobs};
-use trlab_segments::OpenGate;
+use trlab_segments::{Gate, OpenGate};
+
+/// What is tried on a new book.
+#[derive(Clone, Copy)]
+enum Trial {
+    /// 16 jobs, 4 runners, 2 workers each.
+    ManyJobs,
+    /// Jobs of no car, one and three, 16 runners, 16 workers each.
+    FewCars,
+    /// Two jobs, two runners who wait for each other.
+    AtOnce,
+}
 
 /// Submits so many jobs of four steps, each with a road of its own number.
 fn submit_jobs<L: Ledger, R: Wait>(
@@ -18,26 +30,58 @@ fn submit_jobs<L: Ledger, R: Wait>(
     book: &SharedBook<L>,
     desk: &mut Desk<L>,
     jobs: u32,
-) -> Option<()> {
+) -> bool {
     for job in 0..jobs {
-        let number = book
-            .submit(rt, alloc, desk, seed(alloc, job)?, steady(alloc)?, 4)
-            .ok()?;
-        if number != job {
-            return None;
+        if submit(rt, alloc, book, desk, job, 4) != Some(job) {
+            return false;
         }
     }
-    Some(())
+    true
 }
 
-/// Runs the jobs of a book by so many runners, with so many workers each.
-fn run_by<L: Ledger + Send + Sync, R: Threads + Wait + Sync>(
+/// Submits a job of 40 steps of the cars of a picture, who brake with a chance of a half.
+fn submit_cars<L: Ledger, R: Wait>(
+    rt: &R,
+    alloc: Global,
+    book: &SharedBook<L>,
+    desk: &mut Desk<L>,
+    picture: &[u8],
+    number: u32,
+) -> bool {
+    match (seed_of(alloc, picture, number), chancy(alloc)) {
+        (Some(seed), Some(rule)) => book.submit(rt, alloc, desk, seed, rule, 40).is_ok(),
+        _ => false,
+    }
+}
+
+/// Submits the jobs of a trial.
+fn fill<L: Ledger, R: Wait>(
+    rt: &R,
+    alloc: Global,
+    book: &SharedBook<L>,
+    desk: &mut Desk<L>,
+    trial: Trial,
+) -> bool {
+    match trial {
+        Trial::ManyJobs => submit_jobs(rt, alloc, book, desk, 16),
+        Trial::AtOnce => submit_jobs(rt, alloc, book, desk, 2),
+        Trial::FewCars => {
+            submit_cars(rt, alloc, book, desk, b"..........", 0)
+                && submit_cars(rt, alloc, book, desk, b"0.........", 1)
+                && submit_cars(rt, alloc, book, desk, b"0.00......", 2)
+        }
+    }
+}
+
+/// Runs the jobs of a book by so many runners, with so many workers each, who pass a gate.
+fn run_by<L: Ledger + Send + Sync, R: Threads + Wait + Sync, G: Gate + Sync>(
     rt: &R,
     alloc: Global,
     book: &SharedBook<L>,
     desk: Desk<L>,
     runners: u32,
     workers: u32,
+    gate: &G,
 ) -> Option<Desk<L>>
     requires ledger { L.parts ≡ 1024 }
     requires workers { (0 < workers) × (workers ≤ 16) }
@@ -46,88 +90,111 @@ fn run_by<L: Ledger + Send + Sync, R: Threads + Wait + Sync>(
     if desk.parts() < runners {
         return None;
     }
-    run_jobs(rt, alloc, book, desk, runners, workers, &OpenGate).ok()
+    run_jobs(rt, alloc, book, desk, runners, workers, gate).ok()
 }
 
-/// Whether each job has come to its last step.
-fn are_done<L: Ledger, R: Wait>(
+/// Runs the jobs of a trial, and says whether its runners met where they have to.
+fn run<L: Ledger + Send + Sync, R: Threads + Wait + Sync>(
+    rt: &R,
+    alloc: Global,
+    book: &SharedBook<L>,
+    desk: Desk<L>,
+    trial: Trial,
+) -> Option<(Desk<L>, bool)>
+    requires ledger { L.parts ≡ 1024 }
+{
+    match trial {
+        Trial::ManyJobs => Some((run_by(rt, alloc, book, desk, 4, 2, &OpenGate)?, true)),
+        Trial::FewCars => Some((run_by(rt, alloc, book, desk, 16, 16, &OpenGate)?, true)),
+        Trial::AtOnce => {
+            let gate = Meeting::new();
+            let desk = run_by(rt, alloc, book, desk, 2, 1, &gate)?;
+            Some((desk, gate.took_place()))
+        }
+    }
+}
+
+/// Whether a job has come to its fourth step.
+fn is_done<L: Ledger, R: Wait>(
     rt: &R,
     alloc: Global,
     book: &SharedBook<L>,
     desk: &mut Desk<L>,
-    jobs: u32,
+    job: u32,
 ) -> Option<bool> {
-    for job in 0..jobs {
-        let seen = book.read(rt, alloc, desk, job).ok()?;
-        if !is_seen(alloc, &seen, 4, b"..4....3..")? {
-            return Some(false);
-        }
-    }
-    Some(true)
+    let seen = book.read(rt, alloc, desk, job).ok()?;
+    is_seen(alloc, &seen, 4, b"..4....3..")
 }
 
-/// Whether 4 runners with 2 workers each run 16 jobs to their end, and the gathered desk closes the book.
-fn runs_all<L: Ledger + Send + Sync, R: Threads + Wait + Sync>(
+/// Whether a job of 40 steps has come to the road of one worker.
+fn is_road_of_one<L: Ledger, R: Wait>(
+    rt: &R,
+    alloc: Global,
+    book: &SharedBook<L>,
+    desk: &mut Desk<L>,
+    job: u32,
+) -> Option<bool> {
+    let seen = book.read(rt, alloc, desk, job).ok()?;
+    Some(seen.step() == 40 && road_alone(alloc, &seen)?.equals(seen.road()))
+}
+
+/// Whether all jobs of a trial have come to their ends.
+fn are_right<L: Ledger, R: Wait>(
+    rt: &R,
+    alloc: Global,
+    book: &SharedBook<L>,
+    desk: &mut Desk<L>,
+    trial: Trial,
+) -> bool {
+    let jobs = match trial {
+        Trial::ManyJobs => 16,
+        Trial::FewCars => 3,
+        Trial::AtOnce => 2,
+    };
+    for job in 0..jobs {
+        let right = match trial {
+            Trial::FewCars => is_road_of_one(rt, alloc, book, desk, job),
+            _ => is_done(rt, alloc, book, desk, job),
+        };
+        if right != Some(true) {
+            return false;
+        }
+    }
+    true
+}
+
+/// Whether the jobs of a trial come to their ends, and the gathered desk closes the book.
+fn passes<L: Ledger + Send + Sync, R: Threads + Wait + Sync>(
     rt: &R,
     alloc: Global,
     blank: Blank,
-) -> Option<bool>
+    trial: Trial,
+) -> bool
     requires name { blank.name ≡ L.name }
     requires parts { (blank.parts ≡ L.parts) × (blank.parts ≡ 1024) }
 {
     let (book, mut desk) = SharedBook::<L>::start(alloc, blank);
-    submit_jobs(rt, alloc, &book, &mut desk, 16)?;
-    let mut desk = run_by(rt, alloc, &book, desk, 4, 2)?;
-    let done = are_done(rt, alloc, &book, &mut desk, 16)?;
-    Some(done && book.close(desk).is_ok())
+    let filled = fill(rt, alloc, &book, &mut desk, trial);
+    match run(rt, alloc, &book, desk, trial) {
+        Some((mut desk, met)) => {
+            let right = are_right(rt, alloc, &book, &mut desk, trial);
+            filled && met && right && book.close(desk).is_ok()
+        }
+        None => false,
+    }
 }
 
 #[test]
 fn runners_run_all_jobs(rt: HostRuntime) {
-    let found = runs_all::<Brand, HostRuntime>(&rt, rt.alloc(), Blank::new(1024));
-    assert_eq!(rt; found, Some(true));
-}
-
-/// Submits jobs of 40 steps, of no car, one car and three.
-fn submit_few<L: Ledger, R: Wait>(
-    rt: &R,
-    alloc: Global,
-    book: &SharedBook<L>,
-    desk: &mut Desk<L>,
-) -> Option<()> {
-    let none = seed_of(alloc, b"..........", 0)?;
-    let one = seed_of(alloc, b"0.........", 1)?;
-    let three = seed_of(alloc, b"0.00......", 2)?;
-    book.submit(rt, alloc, desk, none, chancy(alloc)?, 40).ok()?;
-    book.submit(rt, alloc, desk, one, chancy(alloc)?, 40).ok()?;
-    book.submit(rt, alloc, desk, three, chancy(alloc)?, 40)
-        .ok()?;
-    Some(())
-}
-
-/// Whether 16 runners with 16 workers each come to the roads of one worker.
-fn runs_as_one<L: Ledger + Send + Sync, R: Threads + Wait + Sync>(
-    rt: &R,
-    alloc: Global,
-    blank: Blank,
-) -> Option<bool>
-    requires name { blank.name ≡ L.name }
-    requires parts { (blank.parts ≡ L.parts) × (blank.parts ≡ 1024) }
-{
-    let (book, mut desk) = SharedBook::<L>::start(alloc, blank);
-    submit_few(rt, alloc, &book, &mut desk)?;
-    let mut desk = run_by(rt, alloc, &book, desk, 16, 16)?;
-    for job in 0..3 {
-        let seen = book.read(rt, alloc, &mut desk, job).ok()?;
-        if seen.step() != 40 || !road_alone(alloc, &seen)?.equals(seen.road()) {
-            return Some(false);
-        }
-    }
-    Some(book.close(desk).is_ok())
+    assert!(rt; passes::<Brand, HostRuntime>(&rt, rt.alloc(), Blank::new(1024), Trial::ManyJobs));
 }
 
 #[test]
 fn many_runners_come_to_the_roads_of_one(rt: HostRuntime) {
-    let found = runs_as_one::<Brand, HostRuntime>(&rt, rt.alloc(), Blank::new(1024));
-    assert_eq!(rt; found, Some(true));
+    assert!(rt; passes::<Brand, HostRuntime>(&rt, rt.alloc(), Blank::new(1024), Trial::FewCars));
+}
+
+#[test]
+fn two_runners_run_at_once(rt: HostRuntime) {
+    assert!(rt; passes::<Brand, HostRuntime>(&rt, rt.alloc(), Blank::new(1024), Trial::AtOnce));
 }

@@ -116,7 +116,7 @@ fn fault_body(
     push_meaning(&mut page, cause)?;
     push_expectation(alloc, &mut page, subject, text, line, cause)?;
     match likely_repair(alloc, subject, text, line, cause)? {
-        Some(repair) => push_mend(&mut page, repair)?,
+        Some(repair) => push_mend(&mut page, text, repair)?,
         None => push_hint(&mut page, cause)?,
     }
     Ok(page)

@@ -1,8 +1,9 @@
 //! Repairs, in words.
 
+use crate::head::push_quote;
 use crate::lines::push_count;
 use std::alloc::AllocError;
-use trlab_advice::{Oddity, Repair, Subject};
+use trlab_advice::{Oddity, Repair, Subject, line_at};
 use trlab_prose::Page;
 
 /// What is odd about a line, and what goes in its place.
@@ -35,6 +36,7 @@ fn words_of(repair: Repair) -> &'static str {
         Repair::Other(subject) => command_words(subject),
         Repair::Missing => "this line stands further down: another is missing above it.",
         Repair::Ended => "the text has ended, and a line is missing.",
+        Repair::Endless => "the program has no line `end`.",
         Repair::Late => "this line stands further up, and once only.",
         Repair::Sign => "numbers have no sign.",
         Repair::Zero => "numbers have no needless 0 in front.",
@@ -46,6 +48,8 @@ fn words_of(repair: Repair) -> &'static str {
         Repair::Register =>
             "put the number into a register by `num` first: r0 to r7 must stand here.",
         Repair::Name(_)
+        | Repair::Label(_)
+        | Repair::EndBeside(_)
         | Repair::Parts(_)
         | Repair::KeyLength(_)
         | Repair::OddDigits(_)
@@ -53,14 +57,32 @@ fn words_of(repair: Repair) -> &'static str {
     }
 }
 
-/// Adds a repair.
+/// Adds words, and the line of a text that they are about.
+fn push_about(page: &mut Page, words: &str, text: &[u8], number: u32) -> Result<(), AllocError> {
+    page.line(words)?;
+    push_quote(page, number, line_at(text, number))
+}
+
+/// Adds a repair of a text.
 ///
 /// # Errors
 ///
 /// Want of memory.
-pub fn push_mend(page: &mut Page, repair: Repair) -> Result<(), AllocError> {
+pub fn push_mend(page: &mut Page, text: &[u8], repair: Repair) -> Result<(), AllocError> {
     page.say("Repair: ")?;
     match repair {
+        Repair::Label(line) => push_about(
+            page,
+            "perhaps the label of this line is meant:",
+            text,
+            line,
+        ),
+        Repair::EndBeside(line) => push_about(
+            page,
+            "a program ends with a line `end`, with nothing beside it; this is none:",
+            text,
+            line,
+        ),
         Repair::Name(name) => {
             page.say("perhaps `")?;
             page.show_all(name)?;

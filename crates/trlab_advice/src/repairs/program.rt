@@ -10,9 +10,10 @@ use crate::repairs::number::parts_of;
 use crate::subject::Subject;
 use std::alloc::{AllocError, Global};
 use trlab_asm::{
-    MNEMONICS, Mnemonic, cut, is_numeral, label_and_rest, mnemonic_named, mnemonic_text, only_word,
-    up_to_blank, without_comment, without_indent,
+    MNEMONICS, Mnemonic, REGISTERS, cut, is_numeral, label_and_rest, mnemonic_named, mnemonic_text,
+    only_word, register_text, up_to_blank, without_comment, without_indent,
 };
+use trlab_texts::word::{behind, head_word};
 
 /// The names of what cars see.
 const INPUT_NAMES: [&[u8]; 7] = [
@@ -29,6 +30,12 @@ const INPUT_NAMES: [&[u8]; 7] = [
 pub fn name_and_operands(line: &[u8]) -> (&[u8], &[u8]) {
     let (_, body) = label_and_rest(without_comment(line));
     up_to_blank(without_indent(body))
+}
+
+/// Whether a program begins behind a line.
+pub fn is_program_head(line: &[u8]) -> bool {
+    let name = head_word(line);
+    name == b"motion".as_slice() || name == b"change".as_slice() || name == b"notes".as_slice()
 }
 
 /// The names of all instructions.
@@ -65,15 +72,52 @@ pub fn word_repair(
     }
 }
 
-/// What mends one operand, which is a word.
-fn operand_word(alloc: Global, name: Mnemonic, word: &[u8]) -> Result<Option<Repair>, AllocError>
+/// Whether an operand of an instruction, counted from 0, has to be a register.
+fn is_register_place(name: Mnemonic, place: u32) -> bool {
+    match name {
+        Mnemonic::Jump | Mnemonic::Cross | Mnemonic::Stay => false,
+        Mnemonic::Num | Mnemonic::Get | Mnemonic::Draw | Mnemonic::JumpTrue | Mnemonic::JumpFalse =>
+            place == 0,
+        Mnemonic::Mul | Mnemonic::Div | Mnemonic::JumpLess | Mnemonic::JumpAtMost => place < 2,
+        _ => true,
+    }
+}
+
+/// What mends a word that stands where a register has to be: a number is put into one before, a name that
+/// is spelled nearly as a register is that register. A register with a number too large is none of them.
+fn register_repair(alloc: Global, word: &[u8]) -> Result<Option<Repair>, AllocError>
+    ensures { IfOk result (λ repair. IfSome repair (λ r. mends_operand r ≡ true)) }
+{
+    if is_numeral(word) {
+        return Ok(Some(Repair::Register));
+    }
+    if behind(b"r", word).is_some_and(|number| is_numeral(number)) {
+        return Ok(None);
+    }
+    let mut names = Vec::new(alloc);
+    for i in 0..REGISTERS.len() {
+        names.push(register_text(REGISTERS[i]))?;
+    }
+    match nearest(alloc, word, &names)? {
+        Some(meant) => Ok(Some(Repair::Name(meant))),
+        None => Ok(None),
+    }
+}
+
+/// What mends one operand, which is a word, at a place that is counted from 0.
+fn operand_word(
+    alloc: Global,
+    name: Mnemonic,
+    place: u32,
+    word: &[u8],
+) -> Result<Option<Repair>, AllocError>
     ensures { IfOk result (λ repair. IfSome repair (λ r. mends_operand r ≡ true)) }
 {
     if let Some(parts) = parts_of(word) {
         return Ok(Some(Repair::Parts(parts)));
     }
-    if is_numeral(word) && is_of_registers(name) {
-        return Ok(Some(Repair::Register));
+    if is_register_place(name, place) {
+        return register_repair(alloc, word);
     }
     if name == Mnemonic::Get && word.len() > 2 {
         return match nearest(alloc, word, &INPUT_NAMES)? {
@@ -82,23 +126,6 @@ fn operand_word(alloc: Global, name: Mnemonic, word: &[u8]) -> Result<Option<Rep
         };
     }
     Ok(None)
-}
-
-/// Whether an instruction has no operands but registers.
-fn is_of_registers(name: Mnemonic) -> bool {
-    matches!(
-        name,
-        Mnemonic::Side
-            | Mnemonic::Copy
-            | Mnemonic::Add
-            | Mnemonic::Sub
-            | Mnemonic::Min
-            | Mnemonic::Max
-            | Mnemonic::Not
-            | Mnemonic::And
-            | Mnemonic::Or
-            | Mnemonic::Go
-    )
 }
 
 /// What most likely mends a line whose operands are wrong: the first operand that is odd.
@@ -113,12 +140,12 @@ pub fn operand_repair(alloc: Global, line: &[u8]) -> Result<Option<Repair>, Allo
         return Ok(None);
     };
     let mut left = operands;
-    for _ in 0..3 {
+    for place in 0..3 {
         let (operand, rest) = cut(left, b',').unwrap_or((left, b""));
         let Some(word) = only_word(operand) else {
             return Ok(Some(Repair::Comma));
         };
-        if let Some(repair) = operand_word(alloc, name, word)? {
+        if let Some(repair) = operand_word(alloc, name, place, word)? {
             return Ok(Some(repair));
         }
         left = rest;

@@ -1,0 +1,57 @@
+//! Gates that hold a thread until another has come.
+
+use std::hint;
+use std::sync::atomic::{AtomicBool, Ordering};
+use trlab_segments::Gate;
+
+/// How many turns a thread waits for another at most.
+const TURNS: u32 = 100_000_000;
+
+/// Waits until something has come, and says whether it came in time.
+pub fn waits_for(came: &AtomicBool) -> bool {
+    for _ in 0..TURNS {
+        if came.load(Ordering::SeqCst) {
+            return true;
+        }
+        hint::spin_loop();
+    }
+    false
+}
+
+/// Holds the first segment of each of the roads 0 and 1 until one of the other has come.
+#[derive(Drop)]
+pub struct Meeting {
+    first: AtomicBool,
+    second: AtomicBool,
+    gave_up: AtomicBool,
+}
+
+impl Meeting {
+    /// A gate that no segment has reached.
+    pub fn new() -> Self {
+        Meeting {
+            first: AtomicBool::new(false),
+            second: AtomicBool::new(false),
+            gave_up: AtomicBool::new(false),
+        }
+    }
+
+    /// Whether nobody waited in vain.
+    pub fn took_place(&self) -> bool {
+        !self.gave_up.load(Ordering::SeqCst)
+    }
+}
+
+impl Gate for Meeting {
+    fn pass(&self, number: u32, _worker: u32, _phase: u32, _segment: u32) {
+        let (mine, other) = if number == 0 {
+            (&self.first, &self.second)
+        } else {
+            (&self.second, &self.first)
+        };
+        mine.store(true, Ordering::SeqCst);
+        if !waits_for(other) {
+            self.gave_up.store(true, Ordering::SeqCst);
+        }
+    }
+}
