@@ -52,7 +52,8 @@ CheckTold text (Err fault) refused out = FaultTold text fault refused out
 
 -- what is told of a text that is read so
 abbrev pub ToldAs : Subject → List ℕ → Outputs
-ToldAs Job text refused out = (says : Result JobSaid Fault) × JobText text says × LinesTold text says refused out
+ToldAs Job text refused out =
+    (says : Result JobSaid Fault) × JobText text says × LinesTold text says refused out
 ToldAs Sweep text refused out =
     (says : Result SweepSaid Fault) × SweepText text says × LinesTold text says refused out
 ToldAs Check text refused out =

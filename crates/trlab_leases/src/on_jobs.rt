@@ -35,11 +35,9 @@ pub(crate) fn revoke_in(jobs: &mut Vec<Job>, index: u32) -> Result<(), BookFault
     ensures jobs { jobs.new.items ≡ (on_job jobs.old.items index revoking).jobs }
     ensures len { length jobs.new.items ≡ length jobs.old.items }
 {
-    if index as usize >= jobs.len() {
-        return Err(BookFault::NoSuchJob);
-    }
-    let found = &mut jobs[index as usize];
-    found.revoke()
+    jobs.get_mut(index as usize)
+        .ok_or(BookFault::NoSuchJob)?
+        .revoke()
 }
 
 /// Ends a job, and its lease.
@@ -48,11 +46,9 @@ pub(crate) fn cancel_in(jobs: &mut Vec<Job>, index: u32) -> Result<(), BookFault
     ensures jobs { jobs.new.items ≡ (on_job jobs.old.items index cancelling).jobs }
     ensures len { length jobs.new.items ≡ length jobs.old.items }
 {
-    if index as usize >= jobs.len() {
-        return Err(BookFault::NoSuchJob);
-    }
-    let found = &mut jobs[index as usize];
-    found.cancel()
+    jobs.get_mut(index as usize)
+        .ok_or(BookFault::NoSuchJob)?
+        .cancel()
 }
 
 /// The least job that can go out.

@@ -44,17 +44,17 @@ IsPart answers phase count p =
     answers phase.program.now phase.dice.now phase.road.now from to p.answers.items
 
 -- a drawer has ended, and these are the parts of the tickets that it drew, in its order
-pub record HasParts {A : Type 0} (IsRight : Part A → Type 0) (d : Drawer) (parts : List (Part A)) : Type 0 where
+pub record HasParts {A : Type 0} (Fits : Part A → Type 0) (d : Drawer) (parts : List (Part A)) : Type 0 where
   pub tickets : map number_of parts ≡ tickets_of d
-  pub right : All IsRight parts
+  pub right : All Fits parts
   pub ended : is_ended d ≡ true
 
 -- what workers come back with: their drawer with its passes, and the parts, if memory was there
 abbrev pub HasWorked : {A B E : Type 0} → (Part A → Type 0) → Tickets → Drawer
     → Drawer × Result (Vec (Part A) B) E → Type 0
-HasWorked IsRight tickets d told =
+HasWorked Fits tickets d told =
     IsFrom tickets told.0 × (passes_of told.0 ≡ passes_of d)
-    × IfOk told.1 (λ parts. HasParts IsRight told.0 parts.items)
+    × IfOk told.1 (λ parts. HasParts Fits told.0 parts.items)
 
 -- the part at this place has this number
 abbrev pub HasNumber : {A : Type 0} → List (Part A) → ℕ → ℕ → Type 0
