@@ -5,8 +5,8 @@ ghost use Rattle.trlab_commands.specs.Requests.{HasCounts};
 
 use clap::Error;
 use std::io;
-use std::test::Fail;
 use std::sync::Wait;
+use std::test::Fail;
 use std::thread::Threads;
 use trlab_campaign::{End, Sink, Source, Watched};
 use trlab_commands::{

@@ -10,4 +10,6 @@ mod devices;
 #[cfg(test)]
 mod diagram;
 #[cfg(test)]
+mod failing;
+#[cfg(test)]
 mod texts;
