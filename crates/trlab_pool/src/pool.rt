@@ -90,7 +90,10 @@ impl<'a, R: Threads + Wait + Sync, G: Gate + Sync> Pool<'a, R, G> {
         let (_, told) = join_mut(
             rt,
             &mut || help_all(rt, alloc, hall, helpers, gate),
-            &mut || {
+            &mut || -> T
+                requires { D.pre drive.now }
+                ensures { D.step drive.entry.now result drive.exit.now }
+            {
                 let told = drive();
                 hall.close();
                 told
