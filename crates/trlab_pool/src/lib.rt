@@ -3,6 +3,7 @@
 #![tactic(auto)]
 
 mod ask;
+mod asker;
 mod board;
 mod drawing;
 mod hall;
