@@ -8,7 +8,6 @@ ghost use Rattle.trlab_campaign.specs.Device.{ConsumesUpTo};
 ghost use Rattle.trlab_campaign.specs.Ending.{EndsSo, OnWhole};
 ghost use Rattle.trlab_campaign.specs.Output.{IsOutput};
 ghost use Rattle.trlab_campaign.specs.TooBig.{big_job};
-ghost use Rattle.trlab_segments.specs.Answered.{HasTwoLanes};
 ghost use Rattle.trlab_campaign.specs.declared.end.End.TheVariants.{DeviceFault};
 
 use crate::device::{Sink, Source};
@@ -16,17 +15,16 @@ use crate::end::End;
 use crate::engine::{Engine, run_engine};
 use crate::refusal::refuse;
 use crate::run::pictures::run_job;
-use std::alloc::{AllocError, AllocGlobal, Global};
+use std::alloc::{AllocGlobal, Global};
+use std::sync::Wait;
 use std::thread::Threads;
 use trlab_bounds::runs::MOST_WORKERS;
 use trlab_bounds::texts::TEXT_LIMIT;
 use trlab_jobs::read_job;
-use trlab_machine::Dice;
-use trlab_road::Road;
-use trlab_segments::{Calls, Crew, OpenGate};
+use trlab_pool::Pool;
+use trlab_segments::OpenGate;
 use trlab_step::Asker;
 use trlab_texts::TextFault;
-use trlab_verify::{Change, Motion};
 
 /// The engine of job texts, which writes the pictures of their runs.
 #[derive(Drop)]
@@ -56,8 +54,9 @@ impl<'a, A: Asker> Engine for Driver<'a, A> {
 ///
 /// The whole text is read and judged before a byte is written. Where memory runs out or a call of
 /// the reader or writer fails, what was written is the front of the whole output. The output does
-/// not depend on the number of workers, 1 to 16, of whom only those are started that make the run faster.
-pub fn run_job_text<R: AllocGlobal + Threads + Sync, S: Source, K: Sink>(
+/// not depend on the number of workers, 1 to 16, of whom only those are started that make the
+/// run faster, once for the whole run.
+pub fn run_job_text<R: AllocGlobal + Threads + Wait + Sync, S: Source, K: Sink>(
     rt: &R,
     reader: &mut S,
     writer: &mut K,
@@ -76,14 +75,21 @@ pub fn run_job_text<R: AllocGlobal + Threads + Sync, S: Source, K: Sink>(
     ensures device { (result ≡ DeviceFault) ↔ ((S.failed reader.new || K.failed writer.new) ≡ true) }
     ensures read { ConsumesUpTo (TEXT_LIMIT + 1) (S.left reader.old) (S.left reader.new) }
 {
-    let crew = Crew::new(rt, workers, &OpenGate).sparing();
-    let asker = Calls::new(
-        |alloc: Global, road: &Road, motion: &Motion, dice: &Dice| crew.speeds(
-            alloc, road, motion, dice,
-        ),
-        |alloc: Global, road: &Road, change: &Change, dice: &Dice| -> Result<Vec<bool>, AllocError>
-            requires { HasTwoLanes road.now }
-        { crew.crossings(alloc, road, change, dice) },
-    );
-    run_engine(rt.alloc(), Driver { asker: &asker }, reader, writer)
+    let alloc = rt.alloc();
+    let pool = Pool::new(rt, workers, &OpenGate).sparing();
+    pool.run(
+        alloc,
+        &mut || -> End
+            requires reader_works { S.failed reader.now ≡ false }
+            requires writer_works { K.failed writer.now ≡ false }
+            ensures answer { IfSome (S.left reader.entry.now) (λ text. EndsSo (IsOutput text) result
+                (K.written writer.entry.now) (K.written writer.exit.now)) }
+            ensures silent { S.failed reader.exit.now ≡ true
+                → Keeps (K.written writer.entry.now) (K.written writer.exit.now) }
+            ensures handed { OnWhole result (K.handed_on writer.exit.now ≡ true) }
+            ensures device { (result ≡ DeviceFault)
+                ↔ ((S.failed reader.exit.now || K.failed writer.exit.now) ≡ true) }
+            ensures read { ConsumesUpTo (TEXT_LIMIT + 1) (S.left reader.entry.now) (S.left reader.exit.now) }
+        { run_engine(alloc, Driver { asker: &pool }, reader, writer) },
+    )
 }

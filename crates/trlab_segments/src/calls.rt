@@ -38,12 +38,12 @@ impl<
         &self,
         alloc: Global,
         answers: &mut Vec<u32>,
-        road: &Road,
+        road: &mut Road,
         motion: &Motion,
         dice: &Dice,
     ) -> Result<(), AllocError> {
         let cars = road.cars();
-        *answers = (self.speeds)(alloc, road, motion, dice)?;
+        *answers = (self.speeds)(alloc, &*road, motion, dice)?;
         prove!(answers.len() == cars as usize);
         Ok(())
     }
@@ -52,11 +52,11 @@ impl<
         &self,
         alloc: Global,
         answers: &mut Vec<bool>,
-        road: &Road,
+        road: &mut Road,
         change: &Change,
         dice: &Dice,
     ) -> Result<(), AllocError> {
-        *answers = (self.crossings)(alloc, road, change, dice)?;
+        *answers = (self.crossings)(alloc, &*road, change, dice)?;
         Ok(())
     }
 }

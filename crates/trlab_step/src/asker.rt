@@ -13,6 +13,8 @@ use trlab_verify::{Change, Motion};
 
 /// Who asks all cars of a road in a step, and puts their answers in standing order into a list, in
 /// place of what stands there.
+///
+/// The road is lent to change, so that it may be handed to threads by value; it comes back as it was.
 pub trait Asker {
     // What has to hold for it to ask: who starts threads says here what they may share.
     ghost is_ready: { Self → Type 0 };
@@ -26,15 +28,16 @@ pub trait Asker {
         &self,
         alloc: Global,
         answers: &mut Vec<u32>,
-        road: &Road,
+        road: &mut Road,
         motion: &Motion,
         dice: &Dice,
     ) -> Result<(), AllocError>
         requires ready { is_ready self.now }
         ensures speeds { OnOk result (
-            AnswersSpeedsPart motion.now dice.now road.now 0 (cars road.now) answers.new.items) }
-        ensures fits { OnOk result (FitsPart road.now 0 answers.new.items) }
-        ensures few { OnOk result (length answers.new.items < 2 ^ 32) };
+            AnswersSpeedsPart motion.now dice.now road.old 0 (cars road.old) answers.new.items) }
+        ensures fits { OnOk result (FitsPart road.old 0 answers.new.items) }
+        ensures few { OnOk result (length answers.new.items < 2 ^ 32) }
+        ensures same { road.new ≡ road.old };
 
     /// Whether the cars of a road of two lanes cross, as a change program answers them.
     ///
@@ -45,15 +48,16 @@ pub trait Asker {
         &self,
         alloc: Global,
         answers: &mut Vec<bool>,
-        road: &Road,
+        road: &mut Road,
         change: &Change,
         dice: &Dice,
     ) -> Result<(), AllocError>
         requires ready { is_ready self.now }
-        requires two_lanes { length road.now.lanes ≡ 2 }
+        requires two_lanes { length road.old.lanes ≡ 2 }
         ensures crossings { OnOk result (
-            AnswersCrossingsPart change.now dice.now road.now 0 (cars road.now) answers.new.items) }
-        ensures free { OnOk result (CrossesFreePart road.now 0 answers.new.items) };
+            AnswersCrossingsPart change.now dice.now road.old 0 (cars road.old) answers.new.items) }
+        ensures free { OnOk result (CrossesFreePart road.old 0 answers.new.items) }
+        ensures same { road.new ≡ road.old };
 }
 
 /// The calling thread, which asks the cars block by block.
@@ -67,7 +71,7 @@ impl Asker for Caller {
         &self,
         _: Global,
         answers: &mut Vec<u32>,
-        road: &Road,
+        road: &mut Road,
         motion: &Motion,
         dice: &Dice,
     ) -> Result<(), AllocError> {
@@ -78,7 +82,7 @@ impl Asker for Caller {
         &self,
         _: Global,
         answers: &mut Vec<bool>,
-        road: &Road,
+        road: &mut Road,
         change: &Change,
         dice: &Dice,
     ) -> Result<(), AllocError> {

@@ -106,17 +106,18 @@ pub fn take_step<A: Asker>(
 fn change_lanes<A: Asker>(
     asker: &A,
     alloc: Global,
-    road: &Road,
+    road: &mut Road,
     room: &mut StepRoom,
     change: &Change,
     dice: &Dice,
 ) -> Result<(Road, u64), AllocError>
     requires ready { A.is_ready asker.now }
-    requires two_lanes { length road.now.lanes ≡ 2 }
+    requires two_lanes { length road.old.lanes ≡ 2 }
     ensures phase { IfOk result (λ after.
-        LaneChangePhase (Some change.now) dice.now road.now after.0 after.1) }
-    ensures clean { IfOk result (λ after. CleanLaneChange road.now after.0) }
+        LaneChangePhase (Some change.now) dice.now road.old after.0 after.1) }
+    ensures clean { IfOk result (λ after. CleanLaneChange road.old after.0) }
     ensures legal { IfOk result (λ after. IsLegal after.0) }
+    ensures same { road.new ≡ road.old }
 {
     asker.crossings(alloc, &mut room.crosses, road, change, dice)?;
     let middle = road.after_lane_change_in(alloc, &mut room.lanes, &room.crosses)?;

@@ -4,6 +4,7 @@
 use std::alloc::AllocGlobal;
 use std::io;
 use std::io::{BufWriter, Error, ErrorKind, Read, Write};
+use std::sync::Wait;
 use std::thread::Threads;
 use trlab_campaign::{DeviceError, End, Sink, Source, Watched, check_text, run_job_text};
 
@@ -80,7 +81,7 @@ fn what_is_flushed_is_handed_on(rt: HostRuntime) -> io::Result<()> {
 
 /// Whether the run of a text ends so, and leaves this behind a buffer.
 fn run_leaves(
-    rt: &(impl AllocGlobal + Threads + Sync),
+    rt: &(impl AllocGlobal + Threads + Wait + Sync),
     text: &[u8],
     wanted: End,
     left: &[u8],

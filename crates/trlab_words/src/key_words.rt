@@ -23,6 +23,15 @@ impl Model for KeyWords {
     ghost invariant = { λ key. All (λ word. word < 2 ^ 32) key.words };
 }
 
+impl KeyWords {
+    /// The same words once more.
+    pub fn copy(&self) -> KeyWords
+        ensures { result ≡ self.now }
+    {
+        KeyWords { words: self.words }
+    }
+}
+
 impl Key {
     /// The key's eight words.
     pub fn words(&self) -> KeyWords

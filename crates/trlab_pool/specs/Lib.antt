@@ -1,0 +1,2 @@
+pub mod Lockers
+pub mod Trays

@@ -1,0 +1,20 @@
+-- The rule of a lock with one word and one slot: where the word is 0, the value lies in the slot.
+use Rattle.std.specs.Prelude.{◌≡◌, ◌∷◌, [], Option, Some, slice_index, length}
+use mathlib.Core.Option.{some}
+use lib.ListN.{get_elem?}
+use Rattle.atomic_table.specs.Table.{State, Me}
+
+module _ {T K : Type 0} where
+  -- where the word is 0, a value is at home, and fits
+  abbrev pub Guarded : (T → Type 0) → State (Option T) K → Type 0
+  Guarded Fits s =
+      (length s.words ≡ 1)
+      × (slice_index s.words 0 ≡ 0 → (value : T) × (get_elem? s.homes 0 ≡ some (some (Some value))) × Fits value)
+
+  -- who finds 0 has the slot, with a value that fits
+  abbrev pub Seized : (T → Type 0) → Me (Option T) K → Type 0
+  Seized Fits m = (value : T) × (m.1 ≡ (0, Some value) ∷ []) × Fits value
+
+  -- who has the slot, and nothing else
+  abbrev pub HasOnly : Me (Option T) K → Type 0
+  HasOnly m = (held : Option T) × (m.1 ≡ (0, held) ∷ [])

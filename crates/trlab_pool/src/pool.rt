@@ -1,0 +1,192 @@
+//! The pool of a run: the calling thread, and the helpers that live as long as the run.
+
+ghost use Rattle.std.specs.Prelude.{◌≡◌, ◌<◌, ◌≤◌, IfOk};
+ghost use Rattle.trlab_bounds.specs.declared.runs.TheConstants.{MOST_WORKERS};
+ghost use Rattle.trlab_road.specs.Cells.{cars};
+ghost use Rattle.trlab_segments.specs.Answered.{CrossesPart, HasTwoLanes, SpeedsPart};
+
+use crate::ask::{ask_all, ask_alone};
+use crate::hall::{Hall, help_all};
+use std::alloc::{AllocError, Global};
+use std::sync::Wait;
+use std::thread;
+use std::thread::{Threads, join_mut};
+use trlab_machine::Dice;
+use trlab_road::Road;
+use trlab_segments::Gate;
+use trlab_verify::{Change, Motion};
+
+/// How many cars keep a worker busy for longer than it takes to wake one.
+pub const CARS_A_WORKER: u32 = 1000;
+
+/// 1 to 16 workers and their gate. The calling thread is worker 0; the others are started once, for a
+/// whole run, and help with its phases.
+#[derive(Drop)]
+pub struct Pool<'a, R, G> {
+    rt: &'a R,
+    gate: &'a G,
+    hall: Hall,
+    workers: u32,
+    /// Whether only those help that make the work faster.
+    is_sparing: bool,
+    ghost some: { 0 < workers },
+    ghost few: { workers ≤ MOST_WORKERS },
+}
+
+impl<'a, R: Threads + Wait + Sync, G: Gate + Sync> Pool<'a, R, G> {
+    /// So many workers, each of whom passes the gate before each segment. One alone asks all cars at
+    /// once, and passes no gate.
+    pub fn new(rt: &'a R, workers: u32, gate: &'a G) -> Pool<'a, R, G>
+        requires some { 0 < workers }
+        requires few { workers ≤ MOST_WORKERS }
+    {
+        Pool {
+            rt,
+            gate,
+            hall: Hall::new(),
+            workers,
+            is_sparing: false,
+        }
+    }
+
+    /// As many of these workers as make the work faster: no more than there are processors, and one for
+    /// every 1000 cars of a road.
+    pub fn sparing(self) -> Pool<'a, R, G> {
+        let Pool {
+            rt,
+            gate,
+            hall,
+            workers,
+            ..
+        } = self;
+        let processors = thread::available_parallelism(rt).map_or(1, |count| count.get());
+        let workers = if processors < workers as usize {
+            processors as u32
+        } else {
+            workers
+        };
+        Pool {
+            rt,
+            gate,
+            hall,
+            workers,
+            is_sparing: true,
+        }
+    }
+
+    /// Drives a run, while helpers wait for its phases. All have gone home when it ends, and a second run
+    /// finds none. Where no thread can be started the run goes on without.
+    pub fn run<T, D: FnMut() -> T>(&self, alloc: Global, drive: &mut D) -> T
+        requires { D.pre drive.old }
+        ensures { D.step drive.old result drive.new }
+    {
+        if self.workers == 1 {
+            return drive();
+        }
+        let rt = self.rt;
+        let gate = self.gate;
+        let hall = &self.hall;
+        let helpers = self.workers - 1;
+        let (_, told) = join_mut(
+            rt,
+            &mut || help_all(rt, alloc, hall, helpers, gate),
+            &mut || -> T
+                requires { D.pre drive.now }
+                ensures { D.step drive.entry.now result drive.exit.now }
+            {
+                let told = drive();
+                hall.close();
+                told
+            },
+        );
+        told
+    }
+}
+
+impl<'a, R: Wait, G: Gate> Pool<'a, R, G> {
+    /// How many workers ask so many cars.
+    fn workers_for(&self, cars: u32) -> u32
+        ensures some { 0 < result }
+        ensures few { result ≤ MOST_WORKERS }
+    {
+        if self.is_sparing {
+            self.workers.min((cars / CARS_A_WORKER).max(1))
+        } else {
+            self.workers
+        }
+    }
+
+    /// Whether the calling thread asks so many cars alone, and at once.
+    pub fn asks_alone(&self, cars: u32) -> bool {
+        self.workers_for(cars) == 1
+    }
+
+    /// The road, and the speeds that a motion program answers to all its cars, in standing order.
+    ///
+    /// # Errors
+    ///
+    /// Where an allocation was refused to any worker.
+    pub fn speeds_of(
+        &self,
+        alloc: Global,
+        road: Road,
+        motion: Motion,
+        dice: Dice,
+    ) -> (Road, Result<Vec<u32>, AllocError>)
+        ensures road { result.0 ≡ road }
+        ensures speeds { IfOk result.1 (λ speeds.
+            SpeedsPart motion dice road 0 (cars road) speeds.items) }
+    {
+        let workers = self.workers_for(road.cars());
+        if workers == 1 {
+            return ask_alone(alloc, motion, dice, road);
+        }
+        let hall = &self.hall;
+        ask_all(
+            self.rt,
+            alloc,
+            hall,
+            &hall.motions,
+            self.gate,
+            motion,
+            dice,
+            road,
+            workers,
+        )
+    }
+
+    /// The road of two lanes, and whether its cars cross, in standing order, as a change program answers.
+    ///
+    /// # Errors
+    ///
+    /// Where an allocation was refused to any worker.
+    pub fn crossings_of(
+        &self,
+        alloc: Global,
+        road: Road,
+        change: Change,
+        dice: Dice,
+    ) -> (Road, Result<Vec<bool>, AllocError>)
+        requires { HasTwoLanes road }
+        ensures road { result.0 ≡ road }
+        ensures crosses { IfOk result.1 (λ crosses.
+            CrossesPart change dice road 0 (cars road) crosses.items) }
+    {
+        let workers = self.workers_for(road.cars());
+        if workers == 1 {
+            return ask_alone(alloc, change, dice, road);
+        }
+        let hall = &self.hall;
+        ask_all(
+            self.rt,
+            alloc,
+            hall,
+            &hall.changes,
+            self.gate,
+            change,
+            dice,
+            road,
+            workers,
+        )
+    }
+}

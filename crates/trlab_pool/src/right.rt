@@ -1,0 +1,11 @@
+//! When a tray is right for what is asked.
+
+ghost use Rattle.trlab_pool.specs.Trays.{IsTray};
+
+use crate::held::{Brief, Tray};
+use crate::locker::Keyed;
+use trlab_segments::Asked;
+
+impl<A, P: Asked<A>> Keyed<Brief<P>> for Tray<A> {
+    ghost fits = { λ brief tray. IsTray P.answers P.can_ask brief tray };
+}
