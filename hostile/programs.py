@@ -1,6 +1,6 @@
 """Driver programs, read from their lines and from their bytes, and written in the one canonical way.
 
-Written from docs/PROGRAMS.md and docs/TEXTS.md alone, beside the proved program and not from it, so
+Written from docs/PROGRAMS.md and docs/TEXTS.md, beside the proved program and not from it, so
 that the two can be compared. A program is a list of instructions; an instruction is its name and the
 tuple of its operands, all numbers; a label stands there as the instruction that it names."""
 import re

@@ -1,6 +1,6 @@
 """Job texts, sweep texts and check texts, read as docs/TEXTS.md says.
 
-Written from the documents alone, beside the proved program and not from it, so that the two can be
+Written from the documents, beside the proved program and not from it, so that the two can be
 compared. What a text says is a Job, a Sweep or a Check; its first fault is raised as a Fault. The
 verifier is not written a second time: whoever reads hands in a `verdict`, which answers the reason for
 which a program is refused, or none."""
