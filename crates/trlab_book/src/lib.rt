@@ -13,6 +13,7 @@ mod ordered;
 mod replies;
 mod running;
 mod sharing;
+mod team;
 mod turn;
 
 pub use desk::{Desk, SharedBook};

@@ -5,7 +5,7 @@ ghost use Rattle.trlab_book.specs.Desks.{parts_of};
 
 use crate::desk::{Desk, SharedBook};
 use crate::fault::RunFault;
-use crate::ordered::advance;
+use crate::team::Team;
 use std::alloc::Global;
 use std::sync::Wait;
 use std::sync::ledger::Ledger;
@@ -16,7 +16,7 @@ use trlab_segments::Gate;
 /// How many steps a runner takes at most before it gives a lease back.
 const STEPS_A_TURN: u32 = 32;
 
-/// Takes leases until no job is free.
+/// Takes leases until no job is free. The workers live as long as the runner.
 pub fn run_one<L: Ledger, R: Threads + Wait + Sync, G: Gate + Sync>(
     rt: &R,
     alloc: Global,
@@ -28,9 +28,28 @@ pub fn run_one<L: Ledger, R: Threads + Wait + Sync, G: Gate + Sync>(
     requires { (0 < workers) × (workers ≤ 16) }
     ensures { parts_of desk.new ≡ parts_of desk.old }
 {
+    let team = Team::new(rt, workers, gate);
+    team.pool.run(
+        alloc,
+        &mut || -> Result<(), RunFault>
+            ensures { parts_of desk.exit.now ≡ parts_of desk.entry.now }
+        { take_leases(rt, alloc, book, desk, &team) },
+    )
+}
+
+/// Takes leases until no job is free.
+fn take_leases<L: Ledger, R: Threads + Wait + Sync, G: Gate + Sync>(
+    rt: &R,
+    alloc: Global,
+    book: &SharedBook<L>,
+    desk: &mut Desk<L>,
+    team: &Team<R, G>,
+) -> Result<(), RunFault>
+    ensures { parts_of desk.new ≡ parts_of desk.old }
+{
     for _ in rt.forever() {
         match book.lease(rt, alloc, desk) {
-            Ok(Some(lease)) => take_turn(rt, alloc, book, desk, lease, workers, gate)?,
+            Ok(Some(lease)) => take_turn(rt, alloc, book, desk, lease, team)?,
             Ok(None) => return Ok(()),
             Err(BookFault::HistoryFull) => return Err(RunFault::HistoryFull),
             Err(_) => return Err(RunFault::Memory),
@@ -46,15 +65,13 @@ fn take_turn<L: Ledger, R: Threads + Wait + Sync, G: Gate + Sync>(
     book: &SharedBook<L>,
     desk: &mut Desk<L>,
     lease: Lease,
-    workers: u32,
-    gate: &G,
+    team: &Team<R, G>,
 ) -> Result<(), RunFault>
-    requires { (0 < workers) × (workers ≤ 16) }
     ensures { parts_of desk.new ≡ parts_of desk.old }
 {
     let job = lease.job();
     let mut lease = lease;
-    if let Err(fault) = run_steps(rt, alloc, book, desk, &mut lease, workers, gate) {
+    if let Err(fault) = run_steps(rt, alloc, book, desk, &mut lease, team) {
         return end_lease(rt, book, desk, job, fault);
     }
     match book.give_back(rt, desk, lease) {
@@ -70,10 +87,8 @@ fn run_steps<L: Ledger, R: Threads + Wait + Sync, G: Gate + Sync>(
     book: &SharedBook<L>,
     desk: &mut Desk<L>,
     lease: &mut Lease,
-    workers: u32,
-    gate: &G,
+    team: &Team<R, G>,
 ) -> Result<(), BookFault>
-    requires { (0 < workers) × (workers ≤ 16) }
     ensures { parts_of desk.new ≡ parts_of desk.old }
 {
     for _ in 0..STEPS_A_TURN {
@@ -81,7 +96,7 @@ fn run_steps<L: Ledger, R: Threads + Wait + Sync, G: Gate + Sync>(
             return Ok(());
         }
         let order = book.order(rt, alloc, desk, lease)?;
-        match advance(rt, alloc, lease, &order, workers, gate) {
+        match team.take_step(alloc, lease, &order) {
             Ok(()) => {}
             Err(LeaseFault::WrongOrder) => return Err(BookFault::StrangerLease),
             Err(LeaseFault::Memory) => return Err(BookFault::Memory),

@@ -1,6 +1,6 @@
 use Rattle.std.proofs.Common.{◌≡◌}
 use Rattle.trlab_book.specs.Desks.{parts_of}
-use Rattle.trlab_book.proofs.turn.run_one.Given as goal
+use Rattle.trlab_book.proofs.turn.take_leases.Given as goal
 
 abbrev pub invariant-loop : goal.invariant-loop
 invariant-loop g l =
