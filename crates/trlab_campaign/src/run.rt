@@ -76,7 +76,8 @@ pub fn run_job_text<R: AllocGlobal + Threads + Wait + Sync, S: Source, K: Sink>(
     ensures read { ConsumesUpTo (TEXT_LIMIT + 1) (S.left reader.old) (S.left reader.new) }
 {
     let alloc = rt.alloc();
-    let pool = Pool::new(rt, workers, &OpenGate).sparing();
+    let gate = OpenGate;
+    let pool = Pool::new(rt, workers, &gate).sparing();
     pool.run(
         alloc,
         &mut || -> End
