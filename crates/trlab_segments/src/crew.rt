@@ -1,4 +1,4 @@
-//! The workers of a run, who ask the cars of a road together.
+//! The workers of a step, who ask the cars of a road together.
 
 ghost use Rattle.std.specs.Prelude.{◌≡◌, ◌<◌, ◌≤◌, IfOk};
 ghost use Rattle.trlab_bounds.specs.declared.runs.TheConstants.{MOST_WORKERS};
@@ -13,14 +13,10 @@ use crate::phase::Phase;
 use crate::segment::segment_count;
 use crate::work::share;
 use std::alloc::{AllocError, Global};
-use std::thread;
 use std::thread::Threads;
 use trlab_machine::Dice;
 use trlab_road::Road;
 use trlab_verify::{Change, Motion};
-
-/// How many cars keep a worker busy for longer than it takes to start one.
-pub const CARS_A_WORKER: u32 = 4000;
 
 /// 1 to 16 workers and their gate. The calling thread is worker 0; the others are started for each
 /// phase, and have ended when its answers are there.
@@ -29,8 +25,6 @@ pub struct Crew<'a, R, G> {
     rt: &'a R,
     gate: &'a G,
     workers: u32,
-    /// Whether only those are started that make the work faster.
-    is_sparing: bool,
     ghost some: { 0 < workers },
     ghost few: { workers ≤ MOST_WORKERS },
 }
@@ -41,47 +35,7 @@ impl<'a, R: Threads + Sync, G: Gate + Sync> Crew<'a, R, G> {
         requires some { 0 < workers }
         requires few { workers ≤ MOST_WORKERS }
     {
-        Crew {
-            rt,
-            gate,
-            workers,
-            is_sparing: false,
-        }
-    }
-
-    /// As many of these workers as make the work faster: no more than there are processors, and one for
-    /// every 4000 cars of a road. One alone asks all cars at once, and passes no gate.
-    pub fn sparing(self) -> Crew<'a, R, G> {
-        let Crew {
-            rt,
-            gate,
-            workers,
-            ..
-        } = self;
-        let processors = thread::available_parallelism(rt).map_or(1, |count| count.get());
-        let workers = if processors < workers as usize {
-            processors as u32
-        } else {
-            workers
-        };
-        Crew {
-            rt,
-            gate,
-            workers,
-            is_sparing: true,
-        }
-    }
-
-    /// How many workers ask so many cars.
-    fn workers_for(&self, cars: u32) -> u32
-        ensures some { 0 < result }
-        ensures few { result ≤ MOST_WORKERS }
-    {
-        if self.is_sparing {
-            self.workers.min((cars / CARS_A_WORKER).max(1))
-        } else {
-            self.workers
-        }
+        Crew { rt, gate, workers }
     }
 
     /// The answers of all cars of a phase, in standing order.
@@ -99,12 +53,8 @@ impl<'a, R: Threads + Sync, G: Gate + Sync> Crew<'a, R, G> {
             phase.now.road.now 0 (cars phase.now.road.now) answers.items) }
     {
         let cars = phase.road.cars();
-        let workers = self.workers_for(cars);
-        if self.is_sparing && workers == 1 {
-            return phase.program.ask(alloc, phase.road, phase.dice, 0, cars);
-        }
-        let count = segment_count(cars, workers);
-        let (tickets, drawer) = Tickets::start(alloc, count, workers)?;
+        let count = segment_count(cars, self.workers);
+        let (tickets, drawer) = Tickets::start(alloc, count, self.workers)?;
         let (drawer, parts) = share(self.rt, alloc, phase, &tickets, drawer, self.gate);
         let parts = parts?;
         match tickets.finish(drawer) {
@@ -112,6 +62,7 @@ impl<'a, R: Threads + Sync, G: Gate + Sync> Crew<'a, R, G> {
             Err(_) => unreachable!(),
         }
     }
+
     /// The speeds that a motion program answers to all cars of a road, in standing order.
     ///
     /// # Errors

@@ -8,6 +8,6 @@ pub returns : goal.returns
 returns g c =
     let phase = c.args.phase.now in
     let all = cars phase.road.now in
-    let counted = c.segment_count-count.ensures ∙ ap (λ n. segment_count n c.workers_for-workers.result) c.cars-cars.ensures.value in
+    let counted = c.segment_count-count.ensures ∙ ap (λ n. segment_count n c.args.self.now.workers) c.cars-cars.ensures.value in
     subst (λ last. IfOk c.line_up.result (λ answers. g.P.Asked.answers phase.program.now phase.dice.now phase.road.now 0 last answers.items))
-    (last_behind all c.segment_count-count.result c.workers_for-workers.result c.workers_for-workers.ensures.some counted) c.line_up.ensures
+    (last_behind all c.segment_count-count.result c.args.self.now.workers c.args.self.now.some counted) c.line_up.ensures
