@@ -1,7 +1,7 @@
-use Rattle.std.proofs.Common.{◌≡◌, ◌≢◌, ◌*◌, ◌/◌, ◌<◌, ◌≤◌, mod-lt, ℕ, zero, suc, [], ◌∷◌, Vec, Global, refl, arith}
+use Rattle.std.proofs.Common.{◌≡◌, ◌≢◌, ◌*◌, ◌/◌, ◌<◌, ◌≤◌, mod-lt, ℕ, zero, suc, [], ◌∷◌, Vec, Global, length, refl, sym, arith}
 use Rattle.trlab_road.specs.declared.lane_car.LaneCar.{LaneCar}
 use Rattle.trlab_road.specs.Spreading.{IsEvenLane, even_lane}
-use Rattle.trlab_road.specs.Stored.{cells_of, list_at}
+use Rattle.trlab_road.specs.Stored.{Rises, cells_of, list_at}
 use Rattle.trlab_road.proofs.EvenLanes.{even_all}
 use Rattle.trlab_road.proofs.ListEven.{EvenList, list_none, list_skip, list_more}
 use Rattle.trlab_road.proofs.spreading.even_lanes.Goals as goal
@@ -44,7 +44,12 @@ loop-number-preserved c =
           }
     ]
 
--- where all cars stand, the lanes are even
+-- where all cars stand, one lane is even, and so are two
+one_even : (lanes cells n i : ℕ) (a : Vec LaneCar Global) → lanes ≡ 1 → n ≤ i → i ≤ n → EvenList lanes cells n 0 i a.items
+    → (l : ℕ) → l < lanes → IsEvenLane lanes cells n l (cells_of cells (list_at (a ∷ []) l))
+one_even lanes cells n i a one whole within first zero h = even_all lanes cells n 0 i _ whole within first.even
+one_even lanes cells n i a one whole within first (suc l) h = absurd (omega (arith, one, h))
+
 two_even : (lanes cells n i : ℕ) (a b : Vec LaneCar Global) → n ≤ i → i ≤ n → lanes ≤ 2 → EvenList lanes cells n 0 i a.items → EvenList lanes cells n 1 i b.items
     → (l : ℕ) → l < lanes → IsEvenLane lanes cells n l (cells_of cells (list_at (a ∷ b ∷ []) l))
 two_even lanes cells n i a b whole within few first second zero h = even_all lanes cells n 0 i _ whole within first.even
@@ -55,3 +60,33 @@ pub returns-clause-each_lane : goal.returns-clause-each_lane
 returns-clause-each_lane c = rw c.in_ok-vec-2.ensures.items
     (two_even c.args.lanes c.args.cells c.args.count c.loop-number.number c.loop-number.first c.loop-number.second
     c.loop-number-test.false c.loop-number.auto.number-end c.requires.few c.loop-number.invariant.first c.loop-number.invariant.second)
+
+pub returns-then-lanes-eq1-clause-each_lane : goal.returns-then-lanes-eq1-clause-each_lane
+returns-then-lanes-eq1-clause-each_lane c = rw c.in_ok-vec.ensures.items
+    (one_even c.args.lanes c.args.cells c.args.count c.loop-number.number c.loop-number.first
+    c.if-lanes-eq1.true c.loop-number-test.false c.loop-number.auto.number-end c.loop-number.invariant.first)
+
+-- the lists of one lane and of two are sorted
+one_rises : (cells : ℕ) (a : Vec LaneCar Global) → Rises 0 cells a.items → (l : ℕ) → l < length (a ∷ []) → Rises 0 cells (list_at (a ∷ []) l)
+one_rises cells a first zero h = first
+one_rises cells a first (suc l) h = absurd (omega (arith, h))
+
+two_rise : (cells : ℕ) (a b : Vec LaneCar Global) → Rises 0 cells a.items → Rises 0 cells b.items
+    → (l : ℕ) → l < length (a ∷ b ∷ []) → Rises 0 cells (list_at (a ∷ b ∷ []) l)
+two_rise cells a b first second zero h = first
+two_rise cells a b first second (suc zero) h = second
+two_rise cells a b first second (suc (suc l)) h = absurd (omega (arith, h))
+
+pub returns-then-lanes-eq1-clause-sorted : goal.returns-then-lanes-eq1-clause-sorted
+returns-then-lanes-eq1-clause-sorted c = rw c.in_ok-vec.ensures.items
+    (record { rises = one_rises c.args.cells c.loop-number.first c.loop-number.invariant.first.rises })
+
+pub returns-clause-sorted : goal.returns-clause-sorted
+returns-clause-sorted c = rw c.in_ok-vec-2.ensures.items
+    (record { rises = two_rise c.args.cells c.loop-number.first c.loop-number.second c.loop-number.invariant.first.rises c.loop-number.invariant.second.rises })
+
+pub returns-then-lanes-eq1-clause-same_lanes : goal.returns-then-lanes-eq1-clause-same_lanes
+returns-then-lanes-eq1-clause-same_lanes c = rw c.in_ok-vec.ensures.items (sym c.if-lanes-eq1.true)
+
+pub returns-clause-same_lanes : goal.returns-clause-same_lanes
+returns-clause-same_lanes c = rw c.in_ok-vec-2.ensures.items (omega (arith, c.requires.some, c.requires.few, c.if-lanes-eq1.false))
