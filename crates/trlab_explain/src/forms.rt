@@ -4,7 +4,8 @@ use trlab_asm::Mnemonic;
 
 /// The names of the instructions.
 pub const INSTRUCTIONS: &str =
-    "Expected: num, get, side, draw, copy, add, sub, mul, div, min, max, not, and, or, jump, jlt, jle, jtrue, jfalse, go, cross or stay.";
+    "Expected: num, get, side, draw, copy, add, sub, mul, div, min, max, not, and, or, \
+     jump, jlt, jle, jtrue, jfalse, go, cross or stay.";
 
 /// The form of the operands of an instruction.
 pub fn form_of(name: Mnemonic) -> &'static str {

@@ -15,7 +15,8 @@ pub fn expected_at(subject: Subject, spot: Spot) -> &'static str {
         Spot::LaneOrRule =>
             "Expected: a second `lane P`, or a rule: `rule nasch t`, `rule vdr t t0`, `rule own`.",
         Spot::Rule => {
-            "Expected: `rule nasch t`, `rule vdr t t0`, `rule rickert t c` or `rule own`; t, t0, c from 0 to 2147483648."
+            "Expected: `rule nasch t`, `rule vdr t t0`, `rule rickert t c` or `rule own`; \
+             t, t0, c from 0 to 2147483648."
         }
         Spot::Motion => "Expected: `motion`, the lines of a program and `end`; or `code X`.",
         Spot::MotionLine | Spot::ChangeLine => {
