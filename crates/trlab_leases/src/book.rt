@@ -10,14 +10,14 @@ ghost use Rattle.trlab_leases.specs.declared.fault.BookFault.TheVariants.{Histor
 use crate::fault::BookFault;
 use crate::job::Job;
 use crate::lease::Lease;
-use crate::limits::{MOST_EVENTS, MOST_JOBS};
+use crate::limits::MOST_EVENTS;
 use crate::on_jobs::{
     cancel_in, free_in, give_back_in, is_same_in, order_in, read_in, replace_in, revoke_in,
+    submit_in,
 };
 use crate::order::Order;
 use crate::seed::Seed;
 use crate::snapshot::Snapshot;
-use crate::suits::suits;
 use std::alloc::Global;
 use std::marker::Model;
 use trlab_rules::Rule;
@@ -82,20 +82,11 @@ impl Book {
         if self.count >= MOST_EVENTS {
             return Err(BookFault::HistoryFull);
         }
-        if !suits(&rule, &seed.road) {
+        let answer = submit_in(&mut self.jobs, alloc, seed, rule, steps);
+        if !is_for_memory(&answer) {
             self.count += 1;
-            return Err(BookFault::LanesMismatch);
         }
-        if self.jobs.len() >= MOST_JOBS {
-            self.count += 1;
-            return Err(BookFault::Full);
-        }
-        self.jobs.reserve(1)?;
-        let job = Job::new(alloc, seed, rule, steps)?;
-        let number = self.jobs.len() as u32;
-        self.jobs.push_reserved(job);
-        self.count += 1;
-        Ok(number)
+        answer
     }
 
     /// Enters a rule, and answers the step from which on it is in force: the first that was never ordered.

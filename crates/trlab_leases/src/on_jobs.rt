@@ -1,18 +1,49 @@
 //! Calls on one job of a list.
 
-ghost use Rattle.std.specs.Prelude.{◌≡◌, ◌↔◌, ◌<◌, IsTrue, IfOk, IfErr, IfSome, MatchBool, length};
+ghost use Rattle.std.specs.Prelude.{◌≡◌, ◌↔◌, ◌<◌, ◌≤◌, IsTrue, IfOk, IfErr, IfSome, MatchBool, length};
 ghost use Rattle.std.specs.List.{position};
 ghost use Rattle.trlab_leases.specs.Answers.{back_reply, done_reply, is_memory, number_reply, order_reply, seen_reply};
 ghost use Rattle.trlab_leases.specs.Comparison.{IsRuleAt, IsSame, IsSeen, offered};
-ghost use Rattle.trlab_leases.specs.Machine.{cancelling, giving_back, is_free, on_job, ordering, reading, replacing, revoking};
+ghost use Rattle.trlab_leases.specs.Machine.{cancelling, giving_back, is_free, on_job, ordering, reading, replacing, revoking, submitting};
 
 use crate::fault::BookFault;
 use crate::job::Job;
 use crate::lease::Lease;
+use crate::limits::MOST_JOBS;
 use crate::order::Order;
+use crate::seed::Seed;
 use crate::snapshot::Snapshot;
+use crate::suits::suits;
 use std::alloc::Global;
 use trlab_rules::Rule;
+
+/// Submits a job.
+pub(crate) fn submit_in(
+    jobs: &mut Vec<Job>,
+    alloc: Global,
+    seed: Seed,
+    rule: Rule,
+    steps: u32,
+) -> Result<u32, BookFault>
+    requires { length jobs.old.items ≤ 256 }
+    ensures reply { MatchBool (is_memory result) (Unit {0})
+        (number_reply result ≡ (submitting jobs.old.items seed rule steps).reply) }
+    ensures jobs { MatchBool (is_memory result) (jobs.new.items ≡ jobs.old.items)
+        (jobs.new.items ≡ (submitting jobs.old.items seed rule steps).jobs) }
+    ensures few { length jobs.new.items ≤ 256 }
+{
+    if !suits(&rule, &seed.road) {
+        return Err(BookFault::LanesMismatch);
+    }
+    if jobs.len() >= MOST_JOBS {
+        return Err(BookFault::Full);
+    }
+    jobs.reserve(1)?;
+    let job = Job::new(alloc, seed, rule, steps)?;
+    let number = jobs.len() as u32;
+    jobs.push_reserved(job);
+    Ok(number)
+}
 
 /// Enters a rule.
 pub(crate) fn replace_in(jobs: &mut Vec<Job>, index: u32, rule: Rule) -> Result<u32, BookFault>

@@ -1,0 +1,14 @@
+use Rattle.std.proofs.Common.{refl}
+use Rattle.trlab_bounds.proofs.laws.programs.Goals as goal
+
+pub returns-clause-instructions : goal.returns-clause-instructions
+returns-clause-instructions c = refl
+
+pub returns-clause-places : goal.returns-clause-places
+returns-clause-places c = refl
+
+pub returns-clause-words : goal.returns-clause-words
+returns-clause-words c = refl
+
+pub returns-clause-certain : goal.returns-clause-certain
+returns-clause-certain c = refl
