@@ -8,6 +8,7 @@ use std::marker::Brand;
 use std::sync::Wait;
 use std::sync::ledger::Blank;
 use trlab_leases::{BookFault, Call, Event, Reply};
+use trlab_rules::Rule;
 
 /// The history that these calls leave, where each has the reply beside it, in order; nothing where it is
 /// another.
@@ -16,11 +17,19 @@ fn history_is(rt: &(impl AllocGlobal + Wait), wanted: &[(Made, Reply)]) -> Optio
     is_history(&history, wanted).then(|| history)
 }
 
+/// Whether a rule is the one that is wanted.
+fn is_rule(rule: &Rule, wanted: Option<Rule>) -> bool {
+    match wanted {
+        Some(wanted) => rule.equals(&wanted),
+        None => false,
+    }
+}
+
 /// Whether a submission is of the two cars under the rule by which no car brakes.
 fn is_submission(alloc: Global, call: &Call) -> bool {
-    match (call, steady(alloc)) {
-        (Call::Submit(from, rule, _), Some(wanted)) => {
-            rule.get().equals(&wanted)
+    match call {
+        Call::Submit(from, rule, _) => {
+            is_rule(rule.get(), steady(alloc))
                 && shows(alloc, &from.get().road, b"0.0.......") == Some(true)
         }
         _ => false,
@@ -29,9 +38,21 @@ fn is_submission(alloc: Global, call: &Call) -> bool {
 
 /// Whether a replacement is by the rule by which each car brakes.
 fn is_replacement(alloc: Global, call: &Call) -> bool {
-    match (call, braking(alloc)) {
-        (Call::Replace(_, rule), Some(wanted)) => rule.get().equals(&wanted),
+    match call {
+        Call::Replace(_, rule) => is_rule(rule.get(), braking(alloc)),
         _ => false,
+    }
+}
+
+/// Whether a history begins with such a submission, and its fourth call is such a replacement.
+fn has_seed_and_rules(alloc: Global, history: Option<Vec<Event>>) -> bool {
+    match history {
+        Some(events) => {
+            events.len() > 3
+                && is_submission(alloc, &events[0].call)
+                && is_replacement(alloc, &events[3].call)
+        }
+        None => false,
     }
 }
 
@@ -62,12 +83,7 @@ fn a_history_has_each_call_in_order(rt: HostRuntime) {
             },
         ),
     ];
-    let Some(history) = history_is(&rt, &wanted) else {
-        panic!(rt; "the history is another")
-    };
-    assert!(rt; history.len() > 3);
-    assert!(rt; is_submission(rt.alloc(), &history[0].call));
-    assert!(rt; is_replacement(rt.alloc(), &history[3].call));
+    assert!(rt; has_seed_and_rules(rt.alloc(), history_is(&rt, &wanted)));
 }
 
 #[test]

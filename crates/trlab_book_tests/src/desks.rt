@@ -33,6 +33,34 @@ fn wanted(number: u32, job: u32) -> (Made, Reply) {
     }
 }
 
+/// Whether the rule of a job is replaced from step 0 on.
+fn replaces<L: Ledger, R: Wait>(
+    rt: &R,
+    alloc: Global,
+    book: &SharedBook<L>,
+    desk: &mut Desk<L>,
+    job: u32,
+) -> bool {
+    match steady(alloc) {
+        Some(rule) => book.replace(rt, alloc, desk, job, rule) == Ok(0),
+        None => false,
+    }
+}
+
+/// Whether a job is read at step 0, under one rule.
+fn reads<L: Ledger, R: Wait>(
+    rt: &R,
+    alloc: Global,
+    book: &SharedBook<L>,
+    desk: &mut Desk<L>,
+    job: u32,
+) -> bool {
+    match book.read(rt, alloc, desk, job) {
+        Ok(seen) => seen.step() == 0 && seen.sheet().len() == 1,
+        Err(_) => false,
+    }
+}
+
 /// Makes the calls of one thread, and answers its job.
 fn make_calls<L: Ledger, R: Wait>(
     rt: &R,
@@ -42,16 +70,13 @@ fn make_calls<L: Ledger, R: Wait>(
 ) -> Option<u32> {
     let job = submit(rt, alloc, book, desk, 0, 4)?;
     for number in 1..CALLS {
-        if number % 2 == 1 {
-            let from = book.replace(rt, alloc, desk, job, steady(alloc)?).ok()?;
-            if from != 0 {
-                return None;
-            }
+        let made = if number % 2 == 1 {
+            replaces(rt, alloc, book, desk, job)
         } else {
-            let seen = book.read(rt, alloc, desk, job).ok()?;
-            if seen.step() != 0 || seen.sheet().len() != 1 {
-                return None;
-            }
+            reads(rt, alloc, book, desk, job)
+        };
+        if !made {
+            return None;
         }
     }
     Some(job)
@@ -68,6 +93,24 @@ fn at_desk<L: Ledger, R: Wait>(
     (desk, made)
 }
 
+/// Makes the calls of two threads, each at its own desk, and gathers the desks.
+fn at_two_desks<L: Ledger + Send + Sync, R: Threads + Wait + Sync>(
+    rt: &R,
+    alloc: Global,
+    book: &SharedBook<L>,
+    first: Desk<L>,
+    second: Desk<L>,
+) -> (Desk<L>, bool)
+    requires ledger { L.parts ≡ 1024 }
+{
+    let ((first, a), (second, b)) = join(
+        rt,
+        || at_desk(rt, alloc, book, first),
+        || at_desk(rt, alloc, book, second),
+    );
+    (first.gather(second), a && b)
+}
+
 /// The history of four threads.
 fn four_threads<L: Ledger + Send + Sync, R: Threads + Wait + Sync>(
     rt: &R,
@@ -81,22 +124,17 @@ fn four_threads<L: Ledger + Send + Sync, R: Threads + Wait + Sync>(
     let second = first.split();
     let third = first.split();
     let fourth = first.split();
-    let (((first, a), (second, b)), ((third, c), (fourth, d))) = join(
+    let ((mine, some), (theirs, others)) = join(
         rt,
-        || join(
-            rt,
-            || at_desk(rt, alloc, &book, first),
-            || at_desk(rt, alloc, &book, second),
-        ),
-        || join(
-            rt,
-            || at_desk(rt, alloc, &book, third),
-            || at_desk(rt, alloc, &book, fourth),
-        ),
+        || -> (Desk<L>, bool)
+            requires { L.parts ≡ 1024 }
+        { at_two_desks(rt, alloc, &book, first, second) },
+        || -> (Desk<L>, bool)
+            requires { L.parts ≡ 1024 }
+        { at_two_desks(rt, alloc, &book, third, fourth) },
     );
-    let desk = first.gather(second).gather(third.gather(fourth));
-    let (_, history) = book.close(desk).ok()?;
-    (a && b && c && d).then(|| history)
+    let (_, history) = book.close(mine.gather(theirs)).ok()?;
+    (some && others).then(|| history)
 }
 
 /// Whether an event is of a job: its call is on the job, or has submitted it.

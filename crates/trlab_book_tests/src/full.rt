@@ -6,8 +6,18 @@ use std::alloc::Global;
 use std::marker::Brand;
 use std::sync::Wait;
 use std::sync::ledger::{Blank, Ledger};
-use trlab_book::SharedBook;
+use trlab_book::{Desk, SharedBook};
 use trlab_leases::BookFault;
+
+/// Whether each call of a book is heard until it has all its events, and then none.
+fn fills<L: Ledger, R: Wait>(rt: &R, book: &SharedBook<L>, desk: &mut Desk<L>) -> bool {
+    for _ in 0..1000000 {
+        if book.revoke(rt, desk, 0) != Err(BookFault::NoSuchJob) {
+            return false;
+        }
+    }
+    book.revoke(rt, desk, 0) == Err(BookFault::HistoryFull)
+}
 
 /// The length of the history of a book that was called once more than it has events.
 fn full_history<L: Ledger, R: Wait>(rt: &R, alloc: Global, blank: Blank) -> Option<usize>
@@ -15,16 +25,9 @@ fn full_history<L: Ledger, R: Wait>(rt: &R, alloc: Global, blank: Blank) -> Opti
     requires parts { (blank.parts ≡ L.parts) × (blank.parts ≡ 1024) }
 {
     let (book, mut desk) = SharedBook::<L>::start(alloc, blank);
-    for _ in 0..1000000 {
-        if book.revoke(rt, &mut desk, 0) != Err(BookFault::NoSuchJob) {
-            return None;
-        }
-    }
-    if book.revoke(rt, &mut desk, 0) != Err(BookFault::HistoryFull) {
-        return None;
-    }
+    let fills = fills(rt, &book, &mut desk);
     let (_, history) = book.close(desk).ok()?;
-    Some(history.len())
+    fills.then_some(history.len())
 }
 
 #[test]

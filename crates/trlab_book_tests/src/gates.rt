@@ -53,23 +53,26 @@ fn is_replaced<L: Ledger, R: Wait>(
     alloc: Global,
     book: &SharedBook<L>,
     desk: &mut Desk<L>,
-) -> Option<bool> {
-    let seen = book.read(rt, alloc, desk, 0).ok()?;
-    Some(seen.sheet().len() == 2 && is_seen(alloc, &seen, 4, b".0....1...")?)
+) -> bool {
+    match book.read(rt, alloc, desk, 0) {
+        Ok(seen) => {
+            seen.sheet().len() == 2 && is_seen(alloc, &seen, 4, b".0....1...") == Some(true)
+        }
+        Err(_) => false,
+    }
 }
 
-/// The history of a runner whose lease is revoked while it takes the first step.
-fn revoked_while_held<L: Ledger + Send + Sync, R: Threads + Wait + Sync>(
+/// Runs the jobs of a book by a runner who is held while the lease is revoked, and says whether the calls
+/// meanwhile are answered as they have to be.
+fn run_held<L: Ledger + Send + Sync, R: Threads + Wait + Sync>(
     rt: &R,
     alloc: Global,
-    blank: Blank,
-) -> Option<(bool, Vec<Event>)>
-    requires name { blank.name ≡ L.name }
-    requires parts { (blank.parts ≡ L.parts) × (blank.parts ≡ 1024) }
+    book: &SharedBook<L>,
+    mut mine: Desk<L>,
+) -> Option<(Desk<L>, bool)>
+    requires ledger { L.parts ≡ 1024 }
 {
-    let (book, mut mine) = SharedBook::<L>::start(alloc, blank);
-    let submitted = submit(rt, alloc, &book, &mut mine, 0, 4);
-    if submitted != Some(0) || mine.parts() < 2 {
+    if mine.parts() < 2 {
         return None;
     }
     let gate = Barrier {
@@ -79,15 +82,30 @@ fn revoked_while_held<L: Ledger + Send + Sync, R: Threads + Wait + Sync>(
     let theirs = mine.split();
     let ((theirs, revoked), ran) = join(
         rt,
-        || revoke_held(rt, alloc, &book, theirs, &gate),
+        || revoke_held(rt, alloc, book, theirs, &gate),
         || -> Result<Desk<L>, (Desk<L>, RunFault)>
             requires { L.parts ≡ 1024 }
-        { run_jobs(rt, alloc, &book, mine, 1, 1, &gate) },
+        { run_jobs(rt, alloc, book, mine, 1, 1, &gate) },
     );
-    let mut desk = ran.ok()?.gather(theirs);
+    Some((ran.ok()?.gather(theirs), revoked))
+}
+
+/// How many orders are refused to a runner whose lease is revoked while it takes the first step, where all
+/// else is as it has to be.
+fn refused_to_held<L: Ledger + Send + Sync, R: Threads + Wait + Sync>(
+    rt: &R,
+    alloc: Global,
+    blank: Blank,
+) -> Option<u32>
+    requires name { blank.name ≡ L.name }
+    requires parts { (blank.parts ≡ L.parts) × (blank.parts ≡ 1024) }
+{
+    let (book, mut mine) = SharedBook::<L>::start(alloc, blank);
+    let submitted = submit(rt, alloc, &book, &mut mine, 0, 4) == Some(0);
+    let (mut desk, revoked) = run_held(rt, alloc, &book, mine)?;
     let right = is_replaced(rt, alloc, &book, &mut desk);
     let (_, history) = book.close(desk).ok()?;
-    Some((revoked && right == Some(true), history))
+    (submitted && revoked && right).then_some(refused_orders(&history))
 }
 
 /// How many events refuse the order of a lease that is no longer the one that is out.
@@ -104,10 +122,6 @@ fn refused_orders(history: &[Event]) -> u32 {
 
 #[test]
 fn a_lease_is_revoked_while_its_runner_is_held(rt: HostRuntime) {
-    let found = revoked_while_held::<Brand, HostRuntime>(&rt, rt.alloc(), Blank::new(1024));
-    let Some((is_right, history)) = found else {
-        panic!(rt; "a call was not answered as it is to be")
-    };
-    assert!(rt; is_right);
-    assert_eq!(rt; refused_orders(&history), 1);
+    let found = refused_to_held::<Brand, HostRuntime>(&rt, rt.alloc(), Blank::new(1024));
+    assert_eq!(rt; found, Some(1));
 }

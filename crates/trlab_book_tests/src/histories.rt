@@ -3,7 +3,7 @@
 use trlab_leases::{Call, Event, Offered, Reply};
 
 /// A call without its seed and its rule.
-#[derive(Clone, Copy, Debug, PartialEq, Eq)]
+#[derive(Clone, Copy, PartialEq, Eq)]
 pub enum Made {
     Submit(u32),
     Replace(u32),
@@ -60,10 +60,15 @@ pub fn ordered(number: u32, step: u32, from: u32) -> Reply {
     }
 }
 
+/// Whether an event is of this call with this reply.
+fn is_event(event: &Event, (made, reply): &(Made, Reply)) -> bool {
+    made_by(&event.call) == *made && event.reply == *reply
+}
+
 /// Whether a history has these calls with these replies, in order, and nothing else.
 pub fn is_history(history: &[Event], wanted: &[(Made, Reply)]) -> bool {
     for (event, wanted) in history.iter().zip(wanted) {
-        if made_by(&event.call) != wanted.0 || event.reply != wanted.1 {
+        if !is_event(event, wanted) {
             return false;
         }
     }

@@ -10,6 +10,7 @@ use std::sync::Wait;
 use std::sync::ledger::{Blank, Ledger};
 use std::thread::Threads;
 use trlab_book::{Desk, SharedBook, run_jobs};
+use trlab_leases::Snapshot;
 use trlab_segments::{Gate, OpenGate};
 
 /// What is tried on a new book.
@@ -114,28 +115,35 @@ fn run<L: Ledger + Send + Sync, R: Threads + Wait + Sync>(
     }
 }
 
-/// Whether a job has come to its fourth step.
-fn is_done<L: Ledger, R: Wait>(
-    rt: &R,
-    alloc: Global,
-    book: &SharedBook<L>,
-    desk: &mut Desk<L>,
-    job: u32,
-) -> Option<bool> {
-    let seen = book.read(rt, alloc, desk, job).ok()?;
-    is_seen(alloc, &seen, 4, b"..4....3..")
+/// Whether a snapshot is of step 40 and of the road of one worker.
+fn is_road_of_one(alloc: Global, seen: &Snapshot) -> bool {
+    match road_alone(alloc, seen) {
+        Some(road) => seen.step() == 40 && road.equals(seen.road()),
+        None => false,
+    }
 }
 
-/// Whether a job of 40 steps has come to the road of one worker.
-fn is_road_of_one<L: Ledger, R: Wait>(
+/// Whether a snapshot is of the end of a job of a trial.
+fn is_end(alloc: Global, seen: &Snapshot, trial: Trial) -> bool {
+    match trial {
+        Trial::FewCars => is_road_of_one(alloc, seen),
+        _ => is_seen(alloc, seen, 4, b"..4....3..") == Some(true),
+    }
+}
+
+/// Whether a job of a trial has come to its end.
+fn is_right<L: Ledger, R: Wait>(
     rt: &R,
     alloc: Global,
     book: &SharedBook<L>,
     desk: &mut Desk<L>,
+    trial: Trial,
     job: u32,
-) -> Option<bool> {
-    let seen = book.read(rt, alloc, desk, job).ok()?;
-    Some(seen.step() == 40 && road_alone(alloc, &seen)?.equals(seen.road()))
+) -> bool {
+    match book.read(rt, alloc, desk, job) {
+        Ok(seen) => is_end(alloc, &seen, trial),
+        Err(_) => false,
+    }
 }
 
 /// Whether all jobs of a trial have come to their ends.
@@ -152,11 +160,7 @@ fn are_right<L: Ledger, R: Wait>(
         Trial::AtOnce => 2,
     };
     for job in 0..jobs {
-        let right = match trial {
-            Trial::FewCars => is_road_of_one(rt, alloc, book, desk, job),
-            _ => is_done(rt, alloc, book, desk, job),
-        };
-        if right != Some(true) {
+        if !is_right(rt, alloc, book, desk, trial, job) {
             return false;
         }
     }

@@ -48,17 +48,26 @@ impl<L: Ledger> Table<L> {
     /// Orders the next step of a lease, which takes it.
     fn order<R: Wait>(&mut self, rt: &R, alloc: Global, number: u32) -> Option<()> {
         let lease = self.leases.get_mut(number as usize)?.as_mut()?;
-        let order = self.book.order(rt, alloc, &mut self.desk, lease).ok()?;
-        lease.advance_by(&Caller, alloc, &order).ok()
+        match self.book.order(rt, alloc, &mut self.desk, lease) {
+            Ok(order) => lease.advance_by(&Caller, alloc, &order).ok(),
+            Err(_) => None,
+        }
     }
 
     /// Gives a lease back; where it is refused it is kept.
     fn give_back<R: Wait>(&mut self, rt: &R, number: u32) -> Option<()> {
         let lease = self.leases.get_mut(number as usize)?.take()?;
         if let Err((lease, _)) = self.book.give_back(rt, &mut self.desk, lease) {
-            *self.leases.get_mut(number as usize)? = Some(lease);
+            self.lay_back(number, lease);
         }
         Some(())
+    }
+
+    /// Lays a lease back at its number.
+    fn lay_back(&mut self, number: u32, lease: Lease) {
+        if let Some(place) = self.leases.get_mut(number as usize) {
+            *place = Some(lease);
+        }
     }
 
     /// Makes a call.
