@@ -3,6 +3,7 @@
 #![tactic(auto)]
 
 #[cfg(test)]
+mod answers;
 mod calls;
 #[cfg(test)]
 mod desks;
