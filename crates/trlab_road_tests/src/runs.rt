@@ -30,21 +30,24 @@ fn is_at(
     Ok(is_counted && run.step() == step && shows(alloc, run.road(), picture)?)
 }
 
-/// Takes the next step of a run, up to step 100.
-fn go_on(alloc: Global, run: &mut Run) -> Result<(), AllocError> {
-    if run.step() < 100 {
-        run.advance(&Caller, alloc)?;
+/// Takes so many steps of a run, up to step 100.
+fn go_on(alloc: Global, run: &mut Run, steps: u32) -> bool {
+    for _ in 0..steps {
+        if run.step() < 100 && run.advance(&Caller, alloc).is_err() {
+            return false;
+        }
     }
-    Ok(())
+    true
 }
 
 /// The run of one lane behind so many steps, of which those before `warm` are not counted.
 fn run_behind(alloc: Global, picture: &[u8], warm: u32, steps: u32) -> Option<Run> {
     let mut run = run_of(alloc, picture, warm)?;
-    for _ in 0..steps {
-        go_on(alloc, &mut run).ok()?;
+    if go_on(alloc, &mut run, steps) {
+        Some(run)
+    } else {
+        None
     }
-    Some(run)
 }
 
 /// Whether the run of two cars, which counts from step 2 on, is at a step as it is to be.

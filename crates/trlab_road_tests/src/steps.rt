@@ -6,7 +6,7 @@ use trlab_code::Kind;
 use trlab_road::{Car, Road};
 use trlab_rules::{Rule, nasch, rickert};
 use trlab_step::{StepFault, step_road};
-use trlab_verify::{verify_change, verify_motion};
+use trlab_verify::{Change, Motion, verify_change, verify_motion};
 use trlab_words::{CERTAIN, Chance, Key};
 
 /// The rule of 1992, by which no car brakes by chance.
@@ -19,14 +19,22 @@ pub fn crossing(alloc: Global) -> Option<Rule> {
     rickert(alloc, Chance::new(0)?, Chance::new(CERTAIN)?).ok()
 }
 
+/// The motion by which cars stand.
+fn still(alloc: Global) -> Option<Motion> {
+    let code = assemble(alloc, Kind::Motion, b"num r0, 0\ngo r0\n").ok()?;
+    verify_motion(alloc, code).ok()
+}
+
+/// The change by which cars keep their lane.
+fn keeping(alloc: Global) -> Option<Change> {
+    let code = assemble(alloc, Kind::Change, b"stay\n").ok()?;
+    verify_change(alloc, code).ok()
+}
+
 /// A rule of two programs, by which cars stand and keep their lane.
 fn standing(alloc: Global) -> Option<Rule> {
-    let motion = assemble(alloc, Kind::Motion, b"num r0, 0\ngo r0\n").ok()?;
-    let change = assemble(alloc, Kind::Change, b"stay\n").ok()?;
-    Some(Rule::new(
-        verify_motion(alloc, motion).ok()?,
-        Some(verify_change(alloc, change).ok()?),
-    ))
+    let motion = still(alloc)?;
+    Some(Rule::new(motion, Some(keeping(alloc)?)))
 }
 
 /// The fault of a step of one lane under a rule.
@@ -44,8 +52,8 @@ fn a_change_program_wants_two_lanes(rt: HostRuntime) {
 }
 
 /// The road to which a road comes under a rule, so many steps on.
-fn steps_on(alloc: Global, start: &Road, rule: &Rule, steps: u32) -> Option<Road> {
-    let mut road = start.copy(alloc).ok()?;
+fn steps_on(alloc: Global, start: Road, rule: &Rule, steps: u32) -> Option<Road> {
+    let mut road = start;
     for step in 0..steps {
         road = step_road(alloc, &road, rule, &Key([0; 32]), 0, step)
             .ok()?
@@ -54,11 +62,20 @@ fn steps_on(alloc: Global, start: &Road, rule: &Rule, steps: u32) -> Option<Road
     Some(road)
 }
 
-/// The first two cars, in standing order, of 2000 on the longest road behind ten steps.
-fn first_two(alloc: Global) -> Option<(Car, Car)> {
+/// The longest road, of 2000 cars, behind ten steps.
+fn longest(alloc: Global) -> Option<Road> {
+    let rule = steady(alloc)?;
     let start = Road::even(alloc, 2, 100_000, 9, 2_000).ok()?;
-    let road = steps_on(alloc, &start, &steady(alloc)?, 10)?;
-    (road.cars() == 2_000).then(|| (road.standing(0), road.standing(1)))
+    steps_on(alloc, start, &rule, 10)
+}
+
+/// The first two cars, in standing order, of that road.
+fn first_two(alloc: Global) -> Option<(Car, Car)> {
+    let road = longest(alloc)?;
+    if road.cars() != 2_000 {
+        return None;
+    }
+    Some((road.standing(0), road.standing(1)))
 }
 
 // The cars stand 50 cells apart on the first lane, and go 1, 2, .. 9 and once more 9 cells.

@@ -138,27 +138,27 @@ fn is_as_by_one(
     Ok(shared.equals(&by_one) && other == tally)
 }
 
-/// Whether each number of workers does the same to cars that are spread over two lanes.
-fn are_as_one(
-    rt: &(impl AllocGlobal + Threads + Sync),
-    cars: u32,
-) -> Option<Result<bool, StepFault>> {
-    let road = Road::even(rt.alloc(), 2, 100, 5, cars).ok()?;
-    let rule = at_random(rt.alloc())?;
-    let mut is_same = true;
+/// Whether each number of workers does the same to the cars of a road.
+fn are_as_one(rt: &(impl AllocGlobal + Threads + Sync), road: &Road, rule: &Rule) -> bool {
     for others in 0..16 {
-        match is_as_by_one(rt, &road, &rule, others) {
-            Ok(is_next) => is_same = is_same && is_next,
-            Err(fault) => return Some(Err(fault)),
+        if is_as_by_one(rt, road, rule, others) != Ok(true) {
+            return false;
         }
     }
-    Some(Ok(is_same))
+    true
+}
+
+/// The same of cars that are spread over two lanes.
+fn spread_as_one(rt: &(impl AllocGlobal + Threads + Sync), cars: u32) -> Option<bool> {
+    let road = Road::even(rt.alloc(), 2, 100, 5, cars).ok()?;
+    let rule = at_random(rt.alloc())?;
+    Some(are_as_one(rt, &road, &rule))
 }
 
 #[test]
 fn each_number_of_workers_leads_to_the_same_road(rt: HostRuntime) {
     for cars in [0, 1, 3, 60] {
-        assert_eq!(rt; are_as_one(&rt, cars), Some(Ok(true)), "{cars} cars");
+        assert!(rt; spread_as_one(&rt, cars) == Some(true), "{cars} cars");
     }
 }
 

@@ -6,7 +6,7 @@ use trlab_rules::{Rule, nasch};
 use trlab_words::{CERTAIN, Chance};
 
 /// A rule with a name.
-#[derive(Clone, Copy, Debug, PartialEq, Eq)]
+#[derive(Clone, Copy)]
 pub enum Named {
     /// The rule of 1992, by which no car brakes by chance.
     Steady,
@@ -17,7 +17,7 @@ pub enum Named {
 }
 
 /// A call of a book. Leases are named by their place on the table, jobs by their number.
-#[derive(Clone, Copy, Debug, PartialEq, Eq)]
+#[derive(Clone, Copy)]
 pub enum Call {
     /// Submits the road of two cars under a key of this byte, for so many steps.
     Submit(u8, u32, Named),

@@ -144,7 +144,7 @@ impl Table {
         match self.book.order(alloc, self.leases.get(place)?.as_ref()?) {
             Ok(order) => {
                 let told = order_line(alloc, &order);
-                *self.orders.get_mut(place)? = Some(order);
+                self.lay_order(place, order);
                 told
             }
             Err(fault) => refusal(alloc, fault),
@@ -165,9 +165,23 @@ impl Table {
         match self.book.give_back(lease) {
             Ok(()) => say(alloc, "done"),
             Err((lease, fault)) => {
-                *self.leases.get_mut(place)? = Some(lease);
+                self.lay_back(place, lease);
                 refusal(alloc, fault)
             }
+        }
+    }
+
+    /// Lays a lease back at its place.
+    fn lay_back(&mut self, place: usize, lease: Lease) {
+        if let Some(there) = self.leases.get_mut(place) {
+            *there = Some(lease);
+        }
+    }
+
+    /// Lays an order beside the lease of a place.
+    fn lay_order(&mut self, place: usize, order: Order) {
+        if let Some(there) = self.orders.get_mut(place) {
+            *there = Some(order);
         }
     }
 

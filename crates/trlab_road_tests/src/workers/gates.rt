@@ -8,6 +8,7 @@ use std::hint;
 use std::sync::atomic::{AtomicBool, AtomicU64, Ordering};
 use std::thread::Threads;
 use trlab_road::Road;
+use trlab_rules::Rule;
 use trlab_segments::{Gate, step_shared};
 use trlab_words::Key;
 
@@ -29,8 +30,24 @@ impl Gate for Notes {
     }
 }
 
-/// Lets workers take a step of cars that are spread over two lanes, through a gate, and says whether
-/// there are as many cars behind it.
+/// Lets workers take a step through a gate, and says whether there are as many cars behind it.
+fn step_through<G: Gate + Sync>(
+    rt: &(impl AllocGlobal + Threads + Sync),
+    road: &Road,
+    rule: &Rule,
+    others: u32,
+    gate: &G,
+) -> bool
+    requires { others < 16 }
+{
+    let (alloc, key) = (rt.alloc(), Key([0; 32]));
+    match step_shared(rt, alloc, road, rule, &key, 9, 0, others + 1, gate) {
+        Ok((next, _)) => next.cars() == road.cars(),
+        Err(_) => false,
+    }
+}
+
+/// The same of cars that are spread over two lanes.
 fn go_through<G: Gate + Sync>(
     rt: &(impl AllocGlobal + Threads + Sync),
     cars: u32,
@@ -39,22 +56,9 @@ fn go_through<G: Gate + Sync>(
 ) -> Option<bool>
     requires { others < 16 }
 {
-    let alloc = rt.alloc();
-    let road = Road::even(alloc, 2, 100, 5, cars).ok()?;
-    let rule = crossing(alloc)?;
-    let (next, _) = step_shared(
-        rt,
-        alloc,
-        &road,
-        &rule,
-        &Key([0; 32]),
-        9,
-        0,
-        others + 1,
-        gate,
-    )
-    .ok()?;
-    Some(next.cars() == cars)
+    let road = Road::even(rt.alloc(), 2, 100, 5, cars).ok()?;
+    let rule = crossing(rt.alloc())?;
+    Some(step_through(rt, &road, &rule, others, gate))
 }
 
 /// How often 16 workers begin a segment of so many cars, and which ones.
@@ -118,8 +122,10 @@ fn goes_on_alone(rt: &(impl AllocGlobal + Threads + Sync)) -> Option<bool> {
         came: AtomicU64::new(0),
         gave_up: AtomicBool::new(false),
     };
-    go_through(rt, 8, 1, &gate)?;
-    Some(!gate.gave_up.load(Ordering::SeqCst) && gate.came.load(Ordering::SeqCst) == 8)
+    let is_through = go_through(rt, 8, 1, &gate)?;
+    Some(
+        is_through && !gate.gave_up.load(Ordering::SeqCst) && gate.came.load(Ordering::SeqCst) == 8,
+    )
 }
 
 #[test]
