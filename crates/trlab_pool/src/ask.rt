@@ -21,22 +21,7 @@ use trlab_road::Road;
 use trlab_segments::{Asked, Drawer, Gate, Tickets, segment_count};
 
 /// How often the caller looks for the last helper before it lets another thread go on.
-const LOOKS: u32 = 100;
-
-/// How many turns the caller spins between two looks. A look writes beside what the helpers read, so it
-/// would hold them up if it were taken at each turn.
-const TURNS: u32 = 32;
-
-/// Lets some time go by after so many looks.
-fn pause(looks: u32) {
-    if looks < LOOKS {
-        for _ in 0..TURNS {
-            hint::spin_loop();
-        }
-    } else {
-        thread::yield_now();
-    }
-}
+const LOOKS: u32 = 1000;
 
 /// The phase, once no helper has it.
 fn alone<A, P: Asked<A>, R: Wait>(rt: &R, task: Arc<Task<A, P>, Global>) -> Task<A, P>
@@ -49,8 +34,12 @@ fn alone<A, P: Asked<A>, R: Wait>(rt: &R, task: Arc<Task<A, P>, Global>) -> Task
             Ok(task) => return task,
             Err(shared) => task = shared,
         }
-        pause(looks);
-        looks = looks.saturating_add(1);
+        if looks < LOOKS {
+            looks += 1;
+            hint::spin_loop();
+        } else {
+            thread::yield_now();
+        }
     }
     unreachable!()
 }

@@ -5,7 +5,7 @@ ghost use Rattle.std.specs.Thread.{IsSync};
 use crate::board::Board;
 use std::alloc::Global;
 use std::sync::Wait;
-use std::sync::atomic::{AtomicBool, AtomicU32, AtomicU64, Ordering};
+use std::sync::atomic::{AtomicBool, AtomicU64, Ordering};
 use std::thread::{Threads, join};
 use std::time::Duration;
 use trlab_segments::Gate;
@@ -20,8 +20,6 @@ pub struct Hall {
     pub(crate) motions: Board<u32, Motion>,
     pub(crate) changes: Board<bool, Change>,
     turn: AtomicU64,
-    /// How many helpers are still to be woken for the phase.
-    wakes: AtomicU32,
     closed: AtomicBool,
 }
 
@@ -32,29 +30,14 @@ impl Hall {
             motions: Board::new(),
             changes: Board::new(),
             turn: AtomicU64::new(0),
-            wakes: AtomicU32::new(0),
             closed: AtomicBool::new(false),
         }
     }
 
-    /// Has so many helpers woken, since a phase was opened; the others see it when they look. The caller
-    /// wakes the first, and each wakes the next.
+    /// Wakes so many helpers, since a phase was opened; the others see it when they look.
     pub fn call(&self, wakes: u32) {
-        self.wakes.store(wakes, Ordering::SeqCst);
         self.turn.fetch_add(1, Ordering::SeqCst);
-        self.wake_next();
-    }
-
-    /// Wakes a helper, where one is still to be woken and no other thread does so now.
-    fn wake_next(&self) {
-        let left = self.wakes.load(Ordering::SeqCst);
-        if left == 0 {
-            return;
-        }
-        let counted = self
-            .wakes
-            .compare_exchange(left, left - 1, Ordering::SeqCst, Ordering::SeqCst);
-        if counted.is_ok() {
+        for _ in 0..wakes {
             self.turn.wake_one();
         }
     }
@@ -91,7 +74,6 @@ impl Hall {
             if self.is_closed() {
                 return;
             }
-            self.wake_next();
             if let Some(task) = self.motions.task(rt) {
                 task.help(rt, alloc, gate);
             }
