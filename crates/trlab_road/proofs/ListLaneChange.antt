@@ -51,6 +51,21 @@ sought_next n cars x k false r s low there other =
     let same : k ≡ k + 0 = omega arith in
     subst (λ m. IsFirstFrom cars (x + 1) m) same (sought_other n cars x k r s (other refl))
 
+-- the place of the k-th car, or the end of the lane
+pub record IsDue (n : ℕ) (cars : List LaneCar) (k a : ℕ) : Type 0 where
+  pub here : k < length cars → a ≡ place_of cars k
+  pub past : length cars ≤ k → a ≡ n
+
+pub due_low : (n : ℕ) (cars : List LaneCar) (k a : ℕ) → IsDue n cars k a → a < n → k < length cars
+due_low n cars k a d inside = elim (cases_lt k (length cars)) [ inl low ↦ low | inr high ↦ let e = d.past high in absurd (omega (arith, e, inside)) ]
+
+-- where the first car from a place on stands past it, that place is empty
+pub due_none : (n : ℕ) (cars : List LaneCar) (x k a : ℕ) → Rises 0 n cars → IsFirstFrom cars x k → IsDue n cars k a → x < a → cell_at cars x ≡ None
+due_none n cars x k a r s d later = sought_none n cars x k r s (λ low e. let h = d.here low in omega (arith, h, e, later))
+
+pub due_past : (n : ℕ) (cars : List LaneCar) (x k a : ℕ) → Rises 0 n cars → IsFirstFrom cars x k → IsDue n cars k a → x < a → IsFirstFrom cars (x + 1) k
+due_past n cars x k a r s d later = sought_other n cars x k r s (λ low e. let h = d.here low in omega (arith, h, e, later))
+
 -- as many cars as the index of the first car from x on stand before x
 cell_take : (cars : List LaneCar) (i y : ℕ) → ((k : ℕ) → i ≤ k → k < length cars → y < place_of cars k) → cell_at cars y ≡ cell_at (take i cars) y
 cell_take [] zero y h = refl
@@ -166,9 +181,6 @@ merged_next n own beside oc bc r q next i j x a b p m le here past there gone is
     let fl = f.0 in
     let gl = g.0 in
     merged_to n own beside oc bc r q next i j x m p (omega (arith, is, fl, gl)) (λ low. let e = here low in omega (arith, is, e)) (λ low. let e = there low in omega (arith, is, e))
-
-pub next_inside : (n : ℕ) (own : List LaneCar) (i x a b p : ℕ) → Rises 0 n own → IsFirstFrom own x i → x ≤ n → (i < length own → a ≡ place_of own i) → (length own ≤ i → a ≡ n) → p ≡ min a b → p ≤ n
-next_inside n own i x a b p r s le here past is = let f = (reach n own i x a r s le here past).1 in omega (arith, is, f)
 
 -- the answer that stands at an index is that of the place
 pub crosses_here : (n : ℕ) (cars : List LaneCar) (answers : List Bool) (from x k : ℕ) → Rises 0 n cars → IsFirstFrom cars x k → x ≤ n → get_or answers (from + k) false ≡ lane_crosses_at (cells_of n cars) answers from x

@@ -28,18 +28,6 @@ fn next_place(cars: &[LaneCar], k: usize, cells: u32) -> u32
     if k < cars.len() { cars[k].place } else { cells }
 }
 
-/// Does the k-th car stand at a place, where it is the first from there on?
-fn stands_at(cars: &[LaneCar], k: usize, place: u32) -> bool
-    requires sorted { IsRising cars.now }
-    requires sought { IsFirstFrom cars.now place k }
-    ensures none { result ≡ false → cell_at cars.now place ≡ None }
-    ensures within { result ≡ true → k < length cars.now }
-    ensures there { result ≡ true → place_of cars.now k ≡ place }
-    ensures past { IsFirstFrom cars.now (place + 1) (k + from_bool result) }
-{
-    k < cars.len() && cars[k].place == place
-}
-
 /// Puts the cars of a lane that cross into a list; only the proof reads how many cells the lane has.
 fn leaving_cars(
     leaving: &mut Vec<LaneCar>,
@@ -87,18 +75,28 @@ fn change_lane(
     next.reserve(own.cars.len())?;
     let mut i = 0;
     let mut j = 0;
-    let mut place = next_place(own.cars, i, cells).min(next_place(coming, j, cells));
-    while place < cells {
-        let own_here = stands_at(own.cars, i, place);
-        let coming_here = stands_at(coming, j, place);
-        if own_here && !crosses[own.from + i] {
-            next.push(own.cars[i])?;
-        } else if coming_here {
-            next.push(coming[j])?;
+    let mut standing = next_place(own.cars, i, cells);
+    let mut due = next_place(coming, j, cells);
+    while standing.min(due) < cells {
+        if standing < due {
+            if !crosses[own.from + i] {
+                next.push(own.cars[i])?;
+            }
+            i += 1;
+            standing = next_place(own.cars, i, cells);
+        } else {
+            // who comes finds the cell empty, or its car leaves
+            let own_here = standing == due;
+            if own_here && !crosses[own.from + i] {
+                next.push(own.cars[i])?;
+            } else {
+                next.push(coming[j])?;
+            }
+            i += usize::from(own_here);
+            j += 1;
+            standing = next_place(own.cars, i, cells);
+            due = next_place(coming, j, cells);
         }
-        i += usize::from(own_here);
-        j += usize::from(coming_here);
-        place = next_place(own.cars, i, cells).min(next_place(coming, j, cells));
     }
     Ok(())
 }

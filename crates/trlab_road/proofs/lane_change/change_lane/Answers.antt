@@ -1,29 +1,23 @@
-use Rattle.std.proofs.Common.{◌≡◌, ◌+◌, ◌<◌, ◌∙◌, ℕ, Bool, true, false, Some, None, refl, sym, cond, arith}
+use Rattle.std.proofs.Common.{◌≡◌, ◌≢◌, nat_eq, ◌+◌, ◌<◌, ◌∙◌, ℕ, Bool, true, false, Some, None, refl, sym, cond, min, subst, length, arith}
+use Rattle.std.proofs.lemmas.Bool.Decides.{nat_tests}
 use Rattle.trlab_road.specs.LaneChange.{cell_after_change}
 use Rattle.trlab_road.specs.Cells.{Cell}
-use Rattle.trlab_road.specs.Stored.{cells_of, cell_at, lane_crosses_at}
-use Rattle.trlab_road.proofs.ListLaneChange.{Merged, merged_none, merged_next, next_inside, merged_skip, merged_push, merged_all, crosses_here, sought_here}
-use Rattle.trlab_road.proofs.lane_change.change_lane.Goals.{then-own_here+then-not-crosses-own+in_ok-push, else-own_here+then-coming_here+in_ok-push-2, else-own_here+else-coming_here, else-own_here-via-then-own_here+else-not-crosses-own, else-own_here-via-else-own_here}
+use Rattle.trlab_road.specs.Stored.{cells_of, cell_at, lane_crosses_at, place_of, IsFirstFrom}
+use Rattle.trlab_road.proofs.ListLaneChange.{Merged, merged_none, merged_next, merged_skip, merged_push, merged_all, crosses_here, sought_here, sought_none, sought_past, sought_next, due_low, due_none, due_past}
+use Rattle.trlab_road.proofs.lane_change.change_lane.Goals.{then-not-crosses-own+in_ok-push, else-not-crosses-own, then-own_here+then-not-crosses-own-2+in_ok-push-2, else-own_here+in_ok-push-3, else-own_here-via-then-own_here+else-not-crosses-own-2, else-own_here-via-else-own_here}
 use Rattle.trlab_road.proofs.lane_change.change_lane.Goals as goal
 
-pub stands_at-own_here-requires-clause-sorted : goal.stands_at-own_here-requires-clause-sorted
-stands_at-own_here-requires-clause-sorted c = (c.args.cells, c.requires.own_sorted)
-
-pub stands_at-coming_here-requires-clause-sorted : goal.stands_at-coming_here-requires-clause-sorted
-stands_at-coming_here-requires-clause-sorted c = (c.args.cells, c.requires.coming_sorted)
-
-pub loop-place-init : goal.loop-place-init
-loop-place-init c =
+pub loop-next-init : goal.loop-next-init
+loop-next-init c =
     let n = c.args.cells in
     let own = c.args.own.cars.now in
-    let beside = c.args.coming.now in
     let oc = lane_crosses_at (cells_of n own) c.args.crosses.now c.args.own.from in
-    let bc : ℕ → Bool = λ _. true in
-    let none = merged_none n own beside oc bc c.requires.own_sorted c.requires.coming_sorted in
+    let none = merged_none n own c.args.coming.now oc (λ _. true) c.requires.own_sorted c.requires.coming_sorted in
     record {
-      inside = next_inside n own 0 0 _ _ _ c.requires.own_sorted none.own_at (omega arith) c.next_place.ensures.here c.next_place.ensures.past c.min-place.ensures;
-      merged = rw (c.in_ok-reserve.ensures.items, c.clear.ensures.items) (merged_next n own beside oc bc c.requires.own_sorted c.requires.coming_sorted _ 0 0 0 _ _ _ none (omega arith)
-          c.next_place.ensures.here c.next_place.ensures.past c.next_place-2.ensures.here c.next_place-2.ensures.past c.min-place.ensures);
+      own_due = record { here = c.next_place-standing.ensures.here; past = c.next_place-standing.ensures.past };
+      coming_due = record { here = c.next_place-due.ensures.here; past = c.next_place-due.ensures.past };
+      merged = rw (c.in_ok-reserve.ensures.items, c.clear.ensures.items) (merged_next n own c.args.coming.now oc (λ _. true) c.requires.own_sorted c.requires.coming_sorted _ 0 0 0 _ _ _ none (omega arith)
+          c.next_place-standing.ensures.here c.next_place-standing.ensures.past c.next_place-due.ensures.here c.next_place-due.ensures.past refl);
     }
 
 -- who stays, and where none stays, who comes
@@ -40,51 +34,104 @@ empty false own e = e
 comes : (oc : Bool) (own side : Cell) → cond oc None own ≡ None → side ≡ cell_after_change oc true own side
 comes oc own side e = rw e refl
 
-pub loop-place-preserved : goal.loop-place-preserved
-loop-place-preserved c =
+-- a car of the lane is next
+pub loop-next-preserved-then-standing-due : goal.loop-next-preserved-then-standing-due
+loop-next-preserved-then-standing-due c =
     let n = c.args.cells in
     let own = c.args.own.cars.now in
     let beside = c.args.coming.now in
-    let x = c.loop-place.place in
     let oc = lane_crosses_at (cells_of n own) c.args.crosses.now c.args.own.from in
     let bc : ℕ → Bool = λ _. true in
-    let m = c.loop-place.invariant.merged in
-    let inside : x < n = c.loop-place-test.true in
-    let answer = crosses_here n own c.args.crosses.now c.args.own.from x c.loop-place.i c.requires.own_sorted m.own_at (omega arith) in
-    let step : Merged n own beside oc bc c.if-own_here.next.items (c.loop-place.i + c.from-i.result) (c.loop-place.j + c.from-j.result) (x + 1) =
-    elim c.if-own_here.branch [
-      | then-own_here+then-not-crosses-own+in_ok-push w ↦
-          let low = c.stands_at-own_here.ensures.within w.if-own_here.true in
-          let there = c.stands_at-own_here.ensures.there w.if-own_here.true in
-          let here = sought_here n own x c.loop-place.i c.requires.own_sorted m.own_at low there in
-          rw (w.next-is, w.in_ok-push.ensures.items)
-          (merged_push n own beside oc bc c.requires.own_sorted c.requires.coming_sorted c.loop-place.next.items c.loop-place.i c.loop-place.j x m _ _ _ (rw (← c.from-i.ensures) at c.stands_at-own_here.ensures.past) (rw (← c.from-j.ensures) at c.stands_at-coming_here.ensures.past) inside
-          there (stays (oc x) (cell_at own x) (cell_at beside x) _ here (sym answer ∙ w.if-not-crosses-own.true)))
-      | else-own_here+then-coming_here+in_ok-push-2 w ↦
-          let low = c.stands_at-coming_here.ensures.within w.if-coming_here.true in
-          let there = c.stands_at-coming_here.ensures.there w.if-coming_here.true in
-          let here = sought_here n beside x c.loop-place.j c.requires.coming_sorted m.beside_at low there in
-          let gone : cond (oc x) None (cell_at own x) ≡ None = elim w.else-own_here.branch [
-            | else-own_here-via-then-own_here+else-not-crosses-own w' ↦ left (oc x) (cell_at own x) (sym answer ∙ w'.if-not-crosses-own.false)
-            | else-own_here-via-else-own_here w' ↦ empty (oc x) (cell_at own x) (c.stands_at-own_here.ensures.none w'.if-own_here.false)
-          ] in
-          rw (w.next-is, w.in_ok-push-2.ensures.items)
-          (merged_push n own beside oc bc c.requires.own_sorted c.requires.coming_sorted c.loop-place.next.items c.loop-place.i c.loop-place.j x m _ _ _ (rw (← c.from-i.ensures) at c.stands_at-own_here.ensures.past) (rw (← c.from-j.ensures) at c.stands_at-coming_here.ensures.past) inside
-          there (sym here ∙ comes (oc x) (cell_at own x) (cell_at beside x) gone))
-      | else-own_here+else-coming_here w ↦
-          let none = c.stands_at-coming_here.ensures.none w.if-coming_here.false in
-          let gone : cond (oc x) None (cell_at own x) ≡ None = elim w.else-own_here.branch [
-            | else-own_here-via-then-own_here+else-not-crosses-own w' ↦ left (oc x) (cell_at own x) (sym answer ∙ w'.if-not-crosses-own.false)
-            | else-own_here-via-else-own_here w' ↦ empty (oc x) (cell_at own x) (c.stands_at-own_here.ensures.none w'.if-own_here.false)
-          ] in
-          rw w.next-is
-          (merged_skip n own beside oc bc c.requires.own_sorted c.requires.coming_sorted c.loop-place.next.items c.loop-place.i c.loop-place.j x m _ _ (rw (← c.from-i.ensures) at c.stands_at-own_here.ensures.past) (rw (← c.from-j.ensures) at c.stands_at-coming_here.ensures.past) (sym none ∙ comes (oc x) (cell_at own x) (cell_at beside x) gone))
+    let r = c.requires.own_sorted in
+    let q = c.requires.coming_sorted in
+    let items = c.loop-next.next.items in
+    let i = c.loop-next.i in
+    let j = c.loop-next.j in
+    let x = c.loop-next.standing in
+    let later : x < c.loop-next.due = c.if-standing-due.true in
+    let least : min x c.loop-next.due ≡ x = omega (arith, later) in
+    let test = c.loop-next-test.true in
+    let is = c.min.ensures in
+    let inside : x < n = omega (arith, test, is, least) in
+    let m = subst (λ y. Merged n own beside oc bc items i j y) least c.loop-next.invariant.merged in
+    let own_due = c.loop-next.invariant.own_due in
+    let coming_due = c.loop-next.invariant.coming_due in
+    let low = due_low n own i x own_due inside in
+    let there = sym (own_due.here low) in
+    let here = sought_here n own x i r m.own_at low there in
+    let s = sought_past n own x i r m.own_at low there in
+    let t = due_past n beside x j c.loop-next.due q m.beside_at coming_due later in
+    let none = due_none n beside x j c.loop-next.due q m.beside_at coming_due later in
+    let answer = crosses_here n own c.args.crosses.now c.args.own.from x i r m.own_at (omega (arith, inside)) in
+    let step : Merged n own beside oc bc c.if-not-crosses-own.next.items (i + 1) j (x + 1) =
+    elim c.if-not-crosses-own.branch [
+      | then-not-crosses-own+in_ok-push w ↦ rw (w.next-is, w.in_ok-push.ensures.items)
+          (merged_push n own beside oc bc r q items i j x m _ (i + 1) j s t inside there (stays (oc x) (cell_at own x) (cell_at beside x) _ here (sym answer ∙ w.if-not-crosses-own.true)))
+      | else-not-crosses-own w ↦ rw w.next-is
+          (merged_skip n own beside oc bc r q items i j x m (i + 1) j s t (sym none ∙ comes (oc x) (cell_at own x) (cell_at beside x) (left (oc x) (cell_at own x) (sym answer ∙ w.if-not-crosses-own.false))))
     ] in
+    let further = c.next_place-standing-then-standing-due.ensures in
     record {
-      inside = next_inside n own (c.loop-place.i + c.from-i.result) (x + 1) _ _ _ c.requires.own_sorted step.own_at (omega arith) c.next_place-in-loop-place.ensures.here c.next_place-in-loop-place.ensures.past c.min-place-in-loop-place.ensures;
-      merged = merged_next n own beside oc bc c.requires.own_sorted c.requires.coming_sorted _ (c.loop-place.i + c.from-i.result) (c.loop-place.j + c.from-j.result) (x + 1) _ _ _ step (omega arith)
-          c.next_place-in-loop-place.ensures.here c.next_place-in-loop-place.ensures.past c.next_place-in-loop-place-2.ensures.here c.next_place-in-loop-place-2.ensures.past c.min-place-in-loop-place.ensures;
+      own_due = record { here = further.here; past = further.past };
+      coming_due = coming_due;
+      merged = merged_next n own beside oc bc r q _ (i + 1) j (x + 1) _ _ _ step (omega (arith, inside)) further.here further.past coming_due.here coming_due.past refl;
+    }
+
+-- a car that comes is next
+pub loop-next-preserved : goal.loop-next-preserved
+loop-next-preserved c =
+    let n = c.args.cells in
+    let own = c.args.own.cars.now in
+    let beside = c.args.coming.now in
+    let oc = lane_crosses_at (cells_of n own) c.args.crosses.now c.args.own.from in
+    let bc : ℕ → Bool = λ _. true in
+    let r = c.requires.own_sorted in
+    let q = c.requires.coming_sorted in
+    let items = c.loop-next.next.items in
+    let i = c.loop-next.i in
+    let j = c.loop-next.j in
+    let x = c.loop-next.due in
+    let standing = c.loop-next.standing in
+    let not_before = c.if-standing-due.false in
+    let least : min standing x ≡ x = omega (arith, not_before) in
+    let test = c.loop-next-test.true in
+    let is = c.min.ensures in
+    let inside : x < n = omega (arith, test, is, least) in
+    let m = subst (λ y. Merged n own beside oc bc items i j y) least c.loop-next.invariant.merged in
+    let own_due = c.loop-next.invariant.own_due in
+    let coming_due = c.loop-next.invariant.coming_due in
+    let low = due_low n beside j x coming_due inside in
+    let there = sym (coming_due.here low) in
+    let here = sought_here n beside x j q m.beside_at low there in
+    let t = sought_past n beside x j q m.beside_at low there in
+    let answer = crosses_here n own c.args.crosses.now c.args.own.from x i r m.own_at (omega (arith, inside)) in
+    let own_low : standing ≡ x → i < length own = λ same. due_low n own i standing own_due (omega (arith, same, inside)) in
+    let own_there : standing ≡ x → place_of own i ≡ x = λ same. sym (own_due.here (own_low same)) ∙ same in
+    let apart : standing ≢ x → i < length own → place_of own i ≢ x = λ other on e. other (own_due.here on ∙ e) in
+    let s : IsFirstFrom own (x + 1) (i + c.from-i.result) =
+    rw c.from-i.ensures (sought_next n own x i (nat_eq standing x) r m.own_at (λ e. own_low (grind (arith, nat_tests, e))) (λ e. own_there (grind (arith, nat_tests, e))) (λ f. apart (λ e. grind (arith, nat_tests, f, e)))) in
+    let step : Merged n own beside oc bc c.if-own_here.next.items (i + c.from-i.result) (j + 1) (x + 1) =
+    elim c.if-own_here.branch [
+      | then-own_here+then-not-crosses-own-2+in_ok-push-2 w ↦
+          let same : standing ≡ x = w.if-own_here.true in
+          let own_here = sought_here n own x i r m.own_at (own_low same) (own_there same) in
+          rw (w.next-is, w.in_ok-push-2.ensures.items)
+          (merged_push n own beside oc bc r q items i j x m _ _ (j + 1) s t inside (own_there same) (stays (oc x) (cell_at own x) (cell_at beside x) _ own_here (sym answer ∙ w.if-not-crosses-own-2.true)))
+      | else-own_here+in_ok-push-3 w ↦
+          let gone : cond (oc x) None (cell_at own x) ≡ None = elim w.else-own_here.branch [
+            | else-own_here-via-then-own_here+else-not-crosses-own-2 w' ↦ left (oc x) (cell_at own x) (sym answer ∙ w'.if-not-crosses-own-2.false)
+            | else-own_here-via-else-own_here w' ↦ empty (oc x) (cell_at own x) (sought_none n own x i r m.own_at (apart w'.if-own_here.false))
+          ] in
+          rw (w.next-is, w.in_ok-push-3.ensures.items)
+          (merged_push n own beside oc bc r q items i j x m _ _ (j + 1) s t inside there (sym here ∙ comes (oc x) (cell_at own x) (cell_at beside x) gone))
+    ] in
+    let further = c.next_place-standing-else-standing-due.ensures in
+    let due = c.next_place-due-else-standing-due.ensures in
+    record {
+      own_due = record { here = further.here; past = further.past };
+      coming_due = record { here = due.here; past = due.past };
+      merged = merged_next n own beside oc bc r q _ (i + c.from-i.result) (j + 1) (x + 1) _ _ _ step (omega (arith, inside)) further.here further.past due.here due.past refl;
     }
 
 pub returns-clause-crosses : goal.returns-clause-crosses
-returns-clause-crosses c = merged_all _ _ _ _ _ _ _ _ _ c.loop-place.invariant.merged (let h = c.loop-place-test.false in omega arith)
+returns-clause-crosses c = merged_all _ _ _ _ _ _ _ _ _ c.loop-next.invariant.merged (let h = c.loop-next-test.false in let is = c.min.ensures in omega (arith, h, is))
