@@ -27,16 +27,16 @@ fn place_of<A>(parts: &[Part<A>], number: u32) -> usize
 /// The answers of the parts of so many segments, one behind the other.
 pub fn line_up<A: Copy, P: Asked<A>>(
     alloc: Global,
-    _phase: &Phase<P>,
+    phase: &Phase<P>,
     count: u32,
     parts: &[Part<A>],
 ) -> Result<Vec<A>, AllocError>
-    requires right { All (IsPart P.answers _phase.now count) parts.now }
+    requires right { All (IsPart P.answers phase.now count) parts.now }
     requires whole { IsWhole (map number_of parts.now) count }
-    ensures { IfOk result (λ answers. P.answers _phase.now.program.now _phase.now.dice.now
-        _phase.now.road.now 0 (first_car (cars _phase.now.road.now) count count) answers.items) }
+    ensures { IfOk result (λ answers. P.answers phase.now.program.now phase.now.dice.now
+        phase.now.road.now 0 (first_car (cars phase.now.road.now) count count) answers.items) }
 {
-    let mut answers = Vec::new(alloc);
+    let mut answers = Vec::with_capacity(alloc, phase.road.cars() as usize)?;
     for number in 0..count {
         let place = place_of(parts, number);
         answers.extend_from_slice(&parts[place].answers)?;
