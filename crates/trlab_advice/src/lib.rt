@@ -10,7 +10,6 @@ mod repairs;
 mod spot;
 mod subject;
 
-pub use alike::nearest;
 pub use line::line_at;
 pub use odd::{Oddity, oddity_of};
 pub use repairs::{Repair, likely_repair, name_and_operands};

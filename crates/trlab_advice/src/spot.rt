@@ -150,6 +150,9 @@ impl Walk {
 }
 
 /// Which line has to stand at a line of a job or sweep text, counted from 1, by the lines above it.
+///
+/// It has no contract: the definitions say what the lines of a good text are, and any of these lines may
+/// be wrong.
 pub fn spot_at(subject: Subject, text: &[u8], number: u32) -> Spot {
     let mut walk = Walk::top(subject);
     let mut left = text;

@@ -5,11 +5,13 @@ use lib.ListN.{get_elem?}
 use Rattle.atomic_table.specs.Table.{State, Me}
 
 module _ {T K : Type 0} where
+  -- a value is at home, and fits
+  abbrev pub HasAtHome : (T → Type 0) → State (Option T) K → Type 0
+  HasAtHome Fits s = (value : T) × (get_elem? s.homes 0 ≡ some (some (Some value))) × Fits value
+
   -- where the word is 0, a value is at home, and fits
   abbrev pub Guarded : (T → Type 0) → State (Option T) K → Type 0
-  Guarded Fits s =
-      (length s.words ≡ 1)
-      × (slice_index s.words 0 ≡ 0 → (value : T) × (get_elem? s.homes 0 ≡ some (some (Some value))) × Fits value)
+  Guarded Fits s = (length s.words ≡ 1) × (slice_index s.words 0 ≡ 0 → HasAtHome Fits s)
 
   -- who finds 0 has the slot, with a value that fits
   abbrev pub Seized : (T → Type 0) → Me (Option T) K → Type 0

@@ -3,15 +3,14 @@
 ghost use Rattle.std.specs.Prelude.{◌≡◌, ◌<◌, ◌≤◌, IfErr, IfOk};
 ghost use Rattle.std.specs.Arc.{arc_value};
 ghost use Rattle.trlab_bounds.specs.declared.runs.TheConstants.{MOST_WORKERS};
-ghost use Rattle.trlab_pool.specs.Trays.{IsCutWhole, IsNew};
+ghost use Rattle.trlab_pool.specs.Trays.{IsNew};
 ghost use Rattle.trlab_road.specs.Cells.{cars};
-ghost use Rattle.trlab_segments.specs.Drawers.{count_of};
 ghost use Rattle.trlab_segments.specs.Segments.{first_car, segment_count as count_for};
 
 use crate::board::Board;
 use crate::drawing::draw_all;
-use crate::hall::Hall;
 use crate::held::Brief;
+use crate::pool::Pool;
 use crate::task::Task;
 use std::alloc::{AllocError, AllocFailed, Global};
 use std::sync::{Arc, Wait};
@@ -54,86 +53,75 @@ fn segments_for(cars: u32, workers: u32) -> u32
     segment_count(cars, workers)
 }
 
-/// A phase for so many workers, and the caller's pass.
+/// What is asked, as all workers see it.
 ///
 /// # Errors
 ///
 /// Gives the road back where an allocation was refused.
-fn begin_phase<A: Copy + Drop, P: Asked<A> + Drop>(
+fn shared_task<A: Copy + Drop, P: Asked<A> + Drop>(
     alloc: Global,
-    program: P,
-    dice: Dice,
-    road: Road,
-    workers: u32,
-) -> Result<(Arc<Task<A, P>, Global>, Drawer), Road>
-    requires many { 1 < workers }
-    requires few { workers ≤ MOST_WORKERS }
-    requires lanes { P.can_ask road }
-    ensures program { IfOk result (λ begun. (arc_value begun.0).brief.program ≡ program) }
-    ensures dice { IfOk result (λ begun. (arc_value begun.0).brief.dice ≡ dice) }
-    ensures road { IfOk result (λ begun. (arc_value begun.0).brief.road ≡ road) }
-    ensures mine { IfOk result (λ begun. IsNew (arc_value begun.0).brief.tickets begun.1) }
-    ensures count { IfOk result (λ begun.
-        count_of (arc_value begun.0).brief.tickets ≡ count_for (cars road) workers) }
-    ensures lanes { IfOk result (λ begun. P.can_ask (arc_value begun.0).brief.road) }
-    ensures cut { IfOk result (λ begun. IsCutWhole (arc_value begun.0).brief) }
-    ensures back { IfErr result (λ back. back ≡ road) }
+    brief: Brief<P>,
+    reserve: Drawer,
+) -> Result<Arc<Task<A, P>, Global>, Road>
+    requires reserve { IsNew brief.tickets reserve }
+    requires lanes { P.can_ask brief.road }
+    ensures ok { IfOk result (λ task. (arc_value task).brief ≡ brief) }
+    ensures err { IfErr result (λ back. back ≡ brief.road) }
 {
-    let count = segments_for(road.cars(), workers);
-    let Ok((tickets, mut reserve)) = Tickets::start(alloc, count, workers) else {
-        return Err(road);
-    };
-    let mine = tickets.split(&mut reserve);
-    let brief = Brief {
-        program,
-        dice,
-        road,
-        tickets,
-    };
     match Task::begin(alloc, brief, reserve) {
         Err(brief) => Err(brief.into_road()),
         Ok(task) => match Arc::new(alloc, task) {
-            Ok(task) => Ok((task, mine)),
+            Ok(task) => Ok(task),
             Err(AllocFailed { value }) => Err(value.into_road()),
         },
     }
 }
 
-/// The road, and the answers of all its cars in standing order: the caller asks them with up to
-/// `workers - 1` helpers, and wakes as many.
-///
-/// # Errors
-///
-/// Where an allocation was refused, to the caller or to a helper.
-pub fn ask_all<A: Copy + Drop, P: Asked<A> + Drop, R: Wait, G: Gate>(
-    rt: &R,
-    alloc: Global,
-    hall: &Hall,
-    board: &Board<A, P>,
-    gate: &G,
-    program: P,
-    dice: Dice,
-    road: Road,
-    workers: u32,
-) -> (Road, Result<Vec<A>, AllocError>)
-    requires many { 1 < workers }
-    requires few { workers ≤ MOST_WORKERS }
-    requires lanes { P.can_ask road }
-    ensures road { result.0 ≡ road }
-    ensures answers { IfOk result.1 (λ answers. P.answers program dice road 0 (cars road) answers.items) }
-{
-    let count = segments_for(road.cars(), workers);
-    let (task, mut mine) = match begin_phase(alloc, program, dice, road, workers) {
-        Ok(found) => found,
-        Err(road) => return (road, Err(AllocError)),
-    };
-    if let Ok(shared) = Arc::try_clone(&task) {
-        board.publish(rt, shared);
-        hall.call(workers - 1);
+impl<'a, R: Wait, G: Gate> Pool<'a, R, G> {
+    /// The road, and the answers of all its cars in standing order: the caller asks them with up to
+    /// `workers - 1` helpers, who find the phase on its board, and wakes as many.
+    ///
+    /// # Errors
+    ///
+    /// Where an allocation was refused, to the caller or to a helper.
+    pub(crate) fn ask_all<A: Copy + Drop, P: Asked<A> + Drop>(
+        &self,
+        alloc: Global,
+        board: &Board<A, P>,
+        program: P,
+        dice: Dice,
+        road: Road,
+        workers: u32,
+    ) -> (Road, Result<Vec<A>, AllocError>)
+        requires many { 1 < workers }
+        requires few { workers ≤ MOST_WORKERS }
+        requires lanes { P.can_ask road }
+        ensures road { result.0 ≡ road }
+        ensures answers { IfOk result.1 (λ answers. P.answers program dice road 0 (cars road) answers.items) }
+    {
+        let count = segments_for(road.cars(), workers);
+        let Ok((tickets, mut reserve)) = Tickets::start(alloc, count, workers) else {
+            return (road, Err(AllocError));
+        };
+        let mut mine = tickets.split(&mut reserve);
+        let brief = Brief {
+            program,
+            dice,
+            road,
+            tickets,
+        };
+        let task = match shared_task(alloc, brief, reserve) {
+            Ok(task) => task,
+            Err(road) => return (road, Err(AllocError)),
+        };
+        if let Ok(shared) = Arc::try_clone(&task) {
+            board.publish(self.rt, shared);
+            self.hall.call(workers - 1);
+        }
+        let parts = draw_all(alloc, &task.brief, &mut mine, 0, self.gate);
+        board.withdraw(self.rt);
+        alone(self.rt, task).settle(self.rt, alloc, count, mine, parts)
     }
-    let parts = draw_all(alloc, &task.brief, &mut mine, 0, gate);
-    board.withdraw(rt);
-    alone(rt, task).settle(rt, alloc, count, mine, parts)
 }
 
 /// The road, and the answers of all its cars in standing order, which the caller asks alone.

@@ -18,6 +18,16 @@ fn stand_in(alloc: Global) -> Result<Road, AllocError> {
     }
 }
 
+// What those tell who have a road by value, until it is back in its place.
+macro_rules! told_of {
+    ($alloc:ident, $road:ident as $whole:ident => $told:expr) => {{
+        let $whole = mem::replace($road, stand_in($alloc)?);
+        let (back, told) = $told;
+        *$road = back;
+        told?
+    }};
+}
+
 impl<'a, R: Wait, G: Gate> Asker for Pool<'a, R, G> {
     ghost is_ready = { λ _. Unit {0} };
 
@@ -34,10 +44,8 @@ impl<'a, R: Wait, G: Gate> Asker for Pool<'a, R, G> {
             return ask_speeds(answers, road, motion, dice, 0, cars);
         }
         let motion = motion.copy(alloc)?;
-        let whole = mem::replace(road, stand_in(alloc)?);
-        let (back, told) = self.speeds_of(alloc, whole, motion, dice.copy());
-        *road = back;
-        *answers = told?;
+        *answers =
+            told_of!(alloc, road as whole => self.speeds_of(alloc, whole, motion, dice.copy()));
         prove!(answers.len() == cars as usize);
         Ok(())
     }
@@ -55,10 +63,8 @@ impl<'a, R: Wait, G: Gate> Asker for Pool<'a, R, G> {
             return ask_crossings(answers, road, change, dice, 0, cars);
         }
         let change = change.copy(alloc)?;
-        let whole = mem::replace(road, stand_in(alloc)?);
-        let (back, told) = self.crossings_of(alloc, whole, change, dice.copy());
-        *road = back;
-        *answers = told?;
+        *answers =
+            told_of!(alloc, road as whole => self.crossings_of(alloc, whole, change, dice.copy()));
         Ok(())
     }
 }

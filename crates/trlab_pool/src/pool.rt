@@ -5,7 +5,8 @@ ghost use Rattle.trlab_bounds.specs.declared.runs.TheConstants.{MOST_WORKERS};
 ghost use Rattle.trlab_road.specs.Cells.{cars};
 ghost use Rattle.trlab_segments.specs.Answered.{CrossesPart, HasTwoLanes, SpeedsPart};
 
-use crate::ask::{ask_all, ask_alone};
+use crate::ask::ask_alone;
+use crate::board::Board;
 use crate::hall::{Hall, help_all};
 use std::alloc::{AllocError, Global};
 use std::sync::Wait;
@@ -13,7 +14,7 @@ use std::thread;
 use std::thread::{Threads, join_mut};
 use trlab_machine::Dice;
 use trlab_road::Road;
-use trlab_segments::Gate;
+use trlab_segments::{Asked, Gate};
 use trlab_verify::{Change, Motion};
 
 /// How many cars keep a worker busy for longer than it takes to wake one.
@@ -23,9 +24,9 @@ pub const CARS_A_WORKER: u32 = 1000;
 /// whole run, and help with its phases.
 #[derive(Drop)]
 pub struct Pool<'a, R, G> {
-    rt: &'a R,
-    gate: &'a G,
-    hall: Hall,
+    pub(crate) rt: &'a R,
+    pub(crate) gate: &'a G,
+    pub(crate) hall: Hall,
     workers: u32,
     /// Whether only those help that make the work faster.
     is_sparing: bool,
@@ -121,6 +122,32 @@ impl<'a, R: Wait, G: Gate> Pool<'a, R, G> {
         self.workers_for(cars) == 1
     }
 
+    /// The road, and what a program answers to all its cars, in standing order; helpers find the phase on
+    /// this board.
+    ///
+    /// # Errors
+    ///
+    /// Where an allocation was refused to any worker.
+    fn answers_of<A: Copy + Drop, P: Asked<A> + Drop>(
+        &self,
+        alloc: Global,
+        board: &Board<A, P>,
+        program: P,
+        dice: Dice,
+        road: Road,
+    ) -> (Road, Result<Vec<A>, AllocError>)
+        requires lanes { P.can_ask road }
+        ensures road { result.0 ≡ road }
+        ensures answers { IfOk result.1 (λ answers.
+            P.answers program dice road 0 (cars road) answers.items) }
+    {
+        let workers = self.workers_for(road.cars());
+        if workers == 1 {
+            return ask_alone(alloc, program, dice, road);
+        }
+        self.ask_all(alloc, board, program, dice, road, workers)
+    }
+
     /// The road, and the speeds that a motion program answers to all its cars, in standing order.
     ///
     /// # Errors
@@ -137,22 +164,7 @@ impl<'a, R: Wait, G: Gate> Pool<'a, R, G> {
         ensures speeds { IfOk result.1 (λ speeds.
             SpeedsPart motion dice road 0 (cars road) speeds.items) }
     {
-        let workers = self.workers_for(road.cars());
-        if workers == 1 {
-            return ask_alone(alloc, motion, dice, road);
-        }
-        let hall = &self.hall;
-        ask_all(
-            self.rt,
-            alloc,
-            hall,
-            &hall.motions,
-            self.gate,
-            motion,
-            dice,
-            road,
-            workers,
-        )
+        self.answers_of(alloc, &self.hall.motions, motion, dice, road)
     }
 
     /// The road of two lanes, and whether its cars cross, in standing order, as a change program answers.
@@ -172,21 +184,6 @@ impl<'a, R: Wait, G: Gate> Pool<'a, R, G> {
         ensures crosses { IfOk result.1 (λ crosses.
             CrossesPart change dice road 0 (cars road) crosses.items) }
     {
-        let workers = self.workers_for(road.cars());
-        if workers == 1 {
-            return ask_alone(alloc, change, dice, road);
-        }
-        let hall = &self.hall;
-        ask_all(
-            self.rt,
-            alloc,
-            hall,
-            &hall.changes,
-            self.gate,
-            change,
-            dice,
-            road,
-            workers,
-        )
+        self.answers_of(alloc, &self.hall.changes, change, dice, road)
     }
 }

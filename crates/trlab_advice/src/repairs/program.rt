@@ -1,6 +1,7 @@
 //! Repairs of the lines of programs.
 
 ghost use Rattle.std.specs.Prelude.{◌≡◌, IfOk, IfSome, true};
+ghost use Rattle.trlab_advice.specs.Quoting.{name_and_operands};
 ghost use Rattle.trlab_advice.specs.Repairs.{mends_operand, mends_word};
 
 use crate::alike::nearest;
@@ -26,8 +27,11 @@ const INPUT_NAMES: [&[u8]; 7] = [
     b"headspeed",
 ];
 
-/// The name of the instruction of a line, and what stands behind it.
-pub fn name_and_operands(line: &[u8]) -> (&[u8], &[u8]) {
+/// The name of the instruction of a line, and what stands behind it: both are empty where the line has
+/// none.
+pub fn name_and_operands(line: &[u8]) -> (&[u8], &[u8])
+    ensures { (result.0.now, result.1.now) ≡ name_and_operands line.now }
+{
     let (_, body) = label_and_rest(without_comment(line));
     up_to_blank(without_indent(body))
 }
