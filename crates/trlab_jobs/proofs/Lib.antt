@@ -19,3 +19,4 @@ pub mod OneSweep
 pub mod SomeCounts
 pub mod SomeSweep
 pub mod SweepLines
+pub mod SweepCounts

@@ -1,3 +1,5 @@
+use Rattle.trlab_asm.proofs.Kept.{handed_on}
+use Rattle.trlab_jobs.proofs.SweepCounts.{counts_fail, counts_said}
 use Rattle.trlab_jobs.proofs.SomeSweep.{said_stored}
 use Rattle.trlab_jobs.proofs.sweep.read_lines.Goals as goal
 
@@ -10,3 +12,14 @@ pub returns-clause-stored : goal.returns-clause-stored
 returns-clause-stored c =
     let told = rw (← c.setup.view_is) at c.in_ok-setup.ensures.told in
     said_stored _ c.in_ok-cars.cars.items c.start.result c.in_ok-setup.rest told c.in_ok-cars.ensures
+
+pub returns-in_err-cars-clause-told : goal.returns-in_err-cars-clause-told
+returns-in_err-cars-clause-told c =
+    let told = rw (← c.setup.view_is) at c.in_ok-setup.ensures.told in
+    let fault = handed_on c.from_residual-in_err-cars.result c.in_err-cars.field-0.0 c.from_residual-in_err-cars.ensures.0 c.from_residual-in_err-cars.ensures.1 in
+    rw fault (counts_fail _ c.args.text.now c.start.result c.in_ok-setup.rest c.in_err-cars.field-0.0 c.start.ensures told c.in_err-cars.ensures)
+
+pub returns-clause-told : goal.returns-clause-told
+returns-clause-told c =
+    let told = rw (← c.setup.view_is) at c.in_ok-setup.ensures.told in
+    counts_said _ c.in_ok-cars.cars.items c.args.text.now c.start.result c.in_ok-setup.rest c.start.ensures told c.in_ok-cars.ensures
