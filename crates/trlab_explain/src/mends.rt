@@ -63,6 +63,45 @@ fn push_about(page: &mut Page, words: &str, text: &[u8], number: u32) -> Result<
     push_quote(page, number, line_at(text, number))
 }
 
+/// The words of a repair that has a number of its own: those in front of it, the number, and those behind.
+fn counted_words(repair: Repair) -> Option<(&'static str, u64, &'static str)> {
+    match repair {
+        Repair::Parts(parts) => Some((
+            "a chance is written as ",
+            u64::from(parts),
+            ", in parts of 2147483648.",
+        )),
+        Repair::KeyLength(count) => Some((
+            "this key has ",
+            count as u64,
+            " characters: it wants 64.",
+        )),
+        Repair::OddDigits(count) => Some((
+            "these are ",
+            count as u64,
+            " digits, and each byte wants two.",
+        )),
+        Repair::NoDigit(place) => Some((
+            "the character at place ",
+            place as u64,
+            " is no hexadecimal digit.",
+        )),
+        _ => None,
+    }
+}
+
+/// The words of a repair that another line of the text shows, and the number of that line.
+fn shown_words(repair: Repair) -> Option<(&'static str, u32)> {
+    match repair {
+        Repair::Label(line) => Some(("perhaps the label of this line is meant:", line)),
+        Repair::EndBeside(line) => Some((
+            "a program ends with a line `end`, with nothing beside it; this is none:",
+            line,
+        )),
+        _ => None,
+    }
+}
+
 /// Adds a repair of a text.
 ///
 /// # Errors
@@ -70,48 +109,16 @@ fn push_about(page: &mut Page, words: &str, text: &[u8], number: u32) -> Result<
 /// Want of memory.
 pub fn push_mend(page: &mut Page, text: &[u8], repair: Repair) -> Result<(), AllocError> {
     page.say("Repair: ")?;
-    match repair {
-        Repair::Label(line) => push_about(
-            page,
-            "perhaps the label of this line is meant:",
-            text,
-            line,
-        ),
-        Repair::EndBeside(line) => push_about(
-            page,
-            "a program ends with a line `end`, with nothing beside it; this is none:",
-            text,
-            line,
-        ),
-        Repair::Name(name) => {
-            page.say("perhaps `")?;
-            page.show_all(name)?;
-            page.line("` is meant.")
-        }
-        Repair::Parts(parts) => push_count(
-            page,
-            "a chance is written as ",
-            u64::from(parts),
-            ", in parts of 2147483648.",
-        ),
-        Repair::KeyLength(count) => push_count(
-            page,
-            "this key has ",
-            count as u64,
-            " characters: it wants 64.",
-        ),
-        Repair::OddDigits(count) => push_count(
-            page,
-            "these are ",
-            count as u64,
-            " digits, and each byte wants two.",
-        ),
-        Repair::NoDigit(place) => push_count(
-            page,
-            "the character at place ",
-            place as u64,
-            " is no hexadecimal digit.",
-        ),
-        _ => page.line(words_of(repair)),
+    if let Repair::Name(name) = repair {
+        page.say("perhaps `")?;
+        page.show_all(name)?;
+        return page.line("` is meant.");
+    }
+    if let Some((words, line)) = shown_words(repair) {
+        return push_about(page, words, text, line);
+    }
+    match counted_words(repair) {
+        Some((front, count, behind)) => push_count(page, front, count, behind),
+        None => page.line(words_of(repair)),
     }
 }

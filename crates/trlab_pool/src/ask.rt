@@ -8,7 +8,7 @@ ghost use Rattle.trlab_road.specs.Cells.{cars};
 ghost use Rattle.trlab_segments.specs.Segments.{first_car, segment_count as count_for};
 
 use crate::board::Board;
-use crate::drawing::draw_all;
+use crate::drawing::{ask_whole, draw_all};
 use crate::held::Brief;
 use crate::pool::Pool;
 use crate::task::Task;
@@ -17,7 +17,7 @@ use std::sync::{Arc, Wait};
 use std::{hint, thread};
 use trlab_machine::Dice;
 use trlab_road::Road;
-use trlab_segments::{Asked, Drawer, Gate, Tickets, segment_count};
+use trlab_segments::{Asked, Drawer, Gate, Phase, Tickets, segment_count};
 
 /// How often the caller looks for the last helper before it lets another thread go on.
 const LOOKS: u32 = 1000;
@@ -139,6 +139,11 @@ pub fn ask_alone<A, P: Asked<A> + Drop>(
     ensures road { result.0 ≡ road }
     ensures answers { IfOk result.1 (λ answers. P.answers program dice road 0 (cars road) answers.items) }
 {
-    let answers = program.ask(alloc, &road, &dice, 0, road.cars());
+    let phase = Phase {
+        program: &program,
+        road: &road,
+        dice: &dice,
+    };
+    let answers = ask_whole(alloc, &phase);
     (road, answers)
 }

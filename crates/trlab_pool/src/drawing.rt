@@ -2,6 +2,7 @@
 
 ghost use Rattle.std.specs.Prelude.{◌≡◌, IfOk};
 ghost use Rattle.trlab_pool.specs.Trays.{AnswersAll, HasDone, IsCutWhole, IsNew, IsRight};
+ghost use Rattle.trlab_road.specs.Cells.{cars};
 ghost use Rattle.trlab_segments.specs.Answered.{HasParts};
 ghost use Rattle.trlab_segments.specs.Drawers.{IsFrom, count_of};
 
@@ -10,7 +11,7 @@ use std::alloc::{AllocError, Global};
 use trlab_road::Road;
 use trlab_segments::lineup::line_up;
 use trlab_segments::work::work;
-use trlab_segments::{Asked, Drawer, Gate, Part, Phase};
+use trlab_segments::{Asked, Drawer, Gate, Part, Phase, Segment};
 
 /// Asks the cars of one segment after the other, as their numbers are drawn, until none is left.
 ///
@@ -36,6 +37,20 @@ pub fn draw_all<A: Drop, P: Asked<A>, G: Gate>(
         dice: &brief.dice,
     };
     work(alloc, &phase, &brief.tickets, drawer, worker, gate)
+}
+
+/// The answers of all cars of a phase, in standing order.
+///
+/// # Errors
+///
+/// Where an allocation was refused.
+pub fn ask_whole<A, P: Asked<A>>(alloc: Global, phase: &Phase<P>) -> Result<Vec<A>, AllocError>
+    requires { P.can_ask phase.now.road.now }
+    ensures { IfOk result (λ answers. P.answers phase.now.program.now phase.now.dice.now
+        phase.now.road.now 0 (cars phase.now.road.now) answers.items) }
+{
+    let to = phase.road.cars();
+    P::ask(alloc, phase, Segment { from: 0, to })
 }
 
 /// The road, and the answers of all its cars, of which one drawer drew the numbers of the segments. They
@@ -64,16 +79,14 @@ pub fn finish<A: Copy + Drop, P: Asked<A> + Drop>(
         road,
         tickets,
     } = brief;
+    let phase = Phase {
+        program: &program,
+        road: &road,
+        dice: &dice,
+    };
     let answers = match tickets.finish(drawer) {
-        Ok(()) => {
-            let phase = Phase {
-                program: &program,
-                road: &road,
-                dice: &dice,
-            };
-            line_up(alloc, &phase, count, parts)
-        }
-        Err(_) => program.ask(alloc, &road, &dice, 0, road.cars()),
+        Ok(()) => line_up(alloc, &phase, count, parts),
+        Err(_) => ask_whole(alloc, &phase),
     };
     (road, answers)
 }

@@ -7,14 +7,14 @@ ghost use Rattle.trlab_road.specs.Cells.{Cells, cars};
 ghost use Rattle.trlab_segments.specs.Answered.{CrossesPart, SpeedsPart, HasTwoLanes, HasLanes};
 ghost use Rattle.trlab_segments.specs.Joined.{crosses_begin, crosses_join, speeds_begin, speeds_join};
 
+use crate::phase::Phase;
+use crate::segment::Segment;
 use std::alloc::{AllocError, Global};
-use trlab_machine::Dice;
-use trlab_road::Road;
 use trlab_step::{ask_crossings, ask_speeds};
 use trlab_verify::{Change, Motion};
 
 /// A program that answers something to each car of a road.
-pub trait Asked<A> {
+pub trait Asked<A>: Sized {
     /// The phase in which it is asked: 0 is the lane change, 1 the motion.
     const PHASE: u32;
 
@@ -24,24 +24,17 @@ pub trait Asked<A> {
     // What it answers to the cars from an index of the standing order up to another.
     ghost answers: { Self → TheDice → Cells → ℕ → ℕ → List A → Type 0 };
 
-    /// The answers to the cars from one index of the standing order up to another, which is not
-    /// included.
+    /// The answers to the cars of a segment, in standing order.
     ///
     /// # Errors
     ///
     /// Where an allocation was refused.
-    fn ask(
-        &self,
-        alloc: Global,
-        road: &Road,
-        dice: &Dice,
-        from: u32,
-        to: u32,
-    ) -> Result<Vec<A>, AllocError>
-        requires rising { from ≤ to }
-        requires within { to ≤ cars road.now }
-        requires lanes { can_ask road.now }
-        ensures { IfOk result (λ found. answers self.now dice.now road.now from to found.items) };
+    fn ask(alloc: Global, phase: &Phase<Self>, part: Segment) -> Result<Vec<A>, AllocError>
+        requires rising { part.from ≤ part.to }
+        requires within { part.to ≤ cars phase.now.road.now }
+        requires lanes { can_ask phase.now.road.now }
+        ensures { IfOk result (λ found. answers phase.now.program.now phase.now.dice.now
+            phase.now.road.now part.from part.to found.items) };
 
     // No car answers nothing.
     ghost begins: { (program : Self) (dice : TheDice) (road : Cells) → answers program dice road 0 0 [] };
@@ -59,17 +52,11 @@ impl Asked<u32> for Motion {
 
     ghost answers = { SpeedsPart };
 
-    fn ask(
-        &self,
-        alloc: Global,
-        road: &Road,
-        dice: &Dice,
-        from: u32,
-        to: u32,
-    ) -> Result<Vec<u32>, AllocError> {
-        let mut speeds = Vec::new(alloc);
-        ask_speeds(&mut speeds, road, self, dice, from, to)?;
-        Ok(speeds)
+    fn ask(alloc: Global, phase: &Phase<Motion>, part: Segment) -> Result<Vec<u32>, AllocError> {
+        let Segment { from, to } = part;
+        let mut found = Vec::new(alloc);
+        ask_speeds(&mut found, phase.road, phase.program, phase.dice, from, to)?;
+        Ok(found)
     }
 
     ghost begins = { speeds_begin };
@@ -84,17 +71,11 @@ impl Asked<bool> for Change {
 
     ghost answers = { CrossesPart };
 
-    fn ask(
-        &self,
-        alloc: Global,
-        road: &Road,
-        dice: &Dice,
-        from: u32,
-        to: u32,
-    ) -> Result<Vec<bool>, AllocError> {
-        let mut crosses = Vec::new(alloc);
-        ask_crossings(&mut crosses, road, self, dice, from, to)?;
-        Ok(crosses)
+    fn ask(alloc: Global, phase: &Phase<Change>, part: Segment) -> Result<Vec<bool>, AllocError> {
+        let Segment { from, to } = part;
+        let mut found = Vec::new(alloc);
+        ask_crossings(&mut found, phase.road, phase.program, phase.dice, from, to)?;
+        Ok(found)
     }
 
     ghost begins = { crosses_begin };

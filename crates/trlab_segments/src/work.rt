@@ -26,8 +26,8 @@ fn part_of<A, P: Asked<A>>(
     ensures part { IfOk result (λ part. IsPart P.answers phase.now count part) }
     ensures number { IfOk result (λ part. part.number ≡ number) }
 {
-    let Segment { from, to } = Segment::of(phase.road.cars(), count, number);
-    let answers = phase.program.ask(alloc, phase.road, phase.dice, from, to)?;
+    let segment = Segment::of(phase.road.cars(), count, number);
+    let answers = P::ask(alloc, phase, segment)?;
     Ok(Part { number, answers })
 }
 
