@@ -1,10 +1,12 @@
 -- How an engine ends, by what it has written.
-use Rattle.std.specs.Prelude.{◌≡◌, ℕ, ◌⊎◌, ⊤, Bool, true, false, List, Option}
+use Rattle.std.specs.Prelude.{◌≡◌, ℕ, ◌⊎◌, Bool, true, false, List, Option}
 use Rattle.std.specs.Io.KnownBytes.{Appends, Keeps}
 use Rattle.trlab_road.specs.Cells.{Cells}
 use Rattle.trlab_campaign.specs.declared.end.End.{End}
 use Rattle.trlab_campaign.specs.declared.end.End.TheVariants.{Done, Refused, Memory, DeviceFault}
 use Rattle.trlab_campaign.specs.Device.{AppendsFront}
+use Rattle.trlab_campaign.specs.Flushes.{AtMostOnce, HandedOnce}
+use Rattle.trlab_campaign.specs.declared.device.flushes.Flushes.{Flushes}
 use Rattle.trlab_jobs.specs.Job.{Job}
 use Rattle.trlab_campaign.specs.Output.{IsRunText}
 use Rattle.trlab_campaign.specs.Refusal.{Outputs}
@@ -26,11 +28,13 @@ EndsSo IsWhole Refused old new = WroteAll IsWhole true old new
 EndsSo IsWhole Memory old new = WroteFront IsWhole old new
 EndsSo IsWhole DeviceFault old new = WroteFront IsWhole old new
 
--- what holds of an engine that has written a whole output
-abbrev pub OnWhole : End → Type 0 → Type 0
-OnWhole Done holds = holds
-OnWhole Refused holds = holds
-OnWhole _ holds = ⊤
+-- an engine left its writer so: a whole output was handed on by one flush, there was none where memory
+-- ran out, and one or none where a device failed
+abbrev pub HandsOn : End → Bool → Flushes → Flushes → Type 0
+HandsOn Done handed_on old new = HandedOnce handed_on old new
+HandsOn Refused handed_on old new = HandedOnce handed_on old new
+HandsOn Memory handed_on old new = new ≡ old
+HandsOn DeviceFault handed_on old new = AtMostOnce old new
 
 -- the writing of one whole output ended so
 abbrev pub OutputEnds : Bool → List ℕ → End → Option (List ℕ) → Option (List ℕ) → Type 0

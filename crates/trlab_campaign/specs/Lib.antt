@@ -1,3 +1,4 @@
+pub mod Flushes
 pub mod Device
 pub mod Watched
 pub mod Refusal

@@ -1,5 +1,6 @@
 -- Readers and writers of std that remember what has come of their calls.
 use Rattle.std.specs.Prelude.{Bool}
+use Rattle.trlab_campaign.specs.declared.device.flushes.Flushes.{Flushes}
 use Rattle.trlab_campaign.specs.declared.device.watched.Watched.{Watched}
 
 -- the reader or writer
@@ -13,3 +14,7 @@ has_failed watched = watched.failed
 -- whether all that was written has been handed on
 abbrev pub has_handed_on : {X : Type 0} → Watched X → Bool
 has_handed_on watched = watched.handed_on
+
+-- how often it was flushed
+abbrev pub flushes_of : {X : Type 0} → Watched X → Flushes
+flushes_of watched = watched.flushes

@@ -5,7 +5,7 @@ ghost use Rattle.std.specs.Io.KnownBytes.{Keeps};
 ghost use Rattle.trlab_campaign.specs.CheckOutput.{IsCheckOutput};
 ghost use Rattle.trlab_campaign.specs.TooBig.{big_check};
 ghost use Rattle.trlab_campaign.specs.Device.{ConsumesUpTo};
-ghost use Rattle.trlab_campaign.specs.Ending.{EndsSo, OnWhole};
+ghost use Rattle.trlab_campaign.specs.Ending.{EndsSo, HandsOn};
 ghost use Rattle.trlab_campaign.specs.declared.end.End.TheVariants.{DeviceFault};
 ghost use Rattle.trlab_bounds.specs.declared.texts.TheConstants.{TEXT_LIMIT};
 
@@ -57,7 +57,8 @@ pub fn check_text<R: AllocGlobal, S: Source, K: Sink>(rt: &R, reader: &mut S, wr
         (λ text. EndsSo (IsCheckOutput text) result (K.written writer.old) (K.written writer.new)) }
     // Nothing was written where the text was not read, also by a reader that does not tell its bytes.
     ensures silent { S.failed reader.new ≡ true → Keeps (K.written writer.old) (K.written writer.new) }
-    ensures handed { OnWhole result (K.handed_on writer.new ≡ true) }
+    ensures handed { HandsOn result
+        (K.handed_on writer.new) (K.flushes writer.old) (K.flushes writer.new) }
     ensures device { (result ≡ DeviceFault) ↔ ((S.failed reader.new || K.failed writer.new) ≡ true) }
     ensures read { ConsumesUpTo (TEXT_LIMIT + 1) (S.left reader.old) (S.left reader.new) }
 {

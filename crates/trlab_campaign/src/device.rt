@@ -1,11 +1,15 @@
 //! Devices: what a text is read from, and what one is written to. Once a call has failed, it stays so.
 
+mod flushes;
 mod watched;
 mod whole;
 
 ghost use Rattle.std.specs.Prelude.{◌≡◌, ℕ, ◌≤◌, ◌<◌, ◌||◌, List, length, Option, Bool, true, false, IfOk, OnOk, is_err};
 ghost use Rattle.std.specs.Io.KnownBytes.{ReadConsumes, WriteAppends, Keeps};
+ghost use Rattle.trlab_campaign.specs.Flushes.{once_more};
+ghost use Rattle.trlab_campaign.specs.declared.device.flushes.Flushes.{Flushes};
 
+pub use flushes::Flushes;
 use thiserror::Error;
 pub use watched::Watched;
 pub use whole::{ReadFault, read_text, write_last, write_text};
@@ -39,6 +43,8 @@ pub trait Sink {
     ghost written: { Self → Option (List ℕ) };
     // Whether all that was written has been handed on.
     ghost handed_on: { Self → Bool };
+    // How often it was flushed.
+    ghost flushes: { Self → Flushes };
     // Whether a call has failed.
     ghost failed: { Self → Bool };
 
@@ -52,6 +58,7 @@ pub trait Sink {
         ensures some { IfOk result (λ n. 0 < length bytes.now → 0 < n) }
         ensures bytes { WriteAppends (written self.old) (written self.new) result bytes.now }
         ensures held { handed_on self.new ≡ false }
+        ensures flushed { flushes self.new ≡ flushes self.old }
         ensures fails { failed self.new ≡ (failed self.old || is_err result) };
 
     /// Hands on what was written.
@@ -62,5 +69,6 @@ pub trait Sink {
     fn flush(&mut self) -> Result<(), DeviceError>
         ensures bytes { Keeps (written self.old) (written self.new) }
         ensures handed { OnOk result (handed_on self.new ≡ true) }
+        ensures flushed { flushes self.new ≡ once_more (flushes self.old) }
         ensures fails { failed self.new ≡ (failed self.old || is_err result) };
 }

@@ -4,7 +4,7 @@ ghost use Rattle.std.specs.Prelude.{◌≡◌, ◌+◌, ◌<◌, ◌||◌, ◌�
 ghost use Rattle.std.specs.Io.KnownBytes.{Keeps};
 ghost use Rattle.trlab_bounds.specs.declared.texts.TheConstants.{TEXT_LIMIT};
 ghost use Rattle.trlab_campaign.specs.Device.{ConsumesUpTo};
-ghost use Rattle.trlab_campaign.specs.Ending.{EndsSo, OnWhole};
+ghost use Rattle.trlab_campaign.specs.Ending.{EndsSo, HandsOn};
 ghost use Rattle.trlab_campaign.specs.Refusal.{Outputs, too_big_line};
 ghost use Rattle.trlab_campaign.specs.declared.end.End.TheVariants.{DeviceFault};
 
@@ -28,7 +28,8 @@ pub trait Engine: Drop {
         requires works { K.failed writer.old ≡ false }
         ensures answer { EndsSo (outputs self text.now) result
             (K.written writer.old) (K.written writer.new) }
-        ensures handed { OnWhole result (K.handed_on writer.new ≡ true) }
+        ensures handed { HandsOn result
+            (K.handed_on writer.new) (K.flushes writer.old) (K.flushes writer.new) }
         ensures device { (result ≡ DeviceFault) ↔ (K.failed writer.new ≡ true) };
 
     // A text that is too long is refused for that alone.
@@ -49,7 +50,8 @@ pub fn run_engine<E: Engine, S: Source, K: Sink>(
     ensures answer { IfSome (S.left reader.old)
         (λ text. EndsSo (E.outputs engine text) result (K.written writer.old) (K.written writer.new)) }
     ensures silent { S.failed reader.new ≡ true → Keeps (K.written writer.old) (K.written writer.new) }
-    ensures handed { OnWhole result (K.handed_on writer.new ≡ true) }
+    ensures handed { HandsOn result
+        (K.handed_on writer.new) (K.flushes writer.old) (K.flushes writer.new) }
     ensures device { (result ≡ DeviceFault) ↔ ((S.failed reader.new || K.failed writer.new) ≡ true) }
     ensures read { ConsumesUpTo (TEXT_LIMIT + 1) (S.left reader.old) (S.left reader.new) }
 {

@@ -15,7 +15,7 @@ mod sweep;
 mod verdict;
 
 pub use check::check_text;
-pub use device::{DeviceError, ReadFault, Sink, Source, Watched, read_text};
+pub use device::{DeviceError, Flushes, ReadFault, Sink, Source, Watched, read_text};
 pub use end::End;
 pub use output::fault_line;
 pub use refusal::write_output;

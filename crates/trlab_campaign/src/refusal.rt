@@ -1,7 +1,7 @@
 //! Whole outputs, and those of refused texts.
 
 ghost use Rattle.std.specs.Prelude.{◌≡◌, ◌↔◌, true, false};
-ghost use Rattle.trlab_campaign.specs.Ending.{OnWhole, OutputEnds};
+ghost use Rattle.trlab_campaign.specs.Ending.{HandsOn, OutputEnds};
 ghost use Rattle.trlab_campaign.specs.Refusal.{fault_line};
 ghost use Rattle.trlab_campaign.specs.declared.end.End.TheVariants.{DeviceFault};
 
@@ -15,7 +15,8 @@ use trlab_texts::Cause;
 pub fn write_output<K: Sink>(refused: bool, text: &[u8], writer: &mut K) -> End
     requires { K.failed writer.old ≡ false }
     ensures answer { OutputEnds refused text.now result (K.written writer.old) (K.written writer.new) }
-    ensures handed { OnWhole result (K.handed_on writer.new ≡ true) }
+    ensures handed { HandsOn result
+        (K.handed_on writer.new) (K.flushes writer.old) (K.flushes writer.new) }
     ensures device { (result ≡ DeviceFault) ↔ (K.failed writer.new ≡ true) }
 {
     match write_last(writer, text) {
@@ -29,7 +30,8 @@ pub fn refuse<K: Sink>(alloc: Global, line: u32, cause: Cause, writer: &mut K) -
     requires { K.failed writer.old ≡ false }
     ensures answer { OutputEnds true (fault_line (record { line = line; cause = cause }))
         result (K.written writer.old) (K.written writer.new) }
-    ensures handed { OnWhole result (K.handed_on writer.new ≡ true) }
+    ensures handed { HandsOn result
+        (K.handed_on writer.new) (K.flushes writer.old) (K.flushes writer.new) }
     ensures device { (result ≡ DeviceFault) ↔ (K.failed writer.new ≡ true) }
 {
     match fault_line(alloc, line, cause) {

@@ -5,7 +5,7 @@ mod pictures;
 ghost use Rattle.std.specs.Prelude.{◌≡◌, ◌+◌, ◌≤◌, ◌||◌, ◌↔◌, true, false, IfSome};
 ghost use Rattle.std.specs.Io.KnownBytes.{Keeps};
 ghost use Rattle.trlab_campaign.specs.Device.{ConsumesUpTo};
-ghost use Rattle.trlab_campaign.specs.Ending.{EndsSo, OnWhole};
+ghost use Rattle.trlab_campaign.specs.Ending.{EndsSo, HandsOn};
 ghost use Rattle.trlab_campaign.specs.Output.{IsOutput};
 ghost use Rattle.trlab_campaign.specs.TooBig.{big_job};
 ghost use Rattle.trlab_campaign.specs.declared.end.End.TheVariants.{DeviceFault};
@@ -71,7 +71,8 @@ pub fn run_job_text<R: AllocGlobal + Threads + Wait + Sync, S: Source, K: Sink>(
         (λ text. EndsSo (IsOutput text) result (K.written writer.old) (K.written writer.new)) }
     // Nothing was written where the text was not read, also by a reader that does not tell its bytes.
     ensures silent { S.failed reader.new ≡ true → Keeps (K.written writer.old) (K.written writer.new) }
-    ensures handed { OnWhole result (K.handed_on writer.new ≡ true) }
+    ensures handed { HandsOn result
+        (K.handed_on writer.new) (K.flushes writer.old) (K.flushes writer.new) }
     ensures device { (result ≡ DeviceFault) ↔ ((S.failed reader.new || K.failed writer.new) ≡ true) }
     ensures read { ConsumesUpTo (TEXT_LIMIT + 1) (S.left reader.old) (S.left reader.new) }
 {
@@ -87,7 +88,8 @@ pub fn run_job_text<R: AllocGlobal + Threads + Wait + Sync, S: Source, K: Sink>(
                 (K.written writer.entry.now) (K.written writer.exit.now)) }
             ensures silent { S.failed reader.exit.now ≡ true
                 → Keeps (K.written writer.entry.now) (K.written writer.exit.now) }
-            ensures handed { OnWhole result (K.handed_on writer.exit.now ≡ true) }
+            ensures handed { HandsOn result (K.handed_on writer.exit.now)
+                (K.flushes writer.entry.now) (K.flushes writer.exit.now) }
             ensures device { (result ≡ DeviceFault)
                 ↔ ((S.failed reader.exit.now || K.failed writer.exit.now) ≡ true) }
             ensures read { ConsumesUpTo (TEXT_LIMIT + 1) (S.left reader.entry.now) (S.left reader.exit.now) }

@@ -4,7 +4,7 @@ ghost use Rattle.std.specs.Prelude.{◌≡◌, ◌+◌, ◌<◌, ◌||◌, ◌�
 ghost use Rattle.std.specs.Io.KnownBytes.{Keeps};
 ghost use Rattle.trlab_bounds.specs.declared.texts.TheConstants.{TEXT_LIMIT};
 ghost use Rattle.trlab_campaign.specs.Device.{ConsumesUpTo};
-ghost use Rattle.trlab_campaign.specs.Ending.{EndsSo, OnWhole, OutputEnds};
+ghost use Rattle.trlab_campaign.specs.Ending.{EndsSo, HandsOn, OutputEnds};
 ghost use Rattle.trlab_campaign.specs.Refusal.{too_big_line};
 ghost use Rattle.trlab_campaign.specs.declared.end.End.TheVariants.{DeviceFault, Memory};
 ghost use Rattle.trlab_prose.specs.Plain.{IsPlain};
@@ -45,7 +45,8 @@ pub fn write_told<K: Sink>(told: Result<(bool, Page), AllocError>, writer: &mut 
     ensures answer { MatchResult told
         (λ told. All IsPlain told.1 × OutputEnds told.0 told.1 result (K.written writer.old) (K.written writer.new))
         (λ _. (result ≡ Memory) × Keeps (K.written writer.old) (K.written writer.new)) }
-    ensures handed { OnWhole result (K.handed_on writer.new ≡ true) }
+    ensures handed { HandsOn result
+        (K.handed_on writer.new) (K.flushes writer.old) (K.flushes writer.new) }
     ensures device { (result ≡ DeviceFault) ↔ (K.failed writer.new ≡ true) }
 {
     match told {
@@ -72,7 +73,8 @@ pub fn explain_text<R: AllocGlobal, S: Source, K: Sink>(
         (λ text. EndsSo (Explained subject text) result (K.written writer.old) (K.written writer.new)) }
     // Nothing was written where the text was not read, also by a reader that does not tell its bytes.
     ensures silent { S.failed reader.new ≡ true → Keeps (K.written writer.old) (K.written writer.new) }
-    ensures handed { OnWhole result (K.handed_on writer.new ≡ true) }
+    ensures handed { HandsOn result
+        (K.handed_on writer.new) (K.flushes writer.old) (K.flushes writer.new) }
     ensures device { (result ≡ DeviceFault) ↔ ((S.failed reader.new || K.failed writer.new) ≡ true) }
     ensures read { ConsumesUpTo (TEXT_LIMIT + 1) (S.left reader.old) (S.left reader.new) }
 {

@@ -1,7 +1,7 @@
 //! The pages on what a number means that refused texts and programs tell.
 
 ghost use Rattle.std.specs.Prelude.{◌≡◌, ◌++◌, ◌↔◌, IfOk, OnOk, true, false};
-ghost use Rattle.trlab_campaign.specs.Ending.{EndsSo, OnWhole};
+ghost use Rattle.trlab_campaign.specs.Ending.{EndsSo, HandsOn};
 ghost use Rattle.trlab_campaign.specs.declared.end.End.TheVariants.{DeviceFault};
 ghost use Rattle.trlab_explain.specs.Explanations.{BeginsWith, NumberTold, topic_front};
 
@@ -118,7 +118,8 @@ pub fn explain_number<R: AllocGlobal, K: Sink>(
     requires writer_works { K.failed writer.old ≡ false }
     // Where the writer tells the bytes that it has.
     ensures answer { EndsSo (NumberTold topic number) result (K.written writer.old) (K.written writer.new) }
-    ensures handed { OnWhole result (K.handed_on writer.new ≡ true) }
+    ensures handed { HandsOn result
+        (K.handed_on writer.new) (K.flushes writer.old) (K.flushes writer.new) }
     ensures device { (result ≡ DeviceFault) ↔ (K.failed writer.new ≡ true) }
 {
     write_told(number_page(rt.alloc(), topic, number), writer)

@@ -1,31 +1,35 @@
 //! Readers and writers of std that remember what has come of their calls.
 
 ghost use Rattle.std.specs.Prelude.{◌≡◌, false};
+ghost use Rattle.trlab_campaign.specs.declared.device.flushes.Flushes.TheVariants.{Never};
 
-use crate::device::{DeviceError, Sink, Source};
+use crate::device::{DeviceError, Flushes, Sink, Source};
 use std::io::{Read, Write};
 
-/// A reader or a writer, whether a call of it has failed, and whether a writer has handed on all that
-/// was written.
+/// A reader or a writer, whether a call of it has failed, and of a writer whether it has handed on all
+/// that was written and how often it was flushed.
 #[derive(Drop)]
 pub struct Watched<X> {
     inner: X,
     failed: bool,
     handed_on: bool,
+    flushes: Flushes,
 }
 
 impl<X> Watched<X> {
-    ghost use Rattle.trlab_campaign.specs.Watched.{inner_of, has_failed};
+    ghost use Rattle.trlab_campaign.specs.Watched.{inner_of, has_failed, flushes_of};
 
-    /// One that has not failed.
+    /// One that has not failed and was never flushed.
     pub fn new(inner: X) -> Watched<X>
         ensures inner { inner_of result ≡ inner }
         ensures fresh { has_failed result ≡ false }
+        ensures unflushed { flushes_of result ≡ Never }
     {
         Watched {
             inner,
             failed: false,
             handed_on: false,
+            flushes: Flushes::Never,
         }
     }
 
@@ -57,11 +61,13 @@ impl<X: Read> Source for Watched<X> {
 }
 
 impl<X: Write> Sink for Watched<X> {
-    ghost use Rattle.trlab_campaign.specs.Watched.{inner_of, has_failed, has_handed_on};
+    ghost use Rattle.trlab_campaign.specs.Watched.{inner_of, has_failed, has_handed_on, flushes_of};
 
     ghost written = { λ watched. X.contents (inner_of watched) };
 
     ghost handed_on = { has_handed_on };
+
+    ghost flushes = { flushes_of };
 
     ghost failed = { has_failed };
 
@@ -84,6 +90,7 @@ impl<X: Write> Sink for Watched<X> {
     }
 
     fn flush(&mut self) -> Result<(), DeviceError> {
+        self.flushes = self.flushes.once_more();
         match self.inner.flush() {
             Ok(()) => {
                 self.handed_on = true;

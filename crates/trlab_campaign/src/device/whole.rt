@@ -3,6 +3,7 @@
 ghost use Rattle.std.specs.Prelude.{◌≡◌, ◌+◌, ◌≤◌, ◌<◌, ◌||◌, ◌↔◌, length, false, true, IfOk, OnOk, OnErr, IfErr, IfSome, is_err};
 ghost use Rattle.std.specs.Io.KnownBytes.{Appends, Consumes, IsAtEnd};
 ghost use Rattle.trlab_campaign.specs.Device.{AppendsFront, ConsumesUpTo};
+ghost use Rattle.trlab_campaign.specs.Flushes.{AtMostOnce, HandedOnce};
 ghost use Rattle.trlab_campaign.specs.declared.device.whole.ReadFault.TheVariants.{Device, TooBig};
 
 use crate::device::{DeviceError, Sink, Source};
@@ -67,6 +68,7 @@ pub fn write_text<K: Sink>(writer: &mut K, text: &[u8]) -> Result<(), DeviceErro
     ensures front { OnErr result
         (AppendsFront (K.written writer.old) (K.written writer.new) text.now) }
     ensures fails { K.failed writer.new ≡ (K.failed writer.old || is_err result) }
+    ensures flushed { K.flushes writer.new ≡ K.flushes writer.old }
 {
     let mut done = 0;
     while done < text.len() {
@@ -88,7 +90,9 @@ pub fn write_last<K: Sink>(writer: &mut K, text: &[u8]) -> Result<(), DeviceErro
         (Appends (K.written writer.old) (K.written writer.new) text.now) }
     ensures front { OnErr result
         (AppendsFront (K.written writer.old) (K.written writer.new) text.now) }
-    ensures handed { OnOk result (K.handed_on writer.new ≡ true) }
+    ensures handed { OnOk result
+        (HandedOnce (K.handed_on writer.new) (K.flushes writer.old) (K.flushes writer.new)) }
+    ensures flushed { AtMostOnce (K.flushes writer.old) (K.flushes writer.new) }
     ensures fails { K.failed writer.new ≡ (K.failed writer.old || is_err result) }
 {
     write_text(writer, text)?;

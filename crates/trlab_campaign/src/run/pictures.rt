@@ -5,7 +5,7 @@ ghost use Rattle.std.specs.Io.KnownBytes.{Appends};
 ghost use Rattle.trlab_jobs.specs.Job.{seed_of, sheet_of};
 ghost use Rattle.trlab_run.specs.Progress.{at_start};
 ghost use Rattle.trlab_campaign.specs.Device.{AppendsFront};
-ghost use Rattle.trlab_campaign.specs.Ending.{JobEnds, OnWhole, WrotePictures, WroteSome};
+ghost use Rattle.trlab_campaign.specs.Ending.{HandsOn, JobEnds, WrotePictures, WroteSome};
 ghost use Rattle.trlab_campaign.specs.Output.{step_text};
 ghost use Rattle.trlab_campaign.specs.declared.end.End.TheVariants.{DeviceFault};
 ghost use Rattle.trlab_campaign.specs.declared.run.pictures.WriteFault.TheVariants.{Memory, Device};
@@ -58,6 +58,7 @@ fn write_step<K: Sink>(
         (AppendsFront (K.written writer.old) (K.written writer.new) (step_text step road.now)) }
     ensures works { OnOk result (K.failed writer.new ≡ false) }
     ensures fails { IfErr result (λ fault. (fault ≡ Device) ↔ (K.failed writer.new ≡ true)) }
+    ensures flushed { K.flushes writer.new ≡ K.flushes writer.old }
 {
     buffer.clear();
     push_step(alloc, buffer, step, road)?;
@@ -94,6 +95,7 @@ fn write_pictures<A: Asker, K: Sink>(
         (WroteSome job (K.written writer.old) (K.written writer.new)) }
     ensures works { OnOk result (K.failed writer.new ≡ false) }
     ensures fails { IfErr result (λ fault. (fault ≡ Device) ↔ (K.failed writer.new ≡ true)) }
+    ensures flushed { K.flushes writer.new ≡ K.flushes writer.old }
 {
     let steps = job.steps;
     let mut run = run_of(alloc, job);
@@ -110,7 +112,8 @@ fn write_pictures<A: Asker, K: Sink>(
 pub fn run_job<A: Asker, K: Sink>(asker: &A, alloc: Global, job: Job, writer: &mut K) -> End
     requires ready { A.is_ready asker.now }
     requires works { K.failed writer.old ≡ false }
-    ensures handed { OnWhole result (K.handed_on writer.new ≡ true) }
+    ensures handed { HandsOn result
+        (K.handed_on writer.new) (K.flushes writer.old) (K.flushes writer.new) }
     ensures answer { JobEnds result job (K.written writer.old) (K.written writer.new) }
     ensures device { (result ≡ DeviceFault) ↔ (K.failed writer.new ≡ true) }
 {

@@ -5,7 +5,7 @@ use Rattle.trlab_campaign.proofs.KnownBytes.{appends_none, appends_part, appends
 use Rattle.trlab_campaign.proofs.device.whole.write_text.Goals as goal
 
 pub loop-done-init : goal.loop-done-init
-loop-done-init g c = record { inside = omega arith; wrote = appends_none _; works = refl }
+loop-done-init g c = record { inside = omega arith; wrote = appends_none _; works = refl; flushed = refl }
 
 pub loop-done-preserved : goal.loop-done-preserved
 loop-done-preserved g c =
@@ -14,6 +14,7 @@ loop-done-preserved g c =
       inside = grind (arith, common_steps);
       wrote = appends_part _ _ _ c.args.text.now c.loop-done.done c.in_ok-count.count c.loop-done.invariant.wrote part;
       works = c.in_ok-count.ensures.fails ∙ (or-false _ ∙ c.loop-done.invariant.works);
+      flushed = c.in_ok-count.ensures.flushed ∙ c.loop-done.invariant.flushed;
     }
 
 pub returns-clause-whole : goal.returns-clause-whole

@@ -1,4 +1,4 @@
-use Rattle.std.proofs.Common.{◌≡◌, ◌+◌, ◌-◌, ap, arith}
+use Rattle.std.proofs.Common.{◌≡◌, ◌+◌, ◌-◌, ◌∙◌, ap, arith, refl}
 use Rattle.std.proofs.lemmas.Result.{err_from_is_err_and}
 use Rattle.trlab_jobs.specs.Job.{Job}
 use Rattle.trlab_jobs.specs.Stored.{IsStored}
@@ -14,6 +14,7 @@ loop-step-init g c =
       underway = rw all (begin c.args.job _ plain);
       drives = rw c.run_of-run.ensures (begin_run c.args.job);
       works = c.requires.works;
+      flushed = refl;
     }
 
 pub returns-in_err-write_step-clause-front : goal.returns-in_err-write_step-clause-front
@@ -39,6 +40,7 @@ loop-step-preserved g c =
       underway = went_on c.args.job c.loop-step.step _ _ _ written;
       drives = drive_on c.args.job c.loop-step.step c.loop-step.run _ c.loop-step.invariant.drives c.in_ok-advance.ensures.on;
       works = c.in_ok-write_step.ensures.works;
+      flushed = c.in_ok-write_step.ensures.flushed ∙ c.loop-step.invariant.flushed;
     }
 
 pub returns-clause-whole : goal.returns-clause-whole

@@ -1,0 +1,18 @@
+-- How often a writer was flushed, counted up to the second time.
+use Rattle.std.specs.Prelude.{◌≡◌, ◌⊎◌, Bool, true}
+use Rattle.trlab_campaign.specs.declared.device.flushes.Flushes.{Flushes}
+use Rattle.trlab_campaign.specs.declared.device.flushes.Flushes.TheVariants.{Never, Once, Often}
+
+-- how often, behind one flush more
+abbrev pub once_more : Flushes → Flushes
+once_more Never = Once
+once_more Once = Often
+once_more Often = Often
+
+-- one flush handed all on
+abbrev pub HandedOnce : Bool → Flushes → Flushes → Type 0
+HandedOnce handed_on old new = (handed_on ≡ true) × (new ≡ once_more old)
+
+-- one flush, or none
+abbrev pub AtMostOnce : Flushes → Flushes → Type 0
+AtMostOnce old new = (new ≡ old) ⊎ (new ≡ once_more old)
