@@ -30,175 +30,206 @@ const LEASED: [(Call, &str); 2] = [
     (Call::Lease, "lease 0 of job 0 at step 0 of 4"),
 ];
 
+const REPLACED_BETWEEN: [(Call, &str); 13] = [
+    (Call::Submit(0, 4, Named::Steady), "job 0"),
+    (Call::Lease, "lease 0 of job 0 at step 0 of 4"),
+    (Call::Order(0), "step 0, steady"),
+    (Call::Replace(0, Named::Braking), "from 1"),
+    (Call::Step(0), "done"),
+    (Call::GiveBack(0), "done"),
+    (Call::Revoke(0), "StrangerLease"),
+    (
+        Call::Read(0),
+        "step 1, distance 2, 0 steady, 1 braking, .1.1......",
+    ),
+    (Call::Lease, "lease 1 of job 0 at step 1 of 4"),
+    (Call::Order(1), "step 1, braking"),
+    (Call::Step(1), "done"),
+    (Call::GiveBack(1), "done"),
+    (
+        Call::Read(0),
+        "step 2, distance 3, 0 steady, 1 braking, .0..1.....",
+    ),
+];
+
 #[test]
 fn a_rule_enters_behind_the_ordered_steps(rt: HostRuntime) {
-    let calls = [
-        (Call::Submit(0, 4, Named::Steady), "job 0"),
-        (Call::Lease, "lease 0 of job 0 at step 0 of 4"),
-        (Call::Order(0), "step 0, steady"),
-        (Call::Replace(0, Named::Braking), "from 1"),
-        (Call::Step(0), "done"),
-        (Call::GiveBack(0), "done"),
-        (Call::Revoke(0), "StrangerLease"),
-        (
-            Call::Read(0),
-            "step 1, distance 2, 0 steady, 1 braking, .1.1......",
-        ),
-        (Call::Lease, "lease 1 of job 0 at step 1 of 4"),
-        (Call::Order(1), "step 1, braking"),
-        (Call::Step(1), "done"),
-        (Call::GiveBack(1), "done"),
-        (
-            Call::Read(0),
-            "step 2, distance 3, 0 steady, 1 braking, .0..1.....",
-        ),
-    ];
-    assert_eq!(rt; told_anew(rt.alloc(), &calls), calls.len());
+    assert_eq!(rt; told_anew(rt.alloc(), &REPLACED_BETWEEN), 13);
 }
+
+const REPLACED_AGAIN: [(Call, &str); 10] = [
+    (Call::Submit(0, 4, Named::Steady), "job 0"),
+    (Call::Replace(0, Named::Steady), "from 0"),
+    (Call::Replace(0, Named::Braking), "from 0"),
+    (Call::Read(0), "step 0, distance 0, 0 braking, 0.0......."),
+    (Call::Lease, "lease 0 of job 0 at step 0 of 4"),
+    (Call::Order(0), "step 0, braking"),
+    (Call::Step(0), "done"),
+    (Call::Replace(0, Named::Braking), "from 1"),
+    (Call::Replace(0, Named::Steady), "from 1"),
+    (
+        Call::Read(0),
+        "step 0, distance 0, 0 braking, 1 steady, 0.0.......",
+    ),
+];
 
 #[test]
 fn the_last_rule_of_a_step_stays(rt: HostRuntime) {
-    let calls = [
-        (Call::Submit(0, 4, Named::Steady), "job 0"),
-        (Call::Replace(0, Named::Steady), "from 0"),
-        (Call::Replace(0, Named::Braking), "from 0"),
-        (Call::Read(0), "step 0, distance 0, 0 braking, 0.0......."),
-        (Call::Lease, "lease 0 of job 0 at step 0 of 4"),
-        (Call::Order(0), "step 0, braking"),
-        (Call::Step(0), "done"),
-        (Call::Replace(0, Named::Braking), "from 1"),
-        (Call::Replace(0, Named::Steady), "from 1"),
-        (
-            Call::Read(0),
-            "step 0, distance 0, 0 braking, 1 steady, 0.0.......",
-        ),
-    ];
-    assert_eq!(rt; told_anew(rt.alloc(), &calls), calls.len());
+    assert_eq!(rt; told_anew(rt.alloc(), &REPLACED_AGAIN), 10);
 }
+
+const REVOKED: [(Call, &str); 12] = [
+    (Call::Submit(0, 4, Named::Steady), "job 0"),
+    (Call::Lease, "lease 0 of job 0 at step 0 of 4"),
+    (Call::Order(0), "step 0, steady"),
+    (Call::Replace(0, Named::Braking), "from 1"),
+    (Call::Revoke(0), "done"),
+    (Call::Lease, "lease 1 of job 0 at step 0 of 4"),
+    (Call::Order(1), "step 0, steady"),
+    (Call::Step(1), "done"),
+    (Call::GiveBack(0), "StrangerLease"),
+    (Call::Order(0), "StrangerLease"),
+    (Call::GiveBack(1), "done"),
+    (
+        Call::Read(0),
+        "step 1, distance 2, 0 steady, 1 braking, .1.1......",
+    ),
+];
 
 #[test]
 fn a_revoked_lease_is_handed_back(rt: HostRuntime) {
-    let calls = [
-        (Call::Submit(0, 4, Named::Steady), "job 0"),
-        (Call::Lease, "lease 0 of job 0 at step 0 of 4"),
-        (Call::Order(0), "step 0, steady"),
-        (Call::Replace(0, Named::Braking), "from 1"),
-        (Call::Revoke(0), "done"),
-        (Call::Lease, "lease 1 of job 0 at step 0 of 4"),
-        (Call::Order(1), "step 0, steady"),
-        (Call::Step(1), "done"),
-        (Call::GiveBack(0), "StrangerLease"),
-        (Call::Order(0), "StrangerLease"),
-        (Call::GiveBack(1), "done"),
-        (
-            Call::Read(0),
-            "step 1, distance 2, 0 steady, 1 braking, .1.1......",
-        ),
-    ];
-    assert_eq!(rt; told_anew(rt.alloc(), &calls), calls.len());
+    assert_eq!(rt; told_anew(rt.alloc(), &REVOKED), 12);
 }
+
+const TAKEN_TWICE: [(Call, &str); 11] = [
+    (Call::Submit(0, 4, Named::Steady), "job 0"),
+    (Call::Lease, "lease 0 of job 0 at step 0 of 4"),
+    (Call::Order(0), "step 0, steady"),
+    (Call::Step(0), "done"),
+    (Call::Revoke(0), "done"),
+    (Call::Lease, "lease 1 of job 0 at step 0 of 4"),
+    (Call::Order(1), "step 0, steady"),
+    (Call::Step(1), "done"),
+    (Call::GiveBack(0), "StrangerLease"),
+    (Call::GiveBack(1), "done"),
+    (Call::Read(0), "step 1, distance 2, 0 steady, .1.1......"),
+];
 
 #[test]
 fn a_step_that_two_leases_took_counts_once(rt: HostRuntime) {
-    let calls = [
-        (Call::Submit(0, 4, Named::Steady), "job 0"),
-        (Call::Lease, "lease 0 of job 0 at step 0 of 4"),
-        (Call::Order(0), "step 0, steady"),
-        (Call::Step(0), "done"),
-        (Call::Revoke(0), "done"),
-        (Call::Lease, "lease 1 of job 0 at step 0 of 4"),
-        (Call::Order(1), "step 0, steady"),
-        (Call::Step(1), "done"),
-        (Call::GiveBack(0), "StrangerLease"),
-        (Call::GiveBack(1), "done"),
-        (Call::Read(0), "step 1, distance 2, 0 steady, .1.1......"),
-    ];
-    assert_eq!(rt; told_anew(rt.alloc(), &calls), calls.len());
+    assert_eq!(rt; told_anew(rt.alloc(), &TAKEN_TWICE), 11);
 }
+
+const EMPTY: [(Call, &str); 5] = [
+    (Call::Lease, "none"),
+    (Call::Read(0), "NoSuchJob"),
+    (Call::Revoke(0), "NoSuchJob"),
+    (Call::Cancel(0), "NoSuchJob"),
+    (Call::Replace(0, Named::Steady), "NoSuchJob"),
+];
 
 #[test]
 fn an_empty_book_has_no_job(rt: HostRuntime) {
-    let calls = [
-        (Call::Lease, "none"),
-        (Call::Read(0), "NoSuchJob"),
-        (Call::Revoke(0), "NoSuchJob"),
-        (Call::Cancel(0), "NoSuchJob"),
-        (Call::Replace(0, Named::Steady), "NoSuchJob"),
-    ];
-    assert_eq!(rt; told_anew(rt.alloc(), &calls), calls.len());
+    assert_eq!(rt; told_anew(rt.alloc(), &EMPTY), 5);
 }
+
+const NO_STEPS: [(Call, &str); 6] = [
+    (Call::Submit(0, 0, Named::Steady), "job 0"),
+    (Call::Lease, "none"),
+    (Call::Replace(0, Named::Steady), "Ended"),
+    (Call::Cancel(0), "Ended"),
+    (Call::Submit(0, 1, Named::Steady), "job 1"),
+    (Call::Lease, "lease 0 of job 1 at step 0 of 1"),
+];
 
 #[test]
 fn a_job_of_no_steps_has_ended(rt: HostRuntime) {
-    let calls = [
-        (Call::Submit(0, 0, Named::Steady), "job 0"),
-        (Call::Lease, "none"),
-        (Call::Replace(0, Named::Steady), "Ended"),
-        (Call::Cancel(0), "Ended"),
-        (Call::Submit(0, 1, Named::Steady), "job 1"),
-        (Call::Lease, "lease 0 of job 1 at step 0 of 1"),
-    ];
-    assert_eq!(rt; told_anew(rt.alloc(), &calls), calls.len());
+    assert_eq!(rt; told_anew(rt.alloc(), &NO_STEPS), 6);
 }
+
+const CANCELLED: [(Call, &str); 8] = [
+    (Call::Submit(0, 4, Named::Steady), "job 0"),
+    (Call::Lease, "lease 0 of job 0 at step 0 of 4"),
+    (Call::Cancel(0), "done"),
+    (Call::Order(0), "Ended"),
+    (Call::GiveBack(0), "StrangerLease"),
+    (Call::Cancel(0), "Ended"),
+    (Call::Lease, "none"),
+    (Call::Read(0), "step 0, distance 0, 0 steady, 0.0......."),
+];
 
 #[test]
 fn a_cancelled_job_refuses_its_lease(rt: HostRuntime) {
-    let calls = [
-        (Call::Submit(0, 4, Named::Steady), "job 0"),
-        (Call::Lease, "lease 0 of job 0 at step 0 of 4"),
-        (Call::Cancel(0), "done"),
-        (Call::Order(0), "Ended"),
-        (Call::GiveBack(0), "StrangerLease"),
-        (Call::Cancel(0), "Ended"),
-        (Call::Lease, "none"),
-        (Call::Read(0), "step 0, distance 0, 0 steady, 0.0......."),
-    ];
-    assert_eq!(rt; told_anew(rt.alloc(), &calls), calls.len());
+    assert_eq!(rt; told_anew(rt.alloc(), &CANCELLED), 8);
 }
+
+const TWO_LANES: [(Call, &str); 3] = [
+    (Call::Submit(0, 4, Named::Crossing), "LanesMismatch"),
+    (Call::Submit(0, 4, Named::Steady), "job 0"),
+    (Call::Replace(0, Named::Crossing), "LanesMismatch"),
+];
 
 #[test]
 fn a_rule_of_two_lanes_wants_a_road_of_two(rt: HostRuntime) {
-    let calls = [
-        (Call::Submit(0, 4, Named::Crossing), "LanesMismatch"),
-        (Call::Submit(0, 4, Named::Steady), "job 0"),
-        (Call::Replace(0, Named::Crossing), "LanesMismatch"),
-    ];
-    assert_eq!(rt; told_anew(rt.alloc(), &calls), calls.len());
+    assert_eq!(rt; told_anew(rt.alloc(), &TWO_LANES), 3);
+}
+
+const UNDER_ANOTHER_KEY: [(Call, &str); 2] = [
+    (Call::Submit(255, 4, Named::Steady), "job 0"),
+    (Call::Lease, "lease 0 of job 0 at step 0 of 4"),
+];
+
+const REFUSED: [(Call, &str); 1] = [(Call::GiveBack(1), "StrangerLease")];
+
+const GIVEN_BACK: [(Call, &str); 1] = [(Call::GiveBack(1), "done")];
+
+const STEPPED: [(Call, &str); 2] = [(Call::Order(0), "step 0, steady"), (Call::Step(0), "done")];
+
+const TAKEN: [(Call, &str); 4] = [
+    (Call::GiveBack(1), "StrangerLease"),
+    (Call::Order(0), "step 0, steady"),
+    (Call::GiveBack(1), "done"),
+    (Call::Read(0), "step 1, distance 2, 0 steady, .1.1......"),
+];
+
+/// Whether the lease of one book is refused by another, whose job is under another key, and taken by its
+/// own.
+fn is_a_stranger(alloc: Global, own: &mut Table, other: &mut Table) -> bool {
+    if told_so(alloc, own, &LEASED) != 2 || told_so(alloc, other, &UNDER_ANOTHER_KEY) != 2 {
+        return false;
+    }
+    own.hand_over(0, other);
+    if told_so(alloc, other, &REFUSED) != 1 {
+        return false;
+    }
+    other.hand_over(1, own);
+    told_so(alloc, own, &GIVEN_BACK) == 1
 }
 
 #[test]
 fn a_lease_of_a_job_under_another_key_is_a_stranger(rt: HostRuntime) {
-    let mut own = Table::new(rt.alloc());
-    let mut other = Table::new(rt.alloc());
-    let under_another_key = [
-        (Call::Submit(255, 4, Named::Steady), "job 0"),
-        (Call::Lease, "lease 0 of job 0 at step 0 of 4"),
-    ];
-    assert_eq!(rt; told_so(rt.alloc(), &mut own, &LEASED), 2);
-    assert_eq!(rt; told_so(rt.alloc(), &mut other, &under_another_key), 2);
-    own.hand_over(0, &mut other);
-    let refused = [(Call::GiveBack(1), "StrangerLease")];
-    assert_eq!(rt; told_so(rt.alloc(), &mut other, &refused), 1);
-    other.hand_over(1, &mut own);
-    let taken = [(Call::GiveBack(1), "done")];
-    assert_eq!(rt; told_so(rt.alloc(), &mut own, &taken), 1);
+    let alloc = rt.alloc();
+    let is_so = is_a_stranger(alloc, &mut Table::new(alloc), &mut Table::new(alloc));
+    assert!(rt; is_so);
+}
+
+/// Whether the lease of one book, which has taken its step, is taken by another as soon as that has
+/// ordered the step.
+fn is_taken(alloc: Global, own: &mut Table, other: &mut Table) -> bool {
+    if told_so(alloc, own, &LEASED) != 2 || told_so(alloc, other, &LEASED) != 2 {
+        return false;
+    }
+    if told_so(alloc, own, &STEPPED) != 2 {
+        return false;
+    }
+    own.hand_over(0, other);
+    told_so(alloc, other, &TAKEN) == 4
 }
 
 // A lease of the same run is taken as soon as its step is ordered: which book lent it cannot be told.
 #[test]
 fn a_lease_of_the_same_run_is_taken(rt: HostRuntime) {
-    let mut own = Table::new(rt.alloc());
-    let mut other = Table::new(rt.alloc());
-    let step = [(Call::Order(0), "step 0, steady"), (Call::Step(0), "done")];
-    assert_eq!(rt; told_so(rt.alloc(), &mut own, &LEASED), 2);
-    assert_eq!(rt; told_so(rt.alloc(), &mut other, &LEASED), 2);
-    assert_eq!(rt; told_so(rt.alloc(), &mut own, &step), 2);
-    own.hand_over(0, &mut other);
-    let taken = [
-        (Call::GiveBack(1), "StrangerLease"),
-        (Call::Order(0), "step 0, steady"),
-        (Call::GiveBack(1), "done"),
-        (Call::Read(0), "step 1, distance 2, 0 steady, .1.1......"),
-    ];
-    assert_eq!(rt; told_so(rt.alloc(), &mut other, &taken), 4);
+    let alloc = rt.alloc();
+    let is_so = is_taken(alloc, &mut Table::new(alloc), &mut Table::new(alloc));
+    assert!(rt; is_so);
 }
