@@ -1,6 +1,6 @@
 //! Calls on one job of a list.
 
-ghost use Rattle.std.specs.Prelude.{◌≡◌, ◌↔◌, ◌<◌, ◌≤◌, IsTrue, IfOk, IfErr, IfSome, MatchBool, length};
+ghost use Rattle.std.specs.Prelude.{◌≡◌, ◌↔◌, ◌<◌, ◌≤◌, IsTrue, IfOk, IfErr, IfSome, MatchBool, length, ltb, not};
 ghost use Rattle.std.specs.List.{position};
 ghost use Rattle.trlab_leases.specs.Answers.{back_reply, done_reply, is_memory, number_reply, order_reply, seen_reply};
 ghost use Rattle.trlab_leases.specs.Comparison.{IsRuleAt, IsSame, IsSeen, offered};
@@ -35,7 +35,7 @@ pub(crate) fn submit_in(
     if !suits(&rule, &seed.road) {
         return Err(BookFault::LanesMismatch);
     }
-    if jobs.len() >= MOST_JOBS {
+    if is_most(jobs.len()) {
         return Err(BookFault::Full);
     }
     jobs.reserve(1)?;
@@ -43,6 +43,13 @@ pub(crate) fn submit_in(
     let number = jobs.len() as u32;
     jobs.push_reserved(job);
     Ok(number)
+}
+
+/// Whether a book takes no more jobs than so many.
+fn is_most(jobs: usize) -> bool
+    ensures { result ≡ not (ltb jobs 256) }
+{
+    jobs >= MOST_JOBS
 }
 
 /// Enters a rule.

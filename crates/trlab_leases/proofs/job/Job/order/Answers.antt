@@ -1,4 +1,5 @@
-use Rattle.std.proofs.Common.{arith, ◌≡◌, sym, ◌∙◌, subst, true}
+use Rattle.std.proofs.Common.{arith, ◌≡◌, ap, sym, ◌∙◌, subst, true, Some}
+use Rattle.trlab_step.specs.Run.{in_force}
 use Rattle.trlab_leases.specs.Machine.{JobState, job_state, is_own}
 use Rattle.trlab_leases.specs.Comparison.{offered}
 use Rattle.trlab_leases.proofs.Booking.{own_parts}
@@ -26,3 +27,8 @@ invariant_of-self c =
       begin = begin_more j.high c.max-self-inside.result j.sheet (omega arith) i.begin;
       run = i.run;
     }
+
+pub returns-clause-rule : goal.returns-clause-rule
+returns-clause-rule c =
+    let seen = ap (λ (s : JobState). in_force s.sheet c.step-step.result) c.self.view_is in
+    sym seen ∙ c.at-entry.ensures.rule ∙ ap Some (sym c.in_ok-rule.ensures)

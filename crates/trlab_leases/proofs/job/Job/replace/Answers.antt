@@ -1,4 +1,4 @@
-use Rattle.std.proofs.Common.{subst}
+use Rattle.std.proofs.Common.{rules, subst}
 use Rattle.trlab_step.specs.Run.{IsSheet}
 use Rattle.trlab_leases.specs.Jobs.{start_of}
 use Rattle.trlab_leases.proofs.Entering.{begin_entered, underway_entered}
@@ -15,3 +15,15 @@ invariant_of-self-2 c =
       begin = begin_entered j.high c.args.rule j.sheet;
       run = underway_entered (start_of j.seed) j.sheet j.high c.args.rule j.done _ j.tally i.ordered (c.suits.ensures.rule c.if-not-suits.false) is i.run;
     })
+
+pub enter-requires : goal.enter-requires
+enter-requires c = search rules
+
+pub returns-in_err-enter-clause-reply : goal.returns-in_err-enter-clause-reply
+returns-in_err-enter-clause-reply c = search rules
+
+pub returns-in_err-enter-clause-job : goal.returns-in_err-enter-clause-job
+returns-in_err-enter-clause-job c = search rules
+
+pub returns-clause-job : goal.returns-clause-job
+returns-clause-job c = search rules
