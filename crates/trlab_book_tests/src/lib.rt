@@ -4,6 +4,7 @@
 
 #[cfg(test)]
 mod answers;
+#[cfg(test)]
 mod calls;
 #[cfg(test)]
 mod desks;
