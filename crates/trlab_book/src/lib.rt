@@ -20,3 +20,7 @@ pub use desk::{Desk, SharedBook};
 pub use fault::RunFault;
 pub use ordered::advance;
 pub use running::run_jobs;
+pub use trlab_leases::{
+    Book, BookFault, BoxedRule, BoxedSeed, Call, Event, Lease, LeaseFault, Offered, Order, Reply,
+    Seed, Sheet, Snapshot,
+};

@@ -13,17 +13,19 @@ use trlab_book::{Desk, RunFault, SharedBook, run_jobs};
 use trlab_leases::{Event, Reply, Snapshot};
 use trlab_segments::OpenGate;
 
-/// Replaces the rule of job 0, whose steps are perhaps all ordered by then.
+/// Replaces the rule of job 0, whose steps are perhaps all ordered by then: the step from which the rule
+/// holds, if it entered.
 fn replace_late<L: Ledger, R: Wait>(
     rt: &R,
     alloc: Global,
     book: &SharedBook<L>,
     mut desk: Desk<L>,
-) -> Desk<L> {
-    if let Some(rule) = braking(alloc) {
-        let _ = book.replace(rt, alloc, &mut desk, 0, rule);
-    }
-    desk
+) -> (Desk<L>, Option<u32>) {
+    let Some(rule) = braking(alloc) else {
+        return (desk, None);
+    };
+    let entered = book.replace(rt, alloc, &mut desk, 0, rule).ok();
+    (desk, entered)
 }
 
 /// Submits two jobs of 100 steps.
@@ -43,21 +45,21 @@ fn run_and_replace<L: Ledger + Send + Sync, R: Threads + Wait + Sync>(
     alloc: Global,
     book: &SharedBook<L>,
     mut mine: Desk<L>,
-) -> Option<Desk<L>>
+) -> Option<(Desk<L>, Option<u32>)>
     requires ledger { L.parts ≡ 1024 }
 {
     if mine.parts() < 3 {
         return None;
     }
     let theirs = mine.split();
-    let (theirs, ran) = join(
+    let ((theirs, entered), ran) = join(
         rt,
         || replace_late(rt, alloc, book, theirs),
         || -> Result<Desk<L>, (Desk<L>, RunFault)>
             requires { (L.parts ≡ 1024) × (2 ≤ parts_of mine) }
         { run_jobs(rt, alloc, book, mine, 2, 1, &OpenGate) },
     );
-    Some(ran.ok()?.gather(theirs))
+    Some((ran.ok()?.gather(theirs), entered))
 }
 
 /// Whether the last event is a read of a snapshot: its step, and how many rules its sheet has.
@@ -80,6 +82,15 @@ fn is_as_alone(alloc: Global, seen: &Snapshot, history: &[Event]) -> bool {
     }
 }
 
+/// Whether the sheet of a snapshot has a second rule just where one entered, from that step on.
+fn has_entered(seen: &Snapshot, entered: Option<u32>) -> bool {
+    let sheet = seen.sheet();
+    match entered {
+        Some(step) => sheet.len() == 2 && sheet.entry(1).0 == step,
+        None => sheet.len() == 1,
+    }
+}
+
 /// Whether a replaced rule is in the sheet of a job that two runners have run meanwhile.
 fn is_in_the_sheet<L: Ledger + Send + Sync, R: Threads + Wait + Sync>(
     rt: &R,
@@ -91,10 +102,11 @@ fn is_in_the_sheet<L: Ledger + Send + Sync, R: Threads + Wait + Sync>(
 {
     let (book, mut mine) = SharedBook::<L>::start(alloc, blank);
     let submitted = submit_two(rt, alloc, &book, &mut mine);
-    let mut desk = run_and_replace(rt, alloc, &book, mine)?;
+    let (mut desk, entered) = run_and_replace(rt, alloc, &book, mine)?;
     let seen = book.read(rt, alloc, &mut desk, 0);
     let (_, history) = book.close(desk).ok()?;
-    Some(submitted && is_as_alone(alloc, &seen.ok()?, &history))
+    let seen = seen.ok()?;
+    Some(submitted && has_entered(&seen, entered) && is_as_alone(alloc, &seen, &history))
 }
 
 #[test]

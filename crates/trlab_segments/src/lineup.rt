@@ -25,6 +25,10 @@ fn place_of<A>(parts: &[Part<A>], number: u32) -> usize
 }
 
 /// The answers of the parts of so many segments, one behind the other.
+///
+/// # Errors
+///
+/// Where an allocation was refused.
 pub fn line_up<A: Copy, P: Asked<A>>(
     alloc: Global,
     phase: &Phase<P>,

@@ -32,6 +32,10 @@ fn part_of<A, P: Asked<A>>(
 }
 
 /// Asks the cars of one segment after the other, as their numbers are drawn, until none is left.
+///
+/// # Errors
+///
+/// Where an allocation was refused.
 pub fn work<A: Drop, P: Asked<A>, G: Gate>(
     alloc: Global,
     phase: &Phase<P>,
@@ -73,6 +77,10 @@ fn both<A: Drop>(
 /// Lets as many workers ask the cars as the drawer has passes: each but the last in a thread of its own, and
 /// the last, which is worker 0, on this one, once the others were started. Where a thread can't be
 /// started, its work is done here too.
+///
+/// # Errors
+///
+/// The second part is an error where an allocation was refused to any worker.
 pub fn share<A: Drop + Send, P: Asked<A> + Sync, R: Threads + Sync, G: Gate + Sync>(
     rt: &R,
     alloc: Global,
