@@ -1,4 +1,4 @@
-use Rattle.std.proofs.Common.{ℕ, List, refl, sym, ◌∙◌}
+use Rattle.std.proofs.Common.{rules, ℕ, List, refl, sym, ◌∙◌}
 use Rattle.std.proofs.lemmas.Bool.{false≢true}
 use Rattle.trlab_campaign.specs.Ending.{EndsSo}
 use Rattle.trlab_campaign.proofs.Endings.{too_big_ends}
@@ -19,3 +19,6 @@ returns-in-Ok-clause-device g c = rw c.in-Ok.ensures.works c.write.ensures.devic
 pub returns-in-Err-TooBig-clause-answer : goal.returns-in-Err-TooBig-clause-answer
 returns-in-Err-TooBig-clause-answer g c =
     too_big_ends (g.E.Engine.outputs c.args.engine) _ _ _ _ (g.met.E.Engine.too_big c.args.engine) (rw c.in-Err-TooBig.field-0-is at c.in-Err-TooBig.ensures.big refl) c.refuse.ensures.answer
+
+pub returns-clause-answer : goal.returns-clause-answer
+returns-clause-answer g c = search rules

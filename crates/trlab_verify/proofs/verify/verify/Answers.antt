@@ -1,3 +1,4 @@
+use Rattle.std.proofs.Common.{rules}
 use Rattle.trlab_verify.proofs.Accepted.{checked, forward}
 use Rattle.trlab_verify.proofs.Refusals.{called, own}
 use Rattle.trlab_verify.proofs.VerdictChecks.{table_checks}
@@ -31,3 +32,6 @@ pub returns-in-Ok-Some-clause-no_table : goal.returns-in-Ok-Some-clause-no_table
 returns-in-Ok-Some-clause-no_table g c =
     let refused = rw (c.in-Ok-Some.field-0-is, c.KIND.ensures) at c.in-Ok-Some.ensures in
     rw c.number.ensures.value (called g.K.ProgramKind.KIND c.args.code _ _ refused, own g.K.ProgramKind.KIND c.args.code _ _ refused)
+
+pub returns-in-Ok-None-clause-accepted : goal.returns-in-Ok-None-clause-accepted
+returns-in-Ok-None-clause-accepted g c = search rules

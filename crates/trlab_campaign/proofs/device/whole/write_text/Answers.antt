@@ -1,4 +1,4 @@
-use Rattle.std.proofs.Common.{◌∙◌, arith, refl}
+use Rattle.std.proofs.Common.{rules, ◌∙◌, arith, refl}
 use Rattle.std.proofs.Math.Bool.{or-false}
 use Rattle.std.proofs.lemmas.Grind.{common_steps}
 use Rattle.trlab_campaign.proofs.KnownBytes.{appends_none, appends_part, appends_whole}
@@ -22,3 +22,9 @@ returns-clause-whole g c = appends_whole _ _ c.args.text.now c.loop-done.done c.
 
 pub returns-clause-fails : goal.returns-clause-fails
 returns-clause-fails g c = rw or-false c.loop-done.invariant.works
+
+pub returns-in-Err-clause-handed : goal.returns-in-Err-clause-handed
+returns-in-Err-clause-handed g c = search rules
+
+pub returns-in-Ok-clause-handed : goal.returns-in-Ok-clause-handed
+returns-in-Ok-clause-handed g c = search rules

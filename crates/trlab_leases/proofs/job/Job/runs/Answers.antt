@@ -1,4 +1,4 @@
-use Rattle.std.proofs.Common.{sym, ◌∙◌}
+use Rattle.std.proofs.Common.{rules, sym, ◌∙◌}
 use Rattle.std.proofs.lemmas.Bool.{false≢true}
 use Rattle.trlab_leases.specs.Machine.{job_state}
 use Rattle.trlab_leases.proofs.Booking.{runs_not, runs_where}
@@ -21,3 +21,6 @@ returns c =
     runs_where state c.args.self.now c.args.lease.now _ _ c.are_in_force.result c.self.view_is c.standing.ensures
     (sym c.key.ensures ∙ c.same_key.ensures.0 c.if-not-same_key.false) (sym c.road_number.ensures ∙ c.if-road_number-self.false)
     (sym c.base_road.ensures ∙ c.equals.ensures.0 c.if-not-equals.false) rules
+
+pub returns-else-are_in_force : goal.returns-else-are_in_force
+returns-else-are_in_force c = search rules

@@ -9,3 +9,6 @@ swap_new_seat-found-requires g c = (search rules, seizes _ _ c.args.self.now.tab
 pub exchange-requires : goal.exchange-requires
 exchange-requires g c = let t = c.swap_new_seat-found.ensures.1 c.if-found-eq0.true in
     (c.swap_new_seat-found.ensures.0, (Some t.0, t.1 ∙ ap (λ l. (0, Some t.0) ∷ rest l) (sym t.1)))
+
+pub unwrap-value-requires : goal.unwrap-value-requires
+unwrap-value-requires g c = search rules

@@ -1,4 +1,4 @@
-use Rattle.std.proofs.Common.{sym, arith}
+use Rattle.std.proofs.Common.{rules, sym, arith}
 use Rattle.trlab_texts.proofs.Parts.{searched_none, searched_more, part_found, part_missing}
 use Rattle.trlab_texts.proofs.rest.Rest.part.Goals as goal
 
@@ -17,3 +17,6 @@ loop-line-preserved c = record {
 
 pub returns : goal.returns
 returns c = rw (← c.self.view_is) (part_missing _ _ c.self.inside.number _ c.loop-line.invariant.searched c.in_default.ensures.lines)
+
+pub returns-then-is_empty : goal.returns-then-is_empty
+returns-then-is_empty c = search rules

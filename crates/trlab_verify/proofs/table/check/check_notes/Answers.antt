@@ -1,4 +1,4 @@
-use Rattle.std.proofs.Common.{◌≡◌, ◌∙◌, ℕ, ◌<◌, ◌≤◌, sym, subst, arith, length, Bool, false, IsTrue, List, Some, refl, below_more}
+use Rattle.std.proofs.Common.{rules, ◌≡◌, ◌∙◌, ℕ, ◌<◌, ◌≤◌, sym, subst, arith, length, Bool, false, IsTrue, List, Some, refl, below_more}
 use Rattle.std.specs.Prelude.{slice_get}
 use Rattle.std.proofs.lemmas.List.{get_or-map, length-map}
 use Rattle.std.proofs.lemmas.Option.{slice_get_within}
@@ -103,3 +103,6 @@ returns-clause-safe c = λ e budget longest.
     let table = table_of kind c.args.table.now in
     let checks : Checks kind c.args.code.now table = (returns-clause-exact c).0 e in
     sound kind c.args.code.now budget (accepted kind c.args.code.now (note_in table) (by_notes kind c.args.code.now table checks)) longest
+
+pub returns-then-not-is_empty-clause-exact : goal.returns-then-not-is_empty-clause-exact
+returns-then-not-is_empty-clause-exact c = search rules
