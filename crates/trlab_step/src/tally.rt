@@ -19,7 +19,11 @@ pub struct StepTally {
 pub fn count_crossing(crosses: &[bool]) -> u64
     ensures { result ≡ count_by (λ crosses. crosses) crosses.now }
 {
-    crosses.iter().filter(|crosses| **crosses).count() as u64
+    let mut count = 0;
+    for is_crossing in crosses {
+        count += u64::from(*is_crossing);
+    }
+    count
 }
 
 /// The tally of the cars' new speeds, where no car crossed.
