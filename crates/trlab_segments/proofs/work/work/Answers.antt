@@ -1,5 +1,5 @@
 use Rattle.std.proofs.Common.{rules}
 use Rattle.trlab_segments.proofs.work.work.Goals as goal
 
-pub returns-clause-all : goal.returns-clause-all
-returns-clause-all g c = search rules
+pub returns-clause-parts : goal.returns-clause-parts
+returns-clause-parts g c = search rules

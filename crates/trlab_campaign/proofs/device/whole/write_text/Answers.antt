@@ -22,9 +22,3 @@ returns-clause-whole g c = appends_whole _ _ c.args.text.now c.loop-done.done c.
 
 pub returns-clause-fails : goal.returns-clause-fails
 returns-clause-fails g c = rw or-false c.loop-done.invariant.works
-
-pub returns-in-Err-clause-handed : goal.returns-in-Err-clause-handed
-returns-in-Err-clause-handed g c = search rules
-
-pub returns-in-Ok-clause-handed : goal.returns-in-Ok-clause-handed
-returns-in-Ok-clause-handed g c = search rules

@@ -4,6 +4,3 @@ use Rattle.trlab_campaign.proofs.run.pictures.run_job.Goals as goal
 
 pub returns-in-Err-clause-answer : goal.returns-in-Err-clause-answer
 returns-in-Err-clause-answer g c = pictures_kept c.args.job _ _ _ c.in-Ok.ensures.whole c.in-Err.ensures.bytes
-
-pub returns-in-Ok-flush-2-clause-handed : goal.returns-in-Ok-flush-2-clause-handed
-returns-in-Ok-flush-2-clause-handed g c = search rules

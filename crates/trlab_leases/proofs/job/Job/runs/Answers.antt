@@ -21,6 +21,3 @@ returns c =
     runs_where state c.args.self.now c.args.lease.now _ _ c.are_in_force.result c.self.view_is c.standing.ensures
     (sym c.key.ensures ∙ c.same_key.ensures.0 c.if-not-same_key.false) (sym c.road_number.ensures ∙ c.if-road_number-self.false)
     (sym c.base_road.ensures ∙ c.equals.ensures.0 c.if-not-equals.false) rules
-
-pub returns-else-are_in_force : goal.returns-else-are_in_force
-returns-else-are_in_force c = search rules

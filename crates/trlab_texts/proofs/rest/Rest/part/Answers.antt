@@ -17,6 +17,3 @@ loop-line-preserved c = record {
 
 pub returns : goal.returns
 returns c = rw (← c.self.view_is) (part_missing _ _ c.self.inside.number _ c.loop-line.invariant.searched c.in_default.ensures.lines)
-
-pub returns-then-is_empty : goal.returns-then-is_empty
-returns-then-is_empty c = search rules

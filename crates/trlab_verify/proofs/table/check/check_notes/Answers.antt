@@ -103,6 +103,3 @@ returns-clause-safe c = λ e budget longest.
     let table = table_of kind c.args.table.now in
     let checks : Checks kind c.args.code.now table = (returns-clause-exact c).0 e in
     sound kind c.args.code.now budget (accepted kind c.args.code.now (note_in table) (by_notes kind c.args.code.now table checks)) longest
-
-pub returns-then-not-is_empty-clause-exact : goal.returns-then-not-is_empty-clause-exact
-returns-then-not-is_empty-clause-exact c = search rules

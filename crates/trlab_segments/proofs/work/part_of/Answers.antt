@@ -1,5 +1,0 @@
-use Rattle.std.proofs.Common.{rules}
-use Rattle.trlab_segments.proofs.work.part_of.Goals as goal
-
-pub returns-clause-parts : goal.returns-clause-parts
-returns-clause-parts g c = search rules
