@@ -8,6 +8,3 @@ pub returns-else-line-gt-MOST_QUOTED : goal.returns-else-line-gt-MOST_QUOTED
 returns-else-line-gt-MOST_QUOTED c =
     let short : length c.args.line.now ≤ MOST_QUOTED = omega (arith, c.if-line-gt-MOST_QUOTED.false) in
     rw (take_all MOST_QUOTED c.args.line.now short, le-ltb MOST_QUOTED (length c.args.line.now) short, append-nil) c.show_all-else-line-gt-MOST_QUOTED.ensures
-
-pub returns-else-line : goal.returns-else-line
-returns-else-line c = search rules
