@@ -1,11 +1,11 @@
 -- The lane change of two sorted lists of cars.
-use Rattle.std.proofs.Common.{◌≡◌, ◌≢◌, ℕ, zero, suc, ◌+◌, ◌<◌, ◌≤◌, Bool, true, false, cond, eqb, Some, None, List, [], ◌∷◌, ◌++◌, length, get_or, take, min, refl, sym, ◌∙◌, ap, subst, inl, inr, arith}
+use Rattle.std.proofs.Common.{◌≡◌, ◌≢◌, ℕ, zero, suc, ◌+◌, ◌<◌, ◌≤◌, Bool, true, false, cond, eqb, Some, None, List, [], ◌∷◌, ◌++◌, length, get_or, take, drop, min, refl, sym, ◌∙◌, ap, subst, inl, inr, arith}
 use Rattle.std.proofs.lemmas.Bool.{cases_lt, cases_eq}
-use Rattle.std.proofs.lemmas.List.{length-take-le}
+use Rattle.std.proofs.lemmas.List.{length-take-le, drop_more, append-nil, append_assoc}
 use Rattle.std.proofs.lemmas.List.FromFn.{take-map-range_with_len}
 use Rattle.std.specs.Int.{from_bool}
 use Rattle.trlab_road.specs.declared.lane_car.LaneCar.{LaneCar}
-use Rattle.trlab_road.specs.Cells.{at, lane_cars}
+use Rattle.trlab_road.specs.Cells.{Cell, at, lane_cars}
 use Rattle.trlab_road.specs.LaneChange.{cell_after_change, LaneCrosses}
 use Rattle.trlab_road.specs.Stored.{cell_at, cells_of, Rises, no_car, place_of, IsFirstFrom, lane_crosses_at}
 use Rattle.trlab_road.proofs.Lists.{length_cells, cells_at, cell_kth, empty_at, cars_of_list, rises_high, rises_order, rises_weakly}
@@ -58,6 +58,13 @@ pub record IsDue (n : ℕ) (cars : List LaneCar) (k a : ℕ) : Type 0 where
 
 pub due_low : (n : ℕ) (cars : List LaneCar) (k a : ℕ) → IsDue n cars k a → a < n → k < length cars
 due_low n cars k a d inside = elim (cases_lt k (length cars)) [ inl low ↦ low | inr high ↦ let e = d.past high in absurd (omega (arith, e, inside)) ]
+
+pub due_within : (n : ℕ) (cars : List LaneCar) (k a : ℕ) → Rises 0 n cars → IsDue n cars k a → a ≤ n
+due_within n cars k a r d =
+    elim (cases_lt k (length cars)) [
+      | inl low ↦ let e = d.here low in let h = rises_high 0 n cars k r low in omega (arith, e, h)
+      | inr high ↦ let e = d.past high in omega (arith, e)
+    ]
 
 -- where the first car from a place on stands past it, that place is empty
 pub due_none : (n : ℕ) (cars : List LaneCar) (x k a : ℕ) → Rises 0 n cars → IsFirstFrom cars x k → IsDue n cars k a → x < a → cell_at cars x ≡ None
@@ -156,6 +163,41 @@ module _ (n : ℕ) (own beside : List LaneCar) (oc bc : ℕ → Bool) (r : Rises
             | inr other ↦ cell_push next car y (λ e. omega (arith, e, at_x, other)) ∙ m.cells y (omega arith)
           ];
         }
+
+-- who stays
+pub stays : (oc : Bool) (own side : Cell) (car : ℕ × ℕ) → own ≡ Some car → oc ≡ false → Some car ≡ cell_after_change oc true own side
+stays oc own side car e f = rw (e, f) refl
+
+-- a car is the first from its place on
+pub first_at : (n : ℕ) (cars : List LaneCar) (k : ℕ) → Rises 0 n cars → k < length cars → IsFirstFrom cars (place_of cars k) k
+first_at n cars k r low = record {
+  within = omega arith;
+  before = λ m h on. rises_order 0 n cars m k r h low;
+  from = λ m h on. rises_weakly n cars k m r h on;
+}
+
+-- a run of cars that stay, where none comes
+module _ (n : ℕ) (own beside : List LaneCar) (oc : ℕ → Bool) (r : Rises 0 n own) (q : Rises 0 n beside) (j due : ℕ) (d : IsDue n beside j due) (le : due ≤ n) where
+  pub merged_run : (c : ℕ) (next : List LaneCar) (i x : ℕ) → Merged n own beside oc (λ _. true) next i j x → x ≤ due → i + c ≤ length own → ((k : ℕ) → i ≤ k → k < i + c → place_of own k < due)
+      → ((k : ℕ) → i ≤ k → k < i + c → oc (place_of own k) ≡ false) → (y : ℕ) × (Merged n own beside oc (λ _. true) (next ++ take c (drop i own)) (i + c) j y × (y ≤ due))
+  merged_run zero next i x m low on before stay =
+      let same : i ≡ i + 0 = omega arith in
+      (x, (subst (λ e. Merged n own beside oc (λ _. true) (next ++ []) e j x) same (subst (λ l. Merged n own beside oc (λ _. true) l i j x) (sym (append-nil next)) m), low))
+  merged_run (suc c) next i x m low on before stay =
+      let first : i < length own = omega arith in
+      let p = place_of own i in
+      let earlier : p < due = before i (omega arith) (omega arith) in
+      let reached = m.own_at.from i (omega arith) first in
+      let to = merged_to n own beside oc (λ _. true) r q next i j x m p reached (λ _. omega arith) (λ h. let a = d.here h in omega (arith, a, earlier)) in
+      let s = sought_past n own p i r to.own_at first refl in
+      let t = due_past n beside p j due q to.beside_at d earlier in
+      let here = sought_here n own p i r to.own_at first refl in
+      let car = get_or own i no_car in
+      let one = merged_push n own beside oc (λ _. true) r q next i j p to car (i + 1) j s t (omega (arith, earlier, le)) refl (stays (oc p) (cell_at own p) (cell_at beside p) _ here (stay i (omega arith) (omega arith))) in
+      let rest = merged_run c (next ++ car ∷ []) (i + 1) (p + 1) one (omega (arith, earlier)) (omega arith) (λ k a b. before k (omega arith) (omega arith)) (λ k a b. stay k (omega arith) (omega arith)) in
+      let list : (next ++ car ∷ []) ++ take c (drop (i + 1) own) ≡ next ++ take (suc c) (drop i own) = append_assoc next (car ∷ []) (take c (drop (i + 1) own)) ∙ ap (λ l. next ++ take (suc c) l) (sym (drop_more own i no_car first)) in
+      let index : i + 1 + c ≡ i + suc c = omega arith in
+      (rest.0, (subst (λ e. Merged n own beside oc (λ _. true) (next ++ take (suc c) (drop i own)) e j rest.0) index (subst (λ l. Merged n own beside oc (λ _. true) l (i + 1 + c) j rest.0) list rest.1.0), rest.1.1))
 
 -- where every place is passed, the lane that the new list makes is the one after the lane change
 pub merged_all : (n : ℕ) (own beside : List LaneCar) (oc bc : ℕ → Bool) (next : List LaneCar) (i j x : ℕ) → Merged n own beside oc bc next i j x → n ≤ x → LaneCrosses oc bc (cells_of n own) (cells_of n beside) (cells_of n next)

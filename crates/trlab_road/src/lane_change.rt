@@ -1,7 +1,7 @@
 //! The lane change: the cars of two lanes that cross do so at once. On each lane those that stay are
 //! merged with those that come.
 
-ghost use Rattle.std.specs.Prelude.{◌≡◌, ◌+◌, ◌<◌, ◌≤◌, ℕ, length, sum_by, IfOk, OnOk, true, false, None};
+ghost use Rattle.std.specs.Prelude.{◌≡◌, ◌+◌, ◌<◌, ◌≤◌, ℕ, length, sum_by, IfOk, OnOk, true, false, None, slice_index_or};
 ghost use Rattle.std.specs.Int.{from_bool};
 ghost use Rattle.trlab_bounds.specs.declared.roads.TheConstants.{GREATEST_LENGTH};
 ghost use Rattle.trlab_road.specs.Cells.{Cells, lane_cars};
@@ -52,6 +52,24 @@ fn leaving_cars(
     Ok(())
 }
 
+/// The index behind a run of cars: from one that stays on, those that stay and stand before a place.
+fn run_end(lane: AnsweredLane, crosses: &[bool], begin: usize, due: u32) -> usize
+    requires each { lane.from + length lane.cars.now ≤ length crosses.now }
+    requires begin { begin < length lane.cars.now }
+    requires stays { slice_index_or crosses.now (lane.from + begin) false ≡ false }
+    requires before { place_of lane.cars.now begin < due }
+    ensures within { (begin < result) × (result ≤ length lane.entry.cars.now) }
+    ensures stay { (k : ℕ) → begin ≤ k → k < result
+        → slice_index_or crosses.now (lane.entry.from + k) false ≡ false }
+    ensures before { (k : ℕ) → begin ≤ k → k < result → place_of lane.entry.cars.now k < due }
+{
+    let mut end = begin + 1;
+    while end < lane.cars.len() && lane.cars[end].place < due && !crosses[lane.from + end] {
+        end += 1;
+    }
+    end
+}
+
 /// Puts the cars of a lane after the lane change, to which these cars come from the other lane, into a
 /// list.
 fn change_lane(
@@ -79,10 +97,15 @@ fn change_lane(
     let mut due = next_place(coming, j, cells);
     while standing.min(due) < cells {
         if standing < due {
-            if !crosses[own.from + i] {
-                next.push(own.cars[i])?;
+            if crosses[own.from + i] {
+                i += 1;
+            } else {
+                let end = run_end(own, crosses, i, due);
+                let (_, rest) = own.cars.split_at(i);
+                let (run, _) = rest.split_at(end - i);
+                next.extend_from_slice(run)?;
+                i = end;
             }
-            i += 1;
             standing = next_place(own.cars, i, cells);
         } else {
             // who comes finds the cell empty, or its car leaves

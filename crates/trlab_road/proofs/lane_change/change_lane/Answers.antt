@@ -1,14 +1,15 @@
-use Rattle.std.proofs.Common.{◌≡◌, ◌≢◌, nat_eq, ◌+◌, ◌<◌, ◌∙◌, ℕ, Bool, true, false, Some, None, refl, sym, cond, min, subst, length, arith}
+use Rattle.std.proofs.Common.{◌≡◌, ◌-◌, ◌≤◌, take, drop, ◌++◌, ◌≢◌, nat_eq, ◌+◌, ◌<◌, ◌∙◌, ℕ, Bool, true, false, None, refl, sym, cond, min, subst, length, arith}
 use Rattle.std.proofs.lemmas.Bool.Decides.{nat_tests}
 use Rattle.trlab_road.specs.LaneChange.{cell_after_change}
 use Rattle.trlab_road.specs.Cells.{Cell}
 use Rattle.trlab_road.specs.Stored.{cells_of, cell_at, lane_crosses_at, place_of, IsFirstFrom}
-use Rattle.trlab_road.proofs.ListLaneChange.{Merged, merged_none, merged_next, merged_skip, merged_push, merged_all, crosses_here, sought_here, sought_none, sought_past, sought_next, due_low, due_none, due_past}
-use Rattle.trlab_road.proofs.lane_change.change_lane.Goals.{then-not-crosses-own+in_ok-push, else-not-crosses-own, then-own_here+then-not-crosses-own-2+in_ok-push-2, else-own_here+in_ok-push-3, else-own_here-via-then-own_here+else-not-crosses-own-2, else-own_here-via-else-own_here}
+use Rattle.trlab_road.proofs.ListLaneChange.{Merged, merged_none, merged_next, merged_skip, merged_push, merged_all, crosses_here, sought_here, sought_none, sought_past, sought_next, due_low, due_none, due_past, due_within, stays, first_at, merged_run}
+use Rattle.trlab_road.proofs.Lists.{rises_high}
+use Rattle.trlab_road.proofs.lane_change.change_lane.Goals.{then-crosses-own, else-crosses-own+in_ok-extend_from_slice, then-own_here+then-not-crosses-own+in_ok-push, else-own_here+in_ok-push-2, else-own_here-via-then-own_here+else-not-crosses-own, else-own_here-via-else-own_here}
 use Rattle.trlab_road.proofs.lane_change.change_lane.Goals as goal
 
-pub loop-next-init : goal.loop-next-init
-loop-next-init c =
+pub loop-standing-init : goal.loop-standing-init
+loop-standing-init c =
     let n = c.args.cells in
     let own = c.args.own.cars.now in
     let oc = lane_crosses_at (cells_of n own) c.args.crosses.now c.args.own.from in
@@ -20,10 +21,7 @@ loop-next-init c =
           c.next_place-standing.ensures.here c.next_place-standing.ensures.past c.next_place-due.ensures.here c.next_place-due.ensures.past refl);
     }
 
--- who stays, and where none stays, who comes
-stays : (oc : Bool) (own side : Cell) (car : ℕ × ℕ) → own ≡ Some car → oc ≡ false → Some car ≡ cell_after_change oc true own side
-stays oc own side car e f = rw (e, f) refl
-
+-- where none stays, who comes
 left : (oc : Bool) (own : Cell) → oc ≡ true → cond oc None own ≡ None
 left oc own e = rw e refl
 
@@ -35,8 +33,8 @@ comes : (oc : Bool) (own side : Cell) → cond oc None own ≡ None → side ≡
 comes oc own side e = rw e refl
 
 -- a car of the lane is next
-pub loop-next-preserved-then-standing-due : goal.loop-next-preserved-then-standing-due
-loop-next-preserved-then-standing-due c =
+pub loop-standing-preserved-then-standing-due : goal.loop-standing-preserved-then-standing-due
+loop-standing-preserved-then-standing-due c =
     let n = c.args.cells in
     let own = c.args.own.cars.now in
     let beside = c.args.coming.now in
@@ -44,42 +42,66 @@ loop-next-preserved-then-standing-due c =
     let bc : ℕ → Bool = λ _. true in
     let r = c.requires.own_sorted in
     let q = c.requires.coming_sorted in
-    let items = c.loop-next.next.items in
-    let i = c.loop-next.i in
-    let j = c.loop-next.j in
-    let x = c.loop-next.standing in
-    let later : x < c.loop-next.due = c.if-standing-due.true in
-    let least : min x c.loop-next.due ≡ x = omega (arith, later) in
-    let test = c.loop-next-test.true in
+    let items = c.loop-standing.next.items in
+    let i = c.loop-standing.i in
+    let j = c.loop-standing.j in
+    let x = c.loop-standing.standing in
+    let later : x < c.loop-standing.due = c.if-standing-due.true in
+    let least : min x c.loop-standing.due ≡ x = omega (arith, later) in
+    let test = c.loop-standing-test.true in
     let is = c.min.ensures in
     let inside : x < n = omega (arith, test, is, least) in
-    let m = subst (λ y. Merged n own beside oc bc items i j y) least c.loop-next.invariant.merged in
-    let own_due = c.loop-next.invariant.own_due in
-    let coming_due = c.loop-next.invariant.coming_due in
+    let m = subst (λ y. Merged n own beside oc bc items i j y) least c.loop-standing.invariant.merged in
+    let own_due = c.loop-standing.invariant.own_due in
+    let coming_due = c.loop-standing.invariant.coming_due in
+    let due_high : c.loop-standing.due ≤ n = due_within n beside j c.loop-standing.due q coming_due in
     let low = due_low n own i x own_due inside in
     let there = sym (own_due.here low) in
     let here = sought_here n own x i r m.own_at low there in
     let s = sought_past n own x i r m.own_at low there in
-    let t = due_past n beside x j c.loop-next.due q m.beside_at coming_due later in
-    let none = due_none n beside x j c.loop-next.due q m.beside_at coming_due later in
+    let t = due_past n beside x j c.loop-standing.due q m.beside_at coming_due later in
+    let none = due_none n beside x j c.loop-standing.due q m.beside_at coming_due later in
     let answer = crosses_here n own c.args.crosses.now c.args.own.from x i r m.own_at (omega (arith, inside)) in
-    let step : Merged n own beside oc bc c.if-not-crosses-own.next.items (i + 1) j (x + 1) =
-    elim c.if-not-crosses-own.branch [
-      | then-not-crosses-own+in_ok-push w ↦ rw (w.next-is, w.in_ok-push.ensures.items)
-          (merged_push n own beside oc bc r q items i j x m _ (i + 1) j s t inside there (stays (oc x) (cell_at own x) (cell_at beside x) _ here (sym answer ∙ w.if-not-crosses-own.true)))
-      | else-not-crosses-own w ↦ rw w.next-is
-          (merged_skip n own beside oc bc r q items i j x m (i + 1) j s t (sym none ∙ comes (oc x) (cell_at own x) (cell_at beside x) (left (oc x) (cell_at own x) (sym answer ∙ w.if-not-crosses-own.false))))
+    let step : (y : ℕ) × (Merged n own beside oc bc c.if-crosses-own.next.items c.if-crosses-own.i j y × (y ≤ c.loop-standing.due)) =
+    elim c.if-crosses-own.branch [
+      | then-crosses-own w ↦ (
+        x + 1,
+        (
+          rw (w.next-is, w.i-is)
+              (merged_skip n own beside oc bc r q items i j x m (i + 1) j s t (sym none ∙ comes (oc x) (cell_at own x) (cell_at beside x) (left (oc x) (cell_at own x) (sym answer ∙ w.if-crosses-own.true)))),
+          omega (arith, later),
+        ),
+      )
+      | else-crosses-own+in_ok-extend_from_slice w ↦
+          let end = w.run_end-end.result in
+          let after : i < end = w.run_end-end.ensures.within.0 in
+          let within : end ≤ length own = w.run_end-end.ensures.within.1 in
+          let index : i + (end - i) ≡ end = omega (arith, after) in
+          let stay : (k : ℕ) → i ≤ k → k < i + (end - i) → oc (place_of own k) ≡ false = λ k a b.
+          let on : k < end = omega (arith, b, index) in
+          let here : k < length own = omega (arith, on, within) in
+          let high = rises_high 0 n own k r here in
+          sym (crosses_here n own c.args.crosses.now c.args.own.from (place_of own k) k r (first_at n own k r here) (omega (arith, high))) ∙ w.run_end-end.ensures.stay k a on in
+          let run = merged_run n own beside oc r q j c.loop-standing.due coming_due due_high (end - i) items i x m (omega (arith, later)) (omega (arith, index, within))
+          (λ k a b. w.run_end-end.ensures.before k a (omega (arith, b, index))) stay in (
+            run.0,
+            (
+              rw (w.next-is, w.i-is, w.in_ok-extend_from_slice.ensures.items, w.split_at-else-crosses-own.ensures.front, w.split_at.ensures.back)
+                  (subst (λ e. Merged n own beside oc bc (items ++ take (end - i) (drop i own)) e j run.0) index run.1.0),
+              run.1.1,
+            ),
+          )
     ] in
     let further = c.next_place-standing-then-standing-due.ensures in
     record {
       own_due = record { here = further.here; past = further.past };
       coming_due = coming_due;
-      merged = merged_next n own beside oc bc r q _ (i + 1) j (x + 1) _ _ _ step (omega (arith, inside)) further.here further.past coming_due.here coming_due.past refl;
+      merged = merged_next n own beside oc bc r q _ _ j step.0 _ _ _ step.1.0 (let a = step.1.1 in omega (arith, a, due_high)) further.here further.past coming_due.here coming_due.past refl;
     }
 
 -- a car that comes is next
-pub loop-next-preserved : goal.loop-next-preserved
-loop-next-preserved c =
+pub loop-standing-preserved : goal.loop-standing-preserved
+loop-standing-preserved c =
     let n = c.args.cells in
     let own = c.args.own.cars.now in
     let beside = c.args.coming.now in
@@ -87,19 +109,19 @@ loop-next-preserved c =
     let bc : ℕ → Bool = λ _. true in
     let r = c.requires.own_sorted in
     let q = c.requires.coming_sorted in
-    let items = c.loop-next.next.items in
-    let i = c.loop-next.i in
-    let j = c.loop-next.j in
-    let x = c.loop-next.due in
-    let standing = c.loop-next.standing in
+    let items = c.loop-standing.next.items in
+    let i = c.loop-standing.i in
+    let j = c.loop-standing.j in
+    let x = c.loop-standing.due in
+    let standing = c.loop-standing.standing in
     let not_before = c.if-standing-due.false in
     let least : min standing x ≡ x = omega (arith, not_before) in
-    let test = c.loop-next-test.true in
+    let test = c.loop-standing-test.true in
     let is = c.min.ensures in
     let inside : x < n = omega (arith, test, is, least) in
-    let m = subst (λ y. Merged n own beside oc bc items i j y) least c.loop-next.invariant.merged in
-    let own_due = c.loop-next.invariant.own_due in
-    let coming_due = c.loop-next.invariant.coming_due in
+    let m = subst (λ y. Merged n own beside oc bc items i j y) least c.loop-standing.invariant.merged in
+    let own_due = c.loop-standing.invariant.own_due in
+    let coming_due = c.loop-standing.invariant.coming_due in
     let low = due_low n beside j x coming_due inside in
     let there = sym (coming_due.here low) in
     let here = sought_here n beside x j q m.beside_at low there in
@@ -112,17 +134,17 @@ loop-next-preserved c =
     rw c.from-i.ensures (sought_next n own x i (nat_eq standing x) r m.own_at (λ e. own_low (grind (arith, nat_tests, e))) (λ e. own_there (grind (arith, nat_tests, e))) (λ f. apart (λ e. grind (arith, nat_tests, f, e)))) in
     let step : Merged n own beside oc bc c.if-own_here.next.items (i + c.from-i.result) (j + 1) (x + 1) =
     elim c.if-own_here.branch [
-      | then-own_here+then-not-crosses-own-2+in_ok-push-2 w ↦
+      | then-own_here+then-not-crosses-own+in_ok-push w ↦
           let same : standing ≡ x = w.if-own_here.true in
           let own_here = sought_here n own x i r m.own_at (own_low same) (own_there same) in
-          rw (w.next-is, w.in_ok-push-2.ensures.items)
-          (merged_push n own beside oc bc r q items i j x m _ _ (j + 1) s t inside (own_there same) (stays (oc x) (cell_at own x) (cell_at beside x) _ own_here (sym answer ∙ w.if-not-crosses-own-2.true)))
-      | else-own_here+in_ok-push-3 w ↦
+          rw (w.next-is, w.in_ok-push.ensures.items)
+          (merged_push n own beside oc bc r q items i j x m _ _ (j + 1) s t inside (own_there same) (stays (oc x) (cell_at own x) (cell_at beside x) _ own_here (sym answer ∙ w.if-not-crosses-own.true)))
+      | else-own_here+in_ok-push-2 w ↦
           let gone : cond (oc x) None (cell_at own x) ≡ None = elim w.else-own_here.branch [
-            | else-own_here-via-then-own_here+else-not-crosses-own-2 w' ↦ left (oc x) (cell_at own x) (sym answer ∙ w'.if-not-crosses-own-2.false)
+            | else-own_here-via-then-own_here+else-not-crosses-own w' ↦ left (oc x) (cell_at own x) (sym answer ∙ w'.if-not-crosses-own.false)
             | else-own_here-via-else-own_here w' ↦ empty (oc x) (cell_at own x) (sought_none n own x i r m.own_at (apart w'.if-own_here.false))
           ] in
-          rw (w.next-is, w.in_ok-push-3.ensures.items)
+          rw (w.next-is, w.in_ok-push-2.ensures.items)
           (merged_push n own beside oc bc r q items i j x m _ _ (j + 1) s t inside there (sym here ∙ comes (oc x) (cell_at own x) (cell_at beside x) gone))
     ] in
     let further = c.next_place-standing-else-standing-due.ensures in
@@ -134,4 +156,4 @@ loop-next-preserved c =
     }
 
 pub returns-clause-crosses : goal.returns-clause-crosses
-returns-clause-crosses c = merged_all _ _ _ _ _ _ _ _ _ c.loop-next.invariant.merged (let h = c.loop-next-test.false in let is = c.min.ensures in omega (arith, h, is))
+returns-clause-crosses c = merged_all _ _ _ _ _ _ _ _ _ c.loop-standing.invariant.merged (let h = c.loop-standing-test.false in let is = c.min.ensures in omega (arith, h, is))
