@@ -2,7 +2,7 @@ pub mod Cuts
 pub mod Digits
 pub mod Passes
 pub mod PrintedFrom
-pub mod Plain
+pub mod UncutWords
 pub mod Printed
 pub mod PrintedInstrs
 pub mod PrintedLines
@@ -11,5 +11,5 @@ pub mod Said
 pub mod Named
 pub mod Pushed
 pub mod LineSaid
-pub mod Kept
+pub mod HandedOn
 pub mod Shapes

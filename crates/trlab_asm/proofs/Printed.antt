@@ -17,7 +17,7 @@ use Rattle.trlab_asm.specs.Canonical.{label_text, target_text, ◌comma◌}
 use Rattle.trlab_asm.specs.declared.names.Mnemonic.{Mnemonic}
 use Rattle.trlab_asm.specs.declared.names.Mnemonic.TheVariants as name
 use Rattle.trlab_bounds.specs.declared.programs.TheConstants.{GREATEST_NUMBER}
-use Rattle.trlab_asm.proofs.Plain.{is_plain, plain_word, and_parts, and_both, alone_behind_blank, then_again}
+use Rattle.trlab_asm.proofs.UncutWords.{is_plain, plain_word, and_parts, and_both, alone_behind_blank, then_again}
 use Rattle.trlab_asm.proofs.Digits.{own}
 
 pub register_plain : (r : Register) → plain_word (register_text r) ≡ true

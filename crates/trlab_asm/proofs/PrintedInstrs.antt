@@ -2,7 +2,7 @@
 use Rattle.std.proofs.Common.{◌≡◌, ℕ, ◌<◌, List, ◌∷◌, ◌++◌, length, refl, arith, false, length-append}
 use Rattle.std.specs.Prelude.{None, Some, Ok, decimal, ◌==◌}
 use Rattle.std.proofs.lemmas.Bool.{lt-ltb, ne_eqb}
-use Rattle.trlab_code.specs.Program.{InRange}
+use Rattle.trlab_code.specs.Program.{IsInRange}
 use Rattle.trlab_code.specs.declared.instruction.Instr.{Instr}
 use Rattle.trlab_code.specs.declared.instruction.Instr.TheVariants.{Num, Get, Side, Draw, Copy, Add, Sub, Mul, Div, Min, Max, Not, And, Or, Jump, JumpLess, JumpAtMost, JumpTrue, JumpFalse, Go, Cross, Stay}
 use Rattle.trlab_bounds.specs.declared.programs.TheConstants.{MOST_INSTRUCTIONS}
@@ -13,12 +13,12 @@ use Rattle.trlab_asm.specs.Canonical.{target_text, ◌comma◌, row_text, instr_
 use Rattle.trlab_code.specs.Laws.{HasWord}
 use Rattle.trlab_asm.specs.declared.names.Mnemonic.{Mnemonic}
 use Rattle.trlab_asm.specs.declared.names.Mnemonic.TheVariants as name
-use Rattle.trlab_asm.proofs.Plain.{word_and_more}
+use Rattle.trlab_asm.proofs.UncutWords.{word_and_more}
 use Rattle.trlab_asm.proofs.Printed.{goal_of, name_again, register_again, target_again, two_again, three_again, get_again, one_number_again, two_number_again, draw_again, one_target_again, two_target_again}
 
 -- the fields are in range, and the number has 32 bits
 abbrev pub Fits : Instr → Type 0
-Fits instr = InRange instr × HasWord instr
+Fits instr = IsInRange instr × HasWord instr
 
 abbrev pub jump_draft : (ℕ → Instr) → Target → Draft
 jump_draft instr to = record { instr = instr to.pc; label = to.label }

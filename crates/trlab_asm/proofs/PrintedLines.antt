@@ -14,7 +14,7 @@ use Rattle.trlab_asm.specs.Reading.{Labels, line_says}
 use Rattle.trlab_asm.specs.Canonical.{label_text, target_text, ◌comma◌, row_text, instr_text, line_text}
 use Rattle.trlab_asm.specs.declared.names.Mnemonic.{Mnemonic}
 use Rattle.trlab_asm.specs.declared.names.Mnemonic.TheVariants as name
-use Rattle.trlab_asm.proofs.Plain.{is_plain, plain_word, and_parts, and_both, not_true, none_of, none_in_plain, alone_at_front, without_blank, behind_blank, cut_here, cut_nowhere, no_colon, no_semicolon, no_line_end}
+use Rattle.trlab_asm.proofs.UncutWords.{is_plain, plain_word, and_parts, and_both, not_true, none_of, none_in_plain, alone_at_front, without_blank, behind_blank, cut_here, cut_nowhere, no_colon, no_semicolon, no_line_end}
 use Rattle.trlab_asm.proofs.Printed.{name_again, register_plain, input_plain, decimal_plain, target_plain, label_again}
 use Rattle.trlab_asm.proofs.PrintedInstrs.{Fits, draft_again, instr_again}
 

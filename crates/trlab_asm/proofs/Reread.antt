@@ -8,7 +8,7 @@ use Rattle.std.proofs.lemmas.Fmt.{decimal_injective}
 use Rattle.std.proofs.lemmas.List.Elements.{All-head, All-tail}
 use Rattle.std.proofs.lemmas.List.{take_all}
 use Rattle.trlab_code.specs.Flow.{target}
-use Rattle.trlab_code.specs.Program.{Program, InRange, IsProgram}
+use Rattle.trlab_code.specs.Program.{Program, IsInRange, IsProgram}
 use Rattle.trlab_code.specs.declared.instruction.Instr.{Instr}
 use Rattle.trlab_code.specs.declared.instruction.Instr.TheVariants.{Num, Get, Side, Draw, Copy, Add, Sub, Mul, Div, Min, Max, Not, And, Or, Jump, JumpLess, JumpAtMost, JumpTrue, JumpFalse, Go, Cross, Stay}
 use Rattle.trlab_bounds.specs.declared.programs.TheConstants.{MOST_INSTRUCTIONS}
@@ -156,10 +156,10 @@ length_reads count number (i ∷ instrs) = ap suc (length_reads count (number + 
 some_read : (instrs : List Instr) → 0 < length instrs → (length (reads_of (length instrs) 1 instrs) == 0) ≡ false
 some_read instrs some = rw (length_reads (length instrs) 1 instrs) (ne_eqb (length instrs) 0 (λ e. absurd (omega arith)))
 
-all_fit : (instrs : List Instr) → All InRange instrs → All HasWord instrs → AllByRecursion Fits instrs
+all_fit : (instrs : List Instr) → All IsInRange instrs → All HasWord instrs → AllByRecursion Fits instrs
 all_fit [] in_range has_word = tt
 all_fit (i ∷ instrs) in_range has_word =
-    ((All-head InRange i instrs in_range, All-head HasWord i instrs has_word), all_fit instrs (All-tail InRange i instrs in_range) (All-tail HasWord i instrs has_word))
+    ((All-head IsInRange i instrs in_range, All-head HasWord i instrs has_word), all_fit instrs (All-tail IsInRange i instrs in_range) (All-tail HasWord i instrs has_word))
 
 -- the text of a program says the program
 pub again : CanonicalTextSaysTheProgram

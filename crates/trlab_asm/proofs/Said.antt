@@ -8,7 +8,7 @@ use Rattle.trlab_code.specs.declared.kind.Kind.{Kind}
 use Rattle.trlab_code.specs.declared.instruction.Instr.{Instr}
 use Rattle.trlab_code.specs.declared.instruction.Instr.TheVariants.{Num, Get, Side, Draw, Copy, Add, Sub, Mul, Div, Min, Max, Not, And, Or, Jump, JumpLess, JumpAtMost, JumpTrue, JumpFalse, Go, Cross, Stay}
 use Rattle.trlab_bounds.specs.declared.programs.TheConstants.{MOST_INSTRUCTIONS, WORDS, CERTAIN}
-use Rattle.trlab_code.specs.Program.{InRange, IsProgram}
+use Rattle.trlab_code.specs.Program.{IsInRange, IsProgram}
 use Rattle.trlab_asm.specs.Cutting.{behind, cut, label_and_rest, only_word, without_comment, without_indent, up_to_blank}
 use Rattle.trlab_asm.specs.Names.{register_named, input_named, mnemonic_named}
 use Rattle.trlab_asm.specs.Operands.{◌then◌, digits_of, input, is_label, is_numeral, no_operand, number, numeral, pc_named, value_within, register, register_input, register_number, register_target, register_word_chance, target, target_named, three_registers, two_registers, two_registers_number, two_registers_target, word, word_chance}
@@ -137,7 +137,7 @@ none_gives text = then_gives Anything Anything (word text) _ (word_gives text) (
 -- instructions
 
 abbrev Fits : Draft → Type 0
-Fits draft = InRange draft.instr
+Fits draft = IsInRange draft.instr
 
 -- the draft that is made of operands
 made : {A : Type 0} (P : A → Type 0) (r : Result A Why) (f : A → Result Draft Why) → Gives P r → ((x : A) → P x → Gives Fits (f x)) → Gives Fits (r >>= f)
@@ -173,7 +173,7 @@ known_gives o = ok_or_gives o Word (λ e. cc)
 -- an instruction is in range, and there is room for it at pc
 MayStand : ℕ → Option Draft → Type 0
 MayStand pc None = Unit {0}
-MayStand pc (Some draft) = InRange draft.instr × (pc < MOST_INSTRUCTIONS)
+MayStand pc (Some draft) = IsInRange draft.instr × (pc < MOST_INSTRUCTIONS)
 
 room_gives : (pc : ℕ) (b : Bool) (r : Result Draft Why) → (b ≡ true → pc < MOST_INSTRUCTIONS) → Gives Fits r
     → Gives (MayStand pc) (if b then (r >>= λ draft. Ok (Some draft)) else Err TooLong)
@@ -226,7 +226,7 @@ in_line_tells P number (Err why) h = h
 -- what was read has instructions in range, and not too many
 record Kept (reads : List LineDraft) : Type 0 where
   few : length reads ≤ MOST_INSTRUCTIONS
-  fit : All (λ (read : LineDraft). InRange read.draft.instr) reads
+  fit : All (λ (read : LineDraft). IsInRange read.draft.instr) reads
 
 kept_more : (reads : List LineDraft) (number : ℕ) (o : Option Draft) → Kept reads → MayStand (length reads) o → Kept (with_draft reads number o)
 unfolding MayStand
@@ -235,7 +235,7 @@ kept_more reads number (Some draft) kept may =
     let read : LineDraft = record { line = number; draft = draft } in
     record {
       few = omega (arith, length-append reads (read ∷ []), may.1);
-      fit = All-push (λ (one : LineDraft). InRange one.draft.instr) reads read kept.fit may.0;
+      fit = All-push (λ (one : LineDraft). IsInRange one.draft.instr) reads read kept.fit may.0;
     }
 
 first_tells : (parts : Parts) (number : ℕ) (lines : List (List ℕ)) → Kept parts.reads → Tells (λ (all : Parts). Kept all.reads) (first_pass parts number lines)
@@ -246,7 +246,7 @@ first_tells parts number (line ∷ left) kept =
     (in_line_tells (λ (said : Line). MayStand (length parts.reads) said.draft) number (line_says parts.labels (length parts.reads) line) (line_gives parts.labels (length parts.reads) line))
     (λ said may. first_tells (with_line parts number said) (number + 1) left (kept_more parts.reads number said.draft kept may))
 
-target_fits : (pc : ℕ) (i : Instr) → InRange i → InRange (with_target pc i)
+target_fits : (pc : ℕ) (i : Instr) → IsInRange i → IsInRange (with_target pc i)
 target_fits pc (Num d n) h = h
 target_fits pc (Get d k) h = h
 target_fits pc (Side d) h = h
@@ -270,33 +270,33 @@ target_fits pc (Go a) h = h
 target_fits pc Cross h = h
 target_fits pc Stay h = h
 
-jump_tells : (line : ℕ) (i : Instr) (o : Option ℕ) → InRange i → Tells InRange (jump_to line i o)
+jump_tells : (line : ℕ) (i : Instr) (o : Option ℕ) → IsInRange i → Tells IsInRange (jump_to line i o)
 jump_tells line i None h = λ e. cc
 jump_tells line i (Some pc) h = target_fits pc i h
 
-label_tells : (labels : Labels) (line : ℕ) (i : Instr) (o : Option (List ℕ)) → InRange i → Tells InRange (resolve_label labels line i o)
+label_tells : (labels : Labels) (line : ℕ) (i : Instr) (o : Option (List ℕ)) → IsInRange i → Tells IsInRange (resolve_label labels line i o)
 label_tells labels line i None h = h
 label_tells labels line i (Some name) h = jump_tells line i (labels name) h
 
 -- as many instructions, in range
 record Finished (many : ℕ) (instrs : List Instr) : Type 0 where
   all : length instrs ≡ many
-  fit : All InRange instrs
+  fit : All IsInRange instrs
 
-second_tells : (labels : Labels) (reads : List LineDraft) → All (λ (read : LineDraft). InRange read.draft.instr) reads → Tells (Finished (length reads)) (second_pass labels reads)
+second_tells : (labels : Labels) (reads : List LineDraft) → All (λ (read : LineDraft). IsInRange read.draft.instr) reads → Tells (Finished (length reads)) (second_pass labels reads)
 unfolding second_pass
 second_tells labels [] fit = record { all = refl; fit = λ k d h. absurd (omega arith) }
 second_tells labels (read ∷ reads) fit =
-    let P : LineDraft → Type 0 = λ one. InRange one.draft.instr in
-    then_tells InRange (Finished (suc (length reads))) (resolve labels read) _ (label_tells labels read.line read.draft.instr read.draft.label (All-head P read reads fit)) (λ i h.
+    let P : LineDraft → Type 0 = λ one. IsInRange one.draft.instr in
+    then_tells IsInRange (Finished (suc (length reads))) (resolve labels read) _ (label_tells labels read.line read.draft.instr read.draft.label (All-head P read reads fit)) (λ i h.
     then_tells (Finished (length reads)) (Finished (suc (length reads))) (second_pass labels reads) _ (second_tells labels reads (All-tail P read reads fit)) (λ instrs k.
-    record { all = omega (arith, k.all); fit = All-cons InRange i instrs h k.fit }))
+    record { all = omega (arith, k.all); fit = All-cons IsInRange i instrs h k.fit }))
 
 -- a program's instructions
 record Whole (instrs : List Instr) : Type 0 where
   some : 1 ≤ length instrs
   few : length instrs ≤ MOST_INSTRUCTIONS
-  fit : All InRange instrs
+  fit : All IsInRange instrs
 
 whole_of : (many : ℕ) (r : Result (List Instr) AsmFault) → 1 ≤ many → many ≤ MOST_INSTRUCTIONS → Tells (Finished many) r → Tells Whole r
 whole_of many (Ok instrs) some few h = record { some = omega (arith, h.all); few = omega (arith, h.all); fit = h.fit }

@@ -2,7 +2,7 @@
 //! the pcs of their labels.
 
 ghost use Rattle.std.specs.Prelude.{◌≡◌, ◌≤◌, ◌⊎◌, Ok, vec_len, All, MatchResult, IfOk};
-ghost use Rattle.trlab_code.specs.Program.{InRange};
+ghost use Rattle.trlab_code.specs.Program.{IsInRange};
 ghost use Rattle.trlab_bounds.specs.declared.programs.TheConstants.{MOST_INSTRUCTIONS};
 ghost use Rattle.trlab_asm.specs.Lines.{lines_of};
 ghost use Rattle.trlab_asm.specs.Stored.{pcs, stored_parts};
@@ -36,7 +36,7 @@ fn read_parts(alloc: Global, text: &[u8]) -> Result<Parts<'_>, AsmFault>
 /// A jump with another target; other instructions have none.
 fn with_target(pc: u32, instr: Instr) -> Instr
     ensures value { result ≡ with_target pc instr }
-    ensures in_range { InRange instr → InRange result }
+    ensures in_range { IsInRange instr → IsInRange result }
 {
     match instr {
         Instr::Jump(_) => Instr::Jump(pc),
@@ -51,7 +51,7 @@ fn with_target(pc: u32, instr: Instr) -> Instr
 /// An instruction that was read, with the pc of its label, if it names one.
 fn resolve<'a>(labels: &Labels<'a>, read: &LineDraft<'a>) -> Result<Instr, AsmFault>
     ensures value { result ≡ resolve (pcs labels.now) read.now }
-    ensures in_range { IfOk result InRange }
+    ensures in_range { IfOk result IsInRange }
 {
     let draft = read.draft();
     let Some(name) = draft.label() else {
@@ -73,7 +73,7 @@ fn instrs_of(alloc: Global, parts: &Parts<'_>) -> Result<Vec<Instr>, AsmFault>
         (λ fault. (instrs_of (stored_parts parts.now) ≡ Err fault) ⊎ IsOutOfMemory fault) }
     ensures some { IfOk result (λ instrs. 1 ≤ vec_len instrs) }
     ensures few { IfOk result (λ instrs. vec_len instrs ≤ MOST_INSTRUCTIONS) }
-    ensures in_range { IfOk result (λ instrs. All InRange instrs.items) }
+    ensures in_range { IfOk result (λ instrs. All IsInRange instrs.items) }
 {
     let reads = parts.reads();
     if reads.is_empty() {

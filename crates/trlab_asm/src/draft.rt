@@ -1,7 +1,7 @@
 //! Drafts: instructions as the first pass reads them, before labels are looked up.
 
 ghost use Rattle.std.specs.Prelude.{◌≡◌, None, option_map};
-ghost use Rattle.trlab_code.specs.Program.{InRange};
+ghost use Rattle.trlab_code.specs.Program.{IsInRange};
 ghost use Rattle.trlab_asm.specs.Reading.{draft_of, Draft as ReadDraft};
 ghost use Rattle.trlab_asm.specs.declared.names.Mnemonic.TheVariants.{Draw, Div};
 
@@ -24,14 +24,14 @@ impl<'a> Model for Draft<'a> {
 
     ghost view = { λ draft. record { instr = draft.instr; label = option_map (λ label. label.now) draft.label } };
 
-    ghost invariant = { λ draft. InRange draft.instr };
+    ghost invariant = { λ draft. IsInRange draft.instr };
 }
 
 impl<'a> Draft<'a> {
     /// The instruction.
     pub(crate) fn instr(&self) -> Instr
         ensures value { result ≡ self.now.instr }
-        ensures in_range { InRange result }
+        ensures in_range { IsInRange result }
     {
         self.instr
     }
@@ -46,7 +46,7 @@ impl<'a> Draft<'a> {
 
 /// An instruction that has all its operands.
 fn whole_draft<'a>(instr: Instr) -> Draft<'a>
-    requires { InRange instr }
+    requires { IsInRange instr }
     ensures { result ≡ record { instr = instr; label = None } }
 {
     Draft { instr, label: None }
@@ -54,7 +54,7 @@ fn whole_draft<'a>(instr: Instr) -> Draft<'a>
 
 /// A jump to the label of a target, if it has one.
 fn jump_draft<'a>(instr: Instr, to: Target<'a>) -> Draft<'a>
-    requires { InRange instr }
+    requires { IsInRange instr }
     ensures { result ≡ record { instr = instr; label = to.entry.label } }
 {
     Draft {

@@ -18,7 +18,7 @@ use Rattle.trlab_bounds.specs.declared.programs.TheConstants.{MAGIC}
 use Rattle.trlab_bounds.specs.declared.programs.TheConstants.{CERTAIN}
 use Rattle.trlab_code.specs.declared.fault.CodeFault.{CodeFault}
 use Rattle.trlab_code.specs.declared.fault.CodeFault.TheVariants as fault
-use Rattle.trlab_code.specs.Program.{Program, InRange, IsProgram, IsOfVersion, reads_headspeed, version_of}
+use Rattle.trlab_code.specs.Program.{Program, IsInRange, IsProgram, IsOfVersion, reads_headspeed, version_of}
 use Rattle.trlab_code.specs.Machine.{register_number, input_number}
 use Rattle.trlab_code.specs.Spelling.{kind_byte, header, instr_bytes, spelling}
 use Rattle.trlab_code.specs.Faults.{HasRoom, HasVersion, SpellsInstr, HasGoodHeader, IsGoodBefore, NeedsVersion, IsFirstFault, stated_count, stated_version, bytes_at}
@@ -99,7 +99,7 @@ only_candidate (Go a) = cc (register_back a)
 only_candidate Cross = refl
 only_candidate Stay = refl
 
-in_range_or_not : (i : Instr) → InRange i ⊎ (¬ (InRange i))
+in_range_or_not : (i : Instr) → IsInRange i ⊎ (¬ (IsInRange i))
 in_range_or_not (Num d n) = inl tt
 in_range_or_not (Get d k) = inl tt
 in_range_or_not (Side d) = inl tt
@@ -171,7 +171,7 @@ rows_or_fault bytes head room (suc pc) h =
 record Rows (bytes : List ℕ) (pc : ℕ) : Type 0 where
   instrs : List Instr
   many : length instrs ≡ pc
-  fit : All InRange instrs
+  fit : All IsInRange instrs
   spelt : flat_map instr_bytes instrs ≡ take (8 * pc) (drop 8 bytes)
 
 rows_of : (bytes : List ℕ) (pc : ℕ) → IsGoodBefore bytes pc → Rows bytes pc
@@ -183,7 +183,7 @@ rows_of bytes (suc pc) good =
     record {
       instrs = before.instrs ++ row.0 ∷ [];
       many = omega (arith, before.many, length-append before.instrs (row.0 ∷ []));
-      fit = All-push InRange before.instrs row.0 before.fit row.1.1;
+      fit = All-push IsInRange before.instrs row.0 before.fit row.1.1;
       spelt = rw (← next) (rows_more bytes before.instrs pc row.0 before.spelt row.1.0);
     }
 

@@ -72,17 +72,17 @@ pub record IsGoodBefore (bytes : List ℕ) (pc : ℕ) : Type 0 where
 abbrev pub EndsEarly : List ℕ → Type 0
 EndsEarly bytes = (¬ (HasHeader bytes)) ⊎ (HasGoodHeader bytes × ¬ (HasRoom bytes))
 
--- the header is good up to the version, and then comes this
-abbrev pub AfterMagic : List ℕ → Type 0 → Type 0
-AfterMagic bytes rest = HasHeader bytes × HasMagic bytes × rest
+-- the bytes are good up to the version, and then it is so
+abbrev pub PassesMagic : List ℕ → Type 0 → Type 0
+PassesMagic bytes rest = HasHeader bytes × HasMagic bytes × rest
 
--- the header is good up to the count, and then comes this
-abbrev pub AfterKind : List ℕ → Type 0 → Type 0
-AfterKind bytes rest = AfterMagic bytes (HasVersion bytes × HasKind bytes × rest)
+-- the bytes are good up to the count, and then it is so
+abbrev pub PassesKind : List ℕ → Type 0 → Type 0
+PassesKind bytes rest = PassesMagic bytes (HasVersion bytes × HasKind bytes × rest)
 
 -- all is well before one of the instructions that are stated, and it is so
-abbrev pub AtInstr : List ℕ → ℕ → (List ℕ → Type 0) → Type 0
-AtInstr bytes pc IsSo = (pc < stated_count bytes) × IsGoodBefore bytes pc × IsSo (bytes_at bytes pc)
+abbrev pub ComesToInstr : List ℕ → ℕ → (List ℕ → Type 0) → Type 0
+ComesToInstr bytes pc IsSo = (pc < stated_count bytes) × IsGoodBefore bytes pc × IsSo (bytes_at bytes pc)
 
 -- one of the stated instructions reads the speed of the next car ahead
 abbrev pub HasHeadspeed : List ℕ → Type 0
@@ -98,19 +98,24 @@ abbrev pub HasMore : List ℕ → Type 0
 HasMore bytes = HEADER_BYTES + INSTR_BYTES * stated_count bytes < length bytes
 
 -- all is well before the end of the stated instructions, and then it is so
-abbrev pub AfterInstrs : List ℕ → Type 0 → Type 0
-AfterInstrs bytes rest = IsGoodBefore bytes (stated_count bytes) × rest
+abbrev pub PassesInstrs : List ℕ → Type 0 → Type 0
+PassesInstrs bytes rest = IsGoodBefore bytes (stated_count bytes) × rest
+
+-- the first fault of bytes with a good header lies in the instructions or behind them, or memory ran out
+abbrev pub IsFaultBehindHeader : List ℕ → CodeFault → Type 0
+IsFaultBehindHeader bytes (fault.Opcode pc) = ComesToInstr bytes pc (λ row. ¬ (HasOpcode row))
+IsFaultBehindHeader bytes (fault.Field pc) =
+    ComesToInstr bytes pc (λ row. HasOpcode row × ¬ (SpellsInstr (stated_version bytes) row))
+IsFaultBehindHeader bytes fault.NeedlessVersion = PassesInstrs bytes (¬ (NeedsVersion bytes))
+IsFaultBehindHeader bytes fault.Trailing = PassesInstrs bytes (NeedsVersion bytes × HasMore bytes)
+IsFaultBehindHeader bytes fault.Memory = Unit {0}
+IsFaultBehindHeader bytes _ = ⊥
 
 -- the first fault of bytes; memory may run out at any time
 abbrev pub IsFirstFault : List ℕ → CodeFault → Type 0
 IsFirstFault bytes fault.Short = EndsEarly bytes
 IsFirstFault bytes fault.Magic = HasHeader bytes × ¬ (HasMagic bytes)
-IsFirstFault bytes fault.Version = AfterMagic bytes (¬ (HasVersion bytes))
-IsFirstFault bytes fault.Kind = AfterMagic bytes (HasVersion bytes × ¬ (HasKind bytes))
-IsFirstFault bytes fault.Count = AfterKind bytes (¬ (HasCount bytes))
-IsFirstFault bytes (fault.Opcode pc) = AtInstr bytes pc (λ row. ¬ (HasOpcode row))
-IsFirstFault bytes (fault.Field pc) =
-    AtInstr bytes pc (λ row. HasOpcode row × ¬ (SpellsInstr (stated_version bytes) row))
-IsFirstFault bytes fault.NeedlessVersion = AfterInstrs bytes (¬ (NeedsVersion bytes))
-IsFirstFault bytes fault.Trailing = AfterInstrs bytes (NeedsVersion bytes × HasMore bytes)
-IsFirstFault bytes fault.Memory = Unit {0}
+IsFirstFault bytes fault.Version = PassesMagic bytes (¬ (HasVersion bytes))
+IsFirstFault bytes fault.Kind = PassesMagic bytes (HasVersion bytes × ¬ (HasKind bytes))
+IsFirstFault bytes fault.Count = PassesKind bytes (¬ (HasCount bytes))
+IsFirstFault bytes fault = IsFaultBehindHeader bytes fault

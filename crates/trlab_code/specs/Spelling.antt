@@ -7,7 +7,7 @@ use Rattle.trlab_code.specs.declared.instruction.Instr.{Instr}
 use Rattle.trlab_code.specs.declared.instruction.Instr.TheVariants.{Num, Get, Side, Draw, Copy, Add, Sub, Mul, Div, Min, Max, Not, And, Or, Jump, JumpLess, JumpAtMost, JumpTrue, JumpFalse, Go, Cross, Stay}
 use Rattle.trlab_code.specs.declared.row.Row.{Row}
 use Rattle.trlab_bounds.specs.declared.programs.TheConstants.{MAGIC}
-use Rattle.trlab_code.specs.Program.{Program, InRange, IsOfVersion, version_of}
+use Rattle.trlab_code.specs.Program.{Program, IsInRange, IsOfVersion, version_of}
 use Rattle.trlab_code.specs.Machine.{register_number, input_number}
 
 -- the byte of a kind
@@ -71,7 +71,7 @@ spelling program =
 
 -- bytes that spell an instruction of a version with fields in range
 abbrev pub Spells : ℕ → Instr → List ℕ → Type 0
-Spells version i bytes = (bytes ≡ instr_bytes i) × InRange i × IsOfVersion version i
+Spells version i bytes = (bytes ≡ instr_bytes i) × IsInRange i × IsOfVersion version i
 
 -- an opcode of some instruction
 abbrev pub IsOpcode : ℕ → Type 0

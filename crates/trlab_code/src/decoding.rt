@@ -2,7 +2,7 @@
 
 ghost use Rattle.std.specs.Prelude.{◌≡◌, ◌≢◌, ◌*◌, ◌<◌, ◌≤◌, ◌⊎◌, ℕ, length, take, drop, All, MatchResult, IfOk, IfErr};
 ghost use Rattle.std.specs.List.{flat_map};
-ghost use Rattle.trlab_code.specs.Program.{Program, InRange, IsProgram};
+ghost use Rattle.trlab_code.specs.Program.{Program, IsInRange, IsProgram};
 ghost use Rattle.trlab_code.specs.Spelling.{spelling, instr_bytes, Spells};
 ghost use Rattle.trlab_code.specs.Faults.{HasGoodHeader, IsGoodBefore, HasRoom, IsFirstFault, stated_count, stated_version, bytes_at};
 ghost use Rattle.trlab_code.specs.declared.fault.CodeFault.{CodeFault};
@@ -38,7 +38,7 @@ fn instrs(alloc: Global, bytes: &[u8], header: Header) -> Result<Vec<Instr>, Cod
     requires version { header.version ≡ stated_version bytes.now }
     requires count { header.count ≡ stated_count bytes.now }
     ensures length { IfOk result (λ instrs. length instrs.items ≡ stated_count bytes.now) }
-    ensures in_range { IfOk result (λ instrs. All InRange instrs.items) }
+    ensures in_range { IfOk result (λ instrs. All IsInRange instrs.items) }
     ensures spelt { IfOk result (λ instrs.
         flat_map instr_bytes instrs.items
         ≡ take (INSTR_BYTES * stated_count bytes.now) (drop HEADER_BYTES bytes.now)) }

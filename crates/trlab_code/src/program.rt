@@ -2,7 +2,7 @@
 
 ghost use Rattle.std.specs.Prelude.{◌≡◌, ◌↔◌, ◌≤◌, IsTrue, MatchOption, IfSome};
 ghost use Rattle.std.specs.List.{list_any};
-ghost use Rattle.trlab_code.specs.Program.{Program, InRange, IsProgram, Draws, IsOfVersion, reads_headspeed, version_of};
+ghost use Rattle.trlab_code.specs.Program.{Program, IsInRange, IsProgram, Draws, IsOfVersion, reads_headspeed, version_of};
 
 use crate::instruction::{Input, Instr};
 use crate::kind::Kind;
@@ -28,7 +28,7 @@ impl Model for Code {
 
 /// Whether the fields of an instruction are in range.
 pub(crate) fn is_in_range(instr: Instr) -> bool
-    ensures { IsTrue result ↔ InRange instr }
+    ensures { IsTrue result ↔ IsInRange instr }
 {
     match instr {
         Instr::Draw(_, word, chance) => usize::from(word) < WORDS && chance <= CERTAIN,
@@ -59,7 +59,7 @@ pub(crate) fn is_of_version(instr: Instr, version: u8) -> bool
 }
 
 impl Code {
-    /// The program of these instructions, where there are 1 to 128 and their fields are in range.
+    /// The program of these instructions, and `None` unless there are 1 to 128 and their fields are in range.
     pub fn new(kind: Kind, instrs: Vec<Instr>) -> Option<Code>
         ensures exact { let program : Program = record { kind = kind; instrs = instrs.items } in
             MatchOption result (¬ (IsProgram program)) (λ code. code ≡ program) }

@@ -2,7 +2,7 @@
 
 ghost use Rattle.std.specs.Prelude.{◌≡◌, ◌+◌, ◌≤◌, ◌↔◌, length, take, drop, IsTrue, IsNone, IfSome, ℕ};
 ghost use Rattle.trlab_code.specs.Machine.{register_number, input_number};
-ghost use Rattle.trlab_code.specs.Program.{InRange, IsOfVersion};
+ghost use Rattle.trlab_code.specs.Program.{IsInRange, IsOfVersion};
 ghost use Rattle.trlab_code.specs.Spelling.{row_of, row_bytes, IsOpcode};
 
 use crate::instruction::{Input, Instr, Register};
@@ -159,10 +159,10 @@ fn candidate(row: Row) -> Instr
 /// The instruction of a row in spellings of a version, where the row has its fields in range and is 0 in
 /// what it does not use.
 pub(crate) fn instruction_of(row: Row, version: u8) -> Option<Instr>
-    ensures none { IsNone result → (instr : Instr) → row ≡ row_of instr → InRange instr
+    ensures none { IsNone result → (instr : Instr) → row ≡ row_of instr → IsInRange instr
         → ¬ (IsOfVersion version instr) }
     ensures some { IfSome result (λ instr.
-        (row ≡ row_of instr) × InRange instr × IsOfVersion version instr) }
+        (row ≡ row_of instr) × IsInRange instr × IsOfVersion version instr) }
 {
     let instr = candidate(row);
     if row_of(instr) == row && is_in_range(instr) && is_of_version(instr, version) {

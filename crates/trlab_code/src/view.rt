@@ -6,7 +6,7 @@ ghost use Rattle.trlab_code.specs.Views.{IsView, motion_view, change_view};
 use std::marker::Model;
 use trlab_bounds::roads::{GREATEST_GAP, GREATEST_LIMIT};
 
-/// What a car sees: numbers of cells, but for its lane.
+/// What a car sees: speeds and the limit in cells a step, gaps in cells, and the number of its lane, 0 or 1.
 #[derive(Clone, Copy, Debug, PartialEq, Eq)]
 pub struct View {
     pub speed: u32,
@@ -41,7 +41,7 @@ impl Model for MotionView {
 }
 
 impl MotionView {
-    /// The view of a car, where its numbers are in range. What is seen of the other lane is nothing.
+    /// The view of a car, and `None` where a number is out of range. What is seen of the other lane is nothing.
     pub fn new(speed: u32, limit: u32, gap: u32, headspeed: u32) -> Option<MotionView>
         ensures none { IsNone result → ¬ (IsView (motion_view speed limit gap headspeed)) }
         ensures some { IfSome result (λ seen. seen ≡ motion_view speed limit gap headspeed) }
@@ -96,7 +96,7 @@ impl Model for ChangeView {
 }
 
 impl ChangeView {
-    /// The view of a car, where its numbers are in range.
+    /// The view of a car, and `None` where a number is out of range.
     pub fn new(
         speed: u32,
         limit: u32,

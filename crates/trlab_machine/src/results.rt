@@ -1,7 +1,7 @@
 //! What each instruction makes of the numbers in the registers of one car.
 
 ghost use Rattle.std.specs.Prelude.{◌≡◌};
-ghost use Rattle.trlab_code.specs.Program.{InRange};
+ghost use Rattle.trlab_code.specs.Program.{IsInRange};
 ghost use Rattle.trlab_machine.specs.Stored.{number_in, result_number};
 ghost use Rattle.trlab_words.specs.Chances.{happens_on};
 
@@ -20,7 +20,7 @@ fn happens(word: u32, parts: u32) -> bool
 ///
 /// In an accepted program no sum wraps and no difference is below 0, so nothing is tested here.
 pub fn result_number(instr: Instr, r: &Registers, view: &View, words: &[u32; WORDS]) -> u32
-    requires { InRange instr }
+    requires { IsInRange instr }
     ensures { result ≡ result_number view.now words.now (number_in r.now) instr }
 {
     match instr {

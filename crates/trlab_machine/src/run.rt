@@ -2,7 +2,7 @@
 
 ghost use Rattle.std.specs.Prelude.{◌≡◌, ◌≤◌, All, length};
 ghost use Rattle.trlab_code.specs.Machine.{IsSafe, EndsWith};
-ghost use Rattle.trlab_code.specs.Program.{InRange};
+ghost use Rattle.trlab_code.specs.Program.{IsInRange};
 ghost use Rattle.trlab_code.specs.Views.{IsView};
 ghost use Rattle.trlab_machine.specs.Stored.{answer_of};
 
@@ -24,7 +24,7 @@ pub struct Outcome {
 pub fn run(kind: Kind, instrs: &[Instr], budget: u32, view: &View, words: &[u32; WORDS]) -> Outcome
     requires safe { IsSafe kind instrs.now budget }
     requires few { length instrs.now ≤ MOST_INSTRUCTIONS }
-    requires in_range { All InRange instrs.now }
+    requires in_range { All IsInRange instrs.now }
     requires seen { IsView view.now }
     ensures ends { EndsWith kind instrs.now view.now words.now
         (answer_of kind result.answer) result.steps }

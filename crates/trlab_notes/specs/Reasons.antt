@@ -18,6 +18,15 @@ use Rattle.trlab_notes.specs.declared.reason.Reason.TheVariants as why
 use Rattle.trlab_notes.specs.Notes.{Note, known_level}
 use Rattle.trlab_notes.specs.Transfer.{register_said, most, register_level}
 
+-- the number of a reason that lies in the number or the answer that an instruction makes
+abbrev pub range_reason_number : Reason → ℕ
+range_reason_number why.MaybeTooLarge = 8
+range_reason_number why.MaybeBelowZero = 9
+range_reason_number why.MaybeAboveGap = 10
+range_reason_number why.MaybeAboveLimit = 11
+range_reason_number why.MaybeOccupied = 12
+range_reason_number _ = 0
+
 -- the number of a reason: 1 to 12, in the order in which they are looked for
 abbrev pub reason_number : Reason → ℕ
 reason_number why.Unreachable = 1
@@ -27,28 +36,28 @@ reason_number why.WrongValue = 4
 reason_number why.JumpsBack = 5
 reason_number why.JumpsOut = 6
 reason_number why.FallsOut = 7
-reason_number why.MaybeTooLarge = 8
-reason_number why.MaybeBelowZero = 9
-reason_number why.MaybeAboveGap = 10
-reason_number why.MaybeAboveLimit = 11
-reason_number why.MaybeOccupied = 12
+reason_number reason = range_reason_number reason
 
 -- an instruction that both the called kind and the program's own kind allow
 abbrev pub may_stand : Kind → Kind → Instr → Bool
 may_stand kind own i = allows kind i && allows own i
 
+-- the operands of arithmetic
+abbrev pub arithmetic_operands : Instr → List Register
+arithmetic_operands (Add d a b) = a ∷ b ∷ []
+arithmetic_operands (Sub d a b) = a ∷ b ∷ []
+arithmetic_operands (Mul d a n) = a ∷ []
+arithmetic_operands (Div d a n) = a ∷ []
+arithmetic_operands (Min d a b) = a ∷ b ∷ []
+arithmetic_operands (Max d a b) = a ∷ b ∷ []
+arithmetic_operands _ = []
+
 -- the operands that have to be numbers
 abbrev pub number_operands : Instr → List Register
-number_operands (Add d a b) = a ∷ b ∷ []
-number_operands (Sub d a b) = a ∷ b ∷ []
-number_operands (Mul d a n) = a ∷ []
-number_operands (Div d a n) = a ∷ []
-number_operands (Min d a b) = a ∷ b ∷ []
-number_operands (Max d a b) = a ∷ b ∷ []
 number_operands (JumpLess a b t) = a ∷ b ∷ []
 number_operands (JumpAtMost a b t) = a ∷ b ∷ []
 number_operands (Go a) = a ∷ []
-number_operands _ = []
+number_operands i = arithmetic_operands i
 
 -- the operands that have to be flags
 abbrev pub flag_operands : Instr → List Register

@@ -4,7 +4,7 @@ use Rattle.trlab_code.specs.declared.instruction.Register.{Register}
 use Rattle.trlab_code.specs.declared.instruction.Place.{Place}
 use Rattle.trlab_code.specs.declared.instruction.Place.TheVariants as place
 use Rattle.trlab_code.specs.declared.instruction.Instr.{Instr}
-use Rattle.trlab_code.specs.declared.instruction.Instr.TheVariants.{Num, Get, Side, Draw, Copy, Add, Sub, Mul, Div, Min, Max, Not, And, Or, JumpLess, JumpAtMost, JumpTrue, JumpFalse}
+use Rattle.trlab_code.specs.declared.instruction.Instr.TheVariants.{Num, Get, Side, Draw, Copy, Add, Sub, Mul, Div, Min, Max, Not, And, Or, Jump, JumpLess, JumpAtMost, JumpTrue, JumpFalse, Go, Cross, Stay}
 use Rattle.trlab_bounds.specs.declared.programs.TheConstants.{GREATEST_NUMBER}
 use Rattle.trlab_code.specs.Machine.{update}
 use Rattle.trlab_code.specs.Flow.{destination}
@@ -54,7 +54,7 @@ slacken k hi = if nat_le 2 k && nat_le hi 1 then 1 else 0
 abbrev pub least_difference : ℕ → ℕ
 least_difference k = if nat_le 2 k then 1 else 0
 
--- what is said of an instruction's result
+-- what is said of an instruction's result, and nothing where it has none
 abbrev pub result_said : Note → Instr → Said
 result_said m (Num d n) = Between n n
 result_said m (Get d k) = said_with_side m (place.Input k)
@@ -71,7 +71,14 @@ result_said m (Max d a b) = Between (max (least m a) (least m b)) (max (most m a
 result_said m (Not d a) = Implies false
 result_said m (And d a b) = Implies (flag_implies m a || flag_implies m b)
 result_said m (Or d a b) = Implies (flag_implies m a && flag_implies m b)
-result_said m _ = Nothing
+result_said m (Jump t) = Nothing
+result_said m (JumpLess a b t) = Nothing
+result_said m (JumpAtMost a b t) = Nothing
+result_said m (JumpTrue a t) = Nothing
+result_said m (JumpFalse a t) = Nothing
+result_said m (Go a) = Nothing
+result_said m Cross = Nothing
+result_said m Stay = Nothing
 
 -- the level of an instruction's result to y; a flag has none
 abbrev pub result_to : Note → Instr → Place → ℕ

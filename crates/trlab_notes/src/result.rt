@@ -4,7 +4,7 @@ ghost use Rattle.std.specs.Prelude.{◌≡◌, ℕ, ◌+◌, ◌-◌, ◌*◌, �
 ghost use Rattle.trlab_bounds.specs.declared.programs.TheConstants.{GREATEST_NUMBER};
 ghost use Rattle.trlab_code.specs.declared.instruction.Place.{Place as APlace};
 ghost use Rattle.trlab_code.specs.Machine.{place_number};
-ghost use Rattle.trlab_code.specs.Program.{InRange};
+ghost use Rattle.trlab_code.specs.Program.{IsInRange};
 ghost use Rattle.trlab_notes.specs.declared.note.Said.TheVariants.{Between};
 ghost use Rattle.trlab_notes.specs.Notes.{closure, high, low};
 ghost use Rattle.trlab_notes.specs.Reasons.{may_be_too_large};
@@ -116,7 +116,7 @@ impl Stored {
 
     /// What is said of an instruction's result.
     fn result_said(&self, instr: Instr) -> Said
-        requires in_range { InRange instr }
+        requires in_range { IsInRange instr }
         requires fits { may_be_too_large (note_of self.now) instr ≡ false }
         ensures { result ≡ result_said (note_of self.now) instr }
     {
@@ -201,7 +201,7 @@ impl Stored {
 
     /// The note once an instruction has written its result to `dest`.
     pub fn assign_result(&self, dest: Register, instr: Instr) -> Stored
-        requires in_range { InRange instr }
+        requires in_range { IsInRange instr }
         requires fits { may_be_too_large (note_of self.now) instr ≡ false }
         ensures { note_of result ≡ closure (assign_result (note_of self.now) dest instr) }
     {

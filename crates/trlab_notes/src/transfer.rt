@@ -2,7 +2,7 @@
 //! jump's target.
 
 ghost use Rattle.std.specs.Prelude.{◌≡◌, false};
-ghost use Rattle.trlab_code.specs.Program.{InRange};
+ghost use Rattle.trlab_code.specs.Program.{IsInRange};
 ghost use Rattle.trlab_notes.specs.Notes.{closure, maybe_closure};
 ghost use Rattle.trlab_notes.specs.Reasons.{may_be_too_large};
 ghost use Rattle.trlab_notes.specs.Stored.{note_of, maybe_note};
@@ -15,7 +15,7 @@ use trlab_code::{Instr, Place};
 /// The note on the way to the next instruction, if there is one.
 #[tactic(auto, using(crate::proofs::Tables::stored_same))]
 pub fn next_note(note: &Stored, instr: Instr) -> Option<Stored>
-    requires in_range { InRange instr }
+    requires in_range { IsInRange instr }
     requires fits { may_be_too_large (note_of note.now) instr ≡ false }
     ensures { maybe_note result ≡ maybe_closure (next_note (note_of note.now) instr) }
 {

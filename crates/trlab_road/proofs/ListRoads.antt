@@ -9,11 +9,11 @@ use Rattle.trlab_road.specs.declared.car.Car.{Car}
 use Rattle.trlab_road.specs.declared.lane_car.LaneCar.{LaneCar}
 use Rattle.trlab_road.specs.Cells.{Lane, Cells, at, cell, cars, lane_cars}
 use Rattle.trlab_road.specs.Standing.{standing, standing_from, rank}
-use Rattle.trlab_road.specs.Motion.{in_order, MayMove, LaneFits, LaneMoves, Moves, answer_at}
-use Rattle.trlab_road.proofs.MotionInOrder.{allowed_fits}
+use Rattle.trlab_road.specs.Motion.{in_order, MayMove, LaneFits, LaneMoves, Moves}
+use Rattle.trlab_road.proofs.MotionInOrder.{answer_at, allowed_fits}
 use Rattle.trlab_road.proofs.RoadCars.{in_order_kth, cars_more, cars_within}
 use Rattle.trlab_road.specs.LaneChange.{LaneCrosses, Crosses, crosses_at}
-use Rattle.trlab_road.specs.Stored.{lists_of, cells_of, Rises, no_car, place_of, car_on, lanes_from, list_at, AreSorted, Stored, IsFoundAt, ListsFit, ListsMove, lane_answer, lane_crosses_at}
+use Rattle.trlab_road.specs.Stored.{lists_of, cells_of, Rises, no_car, place_of, car_on, lanes_from, list_at, AreSorted, IsStored, IsFoundAt, ListsFit, ListsMove, lane_answer, lane_crosses_at}
 use Rattle.trlab_road.proofs.StandingOrder.{car_of, standing_rank, rank_below_cars, length-standing_lanes}
 use Rattle.trlab_road.proofs.Lists.{length_cells, at_kth, cars_of_list, rises_high, standing_list}
 use Rattle.trlab_road.proofs.ListMotion.{rank_kth}
@@ -141,7 +141,7 @@ rises_length x n [] r le = omega arith
 rises_length x n (car ∷ cars) r le = let low = r.0 in let high = r.1 in let k = rises_length (suc car.place) n cars r.2 (omega arith) in omega (arith, low, k)
 
 -- a road that keeps its lists sorted
-module _ (n : ℕ) (lists : List (Vec LaneCar Global)) (limit : ℕ) (kept : Stored n lists (record { limit = limit; lanes = lanes_from n lists })) where
+module _ (n : ℕ) (lists : List (Vec LaneCar Global)) (limit : ℕ) (kept : IsStored n lists (record { limit = limit; lanes = lanes_from n lists })) where
   pub lanes_count : length (lanes_from n lists) ≡ length lists
   lanes_count = length-map lists (λ (v : Vec LaneCar Global). cells_of n v.items)
 
@@ -161,7 +161,7 @@ module _ (n : ℕ) (lists : List (Vec LaneCar Global)) (limit : ℕ) (kept : Sto
   below_counted k low = let a = counted n lists kept.sorted in omega (arith, a, low)
 
 -- no car is faster than the greatest limit
-pub slow_list : (n : ℕ) (lists : List (Vec LaneCar Global)) (limit : ℕ) → Stored n lists (record { limit = limit; lanes = lanes_from n lists })
+pub slow_list : (n : ℕ) (lists : List (Vec LaneCar Global)) (limit : ℕ) → IsStored n lists (record { limit = limit; lanes = lanes_from n lists })
     → (l : ℕ) → l < length lists → (k : ℕ) → k < length (list_at lists l) → (get_or (list_at lists l) k no_car).speed ≤ GREATEST_LIMIT
 slow_list n lists limit kept l on k low =
     let car = get_or (list_at lists l) k no_car in

@@ -1,13 +1,18 @@
 -- From answers in standing order to the motion phase.
 use Rattle.std.proofs.Common.{◌≡◌, ℕ, List, length, get_or, ◌∙◌, ap}
+use Rattle.std.specs.Prelude.{slice_index}
 use Rattle.trlab_road.specs.Cells.{Cells, lane_of, AgreeAtCars}
 use Rattle.trlab_road.specs.Gaps.{ahead, gap}
 use Rattle.trlab_road.specs.Legal.{IsLegal}
-use Rattle.trlab_road.specs.Motion.{in_order, answer_at, MayMove, Fits, Moves, CleanMotion}
+use Rattle.trlab_road.specs.Motion.{in_order, MayMove, Fits, Moves, CleanMotion}
 use Rattle.trlab_road.specs.Standing.{rank}
 use Rattle.trlab_road.proofs.MotionLaws.{moved_legal, moves_clean}
 use Rattle.trlab_road.proofs.StandingOrder.{in_order_at, rank_below_cars}
 use Rattle.trlab_road.proofs.Ring.{car_in}
+
+-- the answer of the car at a lane and a place, where answers stand in standing order
+abbrev pub answer_at : Cells → List ℕ → ℕ → ℕ → ℕ
+answer_at road answers l x = slice_index answers (rank road l x)
 
 -- answers that are allowed in standing order fit each car where it stands
 pub allowed_fits : (road : Cells) (answers : List ℕ) → MayMove road answers

@@ -9,7 +9,7 @@ use Rattle.std.proofs.lemmas.Bool.Decides.{Decides-eqb, Decides-and, Decides-lik
 use Rattle.std.proofs.lemmas.Slice.Eq.{slice_eq-Decides}
 use Rattle.trlab_road.specs.declared.lane_car.LaneCar.{LaneCar}
 use Rattle.trlab_road.specs.Cells.{Cells, Lane}
-use Rattle.trlab_road.specs.Stored.{Stored, AreSorted, cells_of, lanes_from, lists_of}
+use Rattle.trlab_road.specs.Stored.{IsStored, AreSorted, cells_of, lanes_from, lists_of}
 use Rattle.trlab_road.proofs.ListRoads.{list_told, sorted_rest, length_first}
 
 -- the comparison of two cars tells whether they are the same
@@ -68,7 +68,7 @@ same_road limit limit' n n' lists others e f g =
     ∙ ap (λ m. record { limit = m; lanes = lanes_from n others }) e ∙ ap (λ m. record { limit = limit'; lanes = lanes_from m others }) f
 
 module _ (limit limit' n n' : ℕ) (lists others : List (Vec LaneCar Global))
-    (kept : Stored n lists (record { limit = limit; lanes = lanes_from n lists })) (kept' : Stored n' others (record { limit = limit'; lanes = lanes_from n' others }))
+    (kept : IsStored n lists (record { limit = limit; lanes = lanes_from n lists })) (kept' : IsStored n' others (record { limit = limit'; lanes = lanes_from n' others }))
     (e : ◌≡◌ {A = Cells} (record { limit = limit; lanes = lanes_from n lists }) (record { limit = limit'; lanes = lanes_from n' others })) where
   pub told_limit : limit ≡ limit'
   told_limit = ap (λ (road : Cells). road.limit) e

@@ -76,10 +76,6 @@ IsOnLane look road k value = (car : Car) → IsStanding road k car
 abbrev pub gaps : Cells → List ℕ
 gaps road = in_order (λ l x. gap (lane_of road l) x) road
 
--- the answer of the car at a lane and a place, where answers stand in standing order
-abbrev pub answer_at : Cells → List ℕ → ℕ → ℕ → ℕ
-answer_at road answers l x = slice_index answers (rank road l x)
-
 -- one answer for each car, at most its gap and the limit
 pub record MayMove (road : Cells) (answers : List ℕ) : Type 0 where
   pub one_each : length answers ≡ cars road

@@ -62,7 +62,7 @@ pub record AreSorted (n : ℕ) (lists : List (Vec LaneCar Global)) : Type 0 wher
   pub rises : (l : ℕ) → l < length lists → Rises 0 n (list_at lists l)
 
 -- what a `Road` keeps: its cells are legal, and the lists of its lanes are sorted
-pub record Stored (n : ℕ) (lists : List (Vec LaneCar Global)) (road : Cells) : Type 0 where
+pub record IsStored (n : ℕ) (lists : List (Vec LaneCar Global)) (road : Cells) : Type 0 where
   pub legal : IsLegal road
   pub sorted : AreSorted n lists
 

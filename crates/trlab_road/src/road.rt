@@ -44,13 +44,13 @@ pub struct Road {
 
 impl Model for Road {
     ghost use Rattle.trlab_road.specs.Cells.{Cells};
-    ghost use Rattle.trlab_road.specs.Stored.{Stored, lanes_from};
+    ghost use Rattle.trlab_road.specs.Stored.{IsStored, lanes_from};
 
     ghost Value = { Cells };
 
     ghost view = { λ r. record { limit = r.limit; lanes = lanes_from r.cells r.lanes.items } };
 
-    ghost invariant = { λ r. Stored r.cells r.lanes.items
+    ghost invariant = { λ r. IsStored r.cells r.lanes.items
         (record { limit = r.limit; lanes = lanes_from r.cells r.lanes.items }) };
 }
 

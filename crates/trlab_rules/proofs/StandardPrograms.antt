@@ -3,17 +3,17 @@ use Rattle.std.proofs.Common.{ℕ, ◌≤◌, List, [], ◌∷◌, All, arith}
 use Rattle.std.proofs.lemmas.List.Elements.{All-cons, All-nil}
 use Rattle.trlab_bounds.specs.declared.programs.TheConstants.{CERTAIN}
 use Rattle.trlab_code.specs.declared.instruction.Instr.{Instr}
-use Rattle.trlab_code.specs.Program.{InRange, IsProgram}
+use Rattle.trlab_code.specs.Program.{IsInRange, IsProgram}
 use Rattle.trlab_rules.specs.Standard.{nasch_program, vdr_program, rickert_program}
 
 -- the fields of each instruction are in range
 abbrev Each : List Instr → Type 0
 Each [] = Unit {0}
-Each (i ∷ instrs) = InRange i × Each instrs
+Each (i ∷ instrs) = IsInRange i × Each instrs
 
-each_all : (instrs : List Instr) → Each instrs → All InRange instrs
-each_all [] each = All-nil InRange
-each_all (i ∷ instrs) each = All-cons InRange i instrs each.0 (each_all instrs each.1)
+each_all : (instrs : List Instr) → Each instrs → All IsInRange instrs
+each_all [] each = All-nil IsInRange
+each_all (i ∷ instrs) each = All-cons IsInRange i instrs each.0 (each_all instrs each.1)
 
 pub nasch_is_program : (p : ℕ) → p ≤ CERTAIN → IsProgram (nasch_program p)
 nasch_is_program p fits = record {

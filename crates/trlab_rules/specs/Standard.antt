@@ -1,29 +1,34 @@
 -- The programs of the standard rules. A jump names the index of an instruction, counted from 0.
-use Rattle.std.specs.Prelude.{ℕ, [], ◌∷◌}
+use Rattle.std.specs.Prelude.{ℕ, List, [], ◌∷◌, ◌++◌}
 use Rattle.trlab_code.specs.declared.kind.Kind.TheVariants.{Motion, Change}
 use Rattle.trlab_code.specs.declared.instruction.Register.TheVariants.{R0, R1, R2, R3}
 use Rattle.trlab_code.specs.declared.instruction.Input.TheVariants.{Speed, Limit, Gap, SideGap, SideBack}
+use Rattle.trlab_code.specs.declared.instruction.Instr.{Instr}
 use Rattle.trlab_code.specs.declared.instruction.Instr.TheVariants.{Num, Get, Side, Draw, Add, Sub, Min, Jump, JumpAtMost, JumpFalse, Go, Cross, Stay}
 use Rattle.trlab_code.specs.Program.{Program}
+
+-- acceleration: the speed in R0 grows by the 1 in R1, up to the limit
+abbrev pub accelerate : List Instr
+accelerate = Add R0 R0 R1 ∷ Get R2 Limit ∷ Min R0 R0 R2 ∷ []
+
+-- slowing down: to the gap
+abbrev pub slow_down : List Instr
+slow_down = Get R2 Gap ∷ Min R0 R0 R2 ∷ []
+
+-- randomization: one less where the flag in R3 is true, else on at `go`; 0 stays 0
+abbrev pub randomize : ℕ → List Instr
+randomize go = JumpFalse R3 go ∷ Min R1 R1 R0 ∷ Sub R0 R0 R1 ∷ []
+
+-- slow starts: the flag in R3 is drawn with p0 for a stopped car, and with p for one that moves
+abbrev pub draw_by_speed : ℕ → ℕ → List Instr
+draw_by_speed p p0 = JumpAtMost R1 R0 5 ∷ Draw R3 0 p0 ∷ Jump 6 ∷ Draw R3 0 p ∷ []
 
 -- the motion of 1992 with the chance p
 abbrev pub nasch_program : ℕ → Program
 nasch_program p = record {
   kind = Motion;
   instrs =
-      Get R0 Speed
-      ∷ Num R1 1
-      ∷ Add R0 R0 R1
-      ∷ Get R2 Limit
-      ∷ Min R0 R0 R2
-      ∷ Get R2 Gap
-      ∷ Min R0 R0 R2
-      ∷ Draw R3 0 p
-      ∷ JumpFalse R3 11
-      ∷ Min R1 R1 R0
-      ∷ Sub R0 R0 R1
-      ∷ Go R0
-      ∷ [];
+      Get R0 Speed ∷ Num R1 1 ∷ accelerate ++ slow_down ++ Draw R3 0 p ∷ randomize 11 ++ Go R0 ∷ [];
 }
 
 -- the motion of 1998 with the chance p0 for a stopped car, and p for one that moves
@@ -31,44 +36,25 @@ abbrev pub vdr_program : ℕ → ℕ → Program
 vdr_program p p0 = record {
   kind = Motion;
   instrs =
-      Get R0 Speed
-      ∷ Num R1 1
-      ∷ JumpAtMost R1 R0 5
-      ∷ Draw R3 0 p0
-      ∷ Jump 6
-      ∷ Draw R3 0 p
-      ∷ Add R0 R0 R1
-      ∷ Get R2 Limit
-      ∷ Min R0 R0 R2
-      ∷ Get R2 Gap
-      ∷ Min R0 R0 R2
-      ∷ JumpFalse R3 14
-      ∷ Min R1 R1 R0
-      ∷ Sub R0 R0 R1
-      ∷ Go R0
-      ∷ [];
+      Get R0 Speed ∷ Num R1 1 ∷ draw_by_speed p p0 ++ accelerate ++ slow_down ++ randomize 14 ++ Go R0 ∷ [];
 }
+
+-- a car stays where its gap allows to go one faster, which is then in R1
+abbrev pub stay_unless_hindered : ℕ → List Instr
+stay_unless_hindered stay =
+    Get R1 Speed ∷ Num R2 1 ∷ Add R1 R1 R2 ∷ Get R2 Gap ∷ JumpAtMost R1 R2 stay ∷ []
+
+-- it stays where the gap ahead on the other lane is not above that, or the gap behind there is not above
+-- the limit
+abbrev pub stay_unless_free : ℕ → List Instr
+stay_unless_free stay =
+    Get R2 SideGap ∷ JumpAtMost R2 R1 stay ∷ Get R2 SideBack ∷ Get R3 Limit ∷ JumpAtMost R2 R3 stay ∷ []
 
 -- the lane change of 1996 with the chance c
 abbrev pub rickert_program : ℕ → Program
 rickert_program c = record {
   kind = Change;
   instrs =
-      Side R0
-      ∷ JumpFalse R0 15
-      ∷ Get R1 Speed
-      ∷ Num R2 1
-      ∷ Add R1 R1 R2
-      ∷ Get R2 Gap
-      ∷ JumpAtMost R1 R2 15
-      ∷ Get R2 SideGap
-      ∷ JumpAtMost R2 R1 15
-      ∷ Get R2 SideBack
-      ∷ Get R3 Limit
-      ∷ JumpAtMost R2 R3 15
-      ∷ Draw R3 1 c
-      ∷ JumpFalse R3 15
-      ∷ Cross
-      ∷ Stay
-      ∷ [];
+      Side R0 ∷ JumpFalse R0 15 ∷ stay_unless_hindered 15 ++ stay_unless_free 15
+      ++ Draw R3 1 c ∷ JumpFalse R3 15 ∷ Cross ∷ Stay ∷ [];
 }

@@ -11,7 +11,7 @@ use Rattle.trlab_road.proofs.StandingOrder.{standing_cell, length-standing_lanes
 use Rattle.trlab_rules.specs.Rules.{Programs}
 use Rattle.trlab_verify.specs.CheckedProgram.{CheckedProgram}
 use Rattle.trlab_machine.specs.declared.dice.Dice.{Dice}
-use Rattle.trlab_step.specs.Next.{IsNext, LaneChangePhase, crossing_cars}
+use Rattle.trlab_step.specs.Next.{IsNext, IsLaneChangePhase, crossing_cars}
 use Rattle.trlab_step.specs.declared.tally.StepTally.{StepTally}
 
 -- a count is at most the length
@@ -68,7 +68,7 @@ pub record IsSmall (tally : StepTally) : Type 0 where
   pub stopped : tally.stopped ≤ 200000
   pub changes : tally.changes ≤ 200000
 
-few_changes : (change : Option CheckedProgram) (dice : Dice) (road middle : Cells) (changes : ℕ) → IsLegal road → LaneChangePhase change dice road middle changes → changes ≤ 200000
+few_changes : (change : Option CheckedProgram) (dice : Dice) (road middle : Cells) (changes : ℕ) → IsLegal road → IsLaneChangePhase change dice road middle changes → changes ≤ 200000
 few_changes None dice road middle changes legal phase = let none = phase.1 in omega arith
 few_changes (Some change) dice road middle changes legal phase =
     let counted : changes ≡ crossing_cars phase.1 road = phase.4 in

@@ -1,5 +1,5 @@
 -- What is seen of cars that are asked, and what their programs answer.
-use Rattle.std.proofs.Common.{◌≡◌, ◌∙◌, ℕ, ◌≤◌, Bool, false, Some, List, length, refl, sym, ap, subst}
+use Rattle.std.proofs.Common.{◌≡◌, ◌∙◌, ℕ, ◌≤◌, Bool, true, false, Some, List, length, refl, sym, ap, subst}
 use Rattle.std.specs.Prelude.{slice_index, slice_index_or}
 use Rattle.trlab_code.specs.declared.kind.Kind.TheVariants.{Motion, Change}
 use Rattle.trlab_code.specs.declared.view.View.{View}
@@ -16,8 +16,8 @@ use Rattle.trlab_road.specs.Motion.{gaps}
 use Rattle.trlab_road.specs.Standing.{IsStanding}
 use Rattle.trlab_machine.specs.declared.dice.Dice.{Dice}
 use Rattle.trlab_machine.specs.Blocks.{words_of}
-use Rattle.trlab_step.specs.Answers.{change_view_of, dice_of, motion_view_of}
-use Rattle.trlab_step.specs.Block.{CrossesBy, GoesBy, IsAsked}
+use Rattle.trlab_step.specs.Answers.{AnswersCrossing, AnswersSpeed, change_view_of, dice_of, motion_view_of}
+use Rattle.trlab_step.specs.Block.{IsAsked}
 use Rattle.trlab_verify.specs.CheckedProgram.{CheckedProgram}
 use Rattle.trlab_step.proofs.AnswersExist.{change_view_is_view, motion_view_is_view}
 use Rattle.trlab_step.proofs.Parts.{same_view, same_change_view}
@@ -67,6 +67,18 @@ module _ (road : Cells) (k : ℕ) (told : Car) (order : IsStanding road k told) 
 -- dice by their parts
 pub same_dice : (dice : Dice) (key : List ℕ) (road step : ℕ) → dice.key ≡ key → dice.road ≡ road → dice.step ≡ step → dice ≡ dice_of key road step
 same_dice dice key road step a b d = ap (λ k. dice_of k dice.road dice.step) a ∙ ap (λ r. dice_of key r dice.step) b ∙ ap (dice_of key road) d
+
+-- a motion program answers this speed to the k-th car in standing order, within its gap and the limit
+pub record GoesBy (motion : CheckedProgram) (dice : Dice) (road : Cells) (k speed : ℕ) : Type 0 where
+  pub answer : (car : Car) → IsStanding road k car → AnswersSpeed motion dice road car speed
+  pub gap : speed ≤ slice_index (gaps road) k
+  pub limit : speed ≤ road.limit
+
+-- a change program answers so whether the k-th car in standing order crosses, and only to an empty cell
+pub record CrossesBy (change : CheckedProgram) (dice : Dice) (road : Cells) (k : ℕ) (crosses : Bool)
+    : Type 0 where
+  pub answer : (car : Car) → IsStanding road k car → AnswersCrossing change dice road car crosses
+  pub side : crosses ≡ true → slice_index_or (sides road) k false ≡ true
 
 -- what a block answers to a car is what its motion program answers
 pub goes_by : (motion : CheckedProgram) (dice : Dice) (road : Cells) (k : ℕ) (view : View) (number speed : ℕ) → IsAsked Motion road k view number

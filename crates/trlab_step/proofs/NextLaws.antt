@@ -19,7 +19,7 @@ use Rattle.trlab_road.proofs.StandingOrder.{standing_cell, length-standing_lanes
 use Rattle.trlab_step.specs.declared.tally.StepTally.{StepTally}
 use Rattle.trlab_machine.specs.declared.dice.Dice.{Dice}
 use Rattle.trlab_step.specs.Answers.{AnswersSpeeds, AnswersCrossings}
-use Rattle.trlab_step.specs.Next.{total_speed, stopped_cars, crossing_cars, LaneChangePhase, MotionPhase}
+use Rattle.trlab_step.specs.Next.{total_speed, stopped_cars, crossing_cars, IsLaneChangePhase, IsMotionPhase}
 use Rattle.trlab_step.specs.Laws.{IsLegalLike, NextRoadExists, NextRoadIsOne}
 use Rattle.trlab_step.proofs.AnswersExist.{speeds_exist, crossings_exist}
 use Rattle.trlab_step.proofs.PartLaws.{one_answer_each, one_crossing_each}
@@ -44,7 +44,7 @@ no_change_clean road = record { same_count = refl; none_lost = λ car here. on_o
 pub record LaneChangeSomewhere (change : Option CheckedProgram) (dice : Dice) (road : Cells) : Type 0 where
   pub middle : Cells
   pub changes : ℕ
-  pub lane_change : LaneChangePhase change dice road middle changes
+  pub lane_change : IsLaneChangePhase change dice road middle changes
   pub clean : CleanLaneChange road middle
   pub like : IsLegalLike road middle
 
@@ -73,7 +73,7 @@ lane_change_somewhere (Some change) dice road checked two legal =
 -- the motion leads to a road
 pub record MotionSomewhere (motion : CheckedProgram) (dice : Dice) (road : Cells) : Type 0 where
   pub next : Cells
-  pub motion_phase : MotionPhase motion dice road next
+  pub motion_phase : IsMotionPhase motion dice road next
   pub clean : CleanMotion road next
   pub like : IsLegalLike road next
 
@@ -123,7 +123,7 @@ speeds_agree motion dice road speeds others a b car here =
     one_answer_each motion dice road car (speeds car.lane car.place) (others car.lane car.place) (a.each car here) (b.each car here)
 
 -- the motion leads to one road only
-motion_is_one : (motion : CheckedProgram) (dice : Dice) (road next other : Cells) → MotionPhase motion dice road next → MotionPhase motion dice road other → next ≡ other
+motion_is_one : (motion : CheckedProgram) (dice : Dice) (road next other : Cells) → IsMotionPhase motion dice road next → IsMotionPhase motion dice road other → next ≡ other
 motion_is_one motion dice road next other a b =
     one_road_only b.0 road next other (moves_by a.0 b.0 road next (speeds_agree motion dice road a.0 b.0 a.1 b.1) a.2) b.2
 
@@ -153,7 +153,7 @@ crossing_cars_same road crosses others same =
     same car (standing_cell road k no_one (rw length-standing_lanes at h)))
 
 -- the lane change leads to one road only, and one count of crossing cars
-lane_change_is_one : (change : Option CheckedProgram) (dice : Dice) (road middle other : Cells) (m n : ℕ) → LaneChangePhase change dice road middle m → LaneChangePhase change dice road other n → (middle ≡ other) × (m ≡ n)
+lane_change_is_one : (change : Option CheckedProgram) (dice : Dice) (road middle other : Cells) (m n : ℕ) → IsLaneChangePhase change dice road middle m → IsLaneChangePhase change dice road other n → (middle ≡ other) × (m ≡ n)
 lane_change_is_one None dice road middle other m n a b = (a.0 ∙ sym b.0, a.1 ∙ sym b.1)
 lane_change_is_one (Some change) dice road middle other m n a b =
     let same = crossings_agree change dice road a.1 b.1 a.2 b.2 in
@@ -170,6 +170,6 @@ tally_path a b distance stopped changes =
 pub next_road_is_one : NextRoadIsOne
 next_road_is_one rule dice road next other tally count a b =
     let side = lane_change_is_one rule.change dice road a.0 b.0 tally.changes count.changes a.1.lane_change b.1.lane_change in
-    let phase = subst (λ (middle : Cells). MotionPhase rule.motion dice middle next) side.0 a.1.motion in
+    let phase = subst (λ (middle : Cells). IsMotionPhase rule.motion dice middle next) side.0 a.1.motion in
     let same = motion_is_one rule.motion dice b.0 next other phase b.1.motion in
     (same, tally_path tally count (a.1.distance ∙ ap total_speed same ∙ sym b.1.distance) (a.1.stopped ∙ ap stopped_cars same ∙ sym b.1.stopped) side.1)

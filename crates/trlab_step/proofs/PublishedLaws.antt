@@ -24,8 +24,8 @@ use Rattle.trlab_rules.specs.Standard.{rickert_program}
 use Rattle.trlab_machine.specs.declared.dice.Dice.{Dice}
 use Rattle.trlab_machine.specs.Blocks.{words_of}
 use Rattle.trlab_step.specs.Answers.{AnswersCrossings, change_view_of, motion_view_of}
-use Rattle.trlab_step.specs.Next.{MotionPhase, LaneChangePhase}
-use Rattle.trlab_step.specs.Published.{AllChange, AllGo, NaschOnCells, RickertOnCells, VdrOnCells, nasch_goes, rickert_changes, vdr_goes, car_ahead}
+use Rattle.trlab_step.specs.Next.{IsMotionPhase, IsLaneChangePhase}
+use Rattle.trlab_step.specs.Published.{AllCross, AllGo, NaschOnCells, RickertOnCells, VdrOnCells, nasch_goes, rickert_car_crosses, vdr_goes, car_ahead}
 use Rattle.trlab_step.proofs.AnswersExist.{change_view_is_view, motion_view_is_view}
 use Rattle.trlab_step.proofs.PartLaws.{one_answer_each, one_crossing_each}
 use Rattle.trlab_road.specs.declared.car.Car.{Car}
@@ -38,7 +38,7 @@ word_is dice number k below = slice_index-random_words dice.key dice.road number
 -- the motion by a program that answers the speed of a rule
 goes_by : (speed : View → List ℕ → ℕ) (motion : CheckedProgram) (dice : Dice) (old new : Cells)
     → MovesBy speed motion.program
-    → IsLegal old → MotionPhase motion dice old new → AllGo (λ car. speed (motion_view_of old car) (words_of dice car.number)) old new
+    → IsLegal old → IsMotionPhase motion dice old new → AllGo (λ car. speed (motion_view_of old car) (words_of dice car.number)) old new
 goes_by speed motion dice old new moves legal phase car here =
     let view = motion_view_of old car in
     let words = words_of dice car.number in
@@ -51,24 +51,24 @@ goes_by speed motion dice old new moves legal phase car here =
 all_go : (goes others : Car → ℕ) (old new : Cells) → ((car : Car) → goes car ≡ others car) → AllGo goes old new → AllGo others old new
 all_go goes others old new same go car here = subst (λ (w : ℕ). IsAt new (car_ahead old car w)) (same car) (go car here)
 
-nasch_goes_by : (p : ℕ) (motion : CheckedProgram) (dice : Dice) (old new : Cells) → MovesBy (nasch_speed p) motion.program → IsLegal old → MotionPhase motion dice old new → AllGo (nasch_goes p dice old) old new
+nasch_goes_by : (p : ℕ) (motion : CheckedProgram) (dice : Dice) (old new : Cells) → MovesBy (nasch_speed p) motion.program → IsLegal old → IsMotionPhase motion dice old new → AllGo (nasch_goes p dice old) old new
 nasch_goes_by p motion dice old new moves legal phase =
     all_go (λ car. nasch_speed p (motion_view_of old car) (words_of dice car.number)) (nasch_goes p dice old) old new
     (λ car. ap (λ (word : ℕ). brake (happens_on p word) (safe_speed car.speed old.limit (gap (lane_of old car.lane) car.place))) (word_is dice car.number 0 (omega arith)))
     (goes_by (nasch_speed p) motion dice old new moves legal phase)
 
-vdr_goes_by : (p p0 : ℕ) (motion : CheckedProgram) (dice : Dice) (old new : Cells) → MovesBy (vdr_speed p p0) motion.program → IsLegal old → MotionPhase motion dice old new → AllGo (vdr_goes p p0 dice old) old new
+vdr_goes_by : (p p0 : ℕ) (motion : CheckedProgram) (dice : Dice) (old new : Cells) → MovesBy (vdr_speed p p0) motion.program → IsLegal old → IsMotionPhase motion dice old new → AllGo (vdr_goes p p0 dice old) old new
 vdr_goes_by p p0 motion dice old new moves legal phase =
     all_go (λ car. vdr_speed p p0 (motion_view_of old car) (words_of dice car.number)) (vdr_goes p p0 dice old) old new
     (λ car. ap (λ (word : ℕ). brake (happens_on (vdr_chance p p0 car.speed) word) (safe_speed car.speed old.limit (gap (lane_of old car.lane) car.place))) (word_is dice car.number 0 (omega arith)))
     (goes_by (vdr_speed p p0) motion dice old new moves legal phase)
 
 -- a rule without a change program goes ahead from the road itself
-motion_alone : (rule : Programs) (dice : Dice) (old middle new : Cells) (changes : ℕ) → rule.change ≡ None → LaneChangePhase rule.change dice old middle changes → MotionPhase rule.motion dice middle new → MotionPhase rule.motion dice old new
+motion_alone : (rule : Programs) (dice : Dice) (old middle new : Cells) (changes : ℕ) → rule.change ≡ None → IsLaneChangePhase rule.change dice old middle changes → IsMotionPhase rule.motion dice middle new → IsMotionPhase rule.motion dice old new
 motion_alone rule dice old middle new changes none change motion =
-    let P : Option CheckedProgram → Type 0 = λ change. LaneChangePhase change dice old middle changes in
+    let P : Option CheckedProgram → Type 0 = λ change. IsLaneChangePhase change dice old middle changes in
     let same = subst P none change in
-    subst (λ (road : Cells). MotionPhase rule.motion dice road new) same.0 motion
+    subst (λ (road : Cells). IsMotionPhase rule.motion dice road new) same.0 motion
 
 pub nasch_on_cells : NaschOnCells
 nasch_on_cells p rule dice old new tally is legal next =
@@ -81,7 +81,7 @@ vdr_on_cells p p0 rule dice old new tally is legal next =
     (motion_alone rule dice old next.0 new tally.changes is.change next.1.lane_change next.1.motion)
 
 -- where the cars stand after a lane change
-change_by : (crosses : ℕ → ℕ → Bool) (old new : Cells) → IsLegal old → Crosses crosses old new → CrossesFree crosses old → AllChange (λ car. crosses car.lane car.place) old new
+change_by : (crosses : ℕ → ℕ → Bool) (old new : Cells) → IsLegal old → Crosses crosses old new → CrossesFree crosses old → AllCross (λ car. crosses car.lane car.place) old new
 change_by crosses old new legal phase free car here =
     let l = car.lane in
     let x = car.place in
@@ -128,9 +128,9 @@ none_of (Some car) h = absurd cc
 -- a phase in which cars change lanes
 record Changed (c : ℕ) (dice : Dice) (old middle : Cells) : Type 0 where
   legal : IsLegal middle
-  changed : AllChange (rickert_changes c dice old) old middle
+  changed : AllCross (rickert_car_crosses c dice old) old middle
 
-rickert_phase : (c : ℕ) (change : CheckedProgram) (dice : Dice) (old middle : Cells) (changes : ℕ) → ChangesBy (rickert_crosses c) change.program → IsLegal old → LaneChangePhase (Some change) dice old middle changes
+rickert_phase : (c : ℕ) (change : CheckedProgram) (dice : Dice) (old middle : Cells) (changes : ℕ) → ChangesBy (rickert_crosses c) change.program → IsLegal old → IsLaneChangePhase (Some change) dice old middle changes
     → Changed c dice old middle
 rickert_phase c change dice old middle changes by legal phase =
     let two = phase.0 in
@@ -147,7 +147,7 @@ rickert_phase c change dice old middle changes by legal phase =
           (first_of (side other x) (nat_lt (gap (lane_of old l) x) (car.speed + 1)) (nat_lt (car.speed + 1) (sidegap other x)) (nat_lt old.limit (sideback other x)) (happens_on c word)
           (sym (agree car here) ∙ goes));
     } in
-    let word : (car : Car) → rickert_crosses c (change_view_of old car) (words_of dice car.number) ≡ rickert_changes c dice old car =
+    let word : (car : Car) → rickert_crosses c (change_view_of old car) (words_of dice car.number) ≡ rickert_car_crosses c dice old car =
     λ car. rw (word_is dice car.number 1 (omega arith)) refl in
     record {
       legal = lane_change_legal answers old middle legal phase.3 free;
@@ -157,7 +157,7 @@ rickert_phase c change dice old middle changes by legal phase =
     }
 
 -- the change program of the rule of 1996
-rickert_change : (c : ℕ) (change : Option CheckedProgram) (dice : Dice) (old middle : Cells) (changes : ℕ) → MatchOption change ⊥ (IsChange (rickert_crosses c) (rickert_program c)) → IsLegal old → LaneChangePhase change dice old middle changes
+rickert_change : (c : ℕ) (change : Option CheckedProgram) (dice : Dice) (old middle : Cells) (changes : ℕ) → MatchOption change ⊥ (IsChange (rickert_crosses c) (rickert_program c)) → IsLegal old → IsLaneChangePhase change dice old middle changes
     → Changed c dice old middle
 rickert_change c None dice old middle changes is legal phase = absurd is
 rickert_change c (Some change) dice old middle changes is legal phase = rickert_phase c change dice old middle changes is.changes legal phase

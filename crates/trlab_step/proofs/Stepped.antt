@@ -4,11 +4,12 @@ use Rattle.std.specs.Prelude.{Bool, Option, false, length, count_by, nat_eq, sum
 use Rattle.trlab_verify.specs.CheckedProgram.{CheckedProgram}
 use Rattle.trlab_road.specs.Cells.{Cells, cars}
 use Rattle.trlab_road.specs.LaneChange.{Crosses, crosses_at}
-use Rattle.trlab_road.specs.Motion.{Moves, answer_at, in_order}
+use Rattle.trlab_road.specs.Motion.{Moves, in_order}
 use Rattle.trlab_machine.specs.declared.dice.Dice.{Dice}
 use Rattle.trlab_step.specs.Answers.{AnswersSpeedsPart, FitsPart, AnswersCrossingsPart, AnswersSpeed, AnswersCrossing}
-use Rattle.trlab_step.specs.Next.{total_speed, stopped_cars, LaneChangePhase, MotionPhase}
+use Rattle.trlab_step.specs.Next.{total_speed, stopped_cars, IsLaneChangePhase, IsMotionPhase}
 use Rattle.trlab_step.specs.Laws.{CrossByAnswers, AnswersLeadOn}
+use Rattle.trlab_road.proofs.MotionInOrder.{answer_at}
 use Rattle.trlab_step.proofs.Parts.{whole_allowed}
 use Rattle.trlab_step.proofs.Totals.{answers_in_order, total_speed-moved, stopped_cars-moved, crossing_cars-counted}
 use Rattle.trlab_step.proofs.PartLaws.{by_place}
@@ -16,7 +17,7 @@ use Rattle.trlab_step.proofs.PartLaws.{by_place}
 -- where all cars are asked on the road as it stands, and cross by their answers, the lane change is done
 pub lane_change_is_done : (change : CheckedProgram) (dice : Dice) (road middle : Cells) (crosses : List Bool) (changes : ℕ) → length road.lanes ≡ 2 → AnswersCrossingsPart change dice road 0 (cars road) crosses
     → ((answer : ℕ → ℕ → Bool) → crosses ≡ in_order answer road → Crosses answer road middle)
-    → changes ≡ count_by (λ c. c) crosses → LaneChangePhase (Some change) dice road middle changes
+    → changes ≡ count_by (λ c. c) crosses → IsLaneChangePhase (Some change) dice road middle changes
 lane_change_is_done change dice road middle crosses changes two part phase counted =
     let one_each = part.one_each in
     let size : length crosses ≡ cars road = omega (arith, one_each) in
@@ -32,7 +33,7 @@ moved_by_place motion dice road next speeds part moves =
 
 module _ (motion : CheckedProgram) (dice : Dice) (road next : Cells) (speeds : List ℕ) where
   -- where all cars are asked on the road as it stands, and go ahead by their answers, the motion is done
-  pub motion_is_done : AnswersSpeedsPart motion dice road 0 (cars road) speeds → Moves (answer_at road speeds) road next → MotionPhase motion dice road next
+  pub motion_is_done : AnswersSpeedsPart motion dice road 0 (cars road) speeds → Moves (answer_at road speeds) road next → IsMotionPhase motion dice road next
   motion_is_done part moves = (answer_at road speeds, by_place 0 (AnswersSpeed motion dice road) road speeds part, moves)
 
   -- the sum of the answers is that of the new speeds
@@ -47,7 +48,7 @@ module _ (motion : CheckedProgram) (dice : Dice) (road next : Cells) (speeds : L
 
 -- whoever asks the cars, who cross by their answers or do not cross
 crossed_by_answers : (change : Option CheckedProgram) (dice : Dice) (road middle : Cells) (crosses : List Bool) → CrossByAnswers change dice road middle crosses
-    → LaneChangePhase change dice road middle (count_by (λ c. c) crosses)
+    → IsLaneChangePhase change dice road middle (count_by (λ c. c) crosses)
 crossed_by_answers None dice road middle crosses by = (by.0, ap (λ cs. count_by (λ c. c) cs) by.1)
 crossed_by_answers (Some change) dice road middle crosses by =
     lane_change_is_done change dice road middle crosses (count_by (λ c. c) crosses) by.0 by.1 by.2 refl

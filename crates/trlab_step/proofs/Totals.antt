@@ -6,11 +6,11 @@ use Rattle.std.proofs.lemmas.List.Sums.{sum_by-cons, sum_by-append}
 use Rattle.trlab_road.specs.declared.car.Car.{Car}
 use Rattle.trlab_road.specs.Cells.{Lane, Cells, at, cars}
 use Rattle.trlab_road.specs.Gaps.{ahead}
-use Rattle.trlab_road.specs.Motion.{LaneMoves, Moves, MayMove, answer_at}
+use Rattle.trlab_road.specs.Motion.{LaneMoves, Moves, MayMove}
 use Rattle.trlab_road.specs.Standing.{standing_from, standing_lanes, standing, rank}
 use Rattle.trlab_road.specs.LaneChange.{crosses_at}
 use Rattle.trlab_road.proofs.Ring.{Apart, apart_within_gaps}
-use Rattle.trlab_road.proofs.MotionInOrder.{allowed_fits}
+use Rattle.trlab_road.proofs.MotionInOrder.{answer_at, allowed_fits}
 use Rattle.trlab_road.proofs.Numbers.{rank_of_kth}
 use Rattle.trlab_road.proofs.StandingOrder.{get_or-map_in, length-standing_lanes}
 use Rattle.trlab_step.specs.Next.{total_speed, stopped_cars, crossing_cars}

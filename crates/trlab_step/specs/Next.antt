@@ -28,23 +28,23 @@ crossing_cars crosses road = count_by (λ (car : Car). crosses car.lane car.plac
 
 -- the lane change: with a change program, for which there have to be two lanes, the cars that it lets
 -- cross do so; without one no car does
-abbrev pub LaneChangePhase : Option CheckedProgram → Dice → Cells → Cells → ℕ → Type 0
-LaneChangePhase None dice road middle changes = (middle ≡ road) × (changes ≡ 0)
-LaneChangePhase (Some change) dice road middle changes =
+abbrev pub IsLaneChangePhase : Option CheckedProgram → Dice → Cells → Cells → ℕ → Type 0
+IsLaneChangePhase None dice road middle changes = (middle ≡ road) × (changes ≡ 0)
+IsLaneChangePhase (Some change) dice road middle changes =
     (length road.lanes ≡ 2) × (crosses : ℕ → ℕ → Bool) × AnswersCrossings change dice road crosses
     × Crosses crosses road middle × (changes ≡ crossing_cars crosses road)
 
 -- the motion: each car goes ahead by the speed that its motion program answers on this very road
-abbrev pub MotionPhase : CheckedProgram → Dice → Cells → Cells → Type 0
-MotionPhase motion dice road next =
+abbrev pub IsMotionPhase : CheckedProgram → Dice → Cells → Cells → Type 0
+IsMotionPhase motion dice road next =
     (speeds : ℕ → ℕ → ℕ) × AnswersSpeeds motion dice road speeds × Moves speeds road next
 
 -- a step of a road under a rule, over the middle road between the two phases (Nagel and Schreckenberg 1992
 -- for the parallel motion, Rickert and others 1996 for the lane change before it)
 pub record IsStep (rule : Programs) (dice : Dice) (road middle next : Cells)
     (tally : StepTally) : Type 0 where
-  pub lane_change : LaneChangePhase rule.change dice road middle tally.changes
-  pub motion : MotionPhase rule.motion dice middle next
+  pub lane_change : IsLaneChangePhase rule.change dice road middle tally.changes
+  pub motion : IsMotionPhase rule.motion dice middle next
   pub distance : tally.distance ≡ total_speed next
   pub stopped : tally.stopped ≡ stopped_cars next
 

@@ -32,8 +32,8 @@ vdr_goes p p0 dice road car = nasch_goes (vdr_chance p p0 car.speed) dice road c
 -- whether a car crosses: the cell beside it is empty, its gap does not allow to go one faster, the gap ahead
 -- on the other lane is above that, the gap behind there is above the limit, and the chance c happens
 -- (Rickert and others 1996)
-abbrev pub rickert_changes : ℕ → Dice → Cells → Car → Bool
-rickert_changes c dice road car =
+abbrev pub rickert_car_crosses : ℕ → Dice → Cells → Car → Bool
+rickert_car_crosses c dice road car =
     let other = lane_of road (other_lane car.lane) in
     side other car.place && nat_lt (gap (lane_of road car.lane) car.place) (car.speed + 1)
     && nat_lt (car.speed + 1) (sidegap other car.place) && nat_lt road.limit (sideback other car.place)
@@ -52,10 +52,10 @@ car_ahead road car speed = record {
 abbrev pub AllGo : (Car → ℕ) → Cells → Cells → Type 0
 AllGo goes old new = (car : Car) → IsAt old car → IsAt new (car_ahead old car (goes car))
 
--- each car that changes the lane stands beside where it stood, each other one where it stood
-abbrev pub AllChange : (Car → Bool) → Cells → Cells → Type 0
-AllChange changes old new =
-    (car : Car) → IsAt old car → IsAt new (if changes car then car_beside car else car)
+-- each car that crosses stands beside where it stood, each other one where it stood
+abbrev pub AllCross : (Car → Bool) → Cells → Cells → Type 0
+AllCross crosses old new =
+    (car : Car) → IsAt old car → IsAt new (if crosses car then car_beside car else car)
 
 -- a step under the rule of 1992 with the chance p
 abbrev pub NaschOnCells : Type 0
@@ -74,5 +74,5 @@ VdrOnCells = (p p0 : ℕ) (rule : Programs) (dice : Dice) (old new : Cells) (tal
 abbrev pub RickertOnCells : Type 0
 RickertOnCells = (p c : ℕ) (rule : Programs) (dice : Dice) (old new : Cells) (tally : StepTally)
     → IsRickert p c rule → IsLegal old → IsNext rule dice old new tally
-    → (middle : Cells) × IsLegal middle × AllChange (rickert_changes c dice old) old middle
+    → (middle : Cells) × IsLegal middle × AllCross (rickert_car_crosses c dice old) old middle
     × AllGo (nasch_goes p dice middle) middle new

@@ -5,7 +5,7 @@ ghost use Rattle.trlab_road.specs.LaneChange.{CleanLaneChange};
 ghost use Rattle.trlab_road.specs.Legal.{IsLegal};
 ghost use Rattle.trlab_road.specs.Motion.{CleanMotion};
 ghost use Rattle.trlab_step.specs.Answers.{dice_of};
-ghost use Rattle.trlab_step.specs.Next.{IsCleanNext, IsNext, LaneChangePhase, MotionPhase, TellsNext, stopped_cars, total_speed};
+ghost use Rattle.trlab_step.specs.Next.{IsCleanNext, IsNext, IsLaneChangePhase, IsMotionPhase, TellsNext, stopped_cars, total_speed};
 
 use crate::asker::{Asker, Caller};
 use crate::fault::StepFault;
@@ -114,7 +114,7 @@ fn change_lanes<A: Asker>(
     requires ready { A.is_ready asker.now }
     requires two_lanes { length road.old.lanes ≡ 2 }
     ensures phase { IfOk result (λ after.
-        LaneChangePhase (Some change.now) dice.now road.old after.0 after.1) }
+        IsLaneChangePhase (Some change.now) dice.now road.old after.0 after.1) }
     ensures clean { IfOk result (λ after. CleanLaneChange road.old after.0) }
     ensures legal { IfOk result (λ after. IsLegal after.0) }
     ensures same { road.new ≡ road.old }
@@ -134,7 +134,7 @@ fn move_cars<A: Asker>(
     dice: &Dice,
 ) -> Result<StepTally, AllocError>
     requires { A.is_ready asker.now }
-    ensures phase { OnOk result (MotionPhase motion.now dice.now road.old road.new) }
+    ensures phase { OnOk result (IsMotionPhase motion.now dice.now road.old road.new) }
     ensures distance { IfOk result (λ tally. tally.distance ≡ total_speed road.new) }
     ensures stopped { IfOk result (λ tally. tally.stopped ≡ stopped_cars road.new) }
     ensures changes { IfOk result (λ tally. tally.changes ≡ 0) }

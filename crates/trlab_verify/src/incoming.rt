@@ -2,7 +2,7 @@
 //! with those that came before (docs/PROGRAMS.md).
 
 ghost use Rattle.std.specs.Prelude.{◌≡◌, ℕ, ◌<◌, false, length, Some, nat_eq, if◌then◌else◌};
-ghost use Rattle.trlab_code.specs.Program.{InRange};
+ghost use Rattle.trlab_code.specs.Program.{IsInRange};
 ghost use Rattle.trlab_notes.specs.Transfer.{jump_note};
 ghost use Rattle.trlab_verify.specs.Incoming.{next_note_to, jump_note_to, add_note, add_notes};
 ghost use Rattle.trlab_notes.specs.Stored.{note_of, notes_of};
@@ -26,7 +26,7 @@ fn add_incoming(notes: &mut [Option<Stored>], pc: usize, note: Stored)
 /// The note on the way from the instruction at `pc` to the next one comes there.
 fn send_next(notes: &mut [Option<Stored>], pc: usize, note: &Stored, instr: Instr)
     requires inside { pc < length notes.old }
-    requires in_range { InRange instr }
+    requires in_range { IsInRange instr }
     requires fits { may_be_too_large (note_of note.now) instr ≡ false }
     ensures { (q : ℕ) → q < length notes.old →
         notes_of notes.new q ≡ add_note (notes_of notes.old q) (next_note_to pc (note_of note.now) instr q) }
@@ -56,7 +56,7 @@ fn send_jump(notes: &mut [Option<Stored>], note: &Stored, instr: Instr)
 /// The notes on the ways from the instruction at `pc` come to where they lead.
 pub fn send(notes: &mut [Option<Stored>], pc: usize, note: &Stored, instr: Instr)
     requires inside { pc < length notes.old }
-    requires in_range { InRange instr }
+    requires in_range { IsInRange instr }
     requires fits { may_be_too_large (note_of note.now) instr ≡ false }
     ensures { (q : ℕ) → q < length notes.old →
         notes_of notes.new q ≡ add_notes pc (Some (note_of note.now)) (Some instr) q (notes_of notes.old q) }

@@ -4,6 +4,7 @@
 ghost use Rattle.std.specs.Prelude.{◌≡◌, ◌↔◌, IsTrue, IfOk};
 ghost use Rattle.trlab_code.specs.declared.kind.Kind.{Kind as AKind};
 ghost use Rattle.trlab_code.specs.declared.kind.Kind.TheVariants.{Motion as OfMotion, Change as OfChange};
+ghost use Rattle.trlab_code.specs.Machine.{IsSafe};
 ghost use Rattle.trlab_verify.specs.CheckedProgram.{IsChecked};
 ghost use Rattle.trlab_verify.specs.Longest.{IsLongest};
 
@@ -90,6 +91,7 @@ impl<K: ProgramKind> AcceptedProgram<K> {
     /// How many instructions a run takes at most, the end counted: 1 to `MOST_INSTRUCTIONS`.
     pub fn budget(&self) -> u32
         ensures value { result ≡ self.now.budget }
+        ensures safe { IsSafe K.KIND self.now.program.instrs result }
         ensures longest { IsLongest self.now.program.instrs 0 result }
     {
         self.budget

@@ -2,7 +2,7 @@
 //! by the join of its incoming notes (docs/PROGRAMS.md).
 
 ghost use Rattle.std.specs.Prelude.{◌≡◌, ℕ, ◌<◌, ◌≤◌, length, All, IfOk, IfSome, MatchOption, None};
-ghost use Rattle.trlab_code.specs.Program.{Program, InRange};
+ghost use Rattle.trlab_code.specs.Program.{Program, IsInRange};
 ghost use Rattle.trlab_verify.specs.Incoming.{incoming, note_at};
 ghost use Rattle.trlab_notes.specs.Notes.{maybe_closure};
 ghost use Rattle.trlab_notes.specs.Reasons.{reason_number};
@@ -29,7 +29,7 @@ pub fn judge(
     notes: &mut [Option<Stored>],
 ) -> Option<Refusal>
     requires few { length instrs.now ≤ MOST_INSTRUCTIONS }
-    requires in_range { All InRange instrs.now }
+    requires in_range { All IsInRange instrs.now }
     requires one_each { length notes.old ≡ length instrs.now }
     requires begins { (q : ℕ) → q < length instrs.now →
         notes_of notes.old q ≡ maybe_closure (incoming kind instrs.now 0 q) }

@@ -24,7 +24,7 @@ impl Model for Chance {
 }
 
 impl Chance {
-    /// The chance of so many parts of 2^31, where they are no more than the whole.
+    /// The chance of so many parts of 2^31, and `None` where they are more than the whole.
     pub fn new(parts: u32) -> Option<Chance>
         ensures in_range { IsSome result ↔ (parts ≤ CERTAIN) }
         ensures value { IfSome result (λ chance. chance ≡ parts) }

@@ -2,7 +2,7 @@
 //! (docs/PROGRAMS.md).
 
 ghost use Rattle.std.specs.Prelude.{◌≡◌, ℕ, ◌<◌, ◌≤◌, All, IfErr, IfOk, Some, length};
-ghost use Rattle.trlab_code.specs.Program.{InRange};
+ghost use Rattle.trlab_code.specs.Program.{IsInRange};
 ghost use Rattle.trlab_notes.specs.Notes.{Note as ANote, entry, maybe_closure};
 ghost use Rattle.trlab_notes.specs.Stored.{note_of, notes_of};
 ghost use Rattle.trlab_verify.specs.declared.table.best.NotesFault.TheVariants.{Memory};
@@ -82,7 +82,7 @@ fn judge_notes(
     stored: &mut [Option<Stored>],
 ) -> Result<Vec<Note>, NotesFault>
     requires few { length instrs.now ≤ MOST_INSTRUCTIONS }
-    requires in_range { All InRange instrs.now }
+    requires in_range { All IsInRange instrs.now }
     requires one_each { length stored.old ≡ length instrs.now }
     requires begins { (q : ℕ) → q < length instrs.now →
         notes_of stored.old q ≡ maybe_closure (incoming kind instrs.now 0 q) }

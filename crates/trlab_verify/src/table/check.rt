@@ -5,7 +5,7 @@ ghost use Rattle.std.specs.Prelude.{◌≡◌, ◌↔◌, ℕ, suc, ◌<◌, ◌
 ghost use Rattle.trlab_code.specs.declared.instruction.Instr.{Instr as AnInstr};
 ghost use Rattle.trlab_code.specs.Flow.{falls, target};
 ghost use Rattle.trlab_code.specs.Machine.{IsSafe};
-ghost use Rattle.trlab_code.specs.Program.{InRange};
+ghost use Rattle.trlab_code.specs.Program.{IsInRange};
 ghost use Rattle.trlab_notes.specs.Stored.{note_of};
 ghost use Rattle.trlab_notes.specs.Transfer.{next_note, jump_note};
 ghost use Rattle.trlab_notes.specs.Order.{IsNoStronger};
@@ -52,7 +52,7 @@ fn is_within(kind: Kind, form: &Note, note: &Stored) -> bool
 /// Whether the note at the next instruction is no stronger than what comes to it from the one at `pc`.
 fn fall_checks(kind: Kind, table: &[Note], pc: usize, note: &Stored, instr: Instr) -> bool
     requires inside { pc < length table.now }
-    requires in_range { InRange instr }
+    requires in_range { IsInRange instr }
     requires fits { may_be_too_large (note_of note.now) instr ≡ false }
     ensures { IsTrue result ↔ (suc pc < length table.now →
         IfSome (next_note (note_of note.now) instr) (IsNoStronger (meaning_at kind table.now (suc pc)))) }
@@ -83,7 +83,7 @@ fn jump_checks(kind: Kind, table: &[Note], note: &Stored, instr: Instr) -> bool
 fn checks_at(kind: Kind, instrs: &[Instr], table: &[Note], pc: usize) -> bool
     requires inside { pc < length instrs.now }
     requires few { length instrs.now ≤ MOST_INSTRUCTIONS }
-    requires in_range { All InRange instrs.now }
+    requires in_range { All IsInRange instrs.now }
     requires one_each { length table.now ≡ length instrs.now }
     ensures { IsTrue result ↔ (HasLevels (meaning_at kind table.now pc)
         × ((i : AnInstr) → slice_get instrs.now pc ≡ Some i →

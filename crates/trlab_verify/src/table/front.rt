@@ -1,7 +1,7 @@
 //! The notes of a refused program, as far as the verdict comes (docs/PROGRAMS.md).
 
 ghost use Rattle.std.specs.Prelude.{◌≡◌, ℕ, ◌<◌, ◌≤◌, All, IfOk, MatchOption, length};
-ghost use Rattle.trlab_code.specs.Program.{InRange, Program};
+ghost use Rattle.trlab_code.specs.Program.{IsInRange, Program};
 ghost use Rattle.trlab_notes.specs.Notes.{maybe_closure};
 ghost use Rattle.trlab_notes.specs.Reasons.{reason_number};
 ghost use Rattle.trlab_notes.specs.Stored.{notes_of};
@@ -36,7 +36,7 @@ fn judge_refused(
     stored: &mut [Option<Stored>],
 ) -> Result<Option<Vec<Note>>, AllocError>
     requires few { length instrs.now ≤ MOST_INSTRUCTIONS }
-    requires in_range { All InRange instrs.now }
+    requires in_range { All IsInRange instrs.now }
     requires one_each { length stored.old ≡ length instrs.now }
     requires begins { (q : ℕ) → q < length instrs.now →
         notes_of stored.old q ≡ maybe_closure (incoming kind instrs.now 0 q) }

@@ -2,7 +2,7 @@ use Rattle.std.proofs.Common.{◌≡◌, ◌<◌, ◌≤◌, ◌++◌, ◌∷◌
 use Rattle.std.specs.Prelude.{Err}
 use Rattle.std.proofs.lemmas.Grind.{common_steps}
 use Rattle.std.proofs.lemmas.List.Elements.{All-push}
-use Rattle.trlab_code.specs.Program.{InRange}
+use Rattle.trlab_code.specs.Program.{IsInRange}
 use Rattle.trlab_asm.specs.Stored.{pcs, stored_parts}
 use Rattle.trlab_asm.proofs.Passes.{second_next, second_fault, second_end, some_instrs}
 use Rattle.trlab_asm.proofs.assembly.instrs_of.Goals as goal
@@ -26,7 +26,7 @@ loop-read-preserved c =
     record {
       says = rw pushed (sym next ∙ c.loop-read.invariant.says);
       count = grind (arith, common_steps);
-      in_range = rw pushed (All-push InRange c.loop-read.instrs.items c.in_ok-instr.instr c.loop-read.invariant.in_range c.in_ok-instr.ensures.in_range);
+      in_range = rw pushed (All-push IsInRange c.loop-read.instrs.items c.in_ok-instr.instr c.loop-read.invariant.in_range c.in_ok-instr.ensures.in_range);
     }
 
 pub returns-clause-told : goal.returns-clause-told

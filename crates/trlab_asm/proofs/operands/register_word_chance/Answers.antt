@@ -1,6 +1,6 @@
 use Rattle.std.proofs.Common.{◌∙◌}
 use Rattle.trlab_asm.specs.Operands.{register, word_chance}
-use Rattle.trlab_asm.proofs.Kept.{handed_on}
+use Rattle.trlab_asm.proofs.HandedOn.{handed_on}
 use Rattle.trlab_asm.proofs.Shapes.{both, first_wrong, second_wrong, no_comma}
 use Rattle.trlab_asm.proofs.operands.register_word_chance.Goals as goal
 

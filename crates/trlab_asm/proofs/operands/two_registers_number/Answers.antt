@@ -1,7 +1,7 @@
 use Rattle.std.proofs.Common.{◌∙◌}
 use Rattle.trlab_bounds.specs.declared.programs.TheConstants.{GREATEST_NUMBER}
 use Rattle.trlab_asm.specs.Operands.{register, number, ◌then◌}
-use Rattle.trlab_asm.proofs.Kept.{handed_on}
+use Rattle.trlab_asm.proofs.HandedOn.{handed_on}
 use Rattle.trlab_asm.proofs.Shapes.{both, first_wrong, second_wrong, no_comma}
 use Rattle.trlab_asm.proofs.operands.two_registers_number.Goals as goal
 

@@ -1,6 +1,6 @@
 use Rattle.std.proofs.Common.{◌∙◌}
 use Rattle.trlab_asm.specs.Operands.{numeral}
-use Rattle.trlab_asm.proofs.Kept.{handed_on}
+use Rattle.trlab_asm.proofs.HandedOn.{handed_on}
 use Rattle.trlab_asm.proofs.Shapes.{both, first_wrong, second_wrong, no_comma, chances, digits_wrong, word_wrong, chance_wrong}
 use Rattle.trlab_asm.proofs.operands.word_chance.Goals as goal
 

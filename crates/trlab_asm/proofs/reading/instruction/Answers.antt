@@ -1,5 +1,5 @@
 use Rattle.std.proofs.Common.{◌∙◌}
-use Rattle.trlab_asm.proofs.Kept.{handed_on}
+use Rattle.trlab_asm.proofs.HandedOn.{handed_on}
 use Rattle.trlab_asm.proofs.LineSaid.{no_name, instruction_said, instruction_wrong}
 use Rattle.trlab_asm.proofs.reading.instruction.Goals as goal
 

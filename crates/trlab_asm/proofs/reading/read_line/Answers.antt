@@ -1,6 +1,6 @@
 use Rattle.std.proofs.Common.{◌∙◌}
 use Rattle.trlab_asm.specs.Stored.{pcs}
-use Rattle.trlab_asm.proofs.Kept.{handed_on}
+use Rattle.trlab_asm.proofs.HandedOn.{handed_on}
 use Rattle.trlab_asm.proofs.LineSaid.{both_said, label_wrong, draft_wrong}
 use Rattle.trlab_asm.proofs.reading.read_line.Goals as goal
 

@@ -1,7 +1,7 @@
 use Rattle.std.proofs.Common.{◌≡◌, [], ◌∷◌, ◌++◌, arith}
 use Rattle.std.proofs.lemmas.Grind.{common_steps}
 use Rattle.std.proofs.lemmas.List.Elements.{All-push}
-use Rattle.trlab_code.specs.Program.{InRange}
+use Rattle.trlab_code.specs.Program.{IsInRange}
 use Rattle.trlab_code.proofs.Rows.{rows_more, good_more}
 use Rattle.trlab_code.proofs.decoding.instrs.Goals as goal
 
@@ -13,6 +13,6 @@ loop-pc-preserved c =
     record {
       before = good_more c.args.bytes.now c.loop-pc.pc c.in_ok-instr.instr kept.before spells;
       length = grind (arith, common_steps);
-      in_range = rw pushed (All-push InRange c.loop-pc.instrs.items c.in_ok-instr.instr kept.in_range spells.1);
+      in_range = rw pushed (All-push IsInRange c.loop-pc.instrs.items c.in_ok-instr.instr kept.in_range spells.1);
       spelt = rw pushed (rows_more c.args.bytes.now c.loop-pc.instrs.items c.loop-pc.pc c.in_ok-instr.instr kept.spelt spells.0);
     }

@@ -1,6 +1,6 @@
 use Rattle.std.proofs.Common.{◌≡◌, ◌*◌, take, drop, vec_len, All}
 use Rattle.std.specs.List.{flat_map}
-use Rattle.trlab_code.specs.Program.{InRange}
+use Rattle.trlab_code.specs.Program.{IsInRange}
 use Rattle.trlab_code.specs.Spelling.{instr_bytes}
 use Rattle.trlab_code.specs.Faults.{IsGoodBefore}
 use Rattle.trlab_bounds.specs.declared.programs.TheConstants.{HEADER_BYTES}
@@ -11,6 +11,6 @@ abbrev pub invariant-loop-pc : goal.invariant-loop-pc
 invariant-loop-pc l = record {
   before : IsGoodBefore l.bytes l.pc;
   length : vec_len l.instrs ≡ l.pc;
-  in_range : All InRange l.instrs.items;
+  in_range : All IsInRange l.instrs.items;
   spelt : flat_map instr_bytes l.instrs.items ≡ take (INSTR_BYTES * l.pc) (drop HEADER_BYTES l.bytes);
 }

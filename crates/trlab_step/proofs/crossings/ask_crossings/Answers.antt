@@ -3,8 +3,7 @@ use Rattle.trlab_machine.specs.declared.columns.TheConstants.{LANES}
 use Rattle.trlab_machine.specs.Blocks.{view_of}
 use Rattle.trlab_step.specs.declared.block.TheConstants.{BLOCK}
 use Rattle.trlab_step.specs.Answers.{AnswersCrossing}
-use Rattle.trlab_step.specs.Block.{CrossesBy}
-use Rattle.trlab_step.proofs.AskedCars.{crosses_by}
+use Rattle.trlab_step.proofs.AskedCars.{CrossesBy, crosses_by}
 use Rattle.trlab_step.proofs.PartLaws.{one_more}
 use Rattle.trlab_step.proofs.Parts.{more_free}
 use Rattle.trlab_step.proofs.crossings.ask_crossings.Goals as goal

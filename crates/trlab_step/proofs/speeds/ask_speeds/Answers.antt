@@ -3,8 +3,7 @@ use Rattle.trlab_machine.specs.declared.columns.TheConstants.{LANES}
 use Rattle.trlab_machine.specs.Blocks.{view_of}
 use Rattle.trlab_step.specs.declared.block.TheConstants.{BLOCK}
 use Rattle.trlab_step.specs.Answers.{AnswersSpeed}
-use Rattle.trlab_step.specs.Block.{GoesBy}
-use Rattle.trlab_step.proofs.AskedCars.{goes_by}
+use Rattle.trlab_step.proofs.AskedCars.{GoesBy, goes_by}
 use Rattle.trlab_step.proofs.PartLaws.{one_more}
 use Rattle.trlab_step.proofs.Parts.{more_fits}
 use Rattle.trlab_step.proofs.speeds.ask_speeds.Goals as goal
