@@ -3,16 +3,13 @@ pub mod Lanes
 pub mod RuleLines
 pub mod RuleParts
 pub mod Later
-
 -- job texts and check texts
 pub mod Job
 pub mod Check
-
 -- sweep texts
 pub mod Counts
 pub mod Shapes
 pub mod Sweep
-
 -- of all of them
 pub mod Stored
 pub mod Laws
