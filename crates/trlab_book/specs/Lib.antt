@@ -1,2 +1,2 @@
-pub mod Keeping
+pub mod Events
 pub mod Desks

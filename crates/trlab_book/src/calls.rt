@@ -6,7 +6,7 @@ ghost use Rattle.trlab_leases.specs.Answers.{number_reply, order_reply, seen_rep
 ghost use Rattle.trlab_book.specs.Desks.{Counts};
 
 use crate::desk::{Desk, SharedBook};
-use crate::keeping::copied_job;
+use crate::events::copied_job;
 use std::alloc::Global;
 use std::sync::Wait;
 use std::sync::ledger::Ledger;

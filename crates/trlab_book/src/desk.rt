@@ -1,6 +1,7 @@
 //! What threads share of a book, and the right to call it.
 
 ghost use Rattle.std.specs.Prelude.{◌≡◌, ◌<◌, ◌≤◌, ◌-◌, ◌^◌, min, vec_len};
+ghost use Rattle.trlab_book.specs.declared.limits.TheConstants.{ALL_PARTS};
 
 use crate::kept::Kept;
 use std::sync::Mutex;
@@ -28,7 +29,7 @@ pub struct Desk<L: Ledger> {
     pub(crate) count: u64,
     pub(crate) share: Share<L>,
     ghost some: { 0 < parts },
-    ghost few: { parts ≤ 1024 },
+    ghost few: { parts ≤ ALL_PARTS },
     ghost parts_are: { share.parts ≡ parts },
     ghost count_is: { count ≡ min share.amount (2 ^ 64 - 1) },
 }

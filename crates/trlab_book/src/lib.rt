@@ -4,10 +4,11 @@
 
 mod calls;
 mod desk;
+mod events;
 mod fault;
-mod keeping;
 mod kept;
 pub mod laws;
+mod limits;
 mod locked;
 mod ordered;
 mod replies;
@@ -18,6 +19,7 @@ mod turn;
 
 pub use desk::{Desk, SharedBook};
 pub use fault::RunFault;
+pub use limits::{ALL_PARTS, MOST_RUNNERS};
 pub use ordered::advance;
 pub use running::run_jobs;
 pub use trlab_leases::{

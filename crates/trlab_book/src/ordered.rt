@@ -1,6 +1,7 @@
 //! One ordered step of a lease, by workers.
 
 ghost use Rattle.std.specs.Prelude.{◌≡◌, ◌↔◌, ◌<◌, ◌≤◌, OnOk, OnErr};
+ghost use Rattle.trlab_bounds.specs.declared.runs.TheConstants.{MOST_WORKERS};
 ghost use Rattle.trlab_leases.specs.Leases.{FitsOrder, HasRun};
 ghost use Rattle.trlab_leases.specs.declared.advance.LeaseFault.TheVariants.{WrongOrder};
 ghost use Rattle.trlab_segments.specs.Answered.{HasTwoLanes};
@@ -28,7 +29,7 @@ pub fn advance<R: Threads + Sync, G: Gate + Sync>(
     workers: u32,
     gate: &G,
 ) -> Result<(), LeaseFault>
-    requires { (0 < workers) × (workers ≤ 16) }
+    requires { (0 < workers) × (workers ≤ MOST_WORKERS) }
     ensures ok { OnOk result (HasRun lease.old order.now lease.new) }
     ensures err { OnErr result (lease.new ≡ lease.old) }
     ensures wrong { (result ≡ Err WrongOrder) ↔ (FitsOrder lease.old order.now → ⊥) }

@@ -2,7 +2,9 @@
 
 ghost use Rattle.std.specs.Prelude.{◌≡◌, ◌<◌, ◌≤◌, MatchResult};
 ghost use Rattle.std.specs.Thread.{IsSend, IsSync};
+ghost use Rattle.trlab_bounds.specs.declared.runs.TheConstants.{MOST_WORKERS};
 ghost use Rattle.trlab_book.specs.Desks.{parts_of};
+ghost use Rattle.trlab_book.specs.declared.limits.TheConstants.{ALL_PARTS, MOST_RUNNERS};
 
 use crate::desk::{Desk, SharedBook};
 use crate::fault::RunFault;
@@ -31,9 +33,9 @@ pub fn run_jobs<L: Ledger + Send + Sync, R: Threads + Wait + Sync, G: Gate + Syn
     workers: u32,
     gate: &G,
 ) -> Result<Desk<L>, (Desk<L>, RunFault)>
-    requires ledger { L.parts ≡ 1024 }
-    requires workers { (0 < workers) × (workers ≤ 16) }
-    requires runners { (0 < runners) × (runners ≤ 16) × (runners ≤ parts_of desk) }
+    requires ledger { L.parts ≡ ALL_PARTS }
+    requires workers { (0 < workers) × (workers ≤ MOST_WORKERS) }
+    requires runners { (0 < runners) × (runners ≤ MOST_RUNNERS) × (runners ≤ parts_of desk) }
     ensures { MatchResult result (λ d. parts_of d ≡ parts_of desk) (λ e. parts_of e.0 ≡ parts_of desk) }
 {
     let (desk, ended) = run_all(rt, alloc, book, desk, runners, workers, gate);
@@ -53,8 +55,8 @@ fn run_all<L: Ledger + Send + Sync, R: Threads + Wait + Sync, G: Gate + Sync>(
     workers: u32,
     gate: &G,
 ) -> (Desk<L>, Result<(), RunFault>)
-    requires ledger { L.parts ≡ 1024 }
-    requires workers { (0 < workers) × (workers ≤ 16) }
+    requires ledger { L.parts ≡ ALL_PARTS }
+    requires workers { (0 < workers) × (workers ≤ MOST_WORKERS) }
     requires runners { (0 < runners) × (runners ≤ parts_of desk) }
     ensures { parts_of result.0 ≡ parts_of desk }
 {
@@ -68,15 +70,15 @@ fn run_all<L: Ledger + Send + Sync, R: Threads + Wait + Sync, G: Gate + Sync>(
     let ((theirs, one), (mine, other)) = join(
         rt,
         move || -> (Desk<L>, Result<(), RunFault>)
-            requires { IsSync R.row × IsSync G.row × (0 < workers) × (workers ≤ 16) }
+            requires { IsSync R.row × IsSync G.row × (0 < workers) × (workers ≤ MOST_WORKERS) }
             ensures { parts_of result.0 ≡ parts_of theirs }
         {
             let ended = run_one(rt, alloc, book, &mut theirs, workers, gate);
             (theirs, ended)
         },
         move || -> (Desk<L>, Result<(), RunFault>)
-            requires { IsSync R.row × IsSync G.row × IsSend L.row × IsSync L.row × (L.parts ≡ 1024)
-                × (0 < workers) × (workers ≤ 16) × (0 < others) × (others ≤ parts_of desk) }
+            requires { IsSync R.row × IsSync G.row × IsSend L.row × IsSync L.row × (L.parts ≡ ALL_PARTS)
+                × (0 < workers) × (workers ≤ MOST_WORKERS) × (0 < others) × (others ≤ parts_of desk) }
             ensures { parts_of result.0 ≡ parts_of desk }
         { run_all(rt, alloc, book, desk, others, workers, gate) },
     );

@@ -4,23 +4,22 @@
 ghost use Rattle.std.specs.Prelude.{◌≡◌, ◌+◌, ◌<◌, IfOk, IfErr, IsOk, vec_len};
 ghost use Rattle.trlab_leases.specs.Replay.{Replays};
 ghost use Rattle.trlab_book.specs.Desks.{parts_of, count_of};
+ghost use Rattle.trlab_book.specs.declared.limits.TheConstants.{ALL_PARTS};
 
 use crate::desk::{Desk, Locked, SharedBook};
 use crate::kept::Kept;
+use crate::limits::ALL_PARTS;
 use std::alloc::Global;
 use std::sync::Mutex;
 use std::sync::ledger::{Blank, Ledger};
 use trlab_leases::{Book, Event};
 
-/// How many parts the right to call a book has.
-const ALL_PARTS: u32 = 1024;
-
 impl<L: Ledger> SharedBook<L> {
     /// An empty book, and the desk with all 1024 parts. It takes no memory.
     pub fn start(alloc: Global, blank: Blank) -> (SharedBook<L>, Desk<L>)
         requires name { blank.name ≡ L.name }
-        requires parts { (blank.parts ≡ L.parts) × (blank.parts ≡ 1024) }
-        ensures { (parts_of result.1 ≡ 1024) × (count_of result.1 ≡ 0) }
+        requires parts { (blank.parts ≡ L.parts) × (blank.parts ≡ ALL_PARTS) }
+        ensures { (parts_of result.1 ≡ ALL_PARTS) × (count_of result.1 ≡ 0) }
     {
         let (events, share) = blank.open::<L>();
         let lock = Mutex::new(Locked {
@@ -84,7 +83,7 @@ impl<L: Ledger> Desk<L> {
 
     /// The parts and the counts of both desks together.
     pub fn gather(self, other: Desk<L>) -> Desk<L>
-        requires { L.parts ≡ 1024 }
+        requires { L.parts ≡ ALL_PARTS }
         ensures parts { parts_of result ≡ parts_of self + parts_of other }
         ensures count { count_of result ≡ count_of self + count_of other }
     {

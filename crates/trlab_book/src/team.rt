@@ -1,6 +1,7 @@
 //! The workers of one runner, who take the steps of its leases together.
 
 ghost use Rattle.std.specs.Prelude.{◌<◌, ◌≤◌};
+ghost use Rattle.trlab_bounds.specs.declared.runs.TheConstants.{MOST_WORKERS};
 
 use crate::ordered::advance;
 use std::alloc::Global;
@@ -23,7 +24,7 @@ pub struct Team<'a, R, G> {
 impl<'a, R: Threads + Wait + Sync, G: Gate + Sync> Team<'a, R, G> {
     /// So many workers.
     pub fn new(rt: &'a R, workers: u32, gate: &'a G) -> Team<'a, R, G>
-        requires { (0 < workers) × (workers ≤ 16) }
+        requires { (0 < workers) × (workers ≤ MOST_WORKERS) }
     {
         Team {
             rt,

@@ -1,6 +1,7 @@
 //! What one runner does: it takes jobs from the book, one lease after the other.
 
 ghost use Rattle.std.specs.Prelude.{◌≡◌, ◌<◌, ◌≤◌};
+ghost use Rattle.trlab_bounds.specs.declared.runs.TheConstants.{MOST_WORKERS};
 ghost use Rattle.trlab_book.specs.Desks.{parts_of};
 
 use crate::desk::{Desk, SharedBook};
@@ -25,7 +26,7 @@ pub fn run_one<L: Ledger, R: Threads + Wait + Sync, G: Gate + Sync>(
     workers: u32,
     gate: &G,
 ) -> Result<(), RunFault>
-    requires { (0 < workers) × (workers ≤ 16) }
+    requires { (0 < workers) × (workers ≤ MOST_WORKERS) }
     ensures { parts_of desk.new ≡ parts_of desk.old }
 {
     let team = Team::new(rt, workers, gate);

@@ -5,9 +5,9 @@ use Rattle.trlab_step.proofs.RunLaws.{road_at_is_one}
 use Rattle.trlab_texts.specs.Reading.{Fault}
 use Rattle.trlab_jobs.specs.Job.{Job, seed_of, sheet_of}
 use Rattle.trlab_jobs.proofs.OneText.{one_thing}
-use Rattle.trlab_campaign.specs.Output.{JobOutput, step_text}
+use Rattle.trlab_campaign.specs.Output.{JobOutput, step_text, IsOutput}
 use Rattle.trlab_campaign.specs.Refusal.{OutputFor}
-use Rattle.trlab_campaign.specs.Laws.{TextHasOneOutput}
+use Rattle.trlab_campaign.specs.Laws.{HasOneOutput}
 use Rattle.trlab_campaign.proofs.Lines.{pieces_agree}
 
 output_one : (says : Result Job Fault) (refused also : Bool) (out other : List ℕ) → OutputFor JobOutput says refused out → OutputFor JobOutput says also other → (refused ≡ also) × (out ≡ other)
@@ -19,7 +19,7 @@ output_one (Ok said) refused also out other p q =
     (p.0 ∙ sym q.0, a.pictures ∙ agree ∙ sym b.pictures)
 output_one (Err fault) refused also out other p q = (p.0 ∙ sym q.0, p.1 ∙ sym q.1)
 
-pub one_output : TextHasOneOutput
+pub one_output : HasOneOutput IsOutput
 one_output text refused also out other p q =
     let same = one_thing text p.0 q.0 p.1.0 q.1.0 in
     output_one q.0 refused also out other (subst (λ (says : Result Job Fault). OutputFor JobOutput says refused out) same p.1.1) q.1.1

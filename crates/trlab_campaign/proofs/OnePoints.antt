@@ -14,8 +14,8 @@ use Rattle.trlab_jobs.specs.Shapes.{all_steps}
 use Rattle.trlab_jobs.specs.Sweep.{Setup, Sweep}
 use Rattle.trlab_jobs.proofs.OneSweep.{one_thing}
 use Rattle.trlab_campaign.specs.Refusal.{OutputFor}
-use Rattle.trlab_campaign.specs.SweepOutput.{IsPoint, ArePoints, SweepOutput, point_of, seed_of, sheet_of}
-use Rattle.trlab_campaign.specs.Laws.{SweepHasOneOutput}
+use Rattle.trlab_campaign.specs.SweepOutput.{IsPoint, ArePoints, SweepOutput, point_of, seed_of, sheet_of, IsSweepOutput}
+use Rattle.trlab_campaign.specs.Laws.{HasOneOutput}
 
 -- a sweep has one point with a number and a count of cars
 point_one : (common : Setup) (number cars : ℕ) (point other : Point) → IsPoint common number cars point → IsPoint common number cars other → point ≡ other
@@ -35,7 +35,7 @@ output_one (Ok sweep) refused also out other p q =
     (p.0 ∙ sym q.0, p.1.1.1 ∙ (ap points_text (points_one sweep p.1.0 q.1.0 p.1.1.0 q.1.1.0) ∙ sym q.1.1.1))
 output_one (Err fault) refused also out other p q = (p.0 ∙ sym q.0, p.1 ∙ sym q.1)
 
-pub sweep_one_output : SweepHasOneOutput
+pub sweep_one_output : HasOneOutput IsSweepOutput
 sweep_one_output text refused also out other p q =
     let same = one_thing text p.0 q.0 p.1.0 q.1.0 in
     output_one q.0 refused also out other (subst (λ (says : Result Sweep Fault). OutputFor SweepOutput says refused out) same p.1.1) q.1.1

@@ -5,9 +5,9 @@ use Rattle.trlab_jobs.specs.Check.{Check}
 use Rattle.trlab_texts.specs.Reading.{Fault}
 use Rattle.trlab_texts.proofs.OneProgram.{one_longest, not_refused, refused_at_one, refused_one}
 use Rattle.trlab_jobs.proofs.OneCheck.{one_thing}
-use Rattle.trlab_campaign.specs.CheckOutput.{answer_text, refused_line, VerdictOutput}
+use Rattle.trlab_campaign.specs.CheckOutput.{answer_text, refused_line, VerdictOutput, IsCheckOutput}
 use Rattle.trlab_campaign.specs.Refusal.{OutputFor}
-use Rattle.trlab_campaign.specs.Laws.{CheckHasOneOutput}
+use Rattle.trlab_campaign.specs.Laws.{HasOneOutput}
 
 verdict_one : (check : Check) (refused also : Bool) (out other : List ℕ) → VerdictOutput check refused out → VerdictOutput check also other
     → (refused ≡ also) × (out ≡ other)
@@ -25,7 +25,7 @@ output_one : (says : Result Check Fault) (refused also : Bool) (out other : List
 output_one (Ok check) refused also out other p q = verdict_one check refused also out other p q
 output_one (Err fault) refused also out other p q = (p.0 ∙ sym q.0, p.1 ∙ sym q.1)
 
-pub one_output : CheckHasOneOutput
+pub one_output : HasOneOutput IsCheckOutput
 one_output text refused also out other p q =
     let same = one_thing text p.0 q.0 p.1.0 q.1.0 in
     output_one q.0 refused also out other (subst (λ (says : Result Check Fault). OutputFor VerdictOutput says refused out) same p.1.1) q.1.1

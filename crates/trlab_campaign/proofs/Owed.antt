@@ -1,11 +1,17 @@
 -- A text that is written piece by piece.
-use Rattle.std.proofs.Common.{ℕ, List, [], ◌++◌, length, take, drop, refl, append_assoc, append-nil, sym, ◌∙◌, ap, subst}
+use Rattle.std.proofs.Common.{◌≡◌, ℕ, List, [], ◌++◌, length, take, drop, refl, append_assoc, append-nil, sym, ◌∙◌, ap, subst}
 use Rattle.std.proofs.Math.Seq.{take-append_seam}
 use Rattle.std.proofs.lemmas.List.{take-append-drop}
 use Rattle.std.specs.Prelude.{Option}
 use Rattle.std.specs.Io.KnownBytes.{Appends, Keeps}
-use Rattle.trlab_campaign.specs.Device.{AppendsFront, Owes}
+use Rattle.trlab_campaign.specs.Device.{AppendsFront}
 use Rattle.trlab_campaign.proofs.KnownBytes.{appends_none, appends_more, appends_kept}
+
+-- of a whole text some was written, and the rest is owed
+pub record Owes (whole rest : List ℕ) (old now : Option (List ℕ)) : Type 0 where
+  pub done : List ℕ
+  pub parts : whole ≡ done ++ rest
+  pub wrote : Appends old now done
 
 -- before the first piece
 pub owes_all : (whole : List ℕ) (old : Option (List ℕ)) → Owes whole whole old old

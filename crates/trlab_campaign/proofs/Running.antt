@@ -9,11 +9,11 @@ use Rattle.trlab_step.proofs.RunLaws.{run_comes_to_road, road_at_is_one}
 use Rattle.trlab_run.specs.Progress.{Progress, IsOneStepOn, at_start}
 use Rattle.trlab_jobs.specs.Job.{Job, seed_of, sheet_of}
 use Rattle.trlab_jobs.specs.Stored.{IsStored}
-use Rattle.trlab_campaign.specs.Device.{AppendsFront, Owes}
+use Rattle.trlab_campaign.specs.Device.{AppendsFront}
 use Rattle.trlab_campaign.specs.Output.{step_text, steps_text}
 use Rattle.trlab_campaign.specs.Ending.{WrotePictures, WroteSome}
 use Rattle.trlab_campaign.proofs.Sheets.{plain_sheet}
-use Rattle.trlab_campaign.proofs.Owed.{owes_all, owes_less, owes_stop, owes_front, owes_none}
+use Rattle.trlab_campaign.proofs.Owed.{Owes, owes_all, owes_less, owes_stop, owes_front, owes_none}
 
 -- the text of so many steps from one on
 abbrev pub text_from : (ℕ → Cells) → ℕ → ℕ → List ℕ

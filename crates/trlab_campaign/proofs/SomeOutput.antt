@@ -6,8 +6,8 @@ use Rattle.trlab_jobs.specs.Job.{Job}
 use Rattle.trlab_jobs.specs.Stored.{IsStored}
 use Rattle.trlab_jobs.proofs.SomeText.{says_plain}
 use Rattle.trlab_campaign.specs.Refusal.{OutputFor, fault_line}
-use Rattle.trlab_campaign.specs.Output.{JobOutput, steps_text}
-use Rattle.trlab_campaign.specs.Laws.{TextHasSomeOutput}
+use Rattle.trlab_campaign.specs.Output.{JobOutput, steps_text, IsOutput}
+use Rattle.trlab_campaign.specs.Laws.{HasSomeOutput}
 use Rattle.trlab_campaign.proofs.Running.{roads_of}
 
 output_some : (says : Result Job Fault) → IfOk says IsStored → (refused : Bool) × (out : List ℕ) × OutputFor JobOutput says refused out
@@ -17,7 +17,7 @@ output_some (Ok job) plain =
     (false, out, (refl, (found.0, record { road_at = λ step _. found.1 step; pictures = refl })))
 output_some (Err fault) plain = (true, fault_line fault, (refl, refl))
 
-pub some_output : TextHasSomeOutput
+pub some_output : HasSomeOutput IsOutput
 some_output text =
     let found = says_plain text in
     let output = output_some found.0 found.1.1 in

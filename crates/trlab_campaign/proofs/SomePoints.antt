@@ -18,8 +18,8 @@ use Rattle.trlab_jobs.specs.Sweep.{Setup, Sweep}
 use Rattle.trlab_jobs.specs.Stored.{Spreads, IsStoredSweep}
 use Rattle.trlab_jobs.proofs.SomeSweep.{says_stored}
 use Rattle.trlab_campaign.specs.Refusal.{OutputFor, fault_line}
-use Rattle.trlab_campaign.specs.SweepOutput.{IsPoint, ArePoints, SweepOutput, point_of, seed_of, sheet_of}
-use Rattle.trlab_campaign.specs.Laws.{SweepHasSomeOutput}
+use Rattle.trlab_campaign.specs.SweepOutput.{IsPoint, ArePoints, SweepOutput, point_of, seed_of, sheet_of, IsSweepOutput}
+use Rattle.trlab_campaign.specs.Laws.{HasSomeOutput}
 use Rattle.trlab_campaign.proofs.Points.{suits}
 
 -- a road on which cars that fit are evenly spread
@@ -73,7 +73,7 @@ output_some (Ok sweep) stored =
     (false, points_text points.0, (refl, (points.0, (from_start sweep points.0 points.1, refl))))
 output_some (Err fault) stored = (true, fault_line fault, (refl, refl))
 
-pub sweep_some_output : SweepHasSomeOutput
+pub sweep_some_output : HasSomeOutput IsSweepOutput
 sweep_some_output text =
     let found = says_stored text in
     let output = output_some found.0 found.1.1 in

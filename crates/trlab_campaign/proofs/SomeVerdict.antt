@@ -6,8 +6,8 @@ use Rattle.trlab_verify.proofs.Judged.{accepted_or_refused, some_budget}
 use Rattle.trlab_texts.specs.Reading.{Fault}
 use Rattle.trlab_jobs.proofs.SomeCheck.{HasProgram, says_program}
 use Rattle.trlab_campaign.specs.Refusal.{OutputFor, fault_line}
-use Rattle.trlab_campaign.specs.CheckOutput.{answer_text, refused_line, VerdictOutput}
-use Rattle.trlab_campaign.specs.Laws.{CheckHasSomeOutput}
+use Rattle.trlab_campaign.specs.CheckOutput.{answer_text, refused_line, VerdictOutput, IsCheckOutput}
+use Rattle.trlab_campaign.specs.Laws.{HasSomeOutput}
 
 verdict_some : (check : Check) → HasProgram check → (refused : Bool) × (out : List ℕ) × VerdictOutput check refused out
 verdict_some check is = elim (accepted_or_refused check.program.kind check.program) [
@@ -21,7 +21,7 @@ output_some : (says : Result Check Fault) → IfOk says HasProgram → (refused 
 output_some (Ok check) is = verdict_some check is
 output_some (Err fault) is = (true, fault_line fault, (refl, refl))
 
-pub some_output : CheckHasSomeOutput
+pub some_output : HasSomeOutput IsCheckOutput
 some_output text =
     let found = says_program text in
     let output = output_some found.0 found.1.1 in

@@ -1,5 +1,5 @@
 -- What calls of a reader and a writer do to the bytes that they tell.
-use Rattle.std.specs.Prelude.{◌≡◌, ℕ, ◌≤◌, List, ◌++◌, length, take, Option}
+use Rattle.std.specs.Prelude.{ℕ, ◌≤◌, List, length, take, Option}
 use Rattle.std.specs.Io.KnownBytes.{Appends, Consumes}
 
 -- the written bytes grow by some front of a text
@@ -10,9 +10,3 @@ pub record AppendsFront (old new : Option (List ℕ)) (text : List ℕ) : Type 0
 -- the bytes left to read lose a front of at most so many
 abbrev pub ConsumesUpTo : ℕ → Option (List ℕ) → Option (List ℕ) → Type 0
 ConsumesUpTo most old new = (front : List ℕ) × (length front ≤ most) × Consumes old new front
-
--- of a whole text some was written, and the rest is owed
-pub record Owes (whole rest : List ℕ) (old now : Option (List ℕ)) : Type 0 where
-  pub done : List ℕ
-  pub parts : whole ≡ done ++ rest
-  pub wrote : Appends old now done

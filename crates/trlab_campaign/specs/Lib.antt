@@ -1,11 +1,14 @@
+-- readers and writers
 pub mod Flushes
 pub mod Device
 pub mod Watched
+-- what is written for texts
 pub mod Refusal
 pub mod Output
 pub mod NoteLines
 pub mod CheckOutput
 pub mod SweepOutput
 pub mod TooBig
+-- how engines end, and laws
 pub mod Ending
 pub mod Laws

@@ -8,6 +8,8 @@ mod table;
 ghost use Rattle.std.specs.Prelude.{◌≡◌, ◌+◌, ◌<◌, ◌≤◌, ◌||◌, ◌↔◌, true, false, IfSome};
 ghost use Rattle.std.specs.Io.KnownBytes.{Keeps};
 ghost use Rattle.std.specs.Thread.{IsSync};
+ghost use Rattle.trlab_bounds.specs.declared.runs.TheConstants.{MOST_WORKERS};
+ghost use Rattle.trlab_book.specs.declared.limits.TheConstants.{MOST_RUNNERS};
 ghost use Rattle.trlab_campaign.specs.Device.{ConsumesUpTo};
 ghost use Rattle.trlab_campaign.specs.Ending.{EndsSo, HandsOn};
 ghost use Rattle.trlab_campaign.specs.SweepOutput.{IsSweepOutput};
@@ -22,9 +24,7 @@ use crate::sweep::table::table;
 use std::alloc::{AllocGlobal, Global};
 use std::sync::Wait;
 use std::thread::Threads;
-use trlab_bounds::runs::MOST_WORKERS;
 use trlab_bounds::texts::TEXT_LIMIT;
-use trlab_jobs::limits::MOST_RUNNERS;
 use trlab_jobs::read_sweep;
 use trlab_texts::TextFault;
 
@@ -34,8 +34,8 @@ struct Surveyor<'a, R> {
     rt: &'a R,
     runners: u32,
     workers: u32,
-    ghost some_runners: { (0 < runners) × (runners ≤ 16) },
-    ghost some_workers: { (0 < workers) × (workers ≤ 16) },
+    ghost some_runners: { (0 < runners) × (runners ≤ MOST_RUNNERS) },
+    ghost some_workers: { (0 < workers) × (workers ≤ MOST_WORKERS) },
 }
 
 impl<'a, R: Threads + Wait + Sync> Engine for Surveyor<'a, R> {

@@ -2,7 +2,7 @@
 
 ghost use Rattle.std.specs.Prelude.{◌≤◌};
 ghost use Rattle.trlab_bounds.specs.declared.runs.TheConstants.{MOST_WORKERS};
-ghost use Rattle.trlab_jobs.specs.declared.limits.TheConstants.{MOST_RUNNERS};
+ghost use Rattle.trlab_book.specs.declared.limits.TheConstants.{MOST_RUNNERS};
 
 use crate::notes::note_line;
 use crate::roads::{pictured, spread, stepped};

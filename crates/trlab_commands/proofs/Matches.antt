@@ -19,7 +19,7 @@ use Rattle.clap.proofs.OnLiterals.{clap_on_literals}
 use Rattle.clap.proofs.CallerReads.{signed_reads}
 use Rattle.clap.proofs.ValueTestLemmas.{accepts-Accepts}
 use Rattle.trlab_bounds.specs.declared.runs.TheConstants.{MOST_WORKERS}
-use Rattle.trlab_jobs.specs.declared.limits.TheConstants.{MOST_RUNNERS}
+use Rattle.trlab_book.specs.declared.limits.TheConstants.{MOST_RUNNERS}
 use Rattle.trlab_commands.specs.Requests.{GivesNumber, HasValue}
 use Rattle.trlab_commands.specs.CommandLine.{command_line}
 use Rattle.trlab_commands.proofs.CommandLine.{Taken, check, check_level, run_level, sweep_level, enters_check, enters_run, enters_sweep, run, sweep, taken, workers_value, sweep_runners_value, sweep_workers_value}

@@ -7,7 +7,7 @@ use Rattle.clap.specs.Values.{IsSignedIn}
 use Rattle.trlab_commands.specs.declared.words.Wanted.{Wanted}
 use Rattle.trlab_commands.specs.declared.words.Wanted.TheVariants.{Check, Run, Sweep}
 use Rattle.trlab_bounds.specs.declared.runs.TheConstants.{MOST_WORKERS}
-use Rattle.trlab_jobs.specs.declared.limits.TheConstants.{MOST_RUNNERS}
+use Rattle.trlab_book.specs.declared.limits.TheConstants.{MOST_RUNNERS}
 
 -- among the matches of a command, the value of the option is the decimal numeral of this number
 abbrev pub GivesNumber : Text → List Row → ℕ → Type 0

@@ -14,7 +14,7 @@ use crate::help::{
 use clap::{Arg, ArgMatches, Command, Error, value_parser};
 use std::alloc::{AllocError, Global};
 use trlab_bounds::runs::MOST_WORKERS;
-use trlab_jobs::limits::MOST_RUNNERS;
+use trlab_campaign::MOST_RUNNERS;
 
 /// What the words of the command line ask for.
 #[derive(Clone, Copy, Debug, PartialEq, Eq)]

@@ -16,7 +16,7 @@ use Rattle.trlab_prose.specs.Plain.{IsPlain}
 use Rattle.trlab_advice.specs.Subjects.{subject_of}
 use Rattle.trlab_advice.specs.declared.subject.Subject.{Subject}
 use Rattle.trlab_advice.specs.declared.subject.Subject.TheVariants.{Job, Sweep, Check}
-use Rattle.trlab_explain.specs.Explanations.{BeginsWith, Explained, ExplainedAs, NumberTold, ToldAs, topic_front}
+use Rattle.trlab_explain.specs.Explanations.{BeginsWith, Explains, ExplainsAs, TellsNumber, TellsAs, topic_front}
 use Rattle.trlab_explain.specs.declared.topics.Topic.{Topic}
 
 -- two parts were put behind a text, the second unless memory ran out
@@ -25,22 +25,22 @@ parts_put (Ok x) old mid new first last p q = rw (q, p) (simp append_assoc)
 parts_put (Err e) old mid new first last p q = tt
 
 -- what a text is read as
-explained_as : (wanted : Option Subject) (text : List ℕ) (refused : Bool) (out : List ℕ) → ExplainedAs (unwrap_or wanted (subject_of (lines_of text))) text refused out
-    → Explained wanted text refused out
+explained_as : (wanted : Option Subject) (text : List ℕ) (refused : Bool) (out : List ℕ) → ExplainsAs (unwrap_or wanted (subject_of (lines_of text))) text refused out
+    → Explains wanted text refused out
 explained_as None text refused out told = told
 explained_as (Some subject) text refused out told = told
 
 -- the page on a text was written so
 pub told_ends : {E : Type 0} (wanted : Option Subject) (text : List ℕ) (told : Result (Bool × List ℕ) E) (e : End) (old new : Option (List ℕ))
-    → IfOk told (λ t. ToldAs (unwrap_or wanted (subject_of (lines_of text))) text t.0 t.1)
+    → IfOk told (λ t. TellsAs (unwrap_or wanted (subject_of (lines_of text))) text t.0 t.1)
     → MatchResult told (λ t. All IsPlain t.1 × OutputEnds t.0 t.1 e old new) (λ _. (e ≡ Memory) × Keeps old new)
-    → EndsSo (Explained wanted text) e old new
+    → EndsSo (Explains wanted text) e old new
 told_ends wanted text (Ok t) e old new told ends =
-    output_ends (Explained wanted text) t.0 t.1 e old new (explained_as wanted text t.0 t.1 (told, ends.0)) ends.1
+    output_ends (Explains wanted text) t.0 t.1 e old new (explained_as wanted text t.0 t.1 (told, ends.0)) ends.1
 told_ends wanted text (Err x) e old new told ends = rw ends.0 (inl ends.1)
 
 -- a text that is too big, as whatever it is read
-big_as : (subject : Subject) (text : List ℕ) (out : List ℕ) → TEXT_LIMIT < length text → BeginsWith too_big_line out → ToldAs subject text true out
+big_as : (subject : Subject) (text : List ℕ) (out : List ℕ) → TEXT_LIMIT < length text → BeginsWith too_big_line out → TellsAs subject text true out
 big_as Job text out big begins = (Err (record { line = 0; cause = TooBig }), rw (lt-ltb TEXT_LIMIT (length text) big) refl, (refl, (begins.0, begins.1 ∙ ap (λ t. t ++ begins.0) (sym (append-nil too_big_line)))))
 big_as Sweep text out big begins = (Err (record { line = 0; cause = TooBig }), rw (lt-ltb TEXT_LIMIT (length text) big) refl, (refl, (begins.0, begins.1 ∙ ap (λ t. t ++ begins.0) (sym (append-nil too_big_line)))))
 big_as Check text out big begins = (Err (record { line = 0; cause = TooBig }), rw (lt-ltb TEXT_LIMIT (length text) big) refl, (refl, (begins.0, begins.1 ∙ ap (λ t. t ++ begins.0) (sym (append-nil too_big_line)))))
@@ -49,18 +49,18 @@ big_as Check text out big begins = (Err (record { line = 0; cause = TooBig }), r
 pub big_ends : {E : Type 0} (wanted : Option Subject) (told : Result (Bool × List ℕ) E) (e : End) (left old new : Option (List ℕ))
     → IfSome left (λ all. TEXT_LIMIT < length all) → IfOk told (λ t. t.0 ≡ true) → IfOk told (λ t. BeginsWith too_big_line t.1)
     → MatchResult told (λ t. All IsPlain t.1 × OutputEnds t.0 t.1 e old new) (λ _. (e ≡ Memory) × Keeps old new)
-    → IfSome left (λ text. EndsSo (Explained wanted text) e old new)
+    → IfSome left (λ text. EndsSo (Explains wanted text) e old new)
 big_ends wanted told e None old new big refused begins ends = tt
 big_ends wanted (Err x) e (Some all) old new big refused begins ends = rw ends.0 (inl ends.1)
 big_ends wanted (Ok t) e (Some all) old new big refused begins ends =
-    let told : ToldAs (unwrap_or wanted (subject_of (lines_of all))) all t.0 t.1 = rw refused (big_as (unwrap_or wanted (subject_of (lines_of all))) all t.1 big begins) in
-    output_ends (Explained wanted all) t.0 t.1 e old new (explained_as wanted all t.0 t.1 (told, ends.0)) ends.1
+    let told : TellsAs (unwrap_or wanted (subject_of (lines_of all))) all t.0 t.1 = rw refused (big_as (unwrap_or wanted (subject_of (lines_of all))) all t.1 big begins) in
+    output_ends (Explains wanted all) t.0 t.1 e old new (explained_as wanted all t.0 t.1 (told, ends.0)) ends.1
 
 -- the page on a number was written so
 pub number_ends : {E : Type 0} (topic : Topic) (number : ℕ) (told : Result (Bool × List ℕ) E) (e : End) (old new : Option (List ℕ))
     → IfOk told (λ t. BeginsWith (topic_front topic number) t.1)
     → MatchResult told (λ t. All IsPlain t.1 × OutputEnds t.0 t.1 e old new) (λ _. (e ≡ Memory) × Keeps old new)
-    → EndsSo (NumberTold topic number) e old new
+    → EndsSo (TellsNumber topic number) e old new
 number_ends topic number (Ok t) e old new told ends =
-    output_ends (NumberTold topic number) t.0 t.1 e old new (told, ends.0) ends.1
+    output_ends (TellsNumber topic number) t.0 t.1 e old new (told, ends.0) ends.1
 number_ends topic number (Err x) e old new told ends = rw ends.0 (inl ends.1)

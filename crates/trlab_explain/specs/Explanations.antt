@@ -31,43 +31,43 @@ abbrev pub BeginsWith : List ℕ → List ℕ → Type 0
 BeginsWith front out = (more : List ℕ) × (out ≡ front ++ more)
 
 -- what is told of a text with a fault
-abbrev pub FaultTold : List ℕ → Fault → Outputs
-FaultTold text fault refused out = (refused ≡ true) × BeginsWith (fault_head text fault) out
+abbrev pub TellsFault : List ℕ → Fault → Outputs
+TellsFault text fault refused out = (refused ≡ true) × BeginsWith (fault_head text fault) out
 
 -- what is told by what a job or sweep text says
-abbrev pub LinesTold : {A : Type 0} → List ℕ → Result A Fault → Outputs
-LinesTold text (Ok said) refused out = refused ≡ false
-LinesTold text (Err fault) refused out = FaultTold text fault refused out
+abbrev pub TellsText : {A : Type 0} → List ℕ → Result A Fault → Outputs
+TellsText text (Ok said) refused out = refused ≡ false
+TellsText text (Err fault) refused out = TellsFault text fault refused out
 
 -- what is told of the program of a check
-abbrev pub ProgramTold : CheckSaid → Outputs
-ProgramTold check false out = IsAccepted check.program.kind check.program
-ProgramTold check true out = (at reason : ℕ)
+abbrev pub TellsProgram : CheckSaid → Outputs
+TellsProgram check false out = IsAccepted check.program.kind check.program
+TellsProgram check true out = (at reason : ℕ)
     × IsRefused check.program.kind check.program at reason × BeginsWith (refused_line at reason) out
 
 -- what is told by what a check text says
-abbrev pub CheckTold : List ℕ → Result CheckSaid Fault → Outputs
-CheckTold text (Ok check) refused out = ProgramTold check refused out
-CheckTold text (Err fault) refused out = FaultTold text fault refused out
+abbrev pub TellsCheck : List ℕ → Result CheckSaid Fault → Outputs
+TellsCheck text (Ok check) refused out = TellsProgram check refused out
+TellsCheck text (Err fault) refused out = TellsFault text fault refused out
 
 -- what is told of a text that is read so
-abbrev pub ToldAs : Subject → List ℕ → Outputs
-ToldAs Job text refused out =
-    (says : Result JobSaid Fault) × JobText text says × LinesTold text says refused out
-ToldAs Sweep text refused out =
-    (says : Result SweepSaid Fault) × SweepText text says × LinesTold text says refused out
-ToldAs Check text refused out =
-    (says : Result CheckSaid Fault) × CheckText text says × CheckTold text says refused out
+abbrev pub TellsAs : Subject → List ℕ → Outputs
+TellsAs Job text refused out =
+    (says : Result JobSaid Fault) × JobText text says × TellsText text says refused out
+TellsAs Sweep text refused out =
+    (says : Result SweepSaid Fault) × SweepText text says × TellsText text says refused out
+TellsAs Check text refused out =
+    (says : Result CheckSaid Fault) × CheckText text says × TellsCheck text says refused out
 
 -- the whole explanations that there may be of a text that is read so, each with whether it is refused:
 -- plain text, whatever bytes the text has
-abbrev pub ExplainedAs : Subject → List ℕ → Outputs
-ExplainedAs subject text refused out = ToldAs subject text refused out × All IsPlain out
+abbrev pub ExplainsAs : Subject → List ℕ → Outputs
+ExplainsAs subject text refused out = TellsAs subject text refused out × All IsPlain out
 
 -- the same of a text that is read as what is wanted, or else as what it is meant as
-abbrev pub Explained : Option Subject → List ℕ → Outputs
-Explained (Some subject) text = ExplainedAs subject text
-Explained None text = ExplainedAs (subject_of (lines_of text)) text
+abbrev pub Explains : Option Subject → List ℕ → Outputs
+Explains (Some subject) text = ExplainsAs subject text
+Explains None text = ExplainsAs (subject_of (lines_of text)) text
 
 -- how the page on a number begins
 abbrev pub topic_front : Topic → ℕ → List ℕ
@@ -75,5 +75,5 @@ topic_front Cause number = codes "Cause " ++ (decimal number ++ codes ": ")
 topic_front Reason number = codes "Reason " ++ (decimal number ++ codes ": ")
 
 -- the whole pages that there may be on a number
-abbrev pub NumberTold : Topic → ℕ → Outputs
-NumberTold topic number refused out = BeginsWith (topic_front topic number) out × All IsPlain out
+abbrev pub TellsNumber : Topic → ℕ → Outputs
+TellsNumber topic number refused out = BeginsWith (topic_front topic number) out × All IsPlain out

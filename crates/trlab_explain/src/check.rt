@@ -1,7 +1,7 @@
 //! The explanation of a check text.
 
 ghost use Rattle.std.specs.Prelude.{IfOk};
-ghost use Rattle.trlab_explain.specs.Explanations.{ToldAs};
+ghost use Rattle.trlab_explain.specs.Explanations.{TellsAs};
 ghost use Rattle.trlab_advice.specs.declared.subject.Subject.TheVariants.{Check as OfCheck};
 
 use crate::fault::fault_page;
@@ -18,7 +18,7 @@ use trlab_texts::TextFault;
 ///
 /// Want of memory.
 pub fn explain_check(alloc: Global, text: &[u8]) -> Result<(bool, Page), AllocError>
-    ensures { IfOk result (λ told. ToldAs OfCheck text.now told.0 told.1) }
+    ensures { IfOk result (λ told. TellsAs OfCheck text.now told.0 told.1) }
 {
     match read_check(alloc, text) {
         Ok(check) => explain_program(alloc, text, check),

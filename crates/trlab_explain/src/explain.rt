@@ -8,7 +8,7 @@ ghost use Rattle.trlab_campaign.specs.Ending.{EndsSo, HandsOn, OutputEnds};
 ghost use Rattle.trlab_campaign.specs.Refusal.{too_big_line};
 ghost use Rattle.trlab_campaign.specs.declared.end.End.TheVariants.{DeviceFault, Memory};
 ghost use Rattle.trlab_prose.specs.Plain.{IsPlain};
-ghost use Rattle.trlab_explain.specs.Explanations.{BeginsWith, Explained, ToldAs};
+ghost use Rattle.trlab_explain.specs.Explanations.{BeginsWith, Explains, TellsAs};
 
 use crate::check::explain_check;
 use crate::fault::fault_page;
@@ -21,7 +21,7 @@ use trlab_prose::Page;
 
 /// Whether a text that is read so is refused, and the page on it.
 fn explain_as(alloc: Global, subject: Subject, text: &[u8]) -> Result<(bool, Page), AllocError>
-    ensures { IfOk result (λ told. ToldAs subject text.now told.0 told.1) }
+    ensures { IfOk result (λ told. TellsAs subject text.now told.0 told.1) }
 {
     match subject {
         Subject::Job => explain_job(alloc, text),
@@ -70,7 +70,7 @@ pub fn explain_text<R: AllocGlobal, S: Source, K: Sink>(
     requires writer_works { K.failed writer.old ≡ false }
     // Where the reader tells its bytes, and the writer those that it has.
     ensures answer { IfSome (S.left reader.old)
-        (λ text. EndsSo (Explained subject text) result (K.written writer.old) (K.written writer.new)) }
+        (λ text. EndsSo (Explains subject text) result (K.written writer.old) (K.written writer.new)) }
     // Nothing was written where the text was not read, also by a reader that does not tell its bytes.
     ensures silent { S.failed reader.new ≡ true → Keeps (K.written writer.old) (K.written writer.new) }
     ensures handed { HandsOn result

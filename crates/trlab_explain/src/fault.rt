@@ -3,15 +3,15 @@
 ghost use Rattle.std.specs.Prelude.{IfOk};
 ghost use Rattle.trlab_explain.specs.Explanations.{BeginsWith, fault_head};
 
-use crate::causes::meaning;
 use crate::forms::{INSTRUCTIONS, form_of};
 use crate::head::{push_fault_head, push_read_as};
-use crate::hints::look_at;
 use crate::mends::push_mend;
 use crate::part::push_part_refusal;
-use crate::spots::{expected_at, expected_of_check};
+use crate::spots::{EXPECTED_OF_CHECK, expected_at};
 use std::alloc::{AllocError, Global};
-use trlab_advice::{Subject, likely_repair, line_at, name_and_operands, spot_at};
+use trlab_advice::{
+    Subject, likely_repair, line_at, look_at, meaning_of_cause, name_and_operands, spot_at,
+};
 use trlab_asm::{Why, mnemonic_named};
 use trlab_code::CodeFault;
 use trlab_prose::Page;
@@ -23,7 +23,7 @@ fn push_meaning(page: &mut Page, cause: Cause) -> Result<(), AllocError> {
     page.say("Cause ")?;
     page.number(cause.number())?;
     page.say(": ")?;
-    page.line(meaning(cause))
+    page.line(meaning_of_cause(cause))
 }
 
 /// Adds which instruction of a program in bytes is at fault, or which character of a lane.
@@ -51,7 +51,7 @@ fn push_expected(
         Subject::Job | Subject::Sweep => {
             page.line(expected_at(subject, spot_at(subject, text, line)))
         }
-        Subject::Check => page.line(expected_of_check()),
+        Subject::Check => page.line(EXPECTED_OF_CHECK),
     }
 }
 

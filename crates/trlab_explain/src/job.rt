@@ -1,7 +1,7 @@
 //! The explanation of a job text.
 
 ghost use Rattle.std.specs.Prelude.{IfOk};
-ghost use Rattle.trlab_explain.specs.Explanations.{ToldAs};
+ghost use Rattle.trlab_explain.specs.Explanations.{TellsAs};
 ghost use Rattle.trlab_advice.specs.declared.subject.Subject.TheVariants.{Job as OfJob};
 
 use crate::fault::fault_page;
@@ -74,7 +74,7 @@ fn job_page(alloc: Global, text: &[u8], job: &Job) -> Result<Page, AllocError> {
 ///
 /// Want of memory.
 pub fn explain_job(alloc: Global, text: &[u8]) -> Result<(bool, Page), AllocError>
-    ensures { IfOk result (λ told. ToldAs OfJob text.now told.0 told.1) }
+    ensures { IfOk result (λ told. TellsAs OfJob text.now told.0 told.1) }
 {
     match read_job(alloc, text) {
         Ok(job) => Ok((false, job_page(alloc, text, &job)?)),

@@ -3,14 +3,14 @@
 #![tactic(auto)]
 
 mod accepted;
-mod causes;
 mod check;
 mod explain;
 mod fault;
 mod forms;
 mod head;
-mod hints;
+mod instr_lines;
 mod job;
+pub mod laws;
 mod lines;
 mod marks;
 mod mends;
@@ -18,10 +18,8 @@ mod numbered;
 mod operands;
 mod part;
 mod placed;
-mod reasons;
 mod refusal;
 mod spots;
-mod standing;
 mod sweep;
 mod topics;
 mod verdict;

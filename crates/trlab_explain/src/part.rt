@@ -1,8 +1,8 @@
 //! The refused program of a job.
 
+use crate::instr_lines::{InstrLines, part_behind};
 use crate::placed::Placed;
 use crate::refusal::{Refused, push_refusal};
-use crate::standing::{Standing, part_behind};
 use std::alloc::{AllocError, Global};
 use trlab_advice::line_at;
 use trlab_asm::assemble;
@@ -28,12 +28,12 @@ fn block_code(
     kind: Kind,
     text: &[u8],
     number: u32,
-) -> Result<Option<(Code, Standing)>, AllocError> {
+) -> Result<Option<(Code, InstrLines)>, AllocError> {
     let Some(part) = part_behind(text, number) else {
         return Ok(None);
     };
     match assemble(alloc, kind, part) {
-        Ok(code) => Ok(Some((code, Standing::of_lines(alloc, number, part)?))),
+        Ok(code) => Ok(Some((code, InstrLines::of_lines(alloc, number, part)?))),
         Err(_) => Ok(None),
     }
 }
@@ -43,14 +43,14 @@ fn part_code(
     alloc: Global,
     text: &[u8],
     number: u32,
-) -> Result<Option<(Code, Standing)>, AllocError> {
+) -> Result<Option<(Code, InstrLines)>, AllocError> {
     let Some(line) = line_at(text, number) else {
         return Ok(None);
     };
     match heading_kind(line) {
         Some(kind) => block_code(alloc, kind, text, number),
         None => match code_line(alloc, line) {
-            Ok(code) => Ok(Some((code, Standing::of_bytes(alloc)))),
+            Ok(code) => Ok(Some((code, InstrLines::of_bytes(alloc)))),
             Err(_) => Ok(None),
         },
     }
@@ -75,7 +75,7 @@ pub fn push_part_refusal(
     text: &[u8],
     number: u32,
 ) -> Result<(), AllocError> {
-    let Some((code, standing)) = part_code(alloc, text, number)? else {
+    let Some((code, lines)) = part_code(alloc, text, number)? else {
         return Ok(());
     };
     let Some((code, fault)) = refusal_of(alloc, code) else {
@@ -87,7 +87,7 @@ pub fn push_part_refusal(
     let program = Placed {
         text,
         code: &code,
-        standing: &standing,
+        lines: &lines,
     };
     push_refusal(
         alloc,

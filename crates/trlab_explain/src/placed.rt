@@ -1,6 +1,6 @@
 //! Programs and where they stand in a text.
 
-use crate::standing::Standing;
+use crate::instr_lines::InstrLines;
 use std::alloc::{AllocError, Global};
 use trlab_advice::line_at;
 use trlab_asm::disassemble;
@@ -15,7 +15,7 @@ pub struct Placed<'a> {
     /// The program.
     pub code: &'a Code,
     /// The lines of its instructions.
-    pub standing: &'a Standing,
+    pub lines: &'a InstrLines,
 }
 
 /// Adds an instruction as the laboratory writes it, with its number.
@@ -42,7 +42,7 @@ pub fn push_instruction(
     program: Placed<'_>,
     pc: u32,
 ) -> Result<(), AllocError> {
-    let Some(number) = program.standing.line_of(pc as usize) else {
+    let Some(number) = program.lines.line_of(pc as usize) else {
         return push_canonical(alloc, page, program, pc);
     };
     page.say("line ")?;

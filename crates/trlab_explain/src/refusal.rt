@@ -4,8 +4,8 @@
 use crate::marks::{push_known, push_register};
 use crate::operands::{leads_to, operands};
 use crate::placed::{Placed, push_instruction};
-use crate::reasons::{meaning_of_reason, repair_of_reason};
 use std::alloc::{AllocError, Global};
+use trlab_advice::{meaning_of_reason, repair_of_reason};
 use trlab_code::{Instr, Register};
 use trlab_prose::Page;
 use trlab_verify::{Mark, Note, notes_of_refused};

@@ -2,6 +2,10 @@
 
 use trlab_advice::{Spot, Subject};
 
+/// What has to stand in a check text.
+pub const EXPECTED_OF_CHECK: &str =
+    "Expected: `motion` or `change` and on the next lines a program; or `code X` alone.";
+
 /// What has to stand at a place of a job or sweep text.
 pub fn expected_at(subject: Subject, spot: Spot) -> &'static str {
     match spot {
@@ -40,9 +44,4 @@ pub fn expected_at(subject: Subject, spot: Spot) -> &'static str {
         Spot::Cars => "Expected: `cars n`, a point with n cars, n from 0 to 200000.",
         Spot::Later => "Expected: the end of the text, or `at s` and on the same line a rule.",
     }
-}
-
-/// What has to stand in a check text.
-pub fn expected_of_check() -> &'static str {
-    "Expected: `motion` or `change` and on the next lines a program; or `code X` alone."
 }

@@ -1,7 +1,7 @@
 //! The explanation of a sweep text.
 
 ghost use Rattle.std.specs.Prelude.{IfOk};
-ghost use Rattle.trlab_explain.specs.Explanations.{ToldAs};
+ghost use Rattle.trlab_explain.specs.Explanations.{TellsAs};
 ghost use Rattle.trlab_advice.specs.declared.subject.Subject.TheVariants.{Sweep as OfSweep};
 
 use crate::fault::fault_page;
@@ -77,7 +77,7 @@ fn sweep_page(alloc: Global, text: &[u8], sweep: &Sweep) -> Result<Page, AllocEr
 ///
 /// Want of memory.
 pub fn explain_sweep(alloc: Global, text: &[u8]) -> Result<(bool, Page), AllocError>
-    ensures { IfOk result (λ told. ToldAs OfSweep text.now told.0 told.1) }
+    ensures { IfOk result (λ told. TellsAs OfSweep text.now told.0 told.1) }
 {
     match read_sweep(alloc, text) {
         Ok(sweep) => Ok((false, sweep_page(alloc, text, &sweep)?)),

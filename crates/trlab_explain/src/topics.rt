@@ -3,14 +3,12 @@
 ghost use Rattle.std.specs.Prelude.{◌≡◌, ◌++◌, ◌↔◌, IfOk, OnOk, true, false};
 ghost use Rattle.trlab_campaign.specs.Ending.{EndsSo, HandsOn};
 ghost use Rattle.trlab_campaign.specs.declared.end.End.TheVariants.{DeviceFault};
-ghost use Rattle.trlab_explain.specs.Explanations.{BeginsWith, NumberTold, topic_front};
+ghost use Rattle.trlab_explain.specs.Explanations.{BeginsWith, TellsNumber, topic_front};
 
-use crate::causes::meaning;
 use crate::explain::write_told;
-use crate::hints::look_at;
 use crate::numbered::{MOST_REASON, cause_numbered};
-use crate::reasons::{meaning_of_reason, repair_of_reason};
 use std::alloc::{AllocError, AllocGlobal, Global};
+use trlab_advice::{look_at, meaning_of_cause, meaning_of_reason, repair_of_reason};
 use trlab_campaign::{End, Sink};
 use trlab_code::Kind;
 use trlab_prose::Page;
@@ -54,7 +52,7 @@ fn push_repairs(page: &mut Page, reason: u32) -> Result<(), AllocError> {
 /// What is told of a cause behind its number.
 fn cause_body(alloc: Global, cause: Cause) -> Result<Page, AllocError> {
     let mut page = Page::new(alloc);
-    page.line(meaning(cause))?;
+    page.line(meaning_of_cause(cause))?;
     if let Cause::Verdict(reason) = cause {
         page.say("It is refused for this reason: ")?;
         page.line(meaning_of_reason(reason))?;
@@ -117,7 +115,7 @@ pub fn explain_number<R: AllocGlobal, K: Sink>(
 ) -> End
     requires writer_works { K.failed writer.old ≡ false }
     // Where the writer tells the bytes that it has.
-    ensures answer { EndsSo (NumberTold topic number) result (K.written writer.old) (K.written writer.new) }
+    ensures answer { EndsSo (TellsNumber topic number) result (K.written writer.old) (K.written writer.new) }
     ensures handed { HandsOn result
         (K.handed_on writer.new) (K.flushes writer.old) (K.flushes writer.new) }
     ensures device { (result ≡ DeviceFault) ↔ (K.failed writer.new ≡ true) }

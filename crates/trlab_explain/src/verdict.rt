@@ -3,14 +3,14 @@
 ghost use Rattle.std.specs.Prelude.{IfOk, true, false};
 ghost use Rattle.trlab_verify.specs.Faults.{Tells};
 ghost use Rattle.trlab_jobs.specs.Check.{Check as Request};
-ghost use Rattle.trlab_explain.specs.Explanations.{BeginsWith, ProgramTold};
+ghost use Rattle.trlab_explain.specs.Explanations.{BeginsWith, TellsProgram};
 ghost use Rattle.trlab_campaign.specs.CheckOutput.{refused_line};
 
 use crate::accepted::push_accepted;
 use crate::head::push_refused_line;
+use crate::instr_lines::{InstrLines, behind_line};
 use crate::placed::Placed;
 use crate::refusal::{Refused, push_refusal};
-use crate::standing::{Standing, behind_line};
 use std::alloc::{AllocError, Global};
 use trlab_advice::line_at;
 use trlab_code::{Code, Kind};
@@ -20,22 +20,22 @@ use trlab_texts::word::behind;
 use trlab_verify::{VerifyFault, verify_change, verify_motion};
 
 /// Where the instructions of the program of a check text stand.
-fn standing_of(alloc: Global, text: &[u8]) -> Result<Standing, AllocError> {
+fn instr_lines_of(alloc: Global, text: &[u8]) -> Result<InstrLines, AllocError> {
     match line_at(text, 1) {
-        Some(line) if behind(b"code ", line).is_some() => Ok(Standing::of_bytes(alloc)),
-        Some(line) if behind(b"notes code ", line).is_some() => Ok(Standing::of_bytes(alloc)),
-        _ => Standing::of_lines(alloc, 1, behind_line(text, 1)),
+        Some(line) if behind(b"code ", line).is_some() => Ok(InstrLines::of_bytes(alloc)),
+        Some(line) if behind(b"notes code ", line).is_some() => Ok(InstrLines::of_bytes(alloc)),
+        _ => InstrLines::of_lines(alloc, 1, behind_line(text, 1)),
     }
 }
 
 /// The page on a program that is accepted.
 fn accepted_page(alloc: Global, text: &[u8], code: &Code, budget: u32) -> Result<Page, AllocError> {
     let mut page = Page::new(alloc);
-    let standing = standing_of(alloc, text)?;
+    let lines = instr_lines_of(alloc, text)?;
     let program = Placed {
         text,
         code,
-        standing: &standing,
+        lines: &lines,
     };
     push_accepted(alloc, &mut page, program, budget)?;
     Ok(page)
@@ -50,11 +50,11 @@ fn refused_body(
     reason: u32,
 ) -> Result<Page, AllocError> {
     let mut page = Page::new(alloc);
-    let standing = standing_of(alloc, text)?;
+    let lines = instr_lines_of(alloc, text)?;
     let program = Placed {
         text,
         code,
-        standing: &standing,
+        lines: &lines,
     };
     push_refusal(
         alloc,
@@ -93,7 +93,7 @@ fn explain_refusal(
     fault: VerifyFault,
 ) -> Result<(bool, Page), AllocError>
     ensures { (check : Request) → Tells check.program.kind check.program fault
-        → IfOk result (λ told. ProgramTold check told.0 told.1) }
+        → IfOk result (λ told. TellsProgram check told.0 told.1) }
 {
     match fault {
         VerifyFault::Why { at, reason } => Ok((true, refused_page(alloc, text, code, at, reason)?)),
@@ -107,7 +107,7 @@ fn explain_refusal(
 ///
 /// Want of memory.
 pub fn explain_program(alloc: Global, text: &[u8], check: Check) -> Result<(bool, Page), AllocError>
-    ensures { IfOk result (λ told. ProgramTold check told.0 told.1) }
+    ensures { IfOk result (λ told. TellsProgram check told.0 told.1) }
 {
     let Check { code, .. } = check;
     match code.kind() {

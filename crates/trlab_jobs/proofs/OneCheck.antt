@@ -7,8 +7,8 @@ use Rattle.trlab_asm.specs.Lines.{lines_of}
 use Rattle.trlab_asm.specs.Results.{map_ok}
 use Rattle.trlab_texts.specs.Reading.{Fault}
 use Rattle.trlab_jobs.specs.declared.check.Question.{Question}
-use Rattle.trlab_jobs.specs.Check.{check_of, heading_kind, lone_program, question_of, Check, CheckLinesSay, HeadedLinesSay, QuestionSays}
-use Rattle.trlab_jobs.specs.Laws.{CheckSaysOneThing}
+use Rattle.trlab_jobs.specs.Check.{check_of, heading_kind, lone_program, question_of, Check, CheckLinesSay, HeadedLinesSay, QuestionSays, CheckText}
+use Rattle.trlab_jobs.specs.Laws.{SaysOneThing}
 use Rattle.trlab_texts.proofs.OneProgram.{code_one}
 use Rattle.trlab_texts.proofs.OneReading.{whole_one}
 
@@ -24,5 +24,5 @@ lines_one : (lines : List (List ℕ)) (a b : Result Check Fault) → CheckLinesS
 lines_one [] a b p q = p ∙ sym q
 lines_one (text ∷ left) a b p q = question_one (question_of text) left a b p q
 
-pub one_thing : CheckSaysOneThing
+pub one_thing : SaysOneThing CheckText
 one_thing text says other p q = whole_one (λ t. CheckLinesSay (lines_of t)) text says other (lines_one (lines_of text)) p q

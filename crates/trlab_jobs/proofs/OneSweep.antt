@@ -7,8 +7,8 @@ use Rattle.trlab_texts.specs.Reading.{Fault, line, exactly}
 use Rattle.trlab_jobs.specs.RuleParts.{rule}
 use Rattle.trlab_jobs.specs.Job.{key_line, limit_line}
 use Rattle.trlab_jobs.specs.Shapes.{length_line, lanes_line, warm_line, measure_line, shape, span}
-use Rattle.trlab_jobs.specs.Sweep.{Sweep, sweep_line, heading, setup, with_counts, SweepLinesSay}
-use Rattle.trlab_jobs.specs.Laws.{SweepSaysOneThing}
+use Rattle.trlab_jobs.specs.Sweep.{Sweep, sweep_line, heading, setup, with_counts, SweepLinesSay, SweepText}
+use Rattle.trlab_jobs.specs.Laws.{SaysOneThing}
 use Rattle.trlab_jobs.proofs.SweepLines.{after_limit, after_cells, after_warm, after_key, after_shape, after_rule}
 use Rattle.trlab_texts.proofs.OneReading.{OneReading, exactly_one, line_one, then_one, said_one, whole_one}
 use Rattle.trlab_jobs.proofs.OneRule.{rule_one}
@@ -39,5 +39,5 @@ setup_one = then_one heading after_key heading_one
 lines_one : (text : List ℕ) (a b : Result Sweep Fault) → SweepLinesSay text a → SweepLinesSay text b → a ≡ b
 lines_one text a b p q = p.1.1 ∙ (ap with_counts (setup_one (start text) p.0 q.0 p.1.0 q.1.0) ∙ sym q.1.1)
 
-pub one_thing : SweepSaysOneThing
+pub one_thing : SaysOneThing SweepText
 one_thing text says other p q = whole_one SweepLinesSay text says other (lines_one text) p q

@@ -6,8 +6,8 @@ use Rattle.trlab_texts.specs.Reading.{Fault, line, exactly}
 use Rattle.trlab_jobs.specs.Lanes.{lanes}
 use Rattle.trlab_jobs.specs.RuleParts.{rule}
 use Rattle.trlab_jobs.specs.Later.{later_rules}
-use Rattle.trlab_jobs.specs.Job.{Job, job, road_line, key_line, limit_line, steps_line, LinesSay}
-use Rattle.trlab_jobs.specs.Laws.{TextSaysOneThing}
+use Rattle.trlab_jobs.specs.Job.{Job, job, road_line, key_line, limit_line, steps_line, LinesSay, JobText}
+use Rattle.trlab_jobs.specs.Laws.{SaysOneThing}
 use Rattle.trlab_jobs.proofs.JobLines.{after_road, after_key, after_limit, after_lanes, after_rule, after_steps, after_all}
 use Rattle.trlab_texts.proofs.OneReading.{OneReading, exactly_one, line_one, then_one, said_one, whole_one}
 use Rattle.trlab_jobs.proofs.OneLanes.{lanes_one}
@@ -34,5 +34,5 @@ lines_one text (Ok x) (Err fault) p q = let same = job_one (start text) (Ok (x, 
 lines_one text (Err fault) (Ok y) p q = let same = job_one (start text) (Err fault) (Ok (y, q.0)) p q.1 in cc
 lines_one text (Err fault) (Err other) p q = let same = job_one (start text) (Err fault) (Err other) p q in cc
 
-pub one_thing : TextSaysOneThing
+pub one_thing : SaysOneThing JobText
 one_thing text says other p q = whole_one LinesSay text says other (lines_one text) p q

@@ -11,7 +11,7 @@ use Rattle.trlab_texts.specs.Reading.{Fault}
 use Rattle.trlab_texts.specs.Programs.{program_behind}
 use Rattle.trlab_jobs.specs.declared.check.Question.{Question}
 use Rattle.trlab_jobs.specs.Check.{check_of, no_more_behind, lone_program, heading_kind, question_of, Check, CheckLinesSay, CheckText, HeadedLinesSay, QuestionSays}
-use Rattle.trlab_jobs.specs.Laws.{CheckSaysSomething}
+use Rattle.trlab_jobs.specs.Laws.{SaysSomething}
 use Rattle.trlab_texts.proofs.SomeProgram.{code_some, behind_keeps}
 use Rattle.trlab_texts.proofs.SomeReading.{whole_some}
 
@@ -51,5 +51,5 @@ lines_some (text ∷ left) = question_some (question_of text) left
 pub says_program : (text : List ℕ) → (says : Result Check Fault) × (CheckText text says × IfOk says HasProgram)
 says_program text = whole_some HasProgram (λ t. CheckLinesSay (lines_of t)) text (lines_some (lines_of text))
 
-pub something : CheckSaysSomething
+pub something : SaysSomething CheckText
 something text = let found = says_program text in (found.0, found.1.0)

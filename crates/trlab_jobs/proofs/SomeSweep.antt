@@ -16,7 +16,7 @@ use Rattle.trlab_jobs.specs.Shapes.{length_line, lanes_line, warm_line, measure_
 use Rattle.trlab_jobs.specs.Counts.{counts}
 use Rattle.trlab_jobs.specs.Sweep.{Setup, Sweep, sweep_line, heading, setup, with_counts, SweepLinesSay, SweepText}
 use Rattle.trlab_jobs.specs.Stored.{Spreads, IsStoredSweep}
-use Rattle.trlab_jobs.specs.Laws.{SweepSaysSomething}
+use Rattle.trlab_jobs.specs.Laws.{SaysSomething}
 use Rattle.trlab_jobs.proofs.Ranges.{InRange, number_range}
 use Rattle.trlab_jobs.proofs.SweepLines.{after_limit, after_cells, after_warm, after_key, after_shape, after_rule}
 use Rattle.trlab_jobs.proofs.SomeCounts.{AllHaveRoom, all_keep}
@@ -128,5 +128,5 @@ says_stored text =
     let found = setup_some (start text) in
     whole_some IsStoredSweep SweepLinesSay text (lines_some text found.0 found.1.0 found.1.1)
 
-pub something : SweepSaysSomething
+pub something : SaysSomething SweepText
 something text = let found = says_stored text in (found.0, found.1.0)

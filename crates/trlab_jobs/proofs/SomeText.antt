@@ -12,7 +12,7 @@ use Rattle.trlab_jobs.specs.RuleParts.{rule}
 use Rattle.trlab_jobs.specs.Later.{later_rules}
 use Rattle.trlab_jobs.specs.Job.{Job, job, road_line, key_line, limit_line, steps_line, LinesSay, JobText}
 use Rattle.trlab_jobs.specs.Stored.{AreLaterRules, IsStored}
-use Rattle.trlab_jobs.specs.Laws.{TextSaysSomething}
+use Rattle.trlab_jobs.specs.Laws.{SaysSomething}
 use Rattle.trlab_jobs.proofs.JobLines.{after_road, after_key, after_limit, after_lanes, after_rule, after_steps, after_all}
 use Rattle.trlab_texts.proofs.SomeReading.{Anything, SomeReading, anything, exactly_some, line_some, then_some, said_some, whole_some}
 use Rattle.trlab_jobs.proofs.SomeLanes.{lanes_some}
@@ -53,5 +53,5 @@ says_plain text =
     let found = job_some (start text) in
     whole_some IsStored LinesSay text (lines_some text found.0 found.1.0 found.1.1)
 
-pub something : TextSaysSomething
+pub something : SaysSomething JobText
 something text = let found = says_plain text in (found.0, found.1.0)

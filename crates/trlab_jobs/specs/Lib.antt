@@ -1,11 +1,15 @@
+-- roads and rules in texts
 pub mod Lanes
 pub mod RuleLines
 pub mod RuleParts
 pub mod Later
+-- job texts and check texts
 pub mod Job
-pub mod Stored
 pub mod Check
+-- sweep texts
 pub mod Counts
 pub mod Shapes
 pub mod Sweep
+-- of all of them
+pub mod Stored
 pub mod Laws

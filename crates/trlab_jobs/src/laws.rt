@@ -2,24 +2,25 @@
 //!
 //! Each law is the contract of a function with nothing to do.
 
-ghost use Rattle.trlab_jobs.specs.Laws.{CheckSaysOneThing, CheckSaysSomething};
-ghost use Rattle.trlab_jobs.specs.Laws.{SweepSaysOneThing, SweepSaysSomething};
-ghost use Rattle.trlab_jobs.specs.Laws.{TextSaysOneThing, TextSaysSomething};
+ghost use Rattle.trlab_jobs.specs.Check.{CheckText};
+ghost use Rattle.trlab_jobs.specs.Job.{JobText};
+ghost use Rattle.trlab_jobs.specs.Laws.{SaysOneThing, SaysSomething};
+ghost use Rattle.trlab_jobs.specs.Sweep.{SweepText};
 
 /// Any job text says just one thing: a job, or its first fault.
 pub fn text_says_one_thing()
-    ensures something { TextSaysSomething }
-    ensures one_thing { TextSaysOneThing }
+    ensures something { SaysSomething JobText }
+    ensures one_thing { SaysOneThing JobText }
 {}
 
 /// Any check text says just one thing: a program, or its first fault.
 pub fn check_says_one_thing()
-    ensures something { CheckSaysSomething }
-    ensures one_thing { CheckSaysOneThing }
+    ensures something { SaysSomething CheckText }
+    ensures one_thing { SaysOneThing CheckText }
 {}
 
 /// Any sweep text says just one thing: a sweep, or its first fault.
 pub fn sweep_says_one_thing()
-    ensures something { SweepSaysSomething }
-    ensures one_thing { SweepSaysOneThing }
+    ensures something { SaysSomething SweepText }
+    ensures one_thing { SaysOneThing SweepText }
 {}

@@ -15,9 +15,6 @@ pub const MOST_POINTS: u32 = 200;
 /// The most steps of all points of a sweep together.
 pub const MOST_WORK: u32 = 500_000;
 
-/// The most runners of a sweep.
-pub const MOST_RUNNERS: u32 = 16;
-
 /// What the numbers are, in figures: definitions name the constants, so a changed constant would
 /// change its meaning along with it, and is refused here.
 pub fn sweeps()
@@ -25,6 +22,5 @@ pub fn sweeps()
     ensures largest { MOST_CARS ≡ MOST_LANES * GREATEST_LENGTH }
     ensures points { MOST_POINTS ≡ 200 }
     ensures work { MOST_WORK ≡ 500000 }
-    ensures runners { MOST_RUNNERS ≡ 16 }
     ensures steps { MOST_STEPS ≡ MOST_WORK }
 {}

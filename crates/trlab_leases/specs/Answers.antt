@@ -25,6 +25,7 @@ abbrev pub done_reply : Result (Unit {0}) BookFault → Reply
 done_reply (Ok done) = Done
 done_reply (Err fault) = Refused fault
 
+-- of `order`
 abbrev pub order_reply : Result Order BookFault → Reply
 order_reply (Ok order) = Ordered order.job order.lease order.step order.from
 order_reply (Err fault) = Refused fault
@@ -34,10 +35,12 @@ abbrev pub back_reply : Result (Unit {0}) (LeaseState × BookFault) → Reply
 back_reply (Ok done) = Done
 back_reply (Err handed) = Refused handed.1
 
+-- of `read`
 abbrev pub seen_reply : Result Progress BookFault → Reply
 seen_reply (Ok seen) = Seen seen.step (length seen.sheet)
 seen_reply (Err fault) = Refused fault
 
+-- of `lease`
 abbrev pub lease_reply : Result (Option LeaseState) BookFault → Reply
 lease_reply (Ok None) = NoLease
 lease_reply (Ok (Some lease)) = Leased lease.job lease.number lease.step lease.steps

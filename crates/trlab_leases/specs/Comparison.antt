@@ -61,9 +61,10 @@ abbrev pub IsLent : List JobState → ℕ → Option LeaseState → Type 0
 IsLent jobs number None = Unit {0}
 IsLent jobs number (Some lease) = MatchOption (slice_get jobs lease.job) ⊥ (λ job. IsFresh job number lease)
 
--- the calls whose names are those of what they answer
+-- the call `lease`, which has the name of what it answers
 abbrev pub LeaseCall : Call
 LeaseCall = call.Lease
 
+-- the call `order`, which has it too
 abbrev pub OrderCall : Offered → Call
 OrderCall lease = call.Order lease

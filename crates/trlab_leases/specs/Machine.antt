@@ -26,6 +26,7 @@ pub record JobState : Type 0 where
   pub cancelled : Bool
   pub out : Option ℕ
 
+-- a job by its parts
 abbrev pub job_state : Seed → Sheet → ℕ → ℕ → ℕ → Bool → Option ℕ → JobState
 job_state seed sheet steps high done cancelled out = record {
   seed = seed;

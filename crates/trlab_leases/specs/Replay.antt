@@ -15,12 +15,15 @@ abbrev pub state_from : State → List Call → State
 state_from book [] = book
 state_from book (call ∷ calls) = state_from (after book call) calls
 
+-- the call of an event
 abbrev pub call_of : Event → Call
 call_of event = event.call
 
+-- the reply of an event
 abbrev pub told_by : Event → Reply
 told_by event = event.reply
 
+-- an event by its call and its reply
 abbrev pub event : Call → Reply → Event
 event call reply = record { call = call; reply = reply }
 

@@ -1,9 +1,7 @@
 //! One ordered step of a lease.
 
-ghost use Rattle.std.specs.Prelude.{◌≡◌, ◌↔◌, IsTrue, IfOk, OnOk, OnErr, length};
-ghost use Rattle.trlab_step.specs.Answers.{dice_of};
+ghost use Rattle.std.specs.Prelude.{◌≡◌, ◌↔◌, IsTrue, OnOk, OnErr, length};
 ghost use Rattle.trlab_step.specs.Laws.{IsRuleFor};
-ghost use Rattle.trlab_step.specs.Next.{IsNext};
 ghost use Rattle.trlab_leases.specs.Leases.{FitsOrder, HasRun};
 ghost use Rattle.trlab_leases.specs.declared.advance.LeaseFault.TheVariants.{Memory, WrongOrder};
 
@@ -14,10 +12,7 @@ use crate::suits::suits;
 use std::alloc::{AllocError, Global};
 use thiserror::Error;
 use trlab_machine::Dice;
-use trlab_road::Road;
-use trlab_rules::Rule;
-use trlab_step::{Asker, StepRoom, StepTally, take_step};
-use trlab_words::Key;
+use trlab_step::{Asker, take_step};
 
 /// Why a lease ran no step.
 #[derive(Clone, Copy, Debug, PartialEq, Eq, Error)]
@@ -61,15 +56,8 @@ impl Lease {
         }
         self.applied.reserve(1)?;
         let rule = order.rule.copy(alloc)?;
-        let tally = run_rule(
-            asker,
-            alloc,
-            &mut self.road,
-            &rule,
-            &self.key,
-            self.road_number,
-            self.step,
-        )?;
+        let dice = Dice::new(&self.key, self.road_number, self.step);
+        let tally = take_step(asker, alloc, &mut self.road, &mut self.room, &rule, &dice)?;
         self.applied.push_reserved(Ran { rule, tally });
         self.step += 1;
         Ok(())
@@ -85,24 +73,4 @@ impl Lease {
             && order.step == self.step
             && suits(&order.rule, &self.road)
     }
-}
-
-/// Takes the step of a road, with a number and a key, under a rule for its lanes.
-fn run_rule<A: Asker>(
-    asker: &A,
-    alloc: Global,
-    road: &mut Road,
-    rule: &Rule,
-    key: &Key,
-    number: u32,
-    step: u32,
-) -> Result<StepTally, AllocError>
-    requires ready { A.is_ready asker.now }
-    requires lanes { IsRuleFor (length road.old.lanes) rule.now }
-    ensures next { IfOk result (λ tally. IsNext rule.now (dice_of key.now.0 number step) road.old road.new tally) }
-    ensures same { OnErr result (road.new ≡ road.old) }
-{
-    let dice = Dice::new(key, number, step);
-    let mut room = StepRoom::new(alloc);
-    take_step(asker, alloc, road, &mut room, rule, &dice)
 }

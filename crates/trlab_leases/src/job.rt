@@ -21,7 +21,7 @@ use std::alloc::{AllocError, Global};
 use std::marker::Model;
 use trlab_road::Road;
 use trlab_rules::Rule;
-use trlab_step::StepTally;
+use trlab_step::{StepRoom, StepTally};
 use trlab_words::Key;
 
 /// A job. Contracts see all of it but its road and its tally, which are those of its seed and its sheet.
@@ -82,7 +82,7 @@ impl Job {
     }
 
     /// The road and the tally at the steps done.
-    fn standing(&self) -> (&Road, StepTally)
+    fn reached(&self) -> (&Road, StepTally)
         ensures { IsUnderway (run_of self.now.seed self.now.sheet self.now.done result.0.now result.1) }
     {
         match &self.road {
@@ -146,9 +146,9 @@ impl Job {
         ensures job { IfOk result (λ _. self.new ≡ (leasing index number self.old).job) }
         ensures same { OnErr result (self.new ≡ self.old) }
     {
-        let (standing, _) = self.standing();
-        let base_road = standing.copy(alloc)?;
-        let road = standing.copy(alloc)?;
+        let (reached, _) = self.reached();
+        let base_road = reached.copy(alloc)?;
+        let road = reached.copy(alloc)?;
         self.out = Some(number);
         Ok(Lease {
             job: index,
@@ -161,6 +161,7 @@ impl Job {
             step: self.done,
             road,
             applied: Vec::new(alloc),
+            room: StepRoom::new(alloc),
         })
     }
 
@@ -172,8 +173,8 @@ impl Job {
         if lease.road_number() != self.seed.number || !same_key(lease.key(), &self.seed.key) {
             return false;
         }
-        let (standing, _) = self.standing();
-        if !lease.base_road().equals(standing) {
+        let (reached, _) = self.reached();
+        if !lease.base_road().equals(reached) {
             return false;
         }
         self.sheet.are_in_force(lease.base_step(), lease.applied())
@@ -266,8 +267,8 @@ impl Job {
     {
         let seed = self.seed.copy(alloc)?;
         let sheet = self.sheet.copy(alloc)?;
-        let (standing, tally) = self.standing();
-        let road = standing.copy(alloc)?;
+        let (reached, tally) = self.reached();
+        let road = reached.copy(alloc)?;
         Ok(Snapshot {
             seed,
             sheet,

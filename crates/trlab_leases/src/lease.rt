@@ -6,6 +6,7 @@ ghost use Rattle.trlab_leases.specs.Leases.{IsLease};
 use crate::ran::Ran;
 use std::marker::Model;
 use trlab_road::Road;
+use trlab_step::StepRoom;
 use trlab_words::Key;
 
 /// A job that is out: the road from which the lease began, the rules that it has applied since, and the
@@ -22,6 +23,8 @@ pub struct Lease {
     pub(crate) step: u32,
     pub(crate) road: Road,
     pub(crate) applied: Vec<Ran>,
+    /// The memory of the steps.
+    pub(crate) room: StepRoom,
 }
 
 impl Model for Lease {

@@ -8,8 +8,8 @@ use Rattle.trlab_segments.specs.Segments.{first_car}
 use Rattle.trlab_segments.specs.declared.drawer.Drawer.{Drawer}
 use Rattle.trlab_segments.specs.declared.drawer.Tickets.{Tickets}
 use Rattle.trlab_segments.specs.declared.part.Part.{Part}
-use Rattle.trlab_pool.specs.declared.held.Brief.{Brief}
-use Rattle.trlab_pool.specs.declared.held.Tray.{Tray}
+use Rattle.trlab_pool.specs.declared.brief.Brief.{Brief}
+use Rattle.trlab_pool.specs.declared.brief.Tray.{Tray}
 
 -- a drawer of these tickets that drew nothing
 abbrev pub IsNew : Tickets → Drawer → Type 0

@@ -8,8 +8,8 @@ ghost use Rattle.trlab_road.specs.Cells.{cars};
 ghost use Rattle.trlab_segments.specs.Segments.{first_car, segment_count as count_for};
 
 use crate::board::Board;
+use crate::brief::Brief;
 use crate::drawing::{ask_whole, draw_all};
-use crate::held::Brief;
 use crate::pool::Pool;
 use crate::task::Task;
 use std::alloc::{AllocError, AllocFailed, Global};

@@ -6,7 +6,7 @@ ghost use Rattle.trlab_road.specs.Cells.{cars};
 ghost use Rattle.trlab_segments.specs.Answered.{HasParts};
 ghost use Rattle.trlab_segments.specs.Drawers.{IsFrom, count_of};
 
-use crate::held::Brief;
+use crate::brief::Brief;
 use std::alloc::{AllocError, Global};
 use trlab_road::Road;
 use trlab_segments::lineup::line_up;

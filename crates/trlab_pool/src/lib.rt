@@ -5,10 +5,10 @@
 mod ask;
 mod asker;
 mod board;
+mod brief;
 mod drawing;
 mod hall;
-mod held;
-mod helping;
+mod help;
 mod locker;
 mod pool;
 mod right;

@@ -3,7 +3,7 @@
 ghost use Rattle.std.specs.Prelude.{◌≡◌, ◌<◌, ◌≤◌, IfOk};
 ghost use Rattle.trlab_bounds.specs.declared.runs.TheConstants.{MOST_WORKERS};
 ghost use Rattle.trlab_road.specs.Cells.{cars};
-ghost use Rattle.trlab_segments.specs.Answered.{CrossesPart, HasTwoLanes, SpeedsPart};
+ghost use Rattle.trlab_segments.specs.Answered.{IsCrossesPart, HasTwoLanes, IsSpeedsPart};
 
 use crate::ask::ask_alone;
 use crate::board::Board;
@@ -162,7 +162,7 @@ impl<'a, R: Wait, G: Gate> Pool<'a, R, G> {
     ) -> (Road, Result<Vec<u32>, AllocError>)
         ensures road { result.0 ≡ road }
         ensures speeds { IfOk result.1 (λ speeds.
-            SpeedsPart motion dice road 0 (cars road) speeds.items) }
+            IsSpeedsPart motion dice road 0 (cars road) speeds.items) }
     {
         self.answers_of(alloc, &self.hall.motions, motion, dice, road)
     }
@@ -182,7 +182,7 @@ impl<'a, R: Wait, G: Gate> Pool<'a, R, G> {
         requires { HasTwoLanes road }
         ensures road { result.0 ≡ road }
         ensures crosses { IfOk result.1 (λ crosses.
-            CrossesPart change dice road 0 (cars road) crosses.items) }
+            IsCrossesPart change dice road 0 (cars road) crosses.items) }
     {
         self.answers_of(alloc, &self.hall.changes, change, dice, road)
     }

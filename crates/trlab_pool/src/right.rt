@@ -2,7 +2,7 @@
 
 ghost use Rattle.trlab_pool.specs.Trays.{IsTray};
 
-use crate::held::{Brief, Tray};
+use crate::brief::{Brief, Tray};
 use crate::locker::Keyed;
 use trlab_segments::Asked;
 

@@ -2,7 +2,7 @@
 
 ghost use Rattle.std.specs.Prelude.{◌≡◌};
 
-use crate::held::{Brief, Tray};
+use crate::brief::{Brief, Tray};
 use crate::locker::Locker;
 use trlab_segments::Asked;
 

@@ -3,7 +3,7 @@
 ghost use Rattle.std.specs.Prelude.{◌≡◌, IfOk, IfSome};
 ghost use Rattle.trlab_pool.specs.Trays.{HasDone, IsTray, IsLaid, IsNew, TellsDone};
 
-use crate::held::{Brief, Tray};
+use crate::brief::{Brief, Tray};
 use std::alloc::{AllocError, Global};
 use trlab_road::Road;
 use trlab_segments::{Asked, Drawer, Part};

@@ -22,13 +22,13 @@ abbrev pub HasTwoLanes : Cells → Type 0
 HasTwoLanes road = length road.lanes ≡ 2
 
 -- a motion program answers these speeds to a part of the cars, within their gaps and the limit
-abbrev pub SpeedsPart : CheckedProgram → Dice → Cells → ℕ → ℕ → List ℕ → Type 0
-SpeedsPart motion dice road from to speeds =
+abbrev pub IsSpeedsPart : CheckedProgram → Dice → Cells → ℕ → ℕ → List ℕ → Type 0
+IsSpeedsPart motion dice road from to speeds =
     AnswersSpeedsPart motion dice road from to speeds × FitsPart road from speeds
 
 -- a change program answers so whether a part of the cars cross, and they do so to empty cells only
-abbrev pub CrossesPart : CheckedProgram → Dice → Cells → ℕ → ℕ → List Bool → Type 0
-CrossesPart change dice road from to crosses =
+abbrev pub IsCrossesPart : CheckedProgram → Dice → Cells → ℕ → ℕ → List Bool → Type 0
+IsCrossesPart change dice road from to crosses =
     AnswersCrossingsPart change dice road from to crosses × CrossesFreePart road from crosses
 
 -- the number of the segment of a part
@@ -67,7 +67,7 @@ abbrev pub TellsSpeeds : {A B E : Type 0} → (A → Bor Road → Bor CheckedPro
 TellsSpeeds pre post = (alloc : _) (road : Bor Road) (motion : Bor CheckedProgram) (dice : Bor Dice)
     → pre alloc road motion dice
     × ((told : _) → post alloc road motion dice told
-    → IfOk told (λ speeds. SpeedsPart motion.now dice.now road.now 0 (cars road.now) speeds.items))
+    → IfOk told (λ speeds. IsSpeedsPart motion.now dice.now road.now 0 (cars road.now) speeds.items))
 
 -- a call that can be made on a road of two lanes, and tells which of all its cars cross, if memory was there
 abbrev pub TellsCrosses : {A B E : Type 0} → (A → Bor Road → Bor CheckedProgram → Bor Dice → Type 0)
@@ -75,4 +75,4 @@ abbrev pub TellsCrosses : {A B E : Type 0} → (A → Bor Road → Bor CheckedPr
 TellsCrosses pre post = (alloc : _) (road : Bor Road) (change : Bor CheckedProgram) (dice : Bor Dice)
     → HasTwoLanes road.now → pre alloc road change dice
     × ((told : _) → post alloc road change dice told
-    → IfOk told (λ crosses. CrossesPart change.now dice.now road.now 0 (cars road.now) crosses.items))
+    → IfOk told (λ crosses. IsCrossesPart change.now dice.now road.now 0 (cars road.now) crosses.items))

@@ -7,7 +7,8 @@ use Rattle.trlab_machine.specs.declared.dice.Dice.{Dice}
 use Rattle.trlab_road.specs.Cells.{Cells}
 use Rattle.trlab_road.specs.LaneChange.{sides}
 use Rattle.trlab_road.specs.Motion.{gaps}
-use Rattle.trlab_segments.specs.Answered.{SpeedsPart, CrossesPart}
+use Rattle.trlab_segments.specs.Answered.{IsSpeedsPart, IsCrossesPart}
+use Rattle.trlab_step.specs.Answers.{FitsPart, CrossesFreePart}
 use Rattle.trlab_step.proofs.PartLaws.{speeds_join as join_speeds, crossings_join as join_crossings}
 use Rattle.trlab_verify.specs.CheckedProgram.{CheckedProgram}
 
@@ -29,7 +30,8 @@ both none P xs ys first second k below =
     ]
 
 -- no car answers no speed
-pub speeds_begin : (motion : CheckedProgram) (dice : Dice) (road : Cells) → SpeedsPart motion dice road 0 0 []
+pub speeds_begin : (motion : CheckedProgram) (dice : Dice) (road : Cells)
+    → IsSpeedsPart motion dice road 0 0 []
 speeds_begin motion dice road = (
   record { one_each = refl; each = λ k car answer is here. absurd cc },
   record {
@@ -38,46 +40,52 @@ speeds_begin motion dice road = (
   },
 )
 
+-- speeds of two parts that are within the gaps and the limit, one behind the other, are so too
+fits_join : (road : Cells) (from middle : ℕ) (first second : List ℕ) → middle ≡ from + length first
+    → FitsPart road from first → FitsPart road middle second → FitsPart road from (first ++ second)
+fits_join road from middle first second behind a b =
+    let IsWithin : ℕ → ℕ → Type 0 = λ i s. s ≤ get_or (gaps road) i 0 in
+    let place : (k : ℕ) → middle + k ≡ from + (length first + k) = λ k. omega (arith, behind) in record {
+      within_gaps = both 0 (λ i s. IsWithin (from + i) s) first second a.within_gaps
+          (λ k below. subst (λ i. IsWithin i (get_or second k 0)) (place k) (b.within_gaps k below));
+      within_limit = both 0 (λ i s. s ≤ road.limit) first second a.within_limit b.within_limit;
+    }
+
 -- the speeds of two parts, one behind the other, are those of both
 pub speeds_join : (motion : CheckedProgram) (dice : Dice) (road : Cells) (from middle to : ℕ)
     → (first second : List ℕ)
-    → SpeedsPart motion dice road from middle first → SpeedsPart motion dice road middle to second
-    → SpeedsPart motion dice road from to (first ++ second)
-speeds_join motion dice road from middle to first second a b =
-    let size = a.0.one_each in
-    let place : (k : ℕ) → middle + k ≡ from + (length first + k) = λ k. omega (arith, size) in (
-      join_speeds motion dice road from middle to first second a.0 b.0,
-      record {
-        within_gaps = both 0 (λ i s. s ≤ get_or (gaps road) (from + i) 0) first second a.1.within_gaps
-            (λ k below.
-            subst (λ i. get_or second k 0 ≤ get_or (gaps road) i 0) (place k) (b.1.within_gaps k below));
-        within_limit = both 0 (λ i s. s ≤ road.limit) first second a.1.within_limit b.1.within_limit;
-      },
-    )
+    → IsSpeedsPart motion dice road from middle first → IsSpeedsPart motion dice road middle to second
+    → IsSpeedsPart motion dice road from to (first ++ second)
+speeds_join motion dice road from middle to first second a b = (
+  join_speeds motion dice road from middle to first second a.0 b.0,
+  fits_join road from middle first second (sym a.0.one_each) a.1 b.1,
+)
 
 -- no car answers nothing
 pub crosses_begin : (change : CheckedProgram) (dice : Dice) (road : Cells)
-    → CrossesPart change dice road 0 0 []
+    → IsCrossesPart change dice road 0 0 []
 crosses_begin change dice road = (
   record { one_each = refl; each = λ k car answer is here. absurd cc },
   record { side_empty = λ k below. absurd (omega (arith, below)) },
 )
 
+-- cars of two parts that cross to empty cells only, one behind the other, do so too
+free_join : (road : Cells) (from middle : ℕ) (first second : List Bool) → middle ≡ from + length first
+    → CrossesFreePart road from first → CrossesFreePart road middle second
+    → CrossesFreePart road from (first ++ second)
+free_join road from middle first second behind a b =
+    let IsFree : ℕ → Bool → Type 0 = λ i c. c ≡ true → get_or (sides road) i false ≡ true in
+    let place : (k : ℕ) → middle + k ≡ from + (length first + k) = λ k. omega (arith, behind) in record {
+      side_empty = both false (λ i c. IsFree (from + i) c) first second a.side_empty
+          (λ k below. subst (λ i. IsFree i (get_or second k false)) (place k) (b.side_empty k below));
+    }
+
 -- who crosses in two parts, one behind the other, are those who cross in both
 pub crosses_join : (change : CheckedProgram) (dice : Dice) (road : Cells) (from middle to : ℕ)
     → (first second : List Bool)
-    → CrossesPart change dice road from middle first → CrossesPart change dice road middle to second
-    → CrossesPart change dice road from to (first ++ second)
-crosses_join change dice road from middle to first second a b =
-    let size = a.0.one_each in
-    let place : (k : ℕ) → middle + k ≡ from + (length first + k) = λ k. omega (arith, size) in (
-      join_crossings change dice road from middle to first second a.0 b.0,
-      record {
-        side_empty =
-            both false (λ i c. c ≡ true → get_or (sides road) (from + i) false ≡ true) first second
-            a.1.side_empty
-            (λ k below.
-            subst (λ i. get_or second k false ≡ true → get_or (sides road) i false ≡ true) (place k)
-            (b.1.side_empty k below));
-      },
-    )
+    → IsCrossesPart change dice road from middle first → IsCrossesPart change dice road middle to second
+    → IsCrossesPart change dice road from to (first ++ second)
+crosses_join change dice road from middle to first second a b = (
+  join_crossings change dice road from middle to first second a.0 b.0,
+  free_join road from middle first second (sym a.0.one_each) a.1 b.1,
+)

@@ -4,7 +4,7 @@
 ghost use Rattle.std.specs.Prelude.{◌≡◌, ◌≤◌, ◌++◌, [], ℕ, IfOk, List, length};
 ghost use Rattle.trlab_machine.specs.declared.dice.Dice.{Dice as TheDice};
 ghost use Rattle.trlab_road.specs.Cells.{Cells, cars};
-ghost use Rattle.trlab_segments.specs.Answered.{CrossesPart, SpeedsPart, HasTwoLanes, HasLanes};
+ghost use Rattle.trlab_segments.specs.Answered.{IsCrossesPart, IsSpeedsPart, HasTwoLanes, HasLanes};
 ghost use Rattle.trlab_segments.specs.Joined.{crosses_begin, crosses_join, speeds_begin, speeds_join};
 
 use crate::phase::Phase;
@@ -50,7 +50,7 @@ impl Asked<u32> for Motion {
 
     ghost can_ask = { HasLanes };
 
-    ghost answers = { SpeedsPart };
+    ghost answers = { IsSpeedsPart };
 
     fn ask(alloc: Global, phase: &Phase<Motion>, part: Segment) -> Result<Vec<u32>, AllocError> {
         let Segment { from, to } = part;
@@ -69,7 +69,7 @@ impl Asked<bool> for Change {
 
     ghost can_ask = { HasTwoLanes };
 
-    ghost answers = { CrossesPart };
+    ghost answers = { IsCrossesPart };
 
     fn ask(alloc: Global, phase: &Phase<Change>, part: Segment) -> Result<Vec<bool>, AllocError> {
         let Segment { from, to } = part;

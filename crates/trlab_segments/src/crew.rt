@@ -3,7 +3,7 @@
 ghost use Rattle.std.specs.Prelude.{◌≡◌, ◌<◌, ◌≤◌, IfOk};
 ghost use Rattle.trlab_bounds.specs.declared.runs.TheConstants.{MOST_WORKERS};
 ghost use Rattle.trlab_road.specs.Cells.{cars};
-ghost use Rattle.trlab_segments.specs.Answered.{CrossesPart, HasTwoLanes, SpeedsPart};
+ghost use Rattle.trlab_segments.specs.Answered.{IsCrossesPart, HasTwoLanes, IsSpeedsPart};
 
 use crate::asked::Asked;
 use crate::drawer::Tickets;
@@ -76,7 +76,7 @@ impl<'a, R: Threads + Sync, G: Gate + Sync> Crew<'a, R, G> {
         dice: &Dice,
     ) -> Result<Vec<u32>, AllocError>
         ensures { IfOk result (λ speeds.
-            SpeedsPart motion.now dice.now road.now 0 (cars road.now) speeds.items) }
+            IsSpeedsPart motion.now dice.now road.now 0 (cars road.now) speeds.items) }
     {
         self.ask(
             alloc,
@@ -102,7 +102,7 @@ impl<'a, R: Threads + Sync, G: Gate + Sync> Crew<'a, R, G> {
     ) -> Result<Vec<bool>, AllocError>
         requires { HasTwoLanes road.now }
         ensures { IfOk result (λ crosses.
-            CrossesPart change.now dice.now road.now 0 (cars road.now) crosses.items) }
+            IsCrossesPart change.now dice.now road.now 0 (cars road.now) crosses.items) }
     {
         self.ask(
             alloc,

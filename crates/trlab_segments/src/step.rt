@@ -46,6 +46,7 @@ pub fn step_shared<R: Threads + Sync, G: Gate + Sync>(
     ensures { TellsNext rule.now (dice_of key.now.0 number step) road.now result }
 {
     let crew = Crew::new(rt, workers, gate);
+    let dice = Dice::new(key, number, step);
     let calls = Calls::new(
         |alloc: Global, road: &Road, motion: &Motion, dice: &Dice| crew.speeds(
             alloc, road, motion, dice,
@@ -54,6 +55,5 @@ pub fn step_shared<R: Threads + Sync, G: Gate + Sync>(
             requires { HasTwoLanes road.now }
         { crew.crossings(alloc, road, change, dice) },
     );
-    let dice = Dice::new(key, number, step);
     step_road_by(&calls, alloc, road, rule, &dice)
 }

@@ -20,18 +20,23 @@ why_number TooLong = 6
 why_number Empty = 7
 why_number WhyMemory = 8
 
+-- the number of a fault of a program's header
+abbrev pub header_fault_number : CodeFault → ℕ
+header_fault_number Magic = 2
+header_fault_number Version = 3
+header_fault_number Kind = 4
+header_fault_number Count = 5
+header_fault_number NeedlessVersion = 10
+header_fault_number _ = 0
+
 -- the number of a fault of a program's bytes
 abbrev pub code_fault_number : CodeFault → ℕ
 code_fault_number Short = 1
-code_fault_number Magic = 2
-code_fault_number Version = 3
-code_fault_number Kind = 4
-code_fault_number Count = 5
 code_fault_number (Opcode pc) = 6
 code_fault_number (Field pc) = 7
 code_fault_number Trailing = 8
 code_fault_number CodeMemory = 9
-code_fault_number NeedlessVersion = 10
+code_fault_number fault = header_fault_number fault
 
 -- the number of a fault of a road's pictures
 abbrev pub road_fault_number : RoadFault → ℕ
@@ -43,7 +48,7 @@ road_fault_number (SpeedAboveLimit lane place) = 5
 road_fault_number RoadMemory = 6
 road_fault_number TooManyCars = 7
 
--- the number of a cause that no other text has: of the words of a line, or of the whole text
+-- the number of a cause that no other text has, of its words and lines
 abbrev pub own_cause_number : Cause → ℕ
 own_cause_number Line = 1
 own_cause_number Number = 2
@@ -53,15 +58,15 @@ own_cause_number Order = 5
 own_cause_number TooMany = 6
 own_cause_number Work = 7
 own_cause_number Hex = 8
-own_cause_number TooBig = 9
 own_cause_number _ = 0
 
--- the number of a cause in the line of a refused text: behind 10, 20 and 30 those of faults of programs
--- and roads, from 40 on what the verifier refuses
+-- the number of a cause in the line of a refused text: 9 where the text is too big, behind 10, 20 and 30
+-- those of faults of programs and roads, from 40 on what the verifier refuses
 abbrev pub cause_number : Cause → ℕ
 cause_number (Program why) = 10 + why_number why
 cause_number (Code fault) = 20 + code_fault_number fault
 cause_number (Road fault) = 30 + road_fault_number fault
+cause_number TooBig = 9
 cause_number StandardRefused = 40
 cause_number (Verdict reason) = 40 + reason
 cause_number cause = own_cause_number cause

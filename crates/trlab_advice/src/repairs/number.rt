@@ -6,10 +6,8 @@ ghost use Rattle.trlab_advice.specs.Repairs.{mends_hex, mends_key, mends_number}
 use crate::odd::{Oddity, oddity_of};
 use crate::repairs::Repair;
 use trlab_asm::{cut, digits_value, is_numeral};
+use trlab_bounds::programs::CERTAIN;
 use trlab_texts::word::{behind, head_word};
-
-/// The parts of 2^31 that are certain.
-const ALL_PARTS: u64 = 2147483648;
 
 /// The number that some digits behind a point are of a whole, in parts of 2^31, to the nearest part.
 fn parts_behind_point(digits: &[u8]) -> Option<u32> {
@@ -21,7 +19,8 @@ fn parts_behind_point(digits: &[u8]) -> Option<u32> {
         scale = scale.saturating_mul(10);
     }
     let value = digits_value(digits).min(1_000_000_000);
-    let parts = (value * ALL_PARTS * 2).saturating_add(scale) / scale.saturating_mul(2).max(1);
+    let parts = (value * u64::from(CERTAIN) * 2).saturating_add(scale)
+        / scale.saturating_mul(2).max(1);
     u32::try_from(parts).ok()
 }
 

@@ -11,21 +11,11 @@ use crate::repairs::number::parts_of;
 use crate::subject::Subject;
 use std::alloc::{AllocError, Global};
 use trlab_asm::{
-    MNEMONICS, Mnemonic, REGISTERS, cut, is_numeral, label_and_rest, mnemonic_named, mnemonic_text,
-    only_word, register_text, up_to_blank, without_comment, without_indent,
+    INPUTS, MNEMONICS, Mnemonic, REGISTERS, cut, input_text, is_numeral, label_and_rest,
+    mnemonic_named, mnemonic_text, only_word, register_text, up_to_blank, without_comment,
+    without_indent,
 };
 use trlab_texts::word::{behind, head_word};
-
-/// The names of what cars see.
-const INPUT_NAMES: [&[u8]; 7] = [
-    b"speed",
-    b"limit",
-    b"gap",
-    b"sidegap",
-    b"sideback",
-    b"lane",
-    b"headspeed",
-];
 
 /// The name of the instruction of a line, and what stands behind it: both are empty where the line has
 /// none.
@@ -47,6 +37,15 @@ fn instruction_names(alloc: Global) -> Result<Vec<&'static [u8]>, AllocError> {
     let mut names = Vec::new(alloc);
     for i in 0..MNEMONICS.len() {
         names.push(mnemonic_text(MNEMONICS[i]))?;
+    }
+    Ok(names)
+}
+
+/// The names of what cars see.
+fn input_names(alloc: Global) -> Result<Vec<&'static [u8]>, AllocError> {
+    let mut names = Vec::new(alloc);
+    for i in 0..INPUTS.len() {
+        names.push(input_text(INPUTS[i]))?;
     }
     Ok(names)
 }
@@ -124,7 +123,8 @@ fn operand_word(
         return register_repair(alloc, word);
     }
     if name == Mnemonic::Get && word.len() > 2 {
-        return match nearest(alloc, word, &INPUT_NAMES)? {
+        let names = input_names(alloc)?;
+        return match nearest(alloc, word, &names)? {
             Some(meant) => Ok(Some(Repair::Name(meant))),
             None => Ok(None),
         };

@@ -2,7 +2,9 @@
 
 ghost use Rattle.std.specs.Prelude.{◌≡◌, ◌<◌, ◌≤◌, All, IfOk, get_or, length};
 ghost use Rattle.trlab_diagram.specs.Flow.{IsMeasured};
+ghost use Rattle.trlab_bounds.specs.declared.runs.TheConstants.{MOST_WORKERS};
 ghost use Rattle.trlab_book.specs.Desks.{parts_of};
+ghost use Rattle.trlab_book.specs.declared.limits.TheConstants.{ALL_PARTS, MOST_RUNNERS};
 ghost use Rattle.trlab_campaign.specs.SweepOutput.{ArePoints, IsPoint};
 
 use crate::sweep::points::{even_road, run_point};
@@ -102,9 +104,9 @@ pub fn points_by_runners<L: Ledger + Send + Sync, R: Threads + Wait + Sync>(
     workers: u32,
 ) -> Result<Vec<Point>, AllocError>
     requires name { blank.name ≡ L.name }
-    requires parts { (blank.parts ≡ L.parts) × (blank.parts ≡ 1024) }
-    requires runners { (0 < runners) × (runners ≤ 16) }
-    requires workers { (0 < workers) × (workers ≤ 16) }
+    requires parts { (blank.parts ≡ L.parts) × (blank.parts ≡ ALL_PARTS) }
+    requires runners { (0 < runners) × (runners ≤ MOST_RUNNERS) }
+    requires workers { (0 < workers) × (workers ≤ MOST_WORKERS) }
     ensures are { IfOk result (λ points. ArePoints sweep.now points.items) }
     ensures measured { IfOk result (λ points. All IsMeasured points.items) }
 {

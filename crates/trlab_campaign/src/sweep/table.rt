@@ -1,6 +1,8 @@
 //! The table of a sweep's points.
 
 ghost use Rattle.std.specs.Prelude.{◌≡◌, ◌<◌, ◌≤◌, IfOk, false};
+ghost use Rattle.trlab_bounds.specs.declared.runs.TheConstants.{MOST_WORKERS};
+ghost use Rattle.trlab_book.specs.declared.limits.TheConstants.{MOST_RUNNERS};
 ghost use Rattle.trlab_campaign.specs.SweepOutput.{SweepOutput};
 
 use crate::sweep::runners::points_by_runners;
@@ -9,6 +11,7 @@ use std::marker::Brand;
 use std::sync::Wait;
 use std::sync::ledger::Blank;
 use std::thread::Threads;
+use trlab_book::ALL_PARTS;
 use trlab_diagram::points_text;
 use trlab_jobs::Sweep;
 
@@ -24,14 +27,14 @@ pub fn table<R: Threads + Wait + Sync>(
     runners: u32,
     workers: u32,
 ) -> Result<Vec<u8>, AllocError>
-    requires runners { (0 < runners) × (runners ≤ 16) }
-    requires workers { (0 < workers) × (workers ≤ 16) }
+    requires runners { (0 < runners) × (runners ≤ MOST_RUNNERS) }
+    requires workers { (0 < workers) × (workers ≤ MOST_WORKERS) }
     ensures { IfOk result (λ text. SweepOutput sweep.now false text.items) }
 {
     let points = points_by_runners::<Brand, R>(
         rt,
         alloc,
-        Blank::new(1024),
+        Blank::new(u64::from(ALL_PARTS)),
         sweep,
         runners,
         workers,

@@ -1,13 +1,13 @@
 use Rattle.std.proofs.Common.{ℕ, List, refl}
 use Rattle.trlab_campaign.specs.Ending.{EndsSo}
 use Rattle.trlab_campaign.proofs.KnownBytes.{consumes_whole}
-use Rattle.trlab_explain.specs.Explanations.{Explained}
+use Rattle.trlab_explain.specs.Explanations.{Explains}
 use Rattle.trlab_explain.proofs.Endings.{big_ends, told_ends}
 use Rattle.trlab_explain.proofs.explain.explain_text.Goals as goal
 
 pub returns-in-Ok-clause-answer : goal.returns-in-Ok-clause-answer
 returns-in-Ok-clause-answer g c =
-    consumes_whole (λ (text : List ℕ). EndsSo (Explained c.args.subject text) c.write_told.result (g.K.Sink.written c.args.writer.now) (g.K.Sink.written c.write_told.new.writer))
+    consumes_whole (λ (text : List ℕ). EndsSo (Explains c.args.subject text) c.write_told.result (g.K.Sink.written c.args.writer.now) (g.K.Sink.written c.write_told.new.writer))
     _ _ c.in-Ok.text.items c.in-Ok.ensures.text c.in-Ok.ensures.whole
     (told_ends c.args.subject c.in-Ok.text.items c.explain_as.result _ _ _
     (rw (c.unwrap_or-subject.ensures, c.subject_of.ensures, c.deref.ensures.value, c.deref-in-Ok.ensures.value) at c.explain_as.ensures) c.write_told.ensures.answer)

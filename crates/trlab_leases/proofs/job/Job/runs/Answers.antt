@@ -9,7 +9,7 @@ returns-then-not-equals c =
     let j = c.self.inside in
     let state = job_state j.seed j.sheet j.steps j.high j.done j.cancelled j.out in (
       λ h. absurd (false≢true h),
-      λ own. absurd (runs_not state c.args.self.now c.args.lease.now _ _ c.self.view_is c.standing.ensures
+      λ own. absurd (runs_not state c.args.self.now c.args.lease.now _ _ c.self.view_is c.reached.ensures
           (λ same. false≢true (sym c.if-not-equals.true ∙ c.equals.ensures.1 (c.base_road.ensures ∙ same))) own),
     )
 
@@ -18,6 +18,6 @@ returns c =
     let j = c.self.inside in
     let state = job_state j.seed j.sheet j.steps j.high j.done j.cancelled j.out in
     let rules = rw (c.base_step.ensures, c.applied.ensures.value) at c.are_in_force.ensures in
-    runs_where state c.args.self.now c.args.lease.now _ _ c.are_in_force.result c.self.view_is c.standing.ensures
+    runs_where state c.args.self.now c.args.lease.now _ _ c.are_in_force.result c.self.view_is c.reached.ensures
     (sym c.key.ensures ∙ c.same_key.ensures.0 c.if-not-same_key.false) (sym c.road_number.ensures ∙ c.if-road_number-self.false)
     (sym c.base_road.ensures ∙ c.equals.ensures.0 c.if-not-equals.false) rules

@@ -9,7 +9,7 @@ ghost use Rattle.trlab_leases.specs.Machine.{is_full, start};
 ghost use Rattle.trlab_leases.specs.declared.fault.BookFault.TheVariants.{HistoryFull};
 ghost use Rattle.trlab_leases.specs.declared.event.Call.TheVariants.{Cancel, GiveBack, Read, Replace, Revoke, Submit};
 ghost use Rattle.trlab_leases.specs.declared.event.Reply.TheVariants.{Refused};
-ghost use Rattle.trlab_book.specs.Keeping.{IsUnchanged, Lengthens, Makes, TellsFull};
+ghost use Rattle.trlab_book.specs.Events.{IsUnchanged, Lengthens, Makes, TellsFull};
 
 use crate::kept::Kept;
 use crate::replies::{

@@ -25,12 +25,20 @@ pub fn meaning_of_reason(reason: u32) -> &'static str {
 pub fn repair_of_reason(reason: u32, kind: Kind) -> &'static str {
     match reason {
         1 => "drop the instruction, or let the jump above it depend on something.",
-        2 => repair_of_kind(kind),
+        2 => match kind {
+            Kind::Motion =>
+                "a motion program sees its own lane only and ends with `go`; look at the gap.",
+            Kind::Change =>
+                "a change program ends with `cross` or `stay`; speeds are chosen in the motion program.",
+        },
         3 => "set the register on every way that leads here, by `num` or `get`.",
         4 => "decide by a jump: `jfalse` goes past what is for a true flag.",
         5 => "write what is repeated one after the other.",
         6 => "name an instruction: behind a label at the end of a program none stands.",
-        7 => repair_of_end(kind),
+        7 => match kind {
+            Kind::Motion => "let every way end in `go`.",
+            Kind::Change => "let every way end in `cross` or `stay`.",
+        },
         8 => "take the `min` with a smaller number first, or multiply by less.",
         9 =>
             "take away at most what is there: `min` the second with the first before, or jump past it.",
@@ -38,23 +46,5 @@ pub fn repair_of_reason(reason: u32, kind: Kind) -> &'static str {
         11 => "`get` the limit again, and `min` the speed with it just before `go`.",
         12 => "ask first: `side r0`, `jfalse r0, no`, then `cross`, and at `no` stands `stay`.",
         _ => "there is none.",
-    }
-}
-
-/// What a program of a kind does in place of an instruction or input of the other kind.
-fn repair_of_kind(kind: Kind) -> &'static str {
-    match kind {
-        Kind::Motion =>
-            "a motion program sees its own lane only and ends with `go`; look at the gap.",
-        Kind::Change =>
-            "a change program ends with `cross` or `stay`; speeds are chosen in the motion program.",
-    }
-}
-
-/// How a program of a kind ends.
-fn repair_of_end(kind: Kind) -> &'static str {
-    match kind {
-        Kind::Motion => "let every way end in `go`.",
-        Kind::Change => "let every way end in `cross` or `stay`.",
     }
 }

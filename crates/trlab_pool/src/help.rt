@@ -5,8 +5,8 @@ ghost use Rattle.trlab_pool.specs.Trays.{AnswersAll, IsCutWhole, IsTray, IsNew, 
 ghost use Rattle.trlab_pool.specs.Lockers.{HasOnly};
 ghost use Rattle.trlab_segments.specs.Drawers.{count_of};
 
+use crate::brief::{Brief, Tray};
 use crate::drawing::{draw_all, finish};
-use crate::held::{Brief, Tray};
 use crate::locker::{Loan, Locker};
 use crate::task::Task;
 use crate::tray::{gathered, lay, pick};

@@ -6,7 +6,7 @@ use trlab_road::RoadFault;
 use trlab_texts::Cause;
 
 /// What a cause means.
-pub fn meaning(cause: Cause) -> &'static str {
+pub fn meaning_of_cause(cause: Cause) -> &'static str {
     match cause {
         Cause::Line => "This is not the line that must stand here.",
         Cause::Number => "There is no number here, or one outside its range.",

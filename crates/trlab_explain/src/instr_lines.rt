@@ -9,29 +9,29 @@ use trlab_texts::Rest;
 
 /// The lines on which the instructions of a program stand; of a program in bytes none does.
 #[derive(Drop)]
-pub struct Standing {
+pub struct InstrLines {
     /// The number of the line before the program's first.
     first: u32,
     /// The lines of the instructions, counted from 1 behind that line.
     lines: Vec<usize>,
 }
 
-impl Standing {
+impl InstrLines {
     /// Those of a program whose lines stand behind a line.
     ///
     /// # Errors
     ///
     /// Want of memory.
-    pub fn of_lines(alloc: Global, first: u32, program: &[u8]) -> Result<Standing, AllocError> {
+    pub fn of_lines(alloc: Global, first: u32, program: &[u8]) -> Result<InstrLines, AllocError> {
         match instruction_lines(alloc, program) {
-            Ok(lines) => Ok(Standing { first, lines }),
+            Ok(lines) => Ok(InstrLines { first, lines }),
             Err(_) => Err(AllocError),
         }
     }
 
     /// Those of a program in bytes.
-    pub fn of_bytes(alloc: Global) -> Standing {
-        Standing {
+    pub fn of_bytes(alloc: Global) -> InstrLines {
+        InstrLines {
             first: 0,
             lines: Vec::new(alloc),
         }
