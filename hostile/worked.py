@@ -28,6 +28,10 @@ FAST_CODE = bytes.fromhex("54524c4201000200" "0200000000000000" "140000000000000
 # A motion that is accepted, with its notes.
 CAREFUL = b"notes motion\nget r0, speed ; as fast\nget r1, gap\njle r0, r1, on\ncopy r0, r1\non: go r0\n"
 
+# A lane change that looks at the cell beside before it crosses, and one that does not, so that it is refused.
+CHANGE = b"change\nside r0\ndraw r1, 1, 2147483648\nand r2, r0, r1\njtrue r2, on\nstay\non: cross\n"
+RASH_CHANGE = CHANGE.replace(b"and", b"or")
+
 # An empty road, one car, two cars and a full road.
 FOUR_POINTS = (
     "sweep 1\n" + KEY + "limit 5\nlength 10\nlanes 1\nrule nasch 0\nwarm 10\nmeasure 10\n"
@@ -45,6 +49,8 @@ TEXTS = {
     "a fast motion": ("check", FAST),
     "a fast motion in bytes": ("check", b"code " + FAST_CODE.hex().encode() + b"\n"),
     "a careful motion": ("check", CAREFUL),
+    "a careful change": ("check", CHANGE),
+    "a rash change": ("check", RASH_CHANGE),
     "four points": ("sweep", FOUR_POINTS),
 }
 

@@ -6,7 +6,7 @@ pub const ABOUT: &str =
 
 /// The version of the program, and on a line of its own that of the toolchain which proved it.
 pub const VERSION: &str = "0.1.0
-rattle-kit-13b logic dac8208d650f15bf";
+rattle-kit-13f logic dac8208d650f15bf";
 
 /// Below the commands: an example, the exit statuses, and where to read on.
 pub const AFTER: &str = "\
