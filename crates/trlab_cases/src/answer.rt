@@ -180,15 +180,35 @@ fn not_assembled(alloc: Global, fault: AsmFault) -> Result<Answer, AllocError> {
 /// The bytes and the canonical text of a program.
 fn spelt(alloc: Global, code: &Code) -> Result<Answer, AllocError> {
     let mut output = Vec::new(alloc);
-    for row in encode(alloc, code)?.chunks(8) {
-        output.extend_from_slice(hex::encode(alloc, row)?.as_bytes())?;
-        output.push(b'\n')?;
-    }
-    output.extend_from_slice(&disassemble(alloc, code)?)?;
+    add_rows(alloc, &mut output, code)?;
+    add_text(alloc, &mut output, code)?;
     Ok(Answer {
         end: End::Done,
         output,
     })
+}
+
+/// Adds the bytes of a program, eight on a line.
+fn add_rows(alloc: Global, output: &mut Vec<u8>, code: &Code) -> Result<(), AllocError> {
+    let bytes = encode(alloc, code)?;
+    for row in bytes.chunks(8) {
+        add_row(alloc, output, row)?;
+    }
+    Ok(())
+}
+
+/// Adds bytes in hexadecimal, on a line.
+fn add_row(alloc: Global, output: &mut Vec<u8>, row: &[u8]) -> Result<(), AllocError> {
+    let digits = hex::encode(alloc, row)?;
+    output.extend_from_slice(digits.as_bytes())?;
+    output.push(b'\n')?;
+    Ok(())
+}
+
+/// Adds the canonical text of a program.
+fn add_text(alloc: Global, output: &mut Vec<u8>, code: &Code) -> Result<(), AllocError> {
+    let text = disassemble(alloc, code)?;
+    output.extend_from_slice(&text)
 }
 
 /// The kind and the canonical text of the program of these bytes, or the fault.
@@ -198,36 +218,52 @@ fn decoded(alloc: Global, text: &[u8]) -> Result<Answer, AllocError> {
         .copied()
         .filter(|byte| !byte.is_ascii_whitespace())
         .collect(alloc)?;
-    let Ok(bytes) = hex::decode(alloc, digits) else {
-        return told(alloc, End::Refused, "no hexadecimal\n");
-    };
-    match decode(alloc, &bytes) {
+    match hex::decode(alloc, digits) {
+        Ok(bytes) => decoded_bytes(alloc, &bytes),
+        Err(_) => told(alloc, End::Refused, "no hexadecimal\n"),
+    }
+}
+
+/// The kind and the canonical text of the program of these bytes, or the fault.
+fn decoded_bytes(alloc: Global, bytes: &[u8]) -> Result<Answer, AllocError> {
+    match decode(alloc, bytes) {
         Ok(code) => read(alloc, &code),
         Err(CodeFault::Memory) => Err(AllocError),
-        Err(fault) => told(
-            alloc,
-            End::Refused,
-            format!(in alloc; "{fault:?}\n")?.as_str(),
-        ),
+        Err(fault) => not_decoded(alloc, fault),
     }
+}
+
+/// Why no program is decoded.
+fn not_decoded(alloc: Global, fault: CodeFault) -> Result<Answer, AllocError> {
+    let line = format!(in alloc; "{fault:?}\n")?;
+    told(alloc, End::Refused, line.as_str())
 }
 
 /// The kind and the canonical text of a program.
 fn read(alloc: Global, code: &Code) -> Result<Answer, AllocError> {
-    let kind = code.kind();
-    let mut answer = told(alloc, End::Done, format!(in alloc; "{kind:?}\n")?.as_str())?;
-    answer.output.extend_from_slice(&disassemble(alloc, code)?)?;
+    let mut answer = kind_told(alloc, code.kind())?;
+    add_text(alloc, &mut answer.output, code)?;
     Ok(answer)
+}
+
+/// The kind of a program, on a line.
+fn kind_told(alloc: Global, kind: Kind) -> Result<Answer, AllocError> {
+    let line = format!(in alloc; "{kind:?}\n")?;
+    told(alloc, End::Done, line.as_str())
 }
 
 /// The notes of a program, which check as a table, or the fault.
 fn noted(alloc: Global, kind: Kind, text: &[u8]) -> Result<Answer, AllocError> {
-    let code = match assemble(alloc, kind, text) {
-        Ok(code) => code,
-        Err(fault) => return not_assembled(alloc, fault),
-    };
-    match notes(alloc, &code) {
-        Ok(table) if check_notes(&code, &table) => listed(alloc, &table),
+    match assemble(alloc, kind, text) {
+        Ok(code) => noted_code(alloc, &code),
+        Err(fault) => not_assembled(alloc, fault),
+    }
+}
+
+/// The notes of a program, which check as a table.
+fn noted_code(alloc: Global, code: &Code) -> Result<Answer, AllocError> {
+    match notes(alloc, code) {
+        Ok(table) if check_notes(code, &table) => listed(alloc, &table),
         Ok(_) => told(alloc, End::Refused, "notes that do not check\n"),
         Err(NotesFault::Refused) => told(alloc, End::Refused, "no notes\n"),
         Err(NotesFault::Memory) => Err(AllocError),
@@ -238,13 +274,20 @@ fn noted(alloc: Global, kind: Kind, text: &[u8]) -> Result<Answer, AllocError> {
 fn listed(alloc: Global, table: &[Note]) -> Result<Answer, AllocError> {
     let mut output = Vec::new(alloc);
     for note in table {
-        output.extend_from_slice(note_line(alloc, note)?.as_bytes())?;
-        output.push(b'\n')?;
+        add_note(alloc, &mut output, note)?;
     }
     Ok(Answer {
         end: End::Done,
         output,
     })
+}
+
+/// Adds a note, on a line.
+fn add_note(alloc: Global, output: &mut Vec<u8>, note: &Note) -> Result<(), AllocError> {
+    let line = note_line(alloc, note)?;
+    output.extend_from_slice(line.as_bytes())?;
+    output.push(b'\n')?;
+    Ok(())
 }
 
 /// An end with this output.

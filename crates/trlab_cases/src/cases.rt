@@ -2,7 +2,7 @@
 
 use crate::answer::{Answer, Command};
 use crate::parts::{Broken, Part, read_parts};
-use std::alloc::Global;
+use std::alloc::{AllocError, Global};
 use trlab_campaign::End;
 use trlab_code::Kind;
 use trlab_explain::{Subject, Topic};
@@ -101,8 +101,7 @@ impl<'a> Reader<'a> {
         if part.text.is_empty() {
             return Err(Broken::Line(part.line));
         }
-        let mut text = String::from_str(alloc, self.front.as_str())?;
-        text.push_str(asked.text.as_str())?;
+        let text = joined(alloc, self.front.as_str(), asked.text.as_str())?;
         self.cases.push(Case {
             title: self.title,
             line: asked.line,
@@ -116,6 +115,13 @@ impl<'a> Reader<'a> {
         })?;
         Ok(())
     }
+}
+
+/// A text behind a front.
+fn joined(alloc: Global, front: &str, text: &str) -> Result<String, AllocError> {
+    let mut whole = String::from_str(alloc, front)?;
+    whole.push_str(text)?;
+    Ok(whole)
 }
 
 /// The command of these words.

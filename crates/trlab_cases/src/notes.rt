@@ -27,28 +27,36 @@ const NAMES: [&str; PLACES] = [
 /// them, and whether the side cell is empty.
 pub fn note_line(alloc: Global, note: &Note) -> Result<String, AllocError> {
     let mut line = String::new(alloc);
+    add_all(alloc, &mut line, note)?;
+    String::from_str(alloc, line.trim_start())
+}
+
+/// Adds all that a note says, a blank before each.
+fn add_all(alloc: Global, line: &mut String, note: &Note) -> Result<(), AllocError> {
     for (name, mark) in NAMES.iter().zip(note.regs.iter()) {
-        match mark {
-            Mark::Unset => {}
-            Mark::Num(low, high) => line.push_str(&format!(in alloc; " {name} {low} {high}")?)?,
-            Mark::Flag(true) => line.push_str(&format!(in alloc; " {name} side")?)?,
-            Mark::Flag(false) => line.push_str(&format!(in alloc; " {name} flag")?)?,
-        }
+        add_mark(alloc, line, name, *mark)?;
     }
     for (place, (name, levels)) in NAMES.iter().zip(note.levels.iter()).enumerate() {
-        add_order(
-            &mut line,
-            place,
-            &format!(in alloc; " {name}<=")?,
-            levels,
-            1,
-        )?;
-        add_order(&mut line, place, &format!(in alloc; " {name}<")?, levels, 2)?;
+        let at_most = format!(in alloc; " {name}<=")?;
+        add_order(line, place, &at_most, levels, 1)?;
+        let below = format!(in alloc; " {name}<")?;
+        add_order(line, place, &below, levels, 2)?;
     }
     if note.side {
         line.push_str(" side")?;
     }
-    String::from_str(alloc, line.trim_start())
+    Ok(())
+}
+
+/// Adds what a register holds.
+fn add_mark(alloc: Global, line: &mut String, name: &str, mark: Mark) -> Result<(), AllocError> {
+    let words = match mark {
+        Mark::Unset => return Ok(()),
+        Mark::Num(low, high) => format!(in alloc; " {name} {low} {high}")?,
+        Mark::Flag(true) => format!(in alloc; " {name} side")?,
+        Mark::Flag(false) => format!(in alloc; " {name} flag")?,
+    };
+    line.push_str(&words)
 }
 
 /// Adds the other places to which a place has this level, behind its name and a sign, where there

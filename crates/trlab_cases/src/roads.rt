@@ -1,5 +1,8 @@
 //! Roads, and the first steps of jobs, as lines of text.
 
+ghost use Rattle.std.specs.Prelude.{◌<◌};
+ghost use Rattle.trlab_road.specs.Cells.{cars};
+
 use crate::answer::{Answer, told};
 use std::alloc::{AllocError, Global};
 use trlab_campaign::End;
@@ -33,33 +36,49 @@ pub fn spread(alloc: Global, text: &str) -> Result<Answer, AllocError> {
 
 /// The measures of a road, its cars in standing order, and its pictures, or the fault.
 fn drawn(alloc: Global, road: Result<Road, RoadFault>) -> Result<Answer, AllocError> {
-    let road = match road {
-        Ok(road) => road,
-        Err(RoadFault::Memory) => return Err(AllocError),
-        Err(fault) => {
-            return told(
-                alloc,
-                End::Refused,
-                format!(in alloc; "{fault:?}\n")?.as_str(),
-            );
-        }
-    };
-    let mut output = Vec::new(alloc);
-    add_measures(alloc, &mut output, &road)?;
-    for k in 0..road.cars() {
-        let ahead = (road.gap(k), road.headspeed(k));
-        add_car(alloc, &mut output, road.standing(k), ahead)?;
-        if road.lanes() == 2 {
-            let beside = (road.side(k), road.sidegap(k), road.sideback(k));
-            add_beside(alloc, &mut output, beside)?;
-        }
-        output.push(b'\n')?;
+    match road {
+        Ok(road) => shown(alloc, &road),
+        Err(RoadFault::Memory) => Err(AllocError),
+        Err(fault) => not_drawn(alloc, fault),
     }
-    add_pictures(alloc, &mut output, &road)?;
+}
+
+/// Why there is no road.
+fn not_drawn(alloc: Global, fault: RoadFault) -> Result<Answer, AllocError> {
+    let line = format!(in alloc; "{fault:?}\n")?;
+    told(alloc, End::Refused, line.as_str())
+}
+
+/// What is shown of a road.
+fn shown(alloc: Global, road: &Road) -> Result<Answer, AllocError> {
+    let mut output = Vec::new(alloc);
+    add_measures(alloc, &mut output, road)?;
+    for k in 0..road.cars() {
+        add_standing(alloc, &mut output, road, k)?;
+    }
+    add_pictures(alloc, &mut output, road)?;
     Ok(Answer {
         end: End::Done,
         output,
     })
+}
+
+/// Adds the car at a place of the standing order, and what it sees.
+fn add_standing(alloc: Global, output: &mut Vec<u8>, road: &Road, k: u32) -> Result<(), AllocError>
+    requires { k < cars road.now }
+{
+    add_car(
+        alloc,
+        output,
+        road.standing(k),
+        (road.gap(k), road.headspeed(k)),
+    )?;
+    if road.lanes() == 2 {
+        let beside = (road.side(k), road.sidegap(k), road.sideback(k));
+        add_beside(alloc, output, beside)?;
+    }
+    output.push(b'\n')?;
+    Ok(())
 }
 
 /// Adds the counts of lanes and cells, the limit and the count of cars.
@@ -124,23 +143,38 @@ fn add_pictures(alloc: Global, output: &mut Vec<u8>, road: &Road) -> Result<(), 
 
 /// The first step of a job, phase by phase, and its tally; or that its first rule is none for its road.
 pub fn stepped(alloc: Global, text: &[u8]) -> Result<Answer, AllocError> {
-    let Ok(job) = read_job(alloc, text) else {
-        return told(alloc, End::Refused, "no job\n");
-    };
+    match read_job(alloc, text) {
+        Ok(job) => first_step(alloc, &job),
+        Err(_) => told(alloc, End::Refused, "no job\n"),
+    }
+}
+
+/// The first step of a job.
+fn first_step(alloc: Global, job: &Job) -> Result<Answer, AllocError> {
     let mut output = Vec::new(alloc);
-    let middle = match job.first.change() {
-        Some(change) => after_crossing(alloc, &mut output, &job.road, change, &job.key)?,
-        None => job.road.copy(alloc)?,
-    };
-    let next = after_motion(alloc, &mut output, &middle, job.first.motion(), &job.key)?;
-    add_tally(alloc, &mut output, &job, &next)?;
+    add_step(alloc, &mut output, job)?;
     Ok(Answer {
         end: End::Done,
         output,
     })
 }
 
-/// The road after the sideways phase; adds who crosses, and the road.
+/// Adds the phases of the first step of a job, and its tally.
+fn add_step(alloc: Global, output: &mut Vec<u8>, job: &Job) -> Result<(), AllocError> {
+    let middle = after_sideways(alloc, output, job)?;
+    let next = after_motion(alloc, output, &middle, job.first.motion(), &job.key)?;
+    add_tally(alloc, output, job, &next)
+}
+
+/// The road after the sideways phase, if there is one; adds who crosses, and the road.
+fn after_sideways(alloc: Global, output: &mut Vec<u8>, job: &Job) -> Result<Road, AllocError> {
+    match job.first.change() {
+        Some(change) => after_crossing(alloc, output, &job.road, change, &job.key),
+        None => job.road.copy(alloc),
+    }
+}
+
+/// The road after the sideways phase by this program; adds who crosses, and the road.
 fn after_crossing(
     alloc: Global,
     output: &mut Vec<u8>,
@@ -152,13 +186,19 @@ fn after_crossing(
         return road.copy(alloc);
     }
     let crosses = choose_part(alloc, road, change, key, 0, 0, 0, road.cars())?;
+    add_crosses(output, &crosses)?;
     let middle = commit_change(alloc, road, &crosses)?;
-    add_words(output, "crosses")?;
-    for cross in &crosses {
-        add_words(output, if *cross { " yes" } else { " no" })?;
-    }
     add_road(alloc, output, &middle)?;
     Ok(middle)
+}
+
+/// Adds who crosses.
+fn add_crosses(output: &mut Vec<u8>, crosses: &[bool]) -> Result<(), AllocError> {
+    add_words(output, "crosses")?;
+    for cross in crosses {
+        add_words(output, if *cross { " yes" } else { " no" })?;
+    }
+    Ok(())
 }
 
 /// The road after the motion phase; adds how fast the cars are, and the road.
@@ -170,13 +210,19 @@ fn after_motion(
     key: &Key,
 ) -> Result<Road, AllocError> {
     let speeds = move_part(alloc, road, motion, key, 0, 0, 0, road.cars())?;
+    add_speeds(alloc, output, &speeds)?;
     let next = commit_motion(alloc, road, &speeds)?;
-    add_words(output, "speeds")?;
-    for speed in &speeds {
-        add_number(alloc, output, " ", *speed)?;
-    }
     add_road(alloc, output, &next)?;
     Ok(next)
+}
+
+/// Adds how fast the cars are.
+fn add_speeds(alloc: Global, output: &mut Vec<u8>, speeds: &[u32]) -> Result<(), AllocError> {
+    add_words(output, "speeds")?;
+    for speed in speeds {
+        add_number(alloc, output, " ", *speed)?;
+    }
+    Ok(())
 }
 
 /// Adds the pictures of a road, and the numbers of its cars in standing order.

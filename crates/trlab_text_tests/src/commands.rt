@@ -130,76 +130,102 @@ fn help_is_no_fault(rt: HostRuntime) {
     }
 }
 
-/// The exit status of the command of a line, from a reader to a writer.
+/// A command line, the text that its command reads, the status with which it ends, and its output.
+type Carried = (&'static str, &'static str, u8, &'static str);
+
+const JOB: &str = "road 1\nkey 0000000000000000000000000000000000000000000000000000000000000000\n\
+    limit 5\nlane 0.\nrule nasch 0\nsteps 1\n";
+
+const PICTURES: &str = "step 0\n0.\nstep 1\n.1\n";
+
+const SWEEP: &str =
+    "sweep 1\nkey 0000000000000000000000000000000000000000000000000000000000000000\n\
+    limit 5\nlength 10\nlanes 1\nrule nasch 0\nwarm 10\nmeasure 10\ncars 2\n";
+
+const TABLE: &str = "cars,cells,steps,distance,stopped,changes,flow\n2,10,10,80,0,0,800000\n";
+
+const FAULT: &str = "fault line 1 cause 1\n";
+
+const CARRIED: [Carried; 11] = [
+    ("check", "change\nstay", 0, "accepted budget 1\nstay\n"),
+    ("check", "change\ncross", 1, "refused at 0 reason 12\n"),
+    ("check", "walk", 1, FAULT),
+    ("check", JOB, 1, FAULT),
+    ("run", JOB, 0, PICTURES),
+    ("run --workers 16", JOB, 0, PICTURES),
+    ("run", "change\nstay", 1, FAULT),
+    ("run", SWEEP, 1, FAULT),
+    ("sweep", SWEEP, 0, TABLE),
+    ("sweep --runners 16 --workers 16", SWEEP, 0, TABLE),
+    ("sweep", JOB, 1, FAULT),
+];
+
+/// The exit status of a command, from a reader to a writer.
 fn carried<S: Source, K: Sink>(
     rt: &(impl AllocGlobal + Threads + Wait + Sync),
-    line: &str,
+    wanted: Wanted,
     reader: &mut S,
     writer: &mut K,
-) -> Result<u8, Error>
+) -> u8
+    requires counts { HasCounts wanted }
     requires reader_works { S.failed reader.old ≡ false }
     requires writer_works { K.failed writer.old ≡ false }
 {
-    let wanted = asked(rt, line)?;
-    Ok(status_of_end(carry_out(rt, wanted, reader, writer)))
+    status_of_end(carry_out(rt, wanted, reader, writer))
 }
 
-/// Whether the command of a line ends with this status over a text, and writes this output.
+/// Whether a command ends with this status over a text, and writes this output.
 fn writes(
     rt: &(impl AllocGlobal + Threads + Wait + Sync),
-    line: &str,
+    wanted: Wanted,
     text: &str,
     status: u8,
-    wanted: &str,
-) -> Result<bool, Error> {
+    output: &str,
+) -> bool
+    requires { HasCounts wanted }
+{
     let mut reader = Watched::new(text.as_bytes());
     let mut writer = Watched::new(Vec::new(rt.alloc()));
-    let ended = carried(rt, line, &mut reader, &mut writer)?;
-    Ok(ended == status && writer.into_inner().as_slice() == wanted.as_bytes())
+    let ended = carried(rt, wanted, &mut reader, &mut writer);
+    ended == status && writer.into_inner().as_slice() == output.as_bytes()
+}
+
+/// Whether the command of a line does what stands beside it.
+fn is_carried(rt: &(impl AllocGlobal + Threads + Wait + Sync), line: &Carried) -> bool {
+    let (words, text, status, output) = *line;
+    match asked(rt, words) {
+        Ok(wanted) => writes(rt, wanted, text, status, output),
+        Err(_) => false,
+    }
 }
 
 #[test]
-fn commands_write_their_own_output(rt: HostRuntime) -> Result<(), Fail> {
-    let job = concat!(
-        "road 1\nkey 0000000000000000000000000000000000000000000000000000000000000000\n",
-        "limit 5\nlane 0.\nrule nasch 0\nsteps 1\n",
-    );
-    let sweep = concat!(
-        "sweep 1\nkey 0000000000000000000000000000000000000000000000000000000000000000\n",
-        "limit 5\nlength 10\nlanes 1\nrule nasch 0\nwarm 10\nmeasure 10\ncars 2\n",
-    );
-    let table = "cars,cells,steps,distance,stopped,changes,flow\n2,10,10,80,0,0,800000\n";
-    for (line, text, status, wanted) in [
-        ("check", "change\nstay", 0, "accepted budget 1\nstay\n"),
-        ("check", "change\ncross", 1, "refused at 0 reason 12\n"),
-        ("check", "walk", 1, "fault line 1 cause 1\n"),
-        ("check", job, 1, "fault line 1 cause 1\n"),
-        ("run", job, 0, "step 0\n0.\nstep 1\n.1\n"),
-        ("run --workers 16", job, 0, "step 0\n0.\nstep 1\n.1\n"),
-        ("run", "change\nstay", 1, "fault line 1 cause 1\n"),
-        ("run", sweep, 1, "fault line 1 cause 1\n"),
-        ("sweep", sweep, 0, table),
-        ("sweep --runners 16 --workers 16", sweep, 0, table),
-        ("sweep", job, 1, "fault line 1 cause 1\n"),
-    ] {
-        assert!(rt; writes(&rt, line, text, status, wanted)?, "at {line:?}");
+fn commands_write_their_own_output(rt: HostRuntime) {
+    for line in &CARRIED {
+        assert!(rt; is_carried(&rt, line), "at {:?}", line.0);
     }
-    Ok(())
+}
+
+/// The exit status of a command over a text that is refused, where the writer has room for five bytes.
+fn without_room(rt: &(impl AllocGlobal + Threads + Wait + Sync), wanted: Wanted) -> u8
+    requires { HasCounts wanted }
+{
+    let mut room = [0; 5];
+    let mut reader = Watched::new(b"walk".as_slice());
+    let mut writer = Watched::new(room.as_mut_slice());
+    carried(rt, wanted, &mut reader, &mut writer)
 }
 
 #[test]
-fn a_writer_without_room_is_a_failed_write(rt: HostRuntime) -> Result<(), Fail> {
-    for line in ["check", "run", "sweep"] {
-        let mut room = [0; 5];
-        let mut reader = Watched::new(b"walk".as_slice());
-        let mut writer = Watched::new(room.as_mut_slice());
-        assert_eq!(rt;
-            carried(&rt, line, &mut reader, &mut writer)?,
-            4,
-            "at {line}"
-        );
-    }
-    Ok(())
+fn a_writer_without_room_is_a_failed_write(rt: HostRuntime) {
+    let run = Wanted::Run { workers: 1 };
+    let sweep = Wanted::Sweep {
+        runners: 1,
+        workers: 1,
+    };
+    assert_eq!(rt; without_room(&rt, Wanted::Check), 4);
+    assert_eq!(rt; without_room(&rt, run), 4);
+    assert_eq!(rt; without_room(&rt, sweep), 4);
 }
 
 #[test]

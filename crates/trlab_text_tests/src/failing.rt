@@ -3,7 +3,7 @@
 
 ghost use Rattle.std.specs.Prelude.{◌≡◌, false};
 
-use std::alloc::AllocGlobal;
+use std::alloc::{AllocGlobal, Global};
 use std::io;
 use std::io::{Error, ErrorKind, Read, Write};
 use std::sync::Wait;
@@ -124,31 +124,113 @@ impl Write for Tight {
     }
 }
 
-/// How an engine ends, and the writer then, where the reader and the writer fail behind so many calls.
-fn ended(
-    rt: &(impl AllocGlobal + Threads + Wait + Sync),
-    worked: Worked,
+/// Behind how many calls the reader and the writer fail, and whether the writer can be flushed.
+#[derive(Clone, Copy)]
+struct Failing {
     reads: usize,
     writes: usize,
     flushes: bool,
-) -> (End, Tight) {
-    let mut reader = Watched::new(Dripping {
-        left: worked.text(),
-        calls: reads,
-    });
-    let mut writer = Watched::new(Tight {
-        taken: Vec::new(rt.alloc()),
-        calls: writes,
-        flushes,
-        flushed: 0,
-    });
-    let end = worked.end(rt, &mut reader, &mut writer);
-    (end, writer.into_inner())
 }
 
-/// Whether an engine ends so, has written this, and has flushed the writer so often.
-fn leaves(came: &(End, Tight), end: End, wanted: &[u8], flushed: u32) -> bool {
-    came.0 == end && came.1.taken.as_slice() == wanted && came.1.flushed == flushed
+/// What comes of it: how the engine ends, what it has written, and how often it has flushed the writer.
+#[derive(Clone, Copy)]
+struct Left<'a> {
+    end: End,
+    output: &'a [u8],
+    flushed: u32,
+}
+
+impl Tight {
+    /// A writer that fails so.
+    fn new(alloc: Global, failing: Failing) -> Tight {
+        Tight {
+            taken: Vec::new(alloc),
+            calls: failing.writes,
+            flushes: failing.flushes,
+            flushed: 0,
+        }
+    }
+
+    /// Whether this was written, and the writer was flushed so often.
+    fn has(&self, output: &[u8], flushed: u32) -> bool {
+        self.taken.as_slice() == output && self.flushed == flushed
+    }
+}
+
+/// Whether this is left where the reader and the writer fail so.
+fn leaves(
+    rt: &(impl AllocGlobal + Threads + Wait + Sync),
+    worked: Worked,
+    failing: Failing,
+    left: Left<'_>,
+) -> bool {
+    let mut reader = Watched::new(Dripping {
+        left: worked.text(),
+        calls: failing.reads,
+    });
+    let mut writer = Watched::new(Tight::new(rt.alloc(), failing));
+    let end = worked.end(rt, &mut reader, &mut writer);
+    end == left.end && writer.into_inner().has(left.output, left.flushed)
+}
+
+/// Whether an engine ends in a failed device, and leaves nothing, where the reader fails behind so many
+/// calls.
+fn fails_behind(
+    rt: &(impl AllocGlobal + Threads + Wait + Sync),
+    worked: Worked,
+    reads: usize,
+) -> bool {
+    let failing = Failing {
+        reads,
+        writes: usize::MAX,
+        flushes: true,
+    };
+    let left = Left {
+        end: End::DeviceFault,
+        output: b"",
+        flushed: 0,
+    };
+    leaves(rt, worked, failing, left)
+}
+
+/// The same of the writer, where the front of the output is left that it took.
+fn fails_after(
+    rt: &(impl AllocGlobal + Threads + Wait + Sync),
+    worked: Worked,
+    writes: usize,
+) -> bool {
+    let failing = Failing {
+        reads: usize::MAX,
+        writes,
+        flushes: true,
+    };
+    let output = worked.output();
+    if writes > output.len() {
+        return false;
+    }
+    let (front, _) = output.split_at(writes);
+    let left = Left {
+        end: End::DeviceFault,
+        output: front,
+        flushed: 0,
+    };
+    leaves(rt, worked, failing, left)
+}
+
+/// Whether an engine writes its output, flushes it once and ends so, where reader and writer have so many
+/// calls.
+fn is_whole(
+    rt: &(impl AllocGlobal + Threads + Wait + Sync),
+    worked: Worked,
+    failing: Failing,
+    end: End,
+) -> bool {
+    let left = Left {
+        end,
+        output: worked.output(),
+        flushed: 1,
+    };
+    leaves(rt, worked, failing, left)
 }
 
 // The last read finds that the text has ended.
@@ -157,36 +239,42 @@ fn a_reader_fails_behind_each_byte(rt: HostRuntime) {
     for worked in WORKED {
         let calls = worked.text().len().saturating_add(1);
         for reads in 0..calls {
-            let came = ended(&rt, worked, reads, usize::MAX, true);
-            assert!(rt; leaves(&came, End::DeviceFault, b"", 0), "behind {reads}");
+            assert!(rt; fails_behind(&rt, worked, reads), "behind {reads}");
         }
-        let came = ended(&rt, worked, calls, usize::MAX, true);
-        assert!(rt; leaves(&came, End::Done, worked.output(), 1));
+        let enough = Failing {
+            reads: calls,
+            writes: usize::MAX,
+            flushes: true,
+        };
+        assert!(rt; is_whole(&rt, worked, enough, End::Done));
     }
 }
 
 #[test]
 fn a_writer_fails_behind_each_byte(rt: HostRuntime) {
     for worked in WORKED {
-        let output = worked.output();
-        for writes in 0..output.len() {
-            let came = ended(&rt, worked, usize::MAX, writes, true);
-            let (front, _) = output.split_at(writes);
-            assert!(rt;
-                leaves(&came, End::DeviceFault, front, 0),
-                "behind {writes}"
-            );
+        let calls = worked.output().len();
+        for writes in 0..calls {
+            assert!(rt; fails_after(&rt, worked, writes), "behind {writes}");
         }
-        let came = ended(&rt, worked, usize::MAX, output.len(), true);
-        assert!(rt; leaves(&came, End::Done, output, 1));
+        let enough = Failing {
+            reads: usize::MAX,
+            writes: calls,
+            flushes: true,
+        };
+        assert!(rt; is_whole(&rt, worked, enough, End::Done));
     }
 }
 
 #[test]
 fn a_writer_fails_at_the_flush(rt: HostRuntime) {
+    let unflushed = Failing {
+        reads: usize::MAX,
+        writes: usize::MAX,
+        flushes: false,
+    };
     for worked in WORKED {
-        let came = ended(&rt, worked, usize::MAX, usize::MAX, false);
-        assert!(rt; leaves(&came, End::DeviceFault, worked.output(), 1));
+        assert!(rt; is_whole(&rt, worked, unflushed, End::DeviceFault));
     }
 }
 
