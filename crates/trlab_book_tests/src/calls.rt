@@ -1,56 +1,70 @@
-//! Calls through one desk, and the history that they leave: each call with its reply, in order.
+//! Calls through one desk: the history that they leave, each call with its reply, in order, and what the
+//! reads among them show.
 
-use crate::histories::{Made, is_history, ordered, own, went_out};
+ghost use Rattle.std.specs.Prelude.{◌≡◌};
+
+use crate::histories::{Made, is_history, ordered, own, seen, went_out};
 use crate::jobs::{braking, shows, steady};
-use crate::table::history_of;
+use crate::shown::{Shown, show};
+use crate::table::Table;
 use std::alloc::Global;
 use std::marker::Brand;
 use std::sync::Wait;
-use std::sync::ledger::Blank;
-use trlab_leases::{BookFault, Call, Event, Reply};
-use trlab_rules::Rule;
+use std::sync::ledger::{Blank, Ledger};
+use trlab_leases::{BookFault, Call, Event, Reply, Snapshot};
 
-/// The history that these calls leave, where each has the reply beside it, in order; nothing where it is
-/// another.
-fn history_is(rt: &(impl AllocGlobal + Wait), wanted: &[(Made, Reply)]) -> Option<Vec<Event>> {
-    let history = history_of::<Brand, _>(rt, rt.alloc(), Blank::new(1024), wanted)?;
-    is_history(&history, wanted).then(|| history)
-}
-
-/// Whether a rule is the one that is wanted.
-fn is_rule(rule: &Rule, wanted: Option<Rule>) -> bool {
-    match wanted {
-        Some(wanted) => rule.equals(&wanted),
-        None => false,
-    }
-}
-
-/// Whether a submission is of the two cars under the rule by which no car brakes.
-fn is_submission(alloc: Global, call: &Call) -> bool {
-    match call {
-        Call::Submit(from, rule, _) => {
-            is_rule(rule.get(), steady(alloc))
-                && shows(alloc, &from.get().road, b"0.0.......") == Some(true)
+/// Whether each submission is of the two cars under the rule by which no car brakes, and each replacement
+/// by the one by which each does; nothing where memory ran out.
+fn have_rules(alloc: Global, history: &[Event]) -> Option<bool> {
+    let (steady, braking) = (steady(alloc)?, braking(alloc)?);
+    for event in history {
+        let is_given = match &event.call {
+            Call::Submit(from, rule, _) => {
+                rule.get().equals(&steady) && shows(alloc, &from.get().road, b"0.0.......")?
+            }
+            Call::Replace(_, rule) => rule.get().equals(&braking),
+            _ => true,
+        };
+        if !is_given {
+            return Some(false);
         }
-        _ => false,
     }
+    Some(true)
 }
 
-/// Whether a replacement is by the rule by which each car brakes.
-fn is_replacement(alloc: Global, call: &Call) -> bool {
-    match call {
-        Call::Replace(_, rule) => is_rule(rule.get(), braking(alloc)),
-        _ => false,
+/// What these calls of a new book leave, if each answers the reply beside it and the book closes.
+fn left_by<L: Ledger, R: Wait>(
+    rt: &R,
+    alloc: Global,
+    blank: Blank,
+    calls: &[(Made, Reply)],
+) -> Option<(Vec<Event>, Vec<Snapshot>)>
+    requires name { blank.name ≡ L.name }
+    requires parts { (blank.parts ≡ L.parts) × (blank.parts ≡ 1024) }
+{
+    let mut table = Table::<L>::start(alloc, blank, b"0.0.......", 0);
+    if !table.make_all(rt, alloc, calls) {
+        return None;
     }
+    table.close()
 }
 
-/// Whether a history begins with such a submission, and its fourth call is such a replacement.
-fn has_seed_and_rules(alloc: Global, history: Option<Vec<Event>>) -> bool {
-    match history {
-        Some(events) => {
-            events.len() > 3
-                && is_submission(alloc, &events[0].call)
-                && is_replacement(alloc, &events[3].call)
+/// Whether a history has these calls, with the seeds and the rules that they were given. Where memory runs
+/// out it is looked once more.
+fn is_as_made(alloc: Global, history: &[Event], calls: &[(Made, Reply)]) -> bool {
+    let is_given = match have_rules(alloc, history) {
+        Some(is_given) => Some(is_given),
+        None => have_rules(alloc, history),
+    };
+    is_history(history, calls) && is_given == Some(true)
+}
+
+/// Whether calls of a new book answer the replies beside them, leave these calls and these replies as its
+/// history, and read this.
+fn leave(rt: &(impl AllocGlobal + Wait), calls: &[(Made, Reply)], wanted: &[Shown]) -> bool {
+    match left_by::<Brand, _>(rt, rt.alloc(), Blank::new(1024), calls) {
+        Some((history, reads)) => {
+            is_as_made(rt.alloc(), &history, calls) && show(rt.alloc(), &reads, wanted)
         }
         None => false,
     }
@@ -58,37 +72,29 @@ fn has_seed_and_rules(alloc: Global, history: Option<Vec<Event>>) -> bool {
 
 #[test]
 fn a_history_has_each_call_in_order(rt: HostRuntime) {
-    let wanted = [
+    let calls = [
         (Made::Submit(4), Reply::Number(0)),
         (Made::Lease, went_out(0, 0)),
         (Made::Order(own(0, 0, 0)), ordered(0, 0, 0)),
         (Made::Replace(0), Reply::Number(1)),
         (Made::GiveBack(own(0, 0, 1)), Reply::Done),
-        (
-            Made::Read(0),
-            Reply::Seen {
-                step: 1,
-                entries: 2,
-            },
-        ),
+        (Made::Read(0), seen(1, 2)),
         (Made::Revoke(0), Reply::Refused(BookFault::StrangerLease)),
         (Made::Lease, went_out(1, 1)),
         (Made::Order(own(1, 1, 1)), ordered(1, 1, 1)),
         (Made::GiveBack(own(1, 1, 2)), Reply::Done),
-        (
-            Made::Read(0),
-            Reply::Seen {
-                step: 2,
-                entries: 2,
-            },
-        ),
+        (Made::Read(0), seen(2, 2)),
     ];
-    assert!(rt; has_seed_and_rules(rt.alloc(), history_is(&rt, &wanted)));
+    let reads: [Shown; 2] = [
+        (1, b".1.1......", &[(0, false), (1, true)]),
+        (2, b".0..1.....", &[(0, false), (1, true)]),
+    ];
+    assert!(rt; leave(&rt, &calls, &reads));
 }
 
 #[test]
 fn a_revoked_lease_is_not_taken_back(rt: HostRuntime) {
-    let wanted = [
+    let calls = [
         (Made::Submit(4), Reply::Number(0)),
         (Made::Lease, went_out(0, 0)),
         (Made::Order(own(0, 0, 0)), ordered(0, 0, 0)),
@@ -97,17 +103,17 @@ fn a_revoked_lease_is_not_taken_back(rt: HostRuntime) {
         (Made::Lease, went_out(1, 0)),
         (Made::Order(own(1, 0, 0)), ordered(1, 0, 0)),
         (
-            Made::GiveBack(own(0, 0, 1)),
+            Made::GiveBack(own(0, 0, 0)),
             Reply::Refused(BookFault::StrangerLease),
         ),
         (Made::GiveBack(own(1, 0, 1)), Reply::Done),
     ];
-    assert!(rt; history_is(&rt, &wanted).is_some());
+    assert!(rt; leave(&rt, &calls, &[]));
 }
 
 #[test]
 fn a_cancelled_job_refuses_its_lease(rt: HostRuntime) {
-    let wanted = [
+    let calls = [
         (Made::Submit(4), Reply::Number(0)),
         (Made::Lease, went_out(0, 0)),
         (Made::Cancel(0), Reply::Done),
@@ -118,13 +124,27 @@ fn a_cancelled_job_refuses_its_lease(rt: HostRuntime) {
         ),
         (Made::Cancel(0), Reply::Refused(BookFault::Ended)),
         (Made::Lease, Reply::NoLease),
-        (
-            Made::Read(0),
-            Reply::Seen {
-                step: 0,
-                entries: 1,
-            },
-        ),
+        (Made::Read(0), seen(0, 1)),
     ];
-    assert!(rt; history_is(&rt, &wanted).is_some());
+    assert!(rt; leave(&rt, &calls, &[(0, b"0.0.......", &[(0, false)])]));
+}
+
+#[test]
+fn the_last_rule_of_a_step_stays(rt: HostRuntime) {
+    let calls = [
+        (Made::Submit(4), Reply::Number(0)),
+        (Made::Replace(0), Reply::Number(0)),
+        (Made::Replace(0), Reply::Number(0)),
+        (Made::Read(0), seen(0, 1)),
+        (Made::Lease, went_out(0, 0)),
+        (Made::Order(own(0, 0, 0)), ordered(0, 0, 0)),
+        (Made::Replace(0), Reply::Number(1)),
+        (Made::Replace(0), Reply::Number(1)),
+        (Made::Read(0), seen(0, 2)),
+    ];
+    let reads: [Shown; 2] = [
+        (0, b"0.0.......", &[(0, true)]),
+        (0, b"0.0.......", &[(0, true), (1, true)]),
+    ];
+    assert!(rt; leave(&rt, &calls, &reads));
 }

@@ -1,37 +1,148 @@
-//! Books that have had all their events.
+//! Full books: a sheet that has had all its rules, and a history that has had all its events.
 
 ghost use Rattle.std.specs.Prelude.{◌≡◌};
 
+use crate::histories::{Made, ordered, own, seen, went_out};
+use crate::table::Table;
 use std::alloc::Global;
 use std::marker::Brand;
 use std::sync::Wait;
 use std::sync::ledger::{Blank, Ledger};
-use trlab_book::{Desk, SharedBook};
-use trlab_leases::BookFault;
+use std::thread::Threads;
+use trlab_book::{RunFault, run_jobs};
+use trlab_leases::{BookFault, Reply};
+use trlab_segments::OpenGate;
 
-/// Whether each call of a book is heard until it has all its events, and then none.
-fn fills<L: Ledger, R: Wait>(rt: &R, book: &SharedBook<L>, desk: &mut Desk<L>) -> bool {
-    for _ in 0..1000000 {
-        if book.revoke(rt, desk, 0) != Err(BookFault::NoSuchJob) {
+/// Whether so many calls of a job that there is not are events.
+fn hears<L: Ledger, R: Wait>(rt: &R, alloc: Global, table: &mut Table<L>, calls: u32) -> bool {
+    let refused = Reply::Refused(BookFault::NoSuchJob);
+    for _ in 0..calls {
+        if !table.answers(rt, alloc, Made::Revoke(7), refused) {
             return false;
         }
     }
-    book.revoke(rt, desk, 0) == Err(BookFault::HistoryFull)
+    true
 }
 
-/// The length of the history of a book that was called once more than it has events.
-fn full_history<L: Ledger, R: Wait>(rt: &R, alloc: Global, blank: Blank) -> Option<usize>
+/// Whether each call of a book is told that its history is full.
+fn is_full<L: Ledger, R: Wait>(rt: &R, alloc: Global, table: &mut Table<L>) -> bool {
+    let calls = [
+        Made::Submit(4),
+        Made::Replace(0),
+        Made::Lease,
+        Made::Order(own(0, 0, 0)),
+        Made::GiveBack(own(0, 0, 0)),
+        Made::Revoke(0),
+        Made::Cancel(0),
+        Made::Read(0),
+    ];
+    for call in calls {
+        let refused = Reply::Refused(BookFault::HistoryFull);
+        if !table.answers(rt, alloc, call, refused) {
+            return false;
+        }
+    }
+    true
+}
+
+/// Lets a runner take the jobs of a table, and says whether it ended since the history was full.
+fn run<L: Ledger + Send + Sync, R: Threads + Wait + Sync>(
+    rt: &R,
+    alloc: Global,
+    table: Table<L>,
+) -> (Table<L>, bool)
+    requires { L.parts ≡ 1024 }
+{
+    let Table {
+        book,
+        desk,
+        leases,
+        reads,
+        picture,
+        byte,
+    } = table;
+    let (desk, ended) = match run_jobs(rt, alloc, &book, desk, 1, 1, &OpenGate) {
+        Ok(desk) => (desk, false),
+        Err((desk, fault)) => (desk, fault == RunFault::HistoryFull),
+    };
+    let table = Table {
+        book,
+        desk,
+        leases,
+        reads,
+        picture,
+        byte,
+    };
+    (table, ended)
+}
+
+/// The length of the history of a book in which a runner has come to the last event, by the first order of
+/// a lease, and each call behind that is refused.
+fn full_history<L: Ledger + Send + Sync, R: Threads + Wait + Sync>(
+    rt: &R,
+    alloc: Global,
+    blank: Blank,
+) -> Option<usize>
     requires name { blank.name ≡ L.name }
     requires parts { (blank.parts ≡ L.parts) × (blank.parts ≡ 1024) }
 {
-    let (book, mut desk) = SharedBook::<L>::start(alloc, blank);
-    let fills = fills(rt, &book, &mut desk);
-    let (_, history) = book.close(desk).ok()?;
-    fills.then_some(history.len())
+    let mut table = Table::<L>::start(alloc, blank, b"0.0.......", 0);
+    let calls = [
+        (Made::Submit(4), Reply::Number(0)),
+        (Made::Lease, went_out(0, 0)),
+        (Made::Submit(4), Reply::Number(1)),
+    ];
+    let fills = table.make_all(rt, alloc, &calls) && hears(rt, alloc, &mut table, 999995);
+    let (mut table, ended) = run(rt, alloc, table);
+    let full = is_full(rt, alloc, &mut table);
+    let (history, _) = table.close()?;
+    (fills && ended && full).then_some(history.len())
 }
 
 #[test]
 fn a_full_history_closes(rt: HostRuntime) {
     let found = full_history::<Brand, HostRuntime>(&rt, rt.alloc(), Blank::new(1024));
     assert_eq!(rt; found, Some(1000000));
+}
+
+/// Whether the rule of a job is replaced behind each of its first ordered steps.
+fn replaces<L: Ledger, R: Wait>(rt: &R, alloc: Global, table: &mut Table<L>, steps: u32) -> bool {
+    for step in 0..steps {
+        let calls = [
+            (Made::Order(own(0, 0, step)), ordered(0, step, step)),
+            (Made::Replace(0), Reply::Number(step + 1)),
+        ];
+        if !table.make_all(rt, alloc, &calls) {
+            return false;
+        }
+    }
+    true
+}
+
+/// Whether a sheet has 1024 entries, and no more.
+fn has_full_sheet<L: Ledger, R: Wait>(rt: &R, alloc: Global, blank: Blank) -> bool
+    requires name { blank.name ≡ L.name }
+    requires parts { (blank.parts ≡ L.parts) × (blank.parts ≡ 1024) }
+{
+    let mut table = Table::<L>::start(alloc, blank, b"0", 0);
+    let lease = Reply::Leased {
+        job: 0,
+        number: 0,
+        step: 0,
+        steps: 2000,
+    };
+    let front = [(Made::Submit(2000), Reply::Number(0)), (Made::Lease, lease)];
+    let end = [
+        (Made::Order(own(0, 0, 1023)), ordered(0, 1023, 1023)),
+        (Made::Replace(0), Reply::Refused(BookFault::SheetFull)),
+        (Made::Read(0), seen(0, 1024)),
+    ];
+    table.make_all(rt, alloc, &front)
+        && replaces(rt, alloc, &mut table, 1023)
+        && table.make_all(rt, alloc, &end)
+}
+
+#[test]
+fn a_sheet_has_1024_entries(rt: HostRuntime) {
+    assert!(rt; has_full_sheet::<Brand, HostRuntime>(&rt, rt.alloc(), Blank::new(1024)));
 }

@@ -29,46 +29,74 @@ impl Gate for Barrier {
     }
 }
 
-/// Revokes the lease of a runner that stands at the barrier, replaces its rule, and lets it go on.
-fn revoke_held<L: Ledger, R: Wait>(
+/// How the lease of a runner ends that stands at the barrier.
+#[derive(Clone, Copy, PartialEq, Eq)]
+enum Ending {
+    /// It is revoked, and the rule of its job replaced.
+    Revoked,
+    /// Its job is cancelled.
+    Cancelled,
+}
+
+/// Replaces the rule of job 0, and answers the step from which on it is in force.
+fn replace<L: Ledger, R: Wait>(
+    rt: &R,
+    alloc: Global,
+    book: &SharedBook<L>,
+    desk: &mut Desk<L>,
+) -> Option<u32> {
+    book.replace(rt, alloc, desk, 0, braking(alloc)?).ok()
+}
+
+/// Ends the lease of a runner that stands at the barrier, and lets it go on.
+fn end_held<L: Ledger, R: Wait>(
     rt: &R,
     alloc: Global,
     book: &SharedBook<L>,
     mut desk: Desk<L>,
     gate: &Barrier,
+    ending: Ending,
 ) -> (Desk<L>, bool) {
     let came = waits_for(&gate.came);
-    let revoked = book.revoke(rt, &mut desk, 0) == Ok(());
-    let replaced = match braking(alloc) {
-        Some(rule) => book.replace(rt, alloc, &mut desk, 0, rule) == Ok(1),
-        None => false,
+    let ended = match ending {
+        Ending::Revoked => {
+            book.revoke(rt, &mut desk, 0) == Ok(())
+                && replace(rt, alloc, book, &mut desk) == Some(1)
+        }
+        Ending::Cancelled => book.cancel(rt, &mut desk, 0) == Ok(()),
     };
     gate.goes_on.store(true, Ordering::SeqCst);
-    (desk, came && revoked && replaced)
+    (desk, came && ended)
 }
 
-/// Whether the job has come to its end under two rules.
-fn is_replaced<L: Ledger, R: Wait>(
+/// Whether the job has come to its end under two rules, or where it was cancelled stands where it did.
+fn has_ended<L: Ledger, R: Wait>(
     rt: &R,
     alloc: Global,
     book: &SharedBook<L>,
     desk: &mut Desk<L>,
+    ending: Ending,
 ) -> bool {
+    let (step, rules, picture) = match ending {
+        Ending::Revoked => (4, 2, b".0....1..."),
+        Ending::Cancelled => (0, 1, b"0.0......."),
+    };
     match book.read(rt, alloc, desk, 0) {
         Ok(seen) => {
-            seen.sheet().len() == 2 && is_seen(alloc, &seen, 4, b".0....1...") == Some(true)
+            seen.sheet().len() == rules && is_seen(alloc, &seen, step, picture) == Some(true)
         }
         Err(_) => false,
     }
 }
 
-/// Runs the jobs of a book by a runner who is held while the lease is revoked, and says whether the calls
+/// Runs the jobs of a book by a runner who is held while its lease ends, and says whether the calls
 /// meanwhile are answered as they have to be.
 fn run_held<L: Ledger + Send + Sync, R: Threads + Wait + Sync>(
     rt: &R,
     alloc: Global,
     book: &SharedBook<L>,
     mut mine: Desk<L>,
+    ending: Ending,
 ) -> Option<(Desk<L>, bool)>
     requires ledger { L.parts ≡ 1024 }
 {
@@ -80,40 +108,45 @@ fn run_held<L: Ledger + Send + Sync, R: Threads + Wait + Sync>(
         goes_on: AtomicBool::new(false),
     };
     let theirs = mine.split();
-    let ((theirs, revoked), ran) = join(
+    let ((theirs, ended), ran) = join(
         rt,
-        || revoke_held(rt, alloc, book, theirs, &gate),
+        || end_held(rt, alloc, book, theirs, &gate, ending),
         || -> Result<Desk<L>, (Desk<L>, RunFault)>
             requires { L.parts ≡ 1024 }
         { run_jobs(rt, alloc, book, mine, 1, 1, &gate) },
     );
-    Some((ran.ok()?.gather(theirs), revoked))
+    Some((ran.ok()?.gather(theirs), ended))
 }
 
-/// How many orders are refused to a runner whose lease is revoked while it takes the first step, where all
-/// else is as it has to be.
+/// How many orders are refused to a runner whose lease ends while it takes the first step, where all else
+/// is as it has to be.
 fn refused_to_held<L: Ledger + Send + Sync, R: Threads + Wait + Sync>(
     rt: &R,
     alloc: Global,
     blank: Blank,
+    ending: Ending,
 ) -> Option<u32>
     requires name { blank.name ≡ L.name }
     requires parts { (blank.parts ≡ L.parts) × (blank.parts ≡ 1024) }
 {
     let (book, mut mine) = SharedBook::<L>::start(alloc, blank);
     let submitted = submit(rt, alloc, &book, &mut mine, 0, 4) == Some(0);
-    let (mut desk, revoked) = run_held(rt, alloc, &book, mine)?;
-    let right = is_replaced(rt, alloc, &book, &mut desk);
+    let (mut desk, ended) = run_held(rt, alloc, &book, mine, ending)?;
+    let right = has_ended(rt, alloc, &book, &mut desk, ending);
     let (_, history) = book.close(desk).ok()?;
-    (submitted && revoked && right).then_some(refused_orders(&history))
+    (submitted && ended && right).then_some(refused_orders(&history, ending))
 }
 
-/// How many events refuse the order of a lease that is no longer the one that is out.
-fn refused_orders(history: &[Event]) -> u32 {
+/// How many events refuse an order since a lease has ended so.
+fn refused_orders(history: &[Event], ending: Ending) -> u32 {
+    let fault = match ending {
+        Ending::Revoked => BookFault::StrangerLease,
+        Ending::Cancelled => BookFault::Ended,
+    };
     let mut refused = 0u32;
     for event in history {
         let is_order = matches!(made_by(&event.call), Made::Order(_));
-        if is_order && event.reply == Reply::Refused(BookFault::StrangerLease) {
+        if is_order && event.reply == Reply::Refused(fault) {
             refused = refused.saturating_add(1);
         }
     }
@@ -121,7 +154,10 @@ fn refused_orders(history: &[Event]) -> u32 {
 }
 
 #[test]
-fn a_lease_is_revoked_while_its_runner_is_held(rt: HostRuntime) {
-    let found = refused_to_held::<Brand, HostRuntime>(&rt, rt.alloc(), Blank::new(1024));
-    assert_eq!(rt; found, Some(1));
+fn a_lease_ends_while_its_runner_is_held(rt: HostRuntime) {
+    for ending in [Ending::Revoked, Ending::Cancelled] {
+        let blank = Blank::new(1024);
+        let found = refused_to_held::<Brand, HostRuntime>(&rt, rt.alloc(), blank, ending);
+        assert_eq!(rt; found, Some(1));
+    }
 }

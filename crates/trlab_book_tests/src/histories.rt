@@ -60,6 +60,11 @@ pub fn ordered(number: u32, step: u32, from: u32) -> Reply {
     }
 }
 
+/// The reply that a job shows itself at a step, with so many rules.
+pub fn seen(step: u32, entries: u32) -> Reply {
+    Reply::Seen { step, entries }
+}
+
 /// Whether an event is of this call with this reply.
 fn is_event(event: &Event, (made, reply): &(Made, Reply)) -> bool {
     made_by(&event.call) == *made && event.reply == *reply

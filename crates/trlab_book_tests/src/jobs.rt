@@ -12,14 +12,14 @@ use trlab_words::{Chance, Key};
 
 /// Two cars on a lane, under the key of zeros: the road with this number.
 pub fn seed(alloc: Global, number: u32) -> Option<Seed> {
-    seed_of(alloc, b"0.0.......", number)
+    seed_of(alloc, b"0.0.......", 0, number)
 }
 
-/// The cars of a picture on one lane, under the key of zeros: the road with this number.
-pub fn seed_of(alloc: Global, picture: &[u8], number: u32) -> Option<Seed> {
+/// The cars of a picture on one lane, under the key of a byte: the road with this number.
+pub fn seed_of(alloc: Global, picture: &[u8], byte: u8, number: u32) -> Option<Seed> {
     Some(Seed {
         road: Road::parse(alloc, 5, &[picture]).ok()?,
-        key: Key([0; 32]),
+        key: Key([byte; 32]),
         number,
         warm: 0,
     })

@@ -19,8 +19,14 @@ mod histories;
 #[cfg(test)]
 mod jobs;
 #[cfg(test)]
+mod kept;
+#[cfg(test)]
 mod meeting;
 #[cfg(test)]
 mod runs;
+#[cfg(test)]
+mod shown;
+#[cfg(test)]
+mod strangers;
 #[cfg(test)]
 mod table;

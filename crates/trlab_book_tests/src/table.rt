@@ -1,31 +1,70 @@
-//! A table with a shared book, one desk, and the leases that went out. Its calls promise nothing, so that a
-//! test of many calls is proved to be safe in little time: what they answer, and what they leave in the
-//! history, is what the tests are for.
+//! A table with a shared book, one desk, the leases that went out, and what was read. Its calls promise
+//! nothing, so that a test of many calls is proved to be safe in little time: what they answer, and what
+//! they leave in the history, is what the tests are for.
+//!
+//! A call that meets want of memory is made once more, so that a test ends as ever where one allocation is
+//! refused, whichever it is.
 
 ghost use Rattle.std.specs.Prelude.{◌≡◌};
 
 use crate::answers::{done_told, lease_told, number_told, order_told, snapshot_told};
 use crate::histories::Made;
-use crate::jobs::{braking, seed, steady};
+use crate::jobs::{braking, seed_of, steady};
 use std::alloc::Global;
 use std::sync::Wait;
 use std::sync::ledger::{Blank, Ledger};
 use trlab_book::{Desk, SharedBook};
-use trlab_leases::{Event, Lease, Reply};
+use trlab_leases::{BookFault, Event, Lease, Offered, Order, Reply, Snapshot};
 use trlab_step::Caller;
 
-/// A shared book with its desk, and by their numbers the leases that are not back.
+/// A lease that is out, with the last order for it.
 #[derive(Drop)]
-struct Table<L: Ledger> {
-    book: SharedBook<L>,
-    desk: Desk<L>,
-    leases: Vec<Option<Lease>>,
+pub struct Out {
+    lease: Lease,
+    order: Option<Order>,
+}
+
+/// A shared book with its desk, the leases that are not back, by their places, and what was read. Each job
+/// is of the cars of one picture, under the key of one byte.
+#[derive(Drop)]
+pub struct Table<L: Ledger> {
+    pub book: SharedBook<L>,
+    pub desk: Desk<L>,
+    pub leases: Vec<Option<Out>>,
+    pub reads: Vec<Snapshot>,
+    pub picture: &'static [u8],
+    pub byte: u8,
+}
+
+/// Has a lease take the step that is ordered, where it does not yet stand at this step.
+fn bring_to(alloc: Global, out: &mut Out, step: u32) -> Option<()> {
+    let Out { lease, order } = out;
+    if lease.step() == step {
+        return Some(());
+    }
+    lease.advance_by(&Caller, alloc, order.as_ref()?).ok()
 }
 
 impl<L: Ledger> Table<L> {
-    /// Submits the job of two cars, who never brake by chance.
+    /// A table with a new book.
+    pub fn start(alloc: Global, blank: Blank, picture: &'static [u8], byte: u8) -> Table<L>
+        requires name { blank.name ≡ L.name }
+        requires parts { (blank.parts ≡ L.parts) × (blank.parts ≡ 1024) }
+    {
+        let (book, desk) = SharedBook::<L>::start(alloc, blank);
+        Table {
+            book,
+            desk,
+            leases: Vec::new(alloc),
+            reads: Vec::new(alloc),
+            picture,
+            byte,
+        }
+    }
+
+    /// Submits a job, whose cars never brake by chance.
     fn submit<R: Wait>(&mut self, rt: &R, alloc: Global, steps: u32) -> Option<Reply> {
-        let seed = seed(alloc, 0)?;
+        let seed = seed_of(alloc, self.picture, self.byte, 0)?;
         let rule = steady(alloc)?;
         let answer = self
             .book
@@ -40,103 +79,115 @@ impl<L: Ledger> Table<L> {
         Some(number_told(answer))
     }
 
-    /// Leases a job.
-    fn lease<R: Wait>(&mut self, rt: &R, alloc: Global) -> Reply {
+    /// Leases a job, and lays the lease at the next place.
+    fn lease<R: Wait>(&mut self, rt: &R, alloc: Global) -> Option<Reply> {
+        self.leases.reserve(1).ok()?;
         match self.book.lease(rt, alloc, &mut self.desk) {
             Ok(Some(lease)) => {
                 let told = lease_told(&lease);
-                let _ = self.leases.push(Some(lease));
-                told
+                let _ = self.leases.push(Some(Out { lease, order: None }));
+                Some(told)
             }
-            Ok(None) => Reply::NoLease,
-            Err(fault) => Reply::Refused(fault),
+            Ok(None) => Some(Reply::NoLease),
+            Err(fault) => Some(Reply::Refused(fault)),
         }
     }
 
-    /// Orders the next step of a lease, which takes it.
-    fn order<R: Wait>(&mut self, rt: &R, alloc: Global, number: u32) -> Option<Reply> {
-        let lease = self.leases.get_mut(number as usize)?.as_mut()?;
-        match self.book.order(rt, alloc, &mut self.desk, lease) {
+    /// Orders the next step of the lease of a place.
+    fn order<R: Wait>(&mut self, rt: &R, alloc: Global, offered: Offered) -> Option<Reply> {
+        let out = self.leases.get_mut(offered.number as usize)?.as_mut()?;
+        bring_to(alloc, out, offered.step)?;
+        match self.book.order(rt, alloc, &mut self.desk, &out.lease) {
             Ok(order) => {
-                lease.advance_by(&Caller, alloc, &order).ok()?;
-                Some(order_told(&order))
+                let told = order_told(&order);
+                out.order = Some(order);
+                Some(told)
             }
             Err(fault) => Some(Reply::Refused(fault)),
         }
     }
 
-    /// Gives a lease back; where it is refused it is kept.
-    fn give_back<R: Wait>(&mut self, rt: &R, number: u32) -> Option<Reply> {
-        let lease = self.leases.get_mut(number as usize)?.take()?;
+    /// Gives the lease of a place back; where it is refused it is laid back there.
+    fn give_back<R: Wait>(&mut self, rt: &R, alloc: Global, offered: Offered) -> Option<Reply> {
+        let place = self.leases.get_mut(offered.number as usize)?;
+        bring_to(alloc, place.as_mut()?, offered.step)?;
+        let Out { lease, order } = place.take()?;
         match self.book.give_back(rt, &mut self.desk, lease) {
             Ok(()) => Some(Reply::Done),
             Err((lease, fault)) => {
-                self.lay_back(number, lease);
+                *place = Some(Out { lease, order });
                 Some(Reply::Refused(fault))
             }
         }
     }
 
-    /// Reads a job.
-    fn read<R: Wait>(&mut self, rt: &R, alloc: Global, job: u32) -> Reply {
+    /// Reads a job, and keeps what it shows.
+    fn read<R: Wait>(&mut self, rt: &R, alloc: Global, job: u32) -> Option<Reply> {
+        self.reads.reserve(1).ok()?;
         match self.book.read(rt, alloc, &mut self.desk, job) {
-            Ok(seen) => snapshot_told(&seen),
-            Err(fault) => Reply::Refused(fault),
+            Ok(seen) => {
+                let told = snapshot_told(&seen);
+                let _ = self.reads.push(seen);
+                Some(told)
+            }
+            Err(fault) => Some(Reply::Refused(fault)),
         }
     }
 
-    /// Lays a lease back at its number.
-    fn lay_back(&mut self, number: u32, lease: Lease) {
-        if let Some(place) = self.leases.get_mut(number as usize) {
-            *place = Some(lease);
-        }
-    }
-
-    /// Makes a call, and tells what it answered.
+    /// Makes a call, and tells what it answered; nothing where memory ran out before it.
     fn make<R: Wait>(&mut self, rt: &R, alloc: Global, call: Made) -> Option<Reply> {
         match call {
             Made::Submit(steps) => self.submit(rt, alloc, steps),
             Made::Replace(job) => self.replace(rt, alloc, job),
-            Made::Lease => Some(self.lease(rt, alloc)),
-            Made::Order(lease) => self.order(rt, alloc, lease.number),
-            Made::GiveBack(lease) => self.give_back(rt, lease.number),
+            Made::Lease => self.lease(rt, alloc),
+            Made::Order(offered) => self.order(rt, alloc, offered),
+            Made::GiveBack(offered) => self.give_back(rt, alloc, offered),
             Made::Revoke(job) => Some(done_told(self.book.revoke(rt, &mut self.desk, job))),
             Made::Cancel(job) => Some(done_told(self.book.cancel(rt, &mut self.desk, job))),
-            Made::Read(job) => Some(self.read(rt, alloc, job)),
+            Made::Read(job) => self.read(rt, alloc, job),
+        }
+    }
+
+    /// Whether a call answers this. Where it meets want of memory it has changed nothing, and is made again.
+    pub fn answers<R: Wait>(&mut self, rt: &R, alloc: Global, call: Made, wanted: Reply) -> bool {
+        match self.make(rt, alloc, call) {
+            None | Some(Reply::Refused(BookFault::Memory)) => {
+                self.make(rt, alloc, call) == Some(wanted)
+            }
+            Some(told) => told == wanted,
         }
     }
 
     /// Makes calls in order, as long as each answers the reply beside it; whether all did.
-    fn make_all<R: Wait>(&mut self, rt: &R, alloc: Global, calls: &[(Made, Reply)]) -> bool {
+    pub fn make_all<R: Wait>(&mut self, rt: &R, alloc: Global, calls: &[(Made, Reply)]) -> bool {
         for (call, wanted) in calls {
-            if self.make(rt, alloc, *call) != Some(*wanted) {
+            if !self.answers(rt, alloc, *call, *wanted) {
                 return false;
             }
         }
         true
     }
-}
 
-/// The history that these calls of a new book leave, if each answers the reply beside it and the book closes.
-pub fn history_of<L: Ledger, R: Wait>(
-    rt: &R,
-    alloc: Global,
-    blank: Blank,
-    calls: &[(Made, Reply)],
-) -> Option<Vec<Event>>
-    requires name { blank.name ≡ L.name }
-    requires parts { (blank.parts ≡ L.parts) × (blank.parts ≡ 1024) }
-{
-    let (book, desk) = SharedBook::<L>::start(alloc, blank);
-    let mut table = Table {
-        book,
-        desk,
-        leases: Vec::new(alloc),
-    };
-    if !table.make_all(rt, alloc, calls) {
-        return None;
+    /// Hands the lease of a place over to another table, where it lies at the next place; whether it does.
+    pub fn hand_over<M: Ledger>(&mut self, place: usize, other: &mut Table<M>) -> bool {
+        if other.leases.reserve(1).is_err() && other.leases.reserve(1).is_err() {
+            return false;
+        }
+        match self.leases.get_mut(place) {
+            Some(out) => other.leases.push(out.take()).is_ok(),
+            None => false,
+        }
     }
-    let Table { book, desk, .. } = table;
-    let (_, history) = book.close(desk).ok()?;
-    Some(history)
+
+    /// Closes the book, and gives its history and what was read.
+    pub fn close(self) -> Option<(Vec<Event>, Vec<Snapshot>)> {
+        let Table {
+            book,
+            desk,
+            reads,
+            ..
+        } = self;
+        let (_, history) = book.close(desk).ok()?;
+        Some((history, reads))
+    }
 }

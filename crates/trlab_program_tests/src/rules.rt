@@ -2,6 +2,7 @@
 
 use std::alloc::Global;
 use trlab_rules::{Rule, nasch, rickert, slowed_1992, vdr};
+use trlab_verify::Change;
 use trlab_words::Chance;
 
 /// The rule of 1992 with this chance.
@@ -33,11 +34,21 @@ fn gives_the_published_rules(rt: HostRuntime) {
     assert_eq!(rt; budgets(of_1996(rt.alloc(), 1, 2)), Some((12, Some(15))));
 }
 
-/// Whether a rule equals its copy, and the copy the rule.
+/// Whether a change program, where there is one, equals its copy.
+fn change_equals_copy(alloc: Global, change: Option<&Change>) -> Option<bool> {
+    match change {
+        Some(change) => Some(change.copy(alloc).ok()?.equals(change)),
+        None => Some(true),
+    }
+}
+
+/// Whether a rule and its programs equal their copies, and the copy of the rule the rule.
 fn equals_its_copy(alloc: Global, rule: Option<Rule>) -> Option<bool> {
     let rule = rule?;
     let copy = rule.copy(alloc).ok()?;
-    Some(copy.equals(&rule) && rule.equals(&copy))
+    let motion = rule.motion().copy(alloc).ok()?;
+    let is_same = copy.equals(&rule) && rule.equals(&copy) && motion.equals(rule.motion());
+    Some(is_same && change_equals_copy(alloc, rule.change())?)
 }
 
 #[test]
@@ -45,7 +56,10 @@ fn copies_are_equal(rt: HostRuntime) {
     let alloc = rt.alloc();
     assert_eq!(rt; equals_its_copy(alloc, of_1992(alloc, 1)), Some(true));
     assert_eq!(rt; equals_its_copy(alloc, of_1998(alloc, 1, 2)), Some(true));
-    assert_eq!(rt; equals_its_copy(alloc, of_1996(alloc, 1, 2)), Some(true));
+    assert_eq!(rt;
+        equals_its_copy(alloc, of_1996(alloc, 0, 2147483648)),
+        Some(true)
+    );
 }
 
 /// Whether there are both rules, and they are not equal.

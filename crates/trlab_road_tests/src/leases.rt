@@ -8,8 +8,9 @@ use crate::leases::calls::{Call, Named};
 use crate::leases::table::Table;
 use std::alloc::Global;
 
-/// How many calls, from the first on, tell what stands beside them.
-fn told_so(alloc: Global, table: &mut Table, calls: &[(Call, &str)]) -> usize {
+/// How many calls of a new book, from the first on, tell what stands beside them.
+fn told_anew(alloc: Global, calls: &[(Call, &str)]) -> usize {
+    let mut table = Table::new(alloc);
     for (index, (call, wanted)) in calls.iter().enumerate() {
         match table.make(alloc, *call) {
             Some(told) if told.as_str() == *wanted => (),
@@ -19,19 +20,8 @@ fn told_so(alloc: Global, table: &mut Table, calls: &[(Call, &str)]) -> usize {
     calls.len()
 }
 
-/// How many calls of a new book tell what stands beside them.
-fn told_anew(alloc: Global, calls: &[(Call, &str)]) -> usize {
-    told_so(alloc, &mut Table::new(alloc), calls)
-}
-
-/// The job of four steps of two cars, which is leased.
-const LEASED: [(Call, &str); 2] = [
-    (Call::Submit(0, 4, Named::Steady), "job 0"),
-    (Call::Lease, "lease 0 of job 0 at step 0 of 4"),
-];
-
 const REPLACED_BETWEEN: [(Call, &str); 13] = [
-    (Call::Submit(0, 4, Named::Steady), "job 0"),
+    (Call::Submit(4, Named::Steady), "job 0"),
     (Call::Lease, "lease 0 of job 0 at step 0 of 4"),
     (Call::Order(0), "step 0, steady"),
     (Call::Replace(0, Named::Braking), "from 1"),
@@ -58,7 +48,7 @@ fn a_rule_enters_behind_the_ordered_steps(rt: HostRuntime) {
 }
 
 const REPLACED_AGAIN: [(Call, &str); 10] = [
-    (Call::Submit(0, 4, Named::Steady), "job 0"),
+    (Call::Submit(4, Named::Steady), "job 0"),
     (Call::Replace(0, Named::Steady), "from 0"),
     (Call::Replace(0, Named::Braking), "from 0"),
     (Call::Read(0), "step 0, distance 0, 0 braking, 0.0......."),
@@ -79,7 +69,7 @@ fn the_last_rule_of_a_step_stays(rt: HostRuntime) {
 }
 
 const REVOKED: [(Call, &str); 12] = [
-    (Call::Submit(0, 4, Named::Steady), "job 0"),
+    (Call::Submit(4, Named::Steady), "job 0"),
     (Call::Lease, "lease 0 of job 0 at step 0 of 4"),
     (Call::Order(0), "step 0, steady"),
     (Call::Replace(0, Named::Braking), "from 1"),
@@ -102,7 +92,7 @@ fn a_revoked_lease_is_handed_back(rt: HostRuntime) {
 }
 
 const TAKEN_TWICE: [(Call, &str); 11] = [
-    (Call::Submit(0, 4, Named::Steady), "job 0"),
+    (Call::Submit(4, Named::Steady), "job 0"),
     (Call::Lease, "lease 0 of job 0 at step 0 of 4"),
     (Call::Order(0), "step 0, steady"),
     (Call::Step(0), "done"),
@@ -134,11 +124,11 @@ fn an_empty_book_has_no_job(rt: HostRuntime) {
 }
 
 const NO_STEPS: [(Call, &str); 6] = [
-    (Call::Submit(0, 0, Named::Steady), "job 0"),
+    (Call::Submit(0, Named::Steady), "job 0"),
     (Call::Lease, "none"),
     (Call::Replace(0, Named::Steady), "Ended"),
     (Call::Cancel(0), "Ended"),
-    (Call::Submit(0, 1, Named::Steady), "job 1"),
+    (Call::Submit(1, Named::Steady), "job 1"),
     (Call::Lease, "lease 0 of job 1 at step 0 of 1"),
 ];
 
@@ -148,7 +138,7 @@ fn a_job_of_no_steps_has_ended(rt: HostRuntime) {
 }
 
 const CANCELLED: [(Call, &str); 8] = [
-    (Call::Submit(0, 4, Named::Steady), "job 0"),
+    (Call::Submit(4, Named::Steady), "job 0"),
     (Call::Lease, "lease 0 of job 0 at step 0 of 4"),
     (Call::Cancel(0), "done"),
     (Call::Order(0), "Ended"),
@@ -164,72 +154,12 @@ fn a_cancelled_job_refuses_its_lease(rt: HostRuntime) {
 }
 
 const TWO_LANES: [(Call, &str); 3] = [
-    (Call::Submit(0, 4, Named::Crossing), "LanesMismatch"),
-    (Call::Submit(0, 4, Named::Steady), "job 0"),
+    (Call::Submit(4, Named::Crossing), "LanesMismatch"),
+    (Call::Submit(4, Named::Steady), "job 0"),
     (Call::Replace(0, Named::Crossing), "LanesMismatch"),
 ];
 
 #[test]
 fn a_rule_of_two_lanes_wants_a_road_of_two(rt: HostRuntime) {
     assert_eq!(rt; told_anew(rt.alloc(), &TWO_LANES), 3);
-}
-
-const UNDER_ANOTHER_KEY: [(Call, &str); 2] = [
-    (Call::Submit(255, 4, Named::Steady), "job 0"),
-    (Call::Lease, "lease 0 of job 0 at step 0 of 4"),
-];
-
-const REFUSED: [(Call, &str); 1] = [(Call::GiveBack(1), "StrangerLease")];
-
-const GIVEN_BACK: [(Call, &str); 1] = [(Call::GiveBack(1), "done")];
-
-const STEPPED: [(Call, &str); 2] = [(Call::Order(0), "step 0, steady"), (Call::Step(0), "done")];
-
-const TAKEN: [(Call, &str); 4] = [
-    (Call::GiveBack(1), "StrangerLease"),
-    (Call::Order(0), "step 0, steady"),
-    (Call::GiveBack(1), "done"),
-    (Call::Read(0), "step 1, distance 2, 0 steady, .1.1......"),
-];
-
-/// Whether the lease of one book is refused by another, whose job is under another key, and taken by its
-/// own.
-fn is_a_stranger(alloc: Global, own: &mut Table, other: &mut Table) -> bool {
-    if told_so(alloc, own, &LEASED) != 2 || told_so(alloc, other, &UNDER_ANOTHER_KEY) != 2 {
-        return false;
-    }
-    own.hand_over(0, other);
-    if told_so(alloc, other, &REFUSED) != 1 {
-        return false;
-    }
-    other.hand_over(1, own);
-    told_so(alloc, own, &GIVEN_BACK) == 1
-}
-
-#[test]
-fn a_lease_of_a_job_under_another_key_is_a_stranger(rt: HostRuntime) {
-    let alloc = rt.alloc();
-    let is_so = is_a_stranger(alloc, &mut Table::new(alloc), &mut Table::new(alloc));
-    assert!(rt; is_so);
-}
-
-/// Whether the lease of one book, which has taken its step, is taken by another as soon as that has
-/// ordered the step.
-fn is_taken(alloc: Global, own: &mut Table, other: &mut Table) -> bool {
-    if told_so(alloc, own, &LEASED) != 2 || told_so(alloc, other, &LEASED) != 2 {
-        return false;
-    }
-    if told_so(alloc, own, &STEPPED) != 2 {
-        return false;
-    }
-    own.hand_over(0, other);
-    told_so(alloc, other, &TAKEN) == 4
-}
-
-// A lease of the same run is taken as soon as its step is ordered: which book lent it cannot be told.
-#[test]
-fn a_lease_of_the_same_run_is_taken(rt: HostRuntime) {
-    let alloc = rt.alloc();
-    let is_so = is_taken(alloc, &mut Table::new(alloc), &mut Table::new(alloc));
-    assert!(rt; is_so);
 }

@@ -39,7 +39,9 @@ fn equals_its_copy(alloc: Global, picture: &[u8]) -> Result<bool, RoadFault> {
 
 #[test]
 fn a_copy_is_the_same_road(rt: HostRuntime) -> Result<(), RoadFault> {
-    assert!(rt; equals_its_copy(rt.alloc(), b"2..1.3")?);
+    for picture in [b"2..1.3".as_slice(), b"0.0......."] {
+        assert!(rt; equals_its_copy(rt.alloc(), picture)?);
+    }
     Ok(())
 }
 

@@ -19,8 +19,8 @@ pub enum Named {
 /// A call of a book. Leases are named by their place on the table, jobs by their number.
 #[derive(Clone, Copy)]
 pub enum Call {
-    /// Submits the road of two cars under a key of this byte, for so many steps.
-    Submit(u8, u32, Named),
+    /// Submits the road of two cars, for so many steps.
+    Submit(u32, Named),
     /// Leases the least job that is free.
     Lease,
     /// Orders the next step of a lease.

@@ -1,4 +1,4 @@
-//! Full books and full sheets.
+//! Full books.
 
 use crate::leases::calls::{Call, Named};
 use crate::leases::table::Table;
@@ -26,8 +26,8 @@ fn tells(alloc: Global, table: &mut Table, call: Call, wanted: &str) -> bool {
 #[test]
 fn a_book_has_256_jobs(rt: HostRuntime) {
     let mut table = Table::new(rt.alloc());
-    let submit = Call::Submit(0, 4, Named::Steady);
-    let mismatch = Call::Submit(0, 4, Named::Crossing);
+    let submit = Call::Submit(4, Named::Steady);
+    let mismatch = Call::Submit(4, Named::Crossing);
     assert!(rt; tells(rt.alloc(), &mut table, mismatch, "LanesMismatch"));
     assert_eq!(rt;
         count_told(rt.alloc(), &mut table, submit, "job ", 300),
@@ -35,42 +35,6 @@ fn a_book_has_256_jobs(rt: HostRuntime) {
     );
     assert!(rt; tells(rt.alloc(), &mut table, submit, "Full"));
     assert!(rt; tells(rt.alloc(), &mut table, mismatch, "LanesMismatch"));
-}
-
-/// Whether the lease of a place takes its step, and the rule is replaced behind it, from this step on.
-fn is_replaced_behind(alloc: Global, table: &mut Table, place: usize, wanted: &str) -> bool {
-    let ordered = table.make(alloc, Call::Lease).is_some()
-        && table.make(alloc, Call::Order(place)).is_some()
-        && tells(alloc, table, Call::Step(place), "done");
-    let named = if place % 2 == 0 {
-        Named::Braking
-    } else {
-        Named::Steady
-    };
-    ordered
-        && tells(alloc, table, Call::Replace(0, named), wanted)
-        && tells(alloc, table, Call::GiveBack(place), "done")
-}
-
-/// How many entries a sheet takes behind its first.
-fn count_entries(alloc: Global, table: &mut Table) -> Option<u32> {
-    for step in 1..2000 {
-        let wanted = format!(in alloc; "from {step}").ok()?;
-        if !is_replaced_behind(alloc, table, step as usize - 1, wanted.as_str()) {
-            return Some(step - 1);
-        }
-    }
-    None
-}
-
-#[test]
-fn a_sheet_has_1024_entries(rt: HostRuntime) {
-    let mut table = Table::new(rt.alloc());
-    let submit = Call::Submit(0, 2000, Named::Steady);
-    assert!(rt; tells(rt.alloc(), &mut table, submit, "job 0"));
-    assert_eq!(rt; count_entries(rt.alloc(), &mut table), Some(1023));
-    let replace = Call::Replace(0, Named::Steady);
-    assert!(rt; tells(rt.alloc(), &mut table, replace, "SheetFull"));
 }
 
 #[test]

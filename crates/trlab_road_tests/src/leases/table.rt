@@ -35,11 +35,11 @@ fn done(alloc: Global, answer: Result<(), BookFault>) -> Option<String> {
     }
 }
 
-/// The road of two cars on one lane, under a key of one byte.
-fn seed_under(alloc: Global, byte: u8) -> Option<Seed> {
+/// The road of two cars on one lane, under the key of zeros.
+fn seed(alloc: Global) -> Option<Seed> {
     Some(Seed {
         road: Road::parse(alloc, 5, &[b"0.0......."]).ok()?,
-        key: Key([byte; 32]),
+        key: Key([0; 32]),
         number: 0,
         warm: 0,
     })
@@ -110,16 +110,9 @@ impl Table {
         self.leases.get_mut(place)?.take()
     }
 
-    /// Hands the lease of a place over to another table, where it lies at the next place.
-    pub fn hand_over(&mut self, place: usize, other: &mut Table) {
-        if let Some(lease) = self.take(place) {
-            other.lay(lease);
-        }
-    }
-
     /// Submits the road of two cars.
-    fn submit(&mut self, alloc: Global, byte: u8, steps: u32, named: Named) -> Option<String> {
-        let (seed, rule) = (seed_under(alloc, byte)?, rule_named(alloc, named)?);
+    fn submit(&mut self, alloc: Global, steps: u32, named: Named) -> Option<String> {
+        let (seed, rule) = (seed(alloc)?, rule_named(alloc, named)?);
         match self.book.submit(alloc, seed, rule, steps) {
             Ok(number) => format!(in alloc; "job {number}").ok(),
             Err(fault) => refusal(alloc, fault),
@@ -204,7 +197,7 @@ impl Table {
     /// Makes a call, and tells what the book answers.
     pub fn make(&mut self, alloc: Global, call: Call) -> Option<String> {
         match call {
-            Call::Submit(byte, steps, named) => self.submit(alloc, byte, steps, named),
+            Call::Submit(steps, named) => self.submit(alloc, steps, named),
             Call::Lease => self.lease(alloc),
             Call::Order(place) => self.order(alloc, place),
             Call::Step(place) => self.step(alloc, place),

@@ -1,0 +1,44 @@
+//! What reads show of jobs, compared when all calls have been made: a snapshot does not change when its job
+//! goes on.
+
+use crate::jobs::{braking, is_seen, steady};
+use std::alloc::Global;
+use trlab_leases::{Sheet, Snapshot};
+
+/// What a read shows: the step, the picture of the one lane, and beside the first step of each rule
+/// whether cars brake by it.
+pub type Shown = (u32, &'static [u8], &'static [(u32, bool)]);
+
+/// Whether a sheet has these rules, in order.
+fn has_rules(alloc: Global, sheet: &Sheet, wanted: &[(u32, bool)]) -> Option<bool> {
+    let (steady, braking) = (steady(alloc)?, braking(alloc)?);
+    let mut is_so = sheet.len() == wanted.len();
+    for (index, (from, brakes)) in wanted.iter().enumerate() {
+        if index < sheet.len() {
+            let entry = sheet.entry(index);
+            let rule = if *brakes { &braking } else { &steady };
+            is_so = is_so && entry.0 == *from && entry.1.equals(rule);
+        }
+    }
+    Some(is_so)
+}
+
+/// Whether a snapshot is what is wanted; nothing where memory ran out.
+fn is_as_wanted(alloc: Global, read: &Snapshot, wanted: &Shown) -> Option<bool> {
+    let is_seen = is_seen(alloc, read, wanted.0, wanted.1)?;
+    Some(is_seen && has_rules(alloc, read.sheet(), wanted.2)?)
+}
+
+/// Whether snapshots are these, in order. Where memory runs out it is looked once more.
+pub fn show(alloc: Global, reads: &[Snapshot], wanted: &[Shown]) -> bool {
+    for (read, wanted) in reads.iter().zip(wanted) {
+        let is_so = match is_as_wanted(alloc, read, wanted) {
+            Some(is_so) => Some(is_so),
+            None => is_as_wanted(alloc, read, wanted),
+        };
+        if is_so != Some(true) {
+            return false;
+        }
+    }
+    reads.len() == wanted.len()
+}
