@@ -4,23 +4,36 @@
 use crate::jobs::{braking, is_seen, steady};
 use std::alloc::Global;
 use trlab_leases::{Sheet, Snapshot};
+use trlab_rules::Rule;
 
 /// What a read shows: the step, the picture of the one lane, and beside the first step of each rule
 /// whether cars brake by it.
 pub type Shown = (u32, &'static [u8], &'static [(u32, bool)]);
 
-/// Whether a sheet has these rules, in order.
-fn has_rules(alloc: Global, sheet: &Sheet, wanted: &[(u32, bool)]) -> Option<bool> {
-    let (steady, braking) = (steady(alloc)?, braking(alloc)?);
-    let mut is_so = sheet.len() == wanted.len();
+/// Whether the entry of a sheet is of a first step and a rule.
+fn is_entry(sheet: &Sheet, index: usize, from: u32, rule: &Rule) -> bool {
+    if index >= sheet.len() {
+        return false;
+    }
+    let entry = sheet.entry(index);
+    entry.0 == from && entry.1.equals(rule)
+}
+
+/// Whether a sheet has these rules, in order, each one of two.
+fn are_entries(sheet: &Sheet, wanted: &[(u32, bool)], steady: &Rule, braking: &Rule) -> bool {
     for (index, (from, brakes)) in wanted.iter().enumerate() {
-        if index < sheet.len() {
-            let entry = sheet.entry(index);
-            let rule = if *brakes { &braking } else { &steady };
-            is_so = is_so && entry.0 == *from && entry.1.equals(rule);
+        let rule = if *brakes { braking } else { steady };
+        if !is_entry(sheet, index, *from, rule) {
+            return false;
         }
     }
-    Some(is_so)
+    sheet.len() == wanted.len()
+}
+
+/// Whether a sheet has these rules, in order; nothing where memory ran out.
+fn has_rules(alloc: Global, sheet: &Sheet, wanted: &[(u32, bool)]) -> Option<bool> {
+    let (steady, braking) = (steady(alloc)?, braking(alloc)?);
+    Some(are_entries(sheet, wanted, &steady, &braking))
 }
 
 /// Whether a snapshot is what is wanted; nothing where memory ran out.
