@@ -21,6 +21,7 @@ use std::alloc::{AllocError, Global};
 use std::marker::Model;
 use trlab_road::Road;
 use trlab_rules::Rule;
+use trlab_run::{no_tally, tally_sum};
 use trlab_step::{StepRoom, StepTally};
 use trlab_words::Key;
 
@@ -73,11 +74,7 @@ impl Job {
             cancelled: false,
             out: None,
             road: None,
-            tally: StepTally {
-                distance: 0,
-                stopped: 0,
-                changes: 0,
-            },
+            tally: no_tally(),
         })
     }
 
@@ -235,9 +232,7 @@ impl Job {
         let mut sum = self.tally;
         for ran in lease.applied() {
             if self.seed.warm <= step {
-                sum.distance += ran.tally.distance;
-                sum.stopped += ran.tally.stopped;
-                sum.changes += ran.tally.changes;
+                sum = tally_sum(sum, ran.tally);
             }
             step += 1;
         }

@@ -116,7 +116,7 @@ impl<'a, R: Wait, G: Gate> Pool<'a, R, G> {
         };
         if let Ok(shared) = Arc::try_clone(&task) {
             board.publish(self.rt, shared);
-            self.hall.call(workers - 1);
+            self.wake(workers);
         }
         let parts = draw_all(alloc, &task.brief, &mut mine, 0, self.gate);
         board.withdraw(self.rt);

@@ -42,11 +42,16 @@ impl Hall {
         }
     }
 
+    /// Wakes all helpers, which takes one call of the system and not one for each.
+    pub fn call_all(&self) {
+        self.turn.fetch_add(1, Ordering::SeqCst);
+        self.turn.wake_all();
+    }
+
     /// Sends all helpers home.
     pub fn close(&self) {
         self.closed.store(true, Ordering::SeqCst);
-        self.turn.fetch_add(1, Ordering::SeqCst);
-        self.turn.wake_all();
+        self.call_all();
     }
 
     /// Whether helpers are sent home.

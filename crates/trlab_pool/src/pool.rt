@@ -117,6 +117,17 @@ impl<'a, R: Wait, G: Gate> Pool<'a, R, G> {
         }
     }
 
+    /// Wakes the helpers of so many workers, of whom the calling thread is one.
+    pub(crate) fn wake(&self, workers: u32)
+        requires { 0 < workers }
+    {
+        if workers == self.workers {
+            self.hall.call_all();
+        } else {
+            self.hall.call(workers - 1);
+        }
+    }
+
     /// Whether the calling thread asks so many cars alone, and at once.
     pub fn asks_alone(&self, cars: u32) -> bool {
         self.workers_for(cars) == 1

@@ -7,3 +7,4 @@ mod totals;
 
 pub use run::Run;
 pub use sheet::Sheet;
+pub use totals::{no_tally, tally_sum};
