@@ -1,4 +1,4 @@
-use Rattle.std.proofs.Common.{◌≡◌, ap, arith}
+use Rattle.std.proofs.Common.{◌≡◌, ◌∙◌, ap, arith}
 use Rattle.std.proofs.lemmas.Bool.{le-leb, lt-leb}
 use Rattle.std.specs.Prelude.{nat_le, if◌then◌else◌}
 use Rattle.trlab_step.specs.Run.{tally_sum}
@@ -16,24 +16,24 @@ loop-ran-init c =
     let base = c.requires.base in
     (omega arith, way_begins state c.args.self.now c.args.lease.now _ j.tally c.self.view_is c.self.invariant.run c.applied-ran-items.ensures.lease c.requires.own c.requires.base)
 
-pub overflow_add-sum : goal.overflow_add-sum
-overflow_add-sum c =
+pub tally_sum-sum-requires-clause-distance : goal.tally_sum-sum-requires-clause-distance
+tally_sum-sum-requires-clause-distance c =
     let below = rw c.applied-ran-items.ensures.value at c.loop-ran-test.true in
     let on = go_on_at (start_of c.args.self.now.seed) c.args.self.now.sheet c.loop-ran.step c.loop-ran.sum c.args.lease.now.applied c.loop-ran.ran-index c.ran-item.result c.args.lease.now.road below (rw c.applied-ran-items.ensures.value at c.ran-item.is) c.loop-ran.invariant.1 in
     let few = on.small.distance in
     let early = c.loop-ran.auto.step-fits in
     omega arith
 
-pub overflow_add-sum-then-self-step : goal.overflow_add-sum-then-self-step
-overflow_add-sum-then-self-step c =
+pub tally_sum-sum-requires-clause-stopped : goal.tally_sum-sum-requires-clause-stopped
+tally_sum-sum-requires-clause-stopped c =
     let below = rw c.applied-ran-items.ensures.value at c.loop-ran-test.true in
     let on = go_on_at (start_of c.args.self.now.seed) c.args.self.now.sheet c.loop-ran.step c.loop-ran.sum c.args.lease.now.applied c.loop-ran.ran-index c.ran-item.result c.args.lease.now.road below (rw c.applied-ran-items.ensures.value at c.ran-item.is) c.loop-ran.invariant.1 in
     let few = on.small.stopped in
     let early = c.loop-ran.auto.step-fits in
     omega arith
 
-pub overflow_add-sum-then-self-step-2 : goal.overflow_add-sum-then-self-step-2
-overflow_add-sum-then-self-step-2 c =
+pub tally_sum-sum-requires-clause-changes : goal.tally_sum-sum-requires-clause-changes
+tally_sum-sum-requires-clause-changes c =
     let below = rw c.applied-ran-items.ensures.value at c.loop-ran-test.true in
     let on = go_on_at (start_of c.args.self.now.seed) c.args.self.now.sheet c.loop-ran.step c.loop-ran.sum c.args.lease.now.applied c.loop-ran.ran-index c.ran-item.result c.args.lease.now.road below (rw c.applied-ran-items.ensures.value at c.ran-item.is) c.loop-ran.invariant.1 in
     let few = on.small.changes in
@@ -47,7 +47,7 @@ loop-ran-preserved c =
     let at = c.loop-ran.invariant.0 in
     let warm = ap (λ (s : JobState). s.seed.warm) c.self.view_is in
     let counted : c.if-self-step.sum ≡ (if nat_le c.args.self.now.seed.warm c.loop-ran.step then tally_sum c.loop-ran.sum c.ran-item.result.tally else c.loop-ran.sum) = elim c.if-self-step.branch [
-      | then-self-step w ↦ rw (← warm, le-leb c.self.inside.seed.warm c.loop-ran.step w.if-self-step.true) w.sum-is
+      | then-self-step w ↦ rw (← warm, le-leb c.self.inside.seed.warm c.loop-ran.step w.if-self-step.true) (w.sum-is ∙ w.tally_sum-sum.ensures)
       | else-self-step w ↦ rw (← warm, lt-leb c.self.inside.seed.warm c.loop-ran.step w.if-self-step.false) w.sum-is
     ] in
     (omega arith, rw counted on.way)
