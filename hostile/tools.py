@@ -38,7 +38,7 @@ def content_of(fd):
     return os.pread(fd, os.fstat(fd).st_size, 0)
 
 
-def run(words, text=b"", env=None):
+def run(words, text=b"", env=None, program=PROGRAM):
     """The exit status and the output of a run on a text. A run that hangs has the status "hang"."""
     source, sink = os.memfd_create("text"), os.memfd_create("output")
     try:
@@ -46,8 +46,7 @@ def run(words, text=b"", env=None):
         os.lseek(source, 0, os.SEEK_SET)
         streams = [(os.POSIX_SPAWN_DUP2, source, 0), (os.POSIX_SPAWN_DUP2, sink, 1)]
         silence = (os.POSIX_SPAWN_OPEN, 2, "/dev/null", os.O_WRONLY, 0)
-        words = [PROGRAM, *words]
-        pid = os.posix_spawn(PROGRAM, words, os.environ if env is None else env, file_actions=[*streams, silence])
+        pid = os.posix_spawn(program, [program, *words], os.environ if env is None else env, file_actions=[*streams, silence])
         return ended(pid), content_of(sink)
     finally:
         os.close(source)
