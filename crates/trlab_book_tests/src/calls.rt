@@ -12,24 +12,36 @@ use std::marker::Brand;
 use std::sync::Wait;
 use std::sync::ledger::{Blank, Ledger};
 use trlab_leases::{BookFault, Call, Event, Reply, Snapshot};
+use trlab_rules::Rule;
 
-/// Whether each submission is of the two cars under the rule by which no car brakes, and each replacement
-/// by the one by which each does; nothing where memory ran out.
-fn have_rules(alloc: Global, history: &[Event]) -> Option<bool> {
-    let (steady, braking) = (steady(alloc)?, braking(alloc)?);
+/// Whether a submission is of the two cars under the rule by which no car brakes, and a replacement by the
+/// one by which each does.
+fn has_rule(alloc: Global, call: &Call, steady: &Rule, braking: &Rule) -> bool {
+    match call {
+        Call::Submit(from, rule, _) => {
+            rule.get().equals(steady) && shows(alloc, &from.get().road, b"0.0.......") == Some(true)
+        }
+        Call::Replace(_, rule) => rule.get().equals(braking),
+        _ => true,
+    }
+}
+
+/// Whether each submission and each replacement of a history has its rule.
+fn have_rules(alloc: Global, history: &[Event], steady: &Rule, braking: &Rule) -> bool {
     for event in history {
-        let is_given = match &event.call {
-            Call::Submit(from, rule, _) => {
-                rule.get().equals(&steady) && shows(alloc, &from.get().road, b"0.0.......")?
-            }
-            Call::Replace(_, rule) => rule.get().equals(&braking),
-            _ => true,
-        };
-        if !is_given {
-            return Some(false);
+        if !has_rule(alloc, &event.call, steady, braking) {
+            return false;
         }
     }
-    Some(true)
+    true
+}
+
+/// Whether a history has the seeds and the rules that were given; not so where memory runs out.
+fn is_given(alloc: Global, history: &[Event]) -> bool {
+    match (steady(alloc), braking(alloc)) {
+        (Some(steady), Some(braking)) => have_rules(alloc, history, &steady, &braking),
+        _ => false,
+    }
 }
 
 /// What these calls of a new book leave, if each answers the reply beside it and the book closes.
@@ -52,11 +64,7 @@ fn left_by<L: Ledger, R: Wait>(
 /// Whether a history has these calls, with the seeds and the rules that they were given. Where memory runs
 /// out it is looked once more.
 fn is_as_made(alloc: Global, history: &[Event], calls: &[(Made, Reply)]) -> bool {
-    let is_given = match have_rules(alloc, history) {
-        Some(is_given) => Some(is_given),
-        None => have_rules(alloc, history),
-    };
-    is_history(history, calls) && is_given == Some(true)
+    is_history(history, calls) && (is_given(alloc, history) || is_given(alloc, history))
 }
 
 /// Whether calls of a new book answer the replies beside them, leave these calls and these replies as its

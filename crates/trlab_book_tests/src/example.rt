@@ -9,7 +9,7 @@ use std::marker::Brand;
 use std::sync::Wait;
 use std::sync::ledger::{Blank, Ledger};
 use std::thread::{Threads, join};
-use trlab_book::{Desk, RunFault, SharedBook, run_jobs};
+use trlab_book::{Desk, SharedBook, run_jobs};
 use trlab_leases::{Event, Reply, Snapshot};
 use trlab_segments::OpenGate;
 
@@ -39,6 +39,22 @@ fn submit_two<L: Ledger, R: Wait>(
         && submit(rt, alloc, book, desk, 1, 100) == Some(1)
 }
 
+/// Runs the jobs of a book by two runners, and says whether all went well.
+fn run_two<L: Ledger + Send + Sync, R: Threads + Wait + Sync>(
+    rt: &R,
+    alloc: Global,
+    book: &SharedBook<L>,
+    desk: Desk<L>,
+) -> (Desk<L>, bool)
+    requires ledger { L.parts ≡ 1024 }
+    requires parts { 2 ≤ parts_of desk }
+{
+    match run_jobs(rt, alloc, book, desk, 2, 1, &OpenGate) {
+        Ok(desk) => (desk, true),
+        Err((desk, _)) => (desk, false),
+    }
+}
+
 /// Runs the jobs of a book by two runners, while the rule of job 0 is replaced.
 fn run_and_replace<L: Ledger + Send + Sync, R: Threads + Wait + Sync>(
     rt: &R,
@@ -52,14 +68,14 @@ fn run_and_replace<L: Ledger + Send + Sync, R: Threads + Wait + Sync>(
         return None;
     }
     let theirs = mine.split();
-    let ((theirs, entered), ran) = join(
+    let ((theirs, entered), (mine, ran)) = join(
         rt,
         || replace_late(rt, alloc, book, theirs),
-        || -> Result<Desk<L>, (Desk<L>, RunFault)>
+        || -> (Desk<L>, bool)
             requires { (L.parts ≡ 1024) × (2 ≤ parts_of mine) }
-        { run_jobs(rt, alloc, book, mine, 2, 1, &OpenGate) },
+        { run_two(rt, alloc, book, mine) },
     );
-    Some((ran.ok()?.gather(theirs), entered))
+    ran.then(|| (mine.gather(theirs), entered))
 }
 
 /// Whether the last event is a read of a snapshot: its step, and how many rules its sheet has.
@@ -103,9 +119,8 @@ fn is_in_the_sheet<L: Ledger + Send + Sync, R: Threads + Wait + Sync>(
     let (book, mut mine) = SharedBook::<L>::start(alloc, blank);
     let submitted = submit_two(rt, alloc, &book, &mut mine);
     let (mut desk, entered) = run_and_replace(rt, alloc, &book, mine)?;
-    let seen = book.read(rt, alloc, &mut desk, 0);
+    let seen = book.read(rt, alloc, &mut desk, 0).ok()?;
     let (_, history) = book.close(desk).ok()?;
-    let seen = seen.ok()?;
     Some(submitted && has_entered(&seen, entered) && is_as_alone(alloc, &seen, &history))
 }
 

@@ -12,7 +12,7 @@ use std::sync::atomic::{AtomicBool, Ordering};
 use std::sync::ledger::{Blank, Ledger};
 use std::thread::{Threads, join};
 use trlab_book::{Desk, RunFault, SharedBook, run_jobs};
-use trlab_leases::{BookFault, Event, Reply};
+use trlab_leases::{BookFault, Event, Reply, Snapshot};
 use trlab_segments::Gate;
 
 /// Tells that a segment has come, and holds it until it may go on.
@@ -82,11 +82,14 @@ fn has_ended<L: Ledger, R: Wait>(
         Ending::Cancelled => (0, 1, b"0.0......."),
     };
     match book.read(rt, alloc, desk, 0) {
-        Ok(seen) => {
-            seen.sheet().len() == rules && is_seen(alloc, &seen, step, picture) == Some(true)
-        }
+        Ok(seen) => is_end(alloc, &seen, step, rules, picture),
         Err(_) => false,
     }
+}
+
+/// Whether a snapshot is of a step, a picture and so many rules.
+fn is_end(alloc: Global, seen: &Snapshot, step: u32, rules: usize, picture: &[u8]) -> bool {
+    seen.sheet().len() == rules && is_seen(alloc, seen, step, picture) == Some(true)
 }
 
 /// Runs the jobs of a book by a runner who is held while its lease ends, and says whether the calls

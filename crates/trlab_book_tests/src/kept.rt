@@ -8,7 +8,7 @@ use std::alloc::Global;
 use std::thread::Threads;
 use trlab_book::advance;
 use trlab_book::laws::Kept;
-use trlab_leases::{BookFault, Snapshot};
+use trlab_leases::{BookFault, Lease, Snapshot};
 use trlab_segments::OpenGate;
 
 /// A book with the job of two cars, who never brake by chance.
@@ -18,8 +18,29 @@ fn with_job(alloc: Global) -> Option<Kept> {
     (kept.submit(alloc, seed, rule, 4) == Ok(0)).then(|| kept)
 }
 
-/// Has a lease of the job take a step by so many workers, and reads the job. Meanwhile the rule is
-/// replaced by the one by which each car brakes, which is to be in force from the next step on.
+/// Has a lease take a step by so many workers. Between its order and the step the rule is replaced by the
+/// one by which each car brakes, which is to be in force from the next step on.
+fn take_step<R: Threads + Sync>(
+    rt: &R,
+    alloc: Global,
+    kept: &mut Kept,
+    lease: &mut Lease,
+    workers: u32,
+) -> Option<()>
+    requires { (0 < workers) × (workers ≤ 16) }
+{
+    let order = kept.order(alloc, lease).ok()?;
+    let entered = replace(alloc, kept)?;
+    advance(rt, alloc, lease, &order, workers, &OpenGate).ok()?;
+    (entered == lease.step()).then(|| ())
+}
+
+/// The step from which on each car of the job brakes.
+fn replace(alloc: Global, kept: &mut Kept) -> Option<u32> {
+    kept.replace(alloc, 0, braking(alloc)?).ok()
+}
+
+/// Has a lease of the job take a step by so many workers, and reads the job.
 fn read_behind_step<R: Threads + Sync>(
     rt: &R,
     alloc: Global,
@@ -29,12 +50,8 @@ fn read_behind_step<R: Threads + Sync>(
     requires { (0 < workers) × (workers ≤ 16) }
 {
     let mut lease = kept.lease(alloc).ok()??;
-    let order = kept.order(alloc, &lease).ok()?;
-    let entered = kept.replace(alloc, 0, braking(alloc)?).ok()?;
-    advance(rt, alloc, &mut lease, &order, workers, &OpenGate).ok()?;
-    let step = lease.step();
-    kept.give_back(lease).ok()?;
-    if entered != step {
+    let took = take_step(rt, alloc, kept, &mut lease, workers);
+    if kept.give_back(lease).is_err() || took.is_none() {
         return None;
     }
     kept.read(alloc, 0).ok()

@@ -45,11 +45,9 @@ fn is_as_wanted(alloc: Global, read: &Snapshot, wanted: &Shown) -> Option<bool> 
 /// Whether snapshots are these, in order. Where memory runs out it is looked once more.
 pub fn show(alloc: Global, reads: &[Snapshot], wanted: &[Shown]) -> bool {
     for (read, wanted) in reads.iter().zip(wanted) {
-        let is_so = match is_as_wanted(alloc, read, wanted) {
-            Some(is_so) => Some(is_so),
-            None => is_as_wanted(alloc, read, wanted),
-        };
-        if is_so != Some(true) {
+        let is_so = is_as_wanted(alloc, read, wanted) == Some(true)
+            || is_as_wanted(alloc, read, wanted) == Some(true);
+        if !is_so {
             return false;
         }
     }

@@ -45,6 +45,23 @@ fn bring_to(alloc: Global, out: &mut Out, step: u32) -> Option<()> {
     lease.advance_by(&Caller, alloc, order.as_ref()?).ok()
 }
 
+/// Lays a lease at a place.
+fn lay_at(leases: &mut [Option<Out>], place: usize, lease: Lease) {
+    if let Some(out) = leases.get_mut(place) {
+        *out = Some(Out { lease, order: None });
+    }
+}
+
+/// Takes the lease of a place, which has taken the ordered step where it does not yet stand at this step.
+fn take_at(alloc: Global, leases: &mut [Option<Out>], place: usize, step: u32) -> Option<Lease> {
+    let out = leases.get_mut(place)?;
+    bring_to(alloc, out.as_mut()?, step)?;
+    match out.take() {
+        Some(Out { lease, .. }) => Some(lease),
+        None => None,
+    }
+}
+
 impl<L: Ledger> Table<L> {
     /// A table with a new book.
     pub fn start(alloc: Global, blank: Blank, picture: &'static [u8], byte: u8) -> Table<L>
@@ -107,18 +124,22 @@ impl<L: Ledger> Table<L> {
         }
     }
 
-    /// Gives the lease of a place back; where it is refused it is laid back there.
-    fn give_back<R: Wait>(&mut self, rt: &R, alloc: Global, offered: Offered) -> Option<Reply> {
-        let place = self.leases.get_mut(offered.number as usize)?;
-        bring_to(alloc, place.as_mut()?, offered.step)?;
-        let Out { lease, order } = place.take()?;
+    /// Gives a lease back; where it is refused it is laid at a place, without its order.
+    fn hand_back<R: Wait>(&mut self, rt: &R, place: usize, lease: Lease) -> Reply {
         match self.book.give_back(rt, &mut self.desk, lease) {
-            Ok(()) => Some(Reply::Done),
+            Ok(()) => Reply::Done,
             Err((lease, fault)) => {
-                *place = Some(Out { lease, order });
-                Some(Reply::Refused(fault))
+                lay_at(&mut self.leases, place, lease);
+                Reply::Refused(fault)
             }
         }
+    }
+
+    /// Gives the lease of a place back; where it is refused it is laid back there.
+    fn give_back<R: Wait>(&mut self, rt: &R, alloc: Global, offered: Offered) -> Option<Reply> {
+        let place = offered.number as usize;
+        let lease = take_at(alloc, &mut self.leases, place, offered.step)?;
+        Some(self.hand_back(rt, place, lease))
     }
 
     /// Reads a job, and keeps what it shows.
