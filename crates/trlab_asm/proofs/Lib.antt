@@ -11,5 +11,3 @@ pub mod Said
 pub mod Named
 pub mod Pushed
 pub mod LineSaid
-pub mod HandedOn
-pub mod Shapes

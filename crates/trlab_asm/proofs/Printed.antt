@@ -166,7 +166,7 @@ three_again d a b = then_again register two_registers (register_text d) (registe
 pub get_again : (d : Register) (k : Input) → register_input (32 ∷ (register_text d comma input_text k)) ≡ Ok (d, k)
 get_again d k = then_again register input (register_text d) (input_text k) d k (register_plain d) (register_again d) (input_again k)
 
-pub one_number_again : (d : Register) (n : ℕ) → n < 2 ^ 32 → register_number (32 ∷ (register_text d comma decimal n)) ≡ Ok (d, n)
+pub one_number_again : (d : Register) (n : ℕ) → n < 2 ^ 32 → register_number 0 (32 ∷ (register_text d comma decimal n)) ≡ Ok (d, n)
 one_number_again d n small = then_again register (number 0 GREATEST_NUMBER) (register_text d) (decimal n) d n (register_plain d) (register_again d) (number_again 0 n small (omega arith))
 
 pub two_number_again : (low : ℕ) (d a : Register) (n : ℕ) → n < 2 ^ 32 → low ≤ n → two_registers_number low (32 ∷ (register_text d comma register_text a comma decimal n)) ≡ Ok (d, (a, n))

@@ -101,7 +101,7 @@ three_gives = both_give Anything _ register two_registers register_gives two_giv
 register_input_gives : (text : List ℕ) → Gives (λ x. Anything x.0 × Anything x.1) (register_input text)
 register_input_gives = both_give Anything Anything register input register_gives input_gives
 
-register_number_gives : (text : List ℕ) → Gives (λ x. Anything x.0 × ((0 ≤ x.1) × (x.1 ≤ GREATEST_NUMBER))) (register_number text)
+register_number_gives : (text : List ℕ) → Gives (λ x. Anything x.0 × ((0 ≤ x.1) × (x.1 ≤ GREATEST_NUMBER))) (register_number 0 text)
 register_number_gives = both_give Anything _ register (number 0 GREATEST_NUMBER) register_gives (number_gives 0 GREATEST_NUMBER)
 
 two_registers_number_gives : (low : ℕ) (text : List ℕ) → Gives (λ x. Anything x.0 × (Anything x.1.0 × ((low ≤ x.1.1) × (x.1.1 ≤ GREATEST_NUMBER)))) (two_registers_number low text)
@@ -144,7 +144,7 @@ made : {A : Type 0} (P : A → Type 0) (r : Result A Why) (f : A → Result Draf
 made P = then_gives P Fits
 
 draft_fits : (x : Mnemonic) (text : List ℕ) → Gives Fits (draft_of x text)
-draft_fits name.Num text = made (λ x. Anything x.0 × ((0 ≤ x.1) × (x.1 ≤ GREATEST_NUMBER))) (register_number text) _ (register_number_gives text) (λ x h. tt)
+draft_fits name.Num text = made (λ x. Anything x.0 × ((0 ≤ x.1) × (x.1 ≤ GREATEST_NUMBER))) (register_number 0 text) _ (register_number_gives text) (λ x h. tt)
 draft_fits name.Get text = made (λ x. Anything x.0 × Anything x.1) (register_input text) _ (register_input_gives text) (λ x h. tt)
 draft_fits name.Side text = made Anything (register text) _ (register_gives text) (λ x h. tt)
 draft_fits name.Draw text = made (λ x. Anything x.0 × ((x.1.0 ≤ WORDS - 1) × (x.1.1 ≤ CERTAIN))) (register_word_chance text) _ (draw_gives text) (λ x h. (omega (arith, h.1.0), h.1.1))

@@ -116,18 +116,22 @@ three_registers = register then two_registers
 abbrev pub register_input : List ℕ → Result (Register × Input) Why
 register_input = register then input
 
--- a register and a number
-abbrev pub register_number : List ℕ → Result (Register × ℕ) Why
-register_number = register then number 0 GREATEST_NUMBER
+-- a register and a number that is at least low
+abbrev pub register_number : ℕ → List ℕ → Result (Register × ℕ) Why
+register_number low = register then number low GREATEST_NUMBER
 
 -- two registers and a number that is at least low
 abbrev pub two_registers_number : ℕ → List ℕ → Result (Register × (Register × ℕ)) Why
-two_registers_number low = register then register then number low GREATEST_NUMBER
+two_registers_number low = register then register_number low
+
+-- the digits of two numbers
+abbrev pub two_numerals : List ℕ → Result (List ℕ × List ℕ) Why
+two_numerals = numeral then numeral
 
 -- the number of a random word, and a chance in parts of 2 ^ 31: the forms of both before the ranges of both
 abbrev pub word_chance : List ℕ → Result (ℕ × ℕ) Why
 word_chance text = do
-  digits ← (numeral then numeral) text
+  digits ← two_numerals text
   k ← value_within 0 (WORDS - 1) digits.0
   t ← value_within 0 CERTAIN digits.1
   Ok (k, t)

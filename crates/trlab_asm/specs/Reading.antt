@@ -27,7 +27,7 @@ jump_draft instr to = Ok (record { instr = instr to.pc; label = to.label })
 
 -- the instruction of a name and its operands
 abbrev pub draft_of : Mnemonic → List ℕ → Result Draft Why
-draft_of name.Num text = register_number text >>= λ x. whole_draft (Num x.0 x.1)
+draft_of name.Num text = register_number 0 text >>= λ x. whole_draft (Num x.0 x.1)
 draft_of name.Get text = register_input text >>= λ x. whole_draft (Get x.0 x.1)
 draft_of name.Side text = register text >>= λ d. whole_draft (Side d)
 draft_of name.Draw text = register_word_chance text >>= λ x. whole_draft (Draw x.0 x.1.0 x.1.1)

@@ -84,7 +84,7 @@ pub(crate) fn read_draft(name: Mnemonic, text: &[u8]) -> Result<Draft<'_>, Why>
     ensures { result ≡ draft_of name text.now }
 {
     match name {
-        Mnemonic::Num => register_number(text).map(|(d, n)| whole_draft(Instr::Num(d, n))),
+        Mnemonic::Num => register_number(0, text).map(|(d, n)| whole_draft(Instr::Num(d, n))),
         Mnemonic::Get => register_input(text).map(|(d, k)| whole_draft(Instr::Get(d, k))),
         Mnemonic::Side => register(text).map(|d| whole_draft(Instr::Side(d))),
         Mnemonic::Draw => read_draw(text),

@@ -3,7 +3,7 @@
 ghost use Rattle.std.specs.Prelude.{◌≡◌, ◌≤◌, ◌<◌, true, IfOk, ok_or};
 ghost use Rattle.trlab_bounds.specs.declared.programs.TheConstants.{WORDS, CERTAIN};
 ghost use Rattle.trlab_asm.specs.Cutting.{cut};
-ghost use Rattle.trlab_asm.specs.Operands.{word, register, input, all_digits, numeral, number, target, no_operand, two_registers, three_registers, register_input, register_number, two_registers_number, word_chance, register_word_chance, register_target, two_registers_target};
+ghost use Rattle.trlab_asm.specs.Operands.{word, register, input, all_digits, numeral, two_numerals, number, target, no_operand, two_registers, three_registers, register_input, register_number, two_registers_number, word_chance, register_word_chance, register_target, two_registers_target};
 ghost use Rattle.trlab_asm.specs.Results.{map_ok};
 
 use crate::cutting::{cut, only_word};
@@ -101,12 +101,13 @@ pub(crate) fn register_input(text: &[u8]) -> Result<(Register, Input), Why>
     Ok((register(first)?, input(rest)?))
 }
 
-/// A register and a number.
-pub(crate) fn register_number(text: &[u8]) -> Result<(Register, u32), Why>
-    ensures { result ≡ register_number text.now }
+/// A register and a number that is at least low.
+pub(crate) fn register_number(low: u32, text: &[u8]) -> Result<(Register, u32), Why>
+    ensures value { result ≡ register_number low text.now }
+    ensures low { IfOk result (λ operands. low ≤ operands.1) }
 {
     let (first, rest) = comma(text)?;
-    Ok((register(first)?, number(0, rest)?))
+    Ok((register(first)?, number(low, rest)?))
 }
 
 /// Two registers and a number that is at least low.
@@ -118,11 +119,17 @@ pub(crate) fn two_registers_number(
     ensures low { IfOk result (λ operands. low ≤ operands.1.1) }
 {
     let (first, rest) = comma(text)?;
-    let d = register(first)?;
-    let (second, rest) = comma(rest)?;
-    let a = register(second)?;
-    let n = number(low, rest)?;
-    Ok((d, (a, n)))
+    Ok((register(first)?, register_number(low, rest)?))
+}
+
+/// The digits of two numbers.
+fn two_numerals(text: &[u8]) -> Result<(&[u8], &[u8]), Why>
+    ensures value { map_ok (λ parts. (parts.0.now, parts.1.now)) result ≡ two_numerals text.now }
+    ensures first { IfOk result (λ parts. all_digits parts.0.now ≡ true) }
+    ensures second { IfOk result (λ parts. all_digits parts.1.now ≡ true) }
+{
+    let (first, rest) = comma(text)?;
+    Ok((numeral(first)?, numeral(rest)?))
 }
 
 /// The number of a random word, and a chance in parts of 2^31.
@@ -133,9 +140,7 @@ fn word_chance(text: &[u8]) -> Result<(u32, u32), Why>
     ensures word { IfOk result (λ operands. operands.0 < WORDS) }
     ensures chance { IfOk result (λ operands. operands.1 ≤ CERTAIN) }
 {
-    let (first, rest) = comma(text)?;
-    let word = numeral(first)?;
-    let chance = numeral(rest)?;
+    let (word, chance) = two_numerals(text)?;
     let word = value_within(0, WORDS as u32 - 1, word)?;
     let chance = value_within(0, CERTAIN, chance)?;
     Ok((word, chance))

@@ -208,7 +208,7 @@ impl Job {
         if !self.owns(lease, same) {
             return Err(BookFault::StrangerLease);
         }
-        let entry = self.sheet.at(step);
+        let entry = self.sheet.entry_in_force(step);
         let from = entry.0;
         let rule = entry.1.copy(alloc)?;
         self.high = self.high.max(step + 1);

@@ -56,7 +56,7 @@ impl Sheet {
     }
 
     /// The entry in force at a step.
-    pub(crate) fn at(&self, step: u32) -> &(u32, Rule)
+    pub(crate) fn entry_in_force(&self, step: u32) -> &(u32, Rule)
         ensures entry { entry_in_force self.now step ≡ Some result.now }
         ensures rule { in_force self.now step ≡ Some result.now.1 }
     {
@@ -83,7 +83,7 @@ impl Sheet {
     {
         let mut step = first;
         for ran in applied {
-            if !self.at(step).1.equals(&ran.rule) {
+            if !self.entry_in_force(step).1.equals(&ran.rule) {
                 return false;
             }
             step += 1;

@@ -37,9 +37,9 @@ pub record Shows (limit : ℕ) (pictures : List (List ℕ)) (road : Cells) : Typ
   pub drawn : map picture road.lanes ≡ pictures
   pub numbered : AreNumberedInOrder road
 
--- the pictures that references hold
+-- the pictures that references lead to
 abbrev pub pictures_of : List (Bor (List ℕ)) → List (List ℕ)
-pictures_of held = map (λ s. s.now) held
+pictures_of references = map (λ picture. picture.now) references
 
 -- the picture of lane l
 abbrev pub picture_at : List (List ℕ) → ℕ → List ℕ

@@ -4,7 +4,7 @@ use Rattle.std.proofs.lemmas.List.Sorted.{IsPartitionPoint-from_clause, IsPartit
 use Rattle.trlab_run.proofs.InForce.{steps_rise}
 use Rattle.trlab_rules.specs.Rules.{Programs}
 use Rattle.trlab_leases.proofs.InForce.{first_begun, rises_from_0, rule_in_force, some_begun}
-use Rattle.trlab_leases.proofs.sheet.Sheet.at.Goals as goal
+use Rattle.trlab_leases.proofs.sheet.Sheet.entry_in_force.Goals as goal
 
 pub overflow_sub-begun : goal.overflow_sub-begun
 overflow_sub-begun c =
