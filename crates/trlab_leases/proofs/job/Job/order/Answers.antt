@@ -31,4 +31,4 @@ invariant_of-self c =
 pub returns-clause-rule : goal.returns-clause-rule
 returns-clause-rule c =
     let seen = ap (λ (s : JobState). in_force s.sheet c.step-step.result) c.self.view_is in
-    sym seen ∙ c.at-entry.ensures.rule ∙ ap Some (sym c.in_ok-rule.ensures)
+    sym seen ∙ c.entry_in_force-entry.ensures.rule ∙ ap Some (sym c.in_ok-rule.ensures)
