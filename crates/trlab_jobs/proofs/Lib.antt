@@ -1,3 +1,4 @@
+pub mod HandedOn
 pub mod Shown
 pub mod RuleSteps
 pub mod JobLines

@@ -8,7 +8,7 @@ use Rattle.trlab_jobs.specs.Lanes.{lanes}
 use Rattle.trlab_jobs.specs.RuleParts.{rule}
 use Rattle.trlab_jobs.specs.Later.{later_rules}
 use Rattle.trlab_jobs.specs.Job.{Job, road_line, key_line, limit_line, steps_line}
-use Rattle.trlab_asm.proofs.HandedOn.{handed_on}
+use Rattle.trlab_jobs.proofs.HandedOn.{handed_on}
 use Rattle.trlab_jobs.proofs.JobLines.{after_road, after_key, after_limit, after_lanes, after_rule, after_steps, after_all, behind_road, behind_key, behind_limit, behind_lanes, behind_rule, behind_steps, behind_all, lines_say, lines_fail}
 use Rattle.trlab_texts.proofs.Readings.{line_by, stops}
 use Rattle.trlab_jobs.proofs.job.read_lines.Goals as goal

@@ -1,4 +1,4 @@
-use Rattle.trlab_asm.proofs.HandedOn.{handed_on}
+use Rattle.trlab_jobs.proofs.HandedOn.{handed_on}
 use Rattle.trlab_jobs.proofs.Shown.{lanes_show, lanes_fail}
 use Rattle.trlab_jobs.proofs.lane.lanes.Goals as goal
 

@@ -1,4 +1,4 @@
-use Rattle.trlab_asm.proofs.HandedOn.{handed_on}
+use Rattle.trlab_jobs.proofs.HandedOn.{handed_on}
 use Rattle.trlab_jobs.proofs.SweepLines.{warm_fails, measure_fails, span_said}
 use Rattle.trlab_jobs.proofs.shape.read_span.Goals as goal
 

@@ -1,4 +1,4 @@
-use Rattle.trlab_asm.proofs.HandedOn.{handed_on}
+use Rattle.trlab_jobs.proofs.HandedOn.{handed_on}
 use Rattle.trlab_jobs.proofs.SweepCounts.{counts_fail, counts_said}
 use Rattle.trlab_jobs.proofs.SomeSweep.{said_stored}
 use Rattle.trlab_jobs.proofs.sweep.read_lines.Goals as goal
