@@ -138,6 +138,21 @@ fn a_cancelled_job_refuses_its_lease(rt: HostRuntime) {
 }
 
 #[test]
+fn a_call_is_of_the_job_that_it_names(rt: HostRuntime) {
+    let calls = [
+        (Made::Submit(4), Reply::Number(0)),
+        (Made::Submit(4), Reply::Number(1)),
+        (Made::Lease, went_out(0, 0)),
+        (Made::Revoke(1), Reply::Refused(BookFault::StrangerLease)),
+        (Made::Cancel(1), Reply::Done),
+        (Made::Replace(1), Reply::Refused(BookFault::Ended)),
+        (Made::Read(1), seen(0, 1)),
+        (Made::Revoke(0), Reply::Done),
+    ];
+    assert!(rt; leave(&rt, &calls, &[(0, b"0.0.......", &[(0, false)])]));
+}
+
+#[test]
 fn the_last_rule_of_a_step_stays(rt: HostRuntime) {
     let calls = [
         (Made::Submit(4), Reply::Number(0)),
