@@ -69,7 +69,7 @@ of_job job now road sum view run = subst (λ (s : JobState). IsUnderway (run_of 
 
 -- a lease that has just gone out runs the road of its job
 pub fresh_run : (job : JobState) (lease : LeaseState) (road : Cells) (sum : StepTally) → IsUnderway (run_of job.seed job.sheet job.done road sum)
-    → lease.key ≡ job.seed.key → lease.road_number ≡ job.seed.number → lease.base_road ≡ road → lease.applied ≡ [] → IsOwnRun job lease
+    → lease.key ≡ job.seed.key → lease.road_number ≡ job.seed.number → lease.base.road ≡ road → lease.applied ≡ [] → IsOwnRun job lease
 fresh_run job lease road sum run key number base none = record {
   key = key;
   number = number;
@@ -82,8 +82,8 @@ fresh_run job lease road sum run key number base none = record {
 
 -- what a lease has that goes out
 pub lent : (job now : JobState) (number : ℕ) (lease : LeaseState) (road : Cells) (sum : StepTally) → job ≡ now → IsUnderway (run_of now.seed now.sheet now.done road sum)
-    → lease.key ≡ job.seed.key → lease.road_number ≡ job.seed.number → lease.base_road ≡ road → lease.applied ≡ []
-    → lease.number ≡ number → lease.steps ≡ job.steps → lease.base_step ≡ job.done → lease.step ≡ job.done → IsFresh now number lease
+    → lease.key ≡ job.seed.key → lease.road_number ≡ job.seed.number → lease.base.road ≡ road → lease.applied ≡ []
+    → lease.number ≡ number → lease.steps ≡ job.steps → lease.base.step ≡ job.done → lease.step ≡ job.done → IsFresh now number lease
 lent job now number lease road sum view run key own base none number_is steps base_step step =
     subst (λ (s : JobState). IsFresh s number lease) view (record {
       number_is = number_is;
@@ -95,8 +95,8 @@ lent job now number lease road sum view run key own base none number_is steps ba
 
 -- a lease that began at the job's road, under its key and number, runs the road where its rules are in force
 pub runs_where : (job now : JobState) (lease : LeaseState) (road : Cells) (sum : StepTally) (b : Bool) → job ≡ now → IsUnderway (run_of now.seed now.sheet now.done road sum)
-    → lease.key ≡ job.seed.key → lease.road_number ≡ job.seed.number → lease.base_road ≡ road
-    → IsTrue b ↔ AreInForce job.sheet lease.base_step lease.applied → IsTrue b ↔ IsOwnRun now lease
+    → lease.key ≡ job.seed.key → lease.road_number ≡ job.seed.number → lease.base.road ≡ road
+    → IsTrue b ↔ AreInForce job.sheet lease.base.step lease.applied → IsTrue b ↔ IsOwnRun now lease
 runs_where job now lease road sum b view run key number base same =
     let B : Cells → Type 0 = λ r. IsRoadAt (start_of job.seed) job.sheet job.done r in
     let mine = of_job job now road sum view run in
@@ -105,6 +105,6 @@ runs_where job now lease road sum b view run key number base same =
 
 -- one that began at another road does not run the job's
 pub runs_not : (job now : JobState) (lease : LeaseState) (road : Cells) (sum : StepTally) → job ≡ now → IsUnderway (run_of now.seed now.sheet now.done road sum)
-    → (lease.base_road ≡ road → ⊥) → IsOwnRun now lease → ⊥
+    → (lease.base.road ≡ road → ⊥) → IsOwnRun now lease → ⊥
 runs_not job now lease road sum view run other own =
-    other (road_at_is_one (start_of now.seed) now.sheet now.done lease.base_road road own.base (sum, run.comes))
+    other (road_at_is_one (start_of now.seed) now.sheet now.done lease.base.road road own.base (sum, run.comes))

@@ -67,13 +67,13 @@ go_on seed sheet step sum ran more last way =
     }
 
 -- a lease of a job's road, from the job's step on
-pub way_of_lease : (job : JobState) (lease : LeaseState) (road : Cells) (sum : StepTally) → IsUnderway (run_of job.seed job.sheet job.done road sum) → IsLease lease → IsOwnRun job lease → lease.base_step ≡ job.done
+pub way_of_lease : (job : JobState) (lease : LeaseState) (road : Cells) (sum : StepTally) → IsUnderway (run_of job.seed job.sheet job.done road sum) → IsLease lease → IsOwnRun job lease → lease.base.step ≡ job.done
     → WayOn (start_of job.seed) job.sheet job.done sum lease.applied lease.road
 way_of_lease job lease road sum run is own base =
-    let same : lease.base_road ≡ road = road_at_is_one (start_of job.seed) job.sheet job.done lease.base_road road own.base (sum, run.comes) in
-    let K : Key → Type 0 = λ k. LeadsTo k.0 lease.road_number lease.base_step lease.base_road lease.applied lease.road in
-    let N : ℕ → Type 0 = λ n. LeadsTo job.seed.key.0 n lease.base_step lease.base_road lease.applied lease.road in
-    let S : ℕ → Type 0 = λ s. LeadsTo job.seed.key.0 job.seed.number s lease.base_road lease.applied lease.road in
+    let same : lease.base.road ≡ road = road_at_is_one (start_of job.seed) job.sheet job.done lease.base.road road own.base (sum, run.comes) in
+    let K : Key → Type 0 = λ k. LeadsTo k.0 lease.road_number lease.base.step lease.base.road lease.applied lease.road in
+    let N : ℕ → Type 0 = λ n. LeadsTo job.seed.key.0 n lease.base.step lease.base.road lease.applied lease.road in
+    let S : ℕ → Type 0 = λ s. LeadsTo job.seed.key.0 job.seed.number s lease.base.road lease.applied lease.road in
     let R : Cells → Type 0 = λ r. LeadsTo job.seed.key.0 job.seed.number job.done r lease.applied lease.road in
     record {
       road = road;
@@ -90,9 +90,9 @@ way_ends seed sheet step sum last way =
 
 -- the same, where the job is seen through its model
 pub way_begins : (state now : JobState) (lease : LeaseState) (road : Cells) (sum : StepTally) → state ≡ now → IsUnderway (run_of state.seed state.sheet state.done road sum) → IsLease lease
-    → IsOwnRun now lease → lease.base_step ≡ now.done → WayOn (start_of now.seed) now.sheet state.done sum lease.applied lease.road
+    → IsOwnRun now lease → lease.base.step ≡ now.done → WayOn (start_of now.seed) now.sheet state.done sum lease.applied lease.road
 way_begins state now lease road sum view run is own base =
-    let P : JobState → Type 0 = λ s. IsOwnRun s lease → lease.base_step ≡ s.done → WayOn (start_of s.seed) s.sheet state.done sum lease.applied lease.road in
+    let P : JobState → Type 0 = λ s. IsOwnRun s lease → lease.base.step ≡ s.done → WayOn (start_of s.seed) s.sheet state.done sum lease.applied lease.road in
     subst P view (λ mine at. way_of_lease state lease road sum run is mine at) own base
 
 -- one step of a list of them
@@ -112,6 +112,6 @@ lease_goes_on lease rule tally next dice a b d is on =
     let here : IsNext rule (dice_of lease.key.0 lease.road_number lease.step) lease.road next tally = subst (λ (one : Dice). IsNext rule one lease.road next tally) (same_dice dice lease.key.0 lease.road_number lease.step a b d) is in
     record {
       steps_run = omega arith;
-      leads = leads_push lease.key.0 lease.road_number lease.base_step lease.base_road lease.road next lease.applied ran on.leads
+      leads = leads_push lease.key.0 lease.road_number lease.base.step lease.base.road lease.road next lease.applied ran on.leads
           (subst (λ s. IsNext rule (dice_of lease.key.0 lease.road_number s) lease.road next tally) at here);
     }

@@ -16,7 +16,7 @@ abbrev pub offered : LeaseState → Bool → Offered
 offered lease same = record {
   job = lease.job;
   number = lease.number;
-  base = lease.base_step;
+  base = lease.base.step;
   step = lease.step;
   same = same;
 }
@@ -26,8 +26,8 @@ offered lease same = record {
 pub record IsOwnRun (job : JobState) (lease : LeaseState) : Type 0 where
   pub key : lease.key ≡ job.seed.key
   pub number : lease.road_number ≡ job.seed.number
-  pub base : IsRoadAt (start_of job.seed) job.sheet job.done lease.base_road
-  pub rules : AreInForce job.sheet lease.base_step lease.applied
+  pub base : IsRoadAt (start_of job.seed) job.sheet job.done lease.base.road
+  pub rules : AreInForce job.sheet lease.base.step lease.applied
 
 -- what an offered lease has to say by `same`: there is its job, and the lease runs the job's road
 abbrev pub IsSame : List JobState → LeaseState → Type 0
@@ -52,7 +52,7 @@ IsSeen jobs index seen = MatchOption (slice_get jobs index) ⊥ (λ job. IsSnaps
 pub record IsFresh (job : JobState) (number : ℕ) (lease : LeaseState) : Type 0 where
   pub number_is : lease.number ≡ number
   pub steps : lease.steps ≡ job.steps
-  pub base_step : lease.base_step ≡ job.done
+  pub base_step : lease.base.step ≡ job.done
   pub step : lease.step ≡ job.done
   pub own : IsOwnRun job lease
 

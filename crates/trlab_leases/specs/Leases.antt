@@ -16,24 +16,28 @@ LeadsTo key number step road (ran ∷ more) last =
     (next : Cells) × IsNext ran.rule (dice_of key number step) road next ran.tally
     × LeadsTo key number (step + 1) next more last
 
--- a lease: the job and its steps, the number of the lease, the words of the job's road, the road from
--- which the lease began, that to which it has come, and the steps that it has run between them
+-- from where a lease began: a step of its job, and the road there
+pub record Base : Type 0 where
+  pub step : ℕ
+  pub road : Cells
+
+-- a lease: the job and its steps, the number of the lease, the words of the job's road, from where the
+-- lease began, the step and the road to which it has come, and the steps that it has run between them
 pub record LeaseState : Type 0 where
   pub job : ℕ
   pub number : ℕ
   pub steps : ℕ
   pub key : Key
   pub road_number : ℕ
-  pub base_step : ℕ
-  pub base_road : Cells
+  pub base : Base
   pub step : ℕ
   pub road : Cells
   pub applied : List Ran
 
 -- the road of a lease is what its applied rules give from its base
 pub record IsLease (lease : LeaseState) : Type 0 where
-  pub steps_run : lease.step ≡ lease.base_step + length lease.applied
-  pub leads : LeadsTo lease.key.0 lease.road_number lease.base_step lease.base_road lease.applied lease.road
+  pub steps_run : lease.step ≡ lease.base.step + length lease.applied
+  pub leads : LeadsTo lease.key.0 lease.road_number lease.base.step lease.base.road lease.applied lease.road
 
 -- a rule suits a road: a change program does not suit one lane
 abbrev pub suits : Programs → Cells → Bool

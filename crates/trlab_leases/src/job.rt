@@ -223,7 +223,7 @@ impl Job {
 
     /// The tally at the step to which a lease of this job's road has come.
     fn tally_with(&self, lease: &Lease) -> StepTally
-        requires base { lease.now.base_step ≡ self.now.done }
+        requires base { lease.now.base.step ≡ self.now.done }
         requires own { IsOwnRun self.now lease.now }
         ensures { IsUnderway (run_of self.now.seed self.now.sheet lease.now.step lease.now.road result) }
     {

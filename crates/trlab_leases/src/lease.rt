@@ -38,8 +38,7 @@ impl Model for Lease {
       steps = lease.steps;
       key = lease.key;
       road_number = lease.road_number;
-      base_step = lease.base_step;
-      base_road = lease.base_road;
+      base = record { step = lease.base_step; road = lease.base_road };
       step = lease.step;
       road = lease.road;
       applied = lease.applied.items;
@@ -51,8 +50,7 @@ impl Model for Lease {
       steps = lease.steps;
       key = lease.key;
       road_number = lease.road_number;
-      base_step = lease.base_step;
-      base_road = lease.base_road;
+      base = record { step = lease.base_step; road = lease.base_road };
       step = lease.step;
       road = lease.road;
       applied = lease.applied.items;
@@ -97,14 +95,14 @@ impl Lease {
 
     /// The step at which the lease began.
     pub fn base_step(&self) -> u32
-        ensures { result ≡ self.now.base_step }
+        ensures { result ≡ self.now.base.step }
     {
         self.base_step
     }
 
     /// The road from which it began.
     pub fn base_road(&self) -> &Road
-        ensures { result.now ≡ self.now.base_road }
+        ensures { result.now ≡ self.now.base.road }
     {
         &self.base_road
     }

@@ -5,5 +5,5 @@ use Rattle.trlab_leases.proofs.job.Job.tally_with.Given as goal
 
 abbrev pub invariant-loop-ran : goal.invariant-loop-ran
 invariant-loop-ran l =
-    (l.step ≡ l.lease.base_step + l.ran-index)
+    (l.step ≡ l.lease.base.step + l.ran-index)
     × WayOn (start_of l.self.seed) l.self.sheet l.step l.sum (drop l.ran-index l.lease.applied) l.lease.road
