@@ -79,7 +79,7 @@ impl Book {
         ensures state { LeadsAs (is_memory result) self.old (Submit seed rule steps) self.new }
         ensures full { is_full self.old ≡ true → result ≡ Err HistoryFull }
     {
-        if self.count >= MOST_EVENTS {
+        if self.is_full() {
             return Err(BookFault::HistoryFull);
         }
         let answer = submit_in(&mut self.jobs, alloc, seed, rule, steps);
@@ -100,7 +100,7 @@ impl Book {
         ensures state { LeadsAs (is_memory result) self.old (Replace job rule) self.new }
         ensures full { is_full self.old ≡ true → result ≡ Err HistoryFull }
     {
-        if self.count >= MOST_EVENTS {
+        if self.is_full() {
             return Err(BookFault::HistoryFull);
         }
         let answer = replace_in(&mut self.jobs, job, rule);
@@ -121,7 +121,7 @@ impl Book {
         ensures full { is_full self.old ≡ true → result ≡ Err HistoryFull }
         ensures lent { IfOk result (λ lent. IsLent self.old.jobs self.old.next lent) }
     {
-        if self.count >= MOST_EVENTS {
+        if self.is_full() {
             return Err(BookFault::HistoryFull);
         }
         let Some(index) = free_in(&self.jobs) else {
@@ -172,7 +172,7 @@ impl Book {
         ensures full { is_full self.old ≡ true → result ≡ Err HistoryFull }
         ensures rule { IfOk result (λ order. IsRuleAt self.old.jobs order) }
     {
-        if self.count >= MOST_EVENTS {
+        if self.is_full() {
             return Err(BookFault::HistoryFull);
         }
         let answer = order_in(&mut self.jobs, alloc, lease, same);
@@ -209,7 +209,7 @@ impl Book {
         ensures state { self.new ≡ after self.old (GiveBack (offered lease same)) }
         ensures handed { IfErr result (λ handed. handed.0 ≡ lease) }
     {
-        if self.count >= MOST_EVENTS {
+        if self.is_full() {
             return Err((lease, BookFault::HistoryFull));
         }
         self.count += 1;
@@ -225,7 +225,7 @@ impl Book {
         ensures reply { done_reply result ≡ reply_of self.old (Revoke job) }
         ensures state { self.new ≡ after self.old (Revoke job) }
     {
-        if self.count >= MOST_EVENTS {
+        if self.is_full() {
             return Err(BookFault::HistoryFull);
         }
         self.count += 1;
@@ -241,7 +241,7 @@ impl Book {
         ensures reply { done_reply result ≡ reply_of self.old (Cancel job) }
         ensures state { self.new ≡ after self.old (Cancel job) }
     {
-        if self.count >= MOST_EVENTS {
+        if self.is_full() {
             return Err(BookFault::HistoryFull);
         }
         self.count += 1;
@@ -259,7 +259,7 @@ impl Book {
         ensures full { is_full self.old ≡ true → result ≡ Err HistoryFull }
         ensures seen { IfOk result (λ seen. IsSeen self.old.jobs job seen) }
     {
-        if self.count >= MOST_EVENTS {
+        if self.is_full() {
             return Err(BookFault::HistoryFull);
         }
         let answer = read_in(&self.jobs, alloc, job);
