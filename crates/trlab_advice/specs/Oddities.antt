@@ -2,7 +2,7 @@
 use Rattle.std.specs.Prelude.{◌≡◌, ◌⊎◌, ℕ, ◌-◌, ◌==◌, IsTrue, List, [], ◌∷◌, length, Some, slice_get}
 use Rattle.std.specs.List.{list_any}
 use Rattle.std.specs.Option.{is_some}
-use Rattle.trlab_asm.specs.Cutting.{behind}
+use Rattle.trlab_lines.specs.Cutting.{behind}
 use Rattle.trlab_advice.specs.declared.odd.Oddity.{Oddity}
 use Rattle.trlab_advice.specs.declared.odd.Oddity.TheVariants.{ByteOrderMark, CarriageReturn, Empty, Tab, FirstSpace, FinalSpace, Comment}
 

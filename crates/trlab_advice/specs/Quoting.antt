@@ -1,6 +1,6 @@
 -- The lines of a text by their numbers, and the instructions on lines of programs.
 use Rattle.std.specs.Prelude.{ℕ, zero, suc, List, Option, None, slice_get}
-use Rattle.trlab_asm.specs.Cutting.{first_word, label_and_rest, without_comment}
+use Rattle.trlab_lines.specs.Cutting.{first_word, label_and_rest, without_comment}
 
 -- the line with a number, counted from 1, if there is one
 abbrev pub line_at : ℕ → List (List ℕ) → Option (List ℕ)

@@ -1,10 +1,10 @@
 //! The lines of a text by their numbers.
 
 ghost use Rattle.std.specs.Prelude.{◌≡◌, option_map};
-ghost use Rattle.trlab_asm.specs.Lines.{lines_of};
+ghost use Rattle.trlab_lines.specs.Lines.{lines_of};
 ghost use Rattle.trlab_advice.specs.Quoting.{line_at};
 
-use trlab_asm::next_line;
+use trlab_lines::next_line;
 
 /// The line of a text with a number, counted from 1, where there is one.
 pub fn line_at(text: &[u8], number: u32) -> Option<&[u8]>

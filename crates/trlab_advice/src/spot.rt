@@ -1,7 +1,7 @@
 //! Which line has to stand at a place of a job or sweep text, by the lines above it.
 
 use crate::subject::Subject;
-use trlab_asm::next_line;
+use trlab_lines::next_line;
 use trlab_texts::word::head_word;
 
 /// A line of a job or sweep text, by what has to stand there.

@@ -1,10 +1,10 @@
 //! Which texts there are.
 
 ghost use Rattle.std.specs.Prelude.{◌≡◌};
-ghost use Rattle.trlab_asm.specs.Lines.{lines_of};
+ghost use Rattle.trlab_lines.specs.Lines.{lines_of};
 ghost use Rattle.trlab_advice.specs.Subjects.{subject_of};
 
-use trlab_asm::next_line;
+use trlab_lines::next_line;
 use trlab_texts::word::head_word;
 
 /// What a text is read as.

@@ -1,5 +1,3 @@
-pub mod Cuts
-pub mod Digits
 pub mod Passes
 pub mod PrintedFrom
 pub mod UncutWords

@@ -4,7 +4,7 @@ use Rattle.std.proofs.lemmas.Bool.{lt-ltb}
 use Rattle.std.specs.Prelude.{Option, None, Some, ok_or, Result, Ok, Err, nat_lt, if◌then◌else◌}
 use Rattle.trlab_bounds.specs.declared.programs.TheConstants.{MOST_INSTRUCTIONS}
 use Rattle.trlab_asm.specs.Names.{mnemonic_named}
-use Rattle.trlab_asm.specs.Cutting.{without_comment, label_and_rest, without_indent}
+use Rattle.trlab_lines.specs.Cutting.{without_comment, label_and_rest, without_indent}
 use Rattle.trlab_asm.specs.Results.{◌>>=◌}
 use Rattle.trlab_asm.specs.Reading.{Draft, Labels, Line, label_of, body, parts_say, line_says, draft_of, instruction}
 use Rattle.trlab_asm.specs.declared.fault.Why.{Why}

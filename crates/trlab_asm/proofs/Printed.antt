@@ -12,13 +12,14 @@ use Rattle.trlab_code.specs.declared.instruction.Input.{Input}
 use Rattle.trlab_code.specs.declared.instruction.Input.TheVariants.{Speed, Limit, Gap, SideGap, SideBack, Lane, Headspeed}
 use Rattle.trlab_bounds.specs.declared.programs.TheConstants.{WORDS, CERTAIN}
 use Rattle.trlab_asm.specs.Names.{register_text, input_text, mnemonic_text, mnemonic_named}
-use Rattle.trlab_asm.specs.Operands.{register, input, all_digits, digits_of, numeral, value_within, number, Target, target, target_named, is_label, all_label_bytes, two_registers, three_registers, register_input, register_number, two_registers_number, word_chance, register_word_chance, register_target, two_registers_target, ◌then◌}
+use Rattle.trlab_lines.specs.Numbers.{all_digits}
+use Rattle.trlab_asm.specs.Operands.{register, input, digits_of, numeral, value_within, number, Target, target, target_named, is_label, all_label_bytes, two_registers, three_registers, register_input, register_number, two_registers_number, word_chance, register_word_chance, register_target, two_registers_target, ◌then◌}
 use Rattle.trlab_asm.specs.Canonical.{label_text, target_text, ◌comma◌}
 use Rattle.trlab_asm.specs.declared.names.Mnemonic.{Mnemonic}
 use Rattle.trlab_asm.specs.declared.names.Mnemonic.TheVariants as name
 use Rattle.trlab_bounds.specs.declared.programs.TheConstants.{GREATEST_NUMBER}
 use Rattle.trlab_asm.proofs.UncutWords.{is_plain, plain_word, and_parts, and_both, alone_behind_blank, then_again}
-use Rattle.trlab_asm.proofs.Digits.{own}
+use Rattle.trlab_lines.proofs.Digits.{own}
 
 pub register_plain : (r : Register) → plain_word (register_text r) ≡ true
 register_plain R0 = refl

@@ -7,8 +7,8 @@ use Rattle.trlab_code.specs.declared.instruction.Register.{Register}
 use Rattle.trlab_code.specs.declared.instruction.Instr.{Instr}
 use Rattle.trlab_code.specs.declared.instruction.Instr.TheVariants.{Num, Get, Side, Draw, Copy, Add, Sub, Mul, Div, Min, Max, Not, And, Or, Jump, JumpLess, JumpAtMost, JumpTrue, JumpFalse, Go, Cross, Stay}
 use Rattle.trlab_bounds.specs.declared.programs.TheConstants.{MOST_INSTRUCTIONS, WORDS, CERTAIN}
-use Rattle.trlab_asm.specs.Lines.{HasNoEnd}
-use Rattle.trlab_asm.specs.Cutting.{without_indent}
+use Rattle.trlab_lines.specs.Lines.{HasNoEnd}
+use Rattle.trlab_lines.specs.Cutting.{without_indent}
 use Rattle.trlab_asm.specs.Names.{register_text, input_text, mnemonic_text}
 use Rattle.trlab_asm.specs.Reading.{Labels, line_says}
 use Rattle.trlab_asm.specs.Canonical.{label_text, target_text, ◌comma◌, row_text, instr_text, line_text}

@@ -12,14 +12,14 @@ use Rattle.trlab_code.specs.Program.{Program, IsInRange, IsProgram}
 use Rattle.trlab_code.specs.declared.instruction.Instr.{Instr}
 use Rattle.trlab_code.specs.declared.instruction.Instr.TheVariants.{Num, Get, Side, Draw, Copy, Add, Sub, Mul, Div, Min, Max, Not, And, Or, Jump, JumpLess, JumpAtMost, JumpTrue, JumpFalse, Go, Cross, Stay}
 use Rattle.trlab_bounds.specs.declared.programs.TheConstants.{MOST_INSTRUCTIONS}
-use Rattle.trlab_asm.specs.Lines.{lines_of}
+use Rattle.trlab_lines.specs.Lines.{lines_of}
 use Rattle.trlab_asm.specs.Operands.{Target}
 use Rattle.trlab_asm.specs.Reading.{Labels, line_says}
 use Rattle.trlab_asm.specs.Assembly.{LineDraft, with_label, first_pass, with_target, resolve_label, resolve, second_pass, code_of}
 use Rattle.trlab_asm.specs.Canonical.{label_text, line_text, is_pc, is_target, text_from, text_of}
 use Rattle.trlab_code.specs.Laws.{HasWord}
 use Rattle.trlab_asm.specs.Laws.{CanonicalTextSaysTheProgram, OneProgramOfAText}
-use Rattle.trlab_asm.proofs.Cuts.{line_and_rest}
+use Rattle.trlab_lines.proofs.Cuts.{line_and_rest}
 use Rattle.trlab_asm.proofs.Passes.{first_next}
 use Rattle.trlab_asm.proofs.Printed.{goal_of}
 use Rattle.trlab_asm.proofs.PrintedInstrs.{Fits, draft_again}

@@ -9,14 +9,15 @@ use Rattle.trlab_code.specs.declared.instruction.Instr.{Instr}
 use Rattle.trlab_code.specs.declared.instruction.Instr.TheVariants.{Num, Get, Side, Draw, Copy, Add, Sub, Mul, Div, Min, Max, Not, And, Or, Jump, JumpLess, JumpAtMost, JumpTrue, JumpFalse, Go, Cross, Stay}
 use Rattle.trlab_bounds.specs.declared.programs.TheConstants.{MOST_INSTRUCTIONS, WORDS, CERTAIN}
 use Rattle.trlab_code.specs.Program.{IsInRange, IsProgram}
-use Rattle.trlab_asm.specs.Cutting.{behind, cut, label_and_rest, only_word, without_comment, without_indent, up_to_blank}
+use Rattle.trlab_lines.specs.Cutting.{behind, cut, label_and_rest, only_word, without_comment, without_indent, up_to_blank}
 use Rattle.trlab_asm.specs.Names.{register_named, input_named, mnemonic_named}
-use Rattle.trlab_asm.specs.Operands.{◌then◌, digits_of, input, is_label, is_numeral, no_operand, number, numeral, pc_named, value_within, register, register_input, register_number, register_target, register_word_chance, target, target_named, three_registers, two_registers, two_registers_number, two_registers_target, word, word_chance}
+use Rattle.trlab_lines.specs.Numbers.{is_numeral}
+use Rattle.trlab_asm.specs.Operands.{◌then◌, digits_of, input, is_label, no_operand, number, numeral, pc_named, value_within, register, register_input, register_number, register_target, register_word_chance, target, target_named, three_registers, two_registers, two_registers_number, two_registers_target, word, word_chance}
 use Rattle.trlab_asm.specs.Results.{◌>>=◌}
 use Rattle.trlab_asm.specs.Reading.{Draft, Labels, Line, body, draft_of, if_free, instruction, label_of, line_says, new_label}
 use Rattle.trlab_asm.specs.Assembly.{Parts, LineDraft, with_target, jump_to, code_of, resolve, first_pass, in_line, instrs_of, nothing, resolve_label, second_pass, with_line, with_draft}
 use Rattle.trlab_asm.specs.Laws.{TextsSaySomething}
-use Rattle.trlab_asm.specs.Lines.{lines_of}
+use Rattle.trlab_lines.specs.Lines.{lines_of}
 use Rattle.trlab_bounds.specs.declared.programs.TheConstants.{GREATEST_NUMBER, MOST_DIGITS}
 use Rattle.trlab_asm.specs.declared.names.Mnemonic.{Mnemonic}
 use Rattle.trlab_asm.specs.declared.names.Mnemonic.TheVariants as name

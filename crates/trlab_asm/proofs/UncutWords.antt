@@ -5,7 +5,7 @@ use Rattle.std.specs.List.{position, position_or_len, list_all}
 use Rattle.std.proofs.Math.Seq.{take-append_seam, drop-append_seam, drop-append-add}
 use Rattle.std.proofs.lemmas.Bool.{lt-ltb, ltb-true, ne_eqb}
 use Rattle.std.proofs.lemmas.Bool.Decides.{nat_tests}
-use Rattle.trlab_asm.specs.Cutting.{cut, is_blank, without_indent, up_to_blank, only_word}
+use Rattle.trlab_lines.specs.Cutting.{cut, is_blank, without_indent, up_to_blank, only_word}
 use Rattle.trlab_asm.specs.Operands.{◌then◌}
 use Rattle.trlab_asm.specs.Canonical.{◌comma◌}
 use Rattle.trlab_asm.specs.declared.fault.Why.{Why}

@@ -5,7 +5,7 @@ use Rattle.trlab_code.specs.declared.instruction.Register.{Register}
 use Rattle.trlab_code.specs.declared.instruction.Input.{Input}
 use Rattle.trlab_code.specs.Program.{Program, IsProgram}
 use Rattle.trlab_code.specs.Laws.{IsStored}
-use Rattle.trlab_asm.specs.Lines.{lines_of}
+use Rattle.trlab_lines.specs.Lines.{lines_of}
 use Rattle.trlab_asm.specs.Names.{register_text, input_text, mnemonic_text, register_named, input_named, mnemonic_named}
 use Rattle.trlab_asm.specs.Assembly.{code_of}
 use Rattle.trlab_asm.specs.Canonical.{text_of}

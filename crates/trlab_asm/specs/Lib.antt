@@ -1,6 +1,4 @@
-pub mod Lines
 pub mod Results
-pub mod Cutting
 pub mod Names
 pub mod Operands
 pub mod Reading

@@ -6,7 +6,8 @@ use Rattle.std.specs.Str.Parse.{digits_value}
 use Rattle.trlab_code.specs.declared.instruction.Register.{Register}
 use Rattle.trlab_code.specs.declared.instruction.Input.{Input}
 use Rattle.trlab_bounds.specs.declared.programs.TheConstants.{WORDS, CERTAIN}
-use Rattle.trlab_asm.specs.Cutting.{behind, cut, only_word}
+use Rattle.trlab_lines.specs.Cutting.{behind, cut, only_word}
+use Rattle.trlab_lines.specs.Numbers.{is_numeral}
 use Rattle.trlab_asm.specs.Results.{◌>>=◌}
 use Rattle.trlab_asm.specs.Names.{register_named, input_named}
 use Rattle.trlab_asm.specs.declared.fault.Why.{Why}
@@ -25,14 +26,6 @@ register text = word text >>= λ name. ok_or (register_named name) Operand
 -- an input
 abbrev pub input : List ℕ → Result Input Why
 input text = word text >>= λ name. ok_or (input_named name) Operand
-
--- digits alone
-abbrev pub all_digits : List ℕ → Bool
-all_digits text = list_all (λ c. is_ascii_digit c) text
-
--- one digit or more, and nothing else
-abbrev pub is_numeral : List ℕ → Bool
-is_numeral text = nat_lt 0 (length text) && all_digits text
 
 -- the digits of a word that has the form of a number
 abbrev pub digits_of : List ℕ → Result (List ℕ) Why

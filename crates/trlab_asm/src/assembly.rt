@@ -4,16 +4,16 @@
 ghost use Rattle.std.specs.Prelude.{◌≡◌, ◌≤◌, ◌⊎◌, Ok, vec_len, All, MatchResult, IfOk};
 ghost use Rattle.trlab_code.specs.Program.{IsInRange};
 ghost use Rattle.trlab_bounds.specs.declared.programs.TheConstants.{MOST_INSTRUCTIONS};
-ghost use Rattle.trlab_asm.specs.Lines.{lines_of};
+ghost use Rattle.trlab_lines.specs.Lines.{lines_of};
 ghost use Rattle.trlab_asm.specs.Stored.{pcs, stored_parts};
 ghost use Rattle.trlab_asm.specs.Assembly.{Parts as Found, nothing, first_pass, with_target, resolve, instrs_of, code_of, line_numbers, IsOutOfMemory};
 
 use crate::fault::{AsmFault, Why};
 use crate::labels::Labels;
-use crate::lines::next_line;
 use crate::parts::{LineDraft, Parts};
 use std::alloc::{AllocError, Global};
 use trlab_code::{Code, Instr, Kind};
+use trlab_lines::next_line;
 
 /// The first pass: the labels and the instructions that the lines say, or the first fault.
 fn read_parts(alloc: Global, text: &[u8]) -> Result<Parts<'_>, AsmFault>

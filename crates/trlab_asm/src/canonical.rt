@@ -2,7 +2,7 @@
 
 ghost use Rattle.std.specs.Prelude.{◌≡◌, Ok, IfOk};
 ghost use Rattle.trlab_code.specs.Flow.{target};
-ghost use Rattle.trlab_asm.specs.Lines.{lines_of};
+ghost use Rattle.trlab_lines.specs.Lines.{lines_of};
 ghost use Rattle.trlab_asm.specs.Assembly.{code_of};
 ghost use Rattle.trlab_asm.specs.Canonical.{is_pc, is_target, text_of};
 

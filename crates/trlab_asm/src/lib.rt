@@ -3,12 +3,10 @@
 
 mod assembly;
 mod canonical;
-mod cutting;
 mod draft;
 mod fault;
 mod labels;
 pub mod laws;
-mod lines;
 mod names;
 mod numbers;
 mod operands;
@@ -19,12 +17,9 @@ mod target;
 
 pub use assembly::{assemble, instruction_lines};
 pub use canonical::disassemble;
-pub use cutting::{cut, label_and_rest, only_word, up_to_blank, without_comment, without_indent};
 pub use fault::{AsmFault, Why};
-pub use lines::next_line;
 pub use names::{
     INPUTS, MNEMONICS, Mnemonic, REGISTERS, input_text, mnemonic_named, mnemonic_text,
     register_text,
 };
-pub use numbers::{digits_value, is_numeral};
 pub use target::is_label;

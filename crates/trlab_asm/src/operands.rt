@@ -2,17 +2,18 @@
 
 ghost use Rattle.std.specs.Prelude.{◌≡◌, ◌≤◌, ◌<◌, true, IfOk, ok_or};
 ghost use Rattle.trlab_bounds.specs.declared.programs.TheConstants.{WORDS, CERTAIN};
-ghost use Rattle.trlab_asm.specs.Cutting.{cut};
-ghost use Rattle.trlab_asm.specs.Operands.{word, register, input, all_digits, numeral, two_numerals, number, target, no_operand, two_registers, three_registers, register_input, register_number, two_registers_number, word_chance, register_word_chance, register_target, two_registers_target};
+ghost use Rattle.trlab_lines.specs.Cutting.{cut};
+ghost use Rattle.trlab_lines.specs.Numbers.{all_digits};
+ghost use Rattle.trlab_asm.specs.Operands.{word, register, input, numeral, two_numerals, number, target, no_operand, two_registers, three_registers, register_input, register_number, two_registers_number, word_chance, register_word_chance, register_target, two_registers_target};
 ghost use Rattle.trlab_asm.specs.Results.{map_ok};
 
-use crate::cutting::{cut, only_word};
 use crate::fault::Why;
 use crate::names::{input_named, register_named};
 use crate::numbers::{digits_of, value_within};
 use crate::target::{Target, target_named};
 use trlab_bounds::programs::GREATEST_NUMBER;
 use trlab_code::{CERTAIN, Input, Register, WORDS};
+use trlab_lines::{cut, only_word};
 
 /// What stands before the first comma, and what stands behind it.
 fn comma(text: &[u8]) -> Result<(&[u8], &[u8]), Why>

@@ -6,7 +6,6 @@ ghost use Rattle.trlab_asm.specs.Reading.{Line as Said, instruction, body, new_l
 ghost use Rattle.trlab_asm.specs.Stored.{pcs};
 ghost use Rattle.trlab_asm.specs.Results.{map_ok};
 
-use crate::cutting::{label_and_rest, only_word, up_to_blank, without_comment, without_indent};
 use crate::draft::{Draft, read_draft};
 use crate::fault::Why;
 use crate::labels::Labels;
@@ -14,6 +13,7 @@ use crate::names::mnemonic_named;
 use crate::target::is_label;
 use std::marker::Model;
 use trlab_code::MOST_INSTRUCTIONS;
+use trlab_lines::{label_and_rest, only_word, up_to_blank, without_comment, without_indent};
 
 /// What a line says: a label, an instruction, both or none.
 #[derive(Drop)]

@@ -4,7 +4,7 @@ use Rattle.std.proofs.lemmas.Bool.{lt-ltb}
 use Rattle.std.specs.Prelude.{All, Option, None, Some, IfSome, Result, Ok, Err, IfOk, OnOk, MatchResult}
 use Rattle.std.specs.Option.{unwrap_or}
 use Rattle.std.specs.Io.KnownBytes.{Keeps}
-use Rattle.trlab_asm.specs.Lines.{lines_of}
+use Rattle.trlab_lines.specs.Lines.{lines_of}
 use Rattle.trlab_bounds.specs.declared.texts.TheConstants.{TEXT_LIMIT}
 use Rattle.trlab_texts.specs.declared.fault.Cause.TheVariants.{TooBig}
 use Rattle.trlab_campaign.specs.declared.end.End.{End}

@@ -3,8 +3,9 @@
 ghost use Rattle.std.specs.Prelude.{◌≤◌, length};
 
 use std::alloc::{AllocError, Global};
-use trlab_asm::{instruction_lines, next_line};
+use trlab_asm::instruction_lines;
 use trlab_bounds::texts::TEXT_LIMIT;
+use trlab_lines::next_line;
 use trlab_texts::Rest;
 
 /// The lines on which the instructions of a program stand; of a program in bytes none does.

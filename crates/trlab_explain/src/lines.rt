@@ -2,7 +2,7 @@
 
 use crate::head::push_quote;
 use std::alloc::AllocError;
-use trlab_asm::next_line;
+use trlab_lines::next_line;
 use trlab_prose::Page;
 use trlab_texts::word::head_word;
 

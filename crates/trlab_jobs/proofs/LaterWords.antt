@@ -2,7 +2,7 @@
 use Rattle.std.proofs.Common.{◌≡◌, List, ℕ, Bool, true, false, ap, ◌∙◌}
 use Rattle.std.specs.Prelude.{Option, None, Some, codes, option_map, option_and_then, if◌then◌else◌}
 use Rattle.trlab_texts.specs.Words.{is_word}
-use Rattle.trlab_asm.specs.Cutting.{behind, cut}
+use Rattle.trlab_lines.specs.Cutting.{behind, cut}
 use Rattle.trlab_jobs.specs.RuleLines.{rule_words, step_and_rule, later_words}
 use Rattle.trlab_jobs.specs.declared.rule_line.RuleLine.{RuleLine}
 

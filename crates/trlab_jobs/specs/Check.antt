@@ -4,8 +4,8 @@ use Rattle.std.specs.Str.{bytes_eq}
 use Rattle.trlab_code.specs.declared.kind.Kind.{Kind}
 use Rattle.trlab_code.specs.declared.kind.Kind.TheVariants.{Motion, Change}
 use Rattle.trlab_code.specs.Program.{Program}
-use Rattle.trlab_asm.specs.Cutting.{behind}
-use Rattle.trlab_asm.specs.Lines.{lines_of}
+use Rattle.trlab_lines.specs.Cutting.{behind}
+use Rattle.trlab_lines.specs.Lines.{lines_of}
 use Rattle.trlab_asm.specs.Results.{map_ok}
 use Rattle.trlab_texts.specs.declared.fault.Cause.{Cause}
 use Rattle.trlab_texts.specs.declared.fault.Cause.TheVariants.{Line}

@@ -9,7 +9,7 @@ use Rattle.trlab_jobs.specs.declared.rule_line.RuleLine.{RuleLine}
 use Rattle.trlab_jobs.specs.declared.rule_line.RuleLine.TheVariants.{Nasch, Vdr, Rickert, Own}
 use Rattle.trlab_bounds.specs.declared.texts.TheConstants.{LONGEST_NUMBER}
 use Rattle.trlab_texts.specs.Words.{is_word, as_word, two_words, number_of, within}
-use Rattle.trlab_asm.specs.Cutting.{behind, cut}
+use Rattle.trlab_lines.specs.Cutting.{behind, cut}
 use Rattle.trlab_asm.specs.Results.{◌>>=◌}
 
 -- the words of the line `rule own`

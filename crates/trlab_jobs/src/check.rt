@@ -1,16 +1,16 @@
 //! Check texts: a program each, on which a verdict is asked for, and perhaps its notes.
 
 ghost use Rattle.std.specs.Prelude.{◌≡◌, ◌≤◌, length};
-ghost use Rattle.trlab_asm.specs.Lines.{lines_of};
+ghost use Rattle.trlab_lines.specs.Lines.{lines_of};
 ghost use Rattle.trlab_jobs.specs.Check.{CheckLinesSay, CheckText, LoneCodeSays, ProgramSays, heading_kind, question_of};
 ghost use Rattle.trlab_texts.specs.Reading.{Reports};
 ghost use Rattle.trlab_bounds.specs.declared.texts.TheConstants.{TEXT_LIMIT};
 
 use std::alloc::Global;
 use std::marker::Model;
-use trlab_asm::next_line;
 use trlab_bounds::texts::TEXT_LIMIT;
 use trlab_code::{Code, Kind};
+use trlab_lines::next_line;
 use trlab_texts::program::{code_line, heads, program_behind};
 use trlab_texts::word::behind;
 use trlab_texts::{Cause, TextFault};

@@ -3,7 +3,7 @@
 ghost use Rattle.std.specs.Prelude.{◌≡◌, ◌<◌, ◌≤◌, IfOk, OnOk, option_map};
 ghost use Rattle.trlab_jobs.specs.RuleLines.{rule_words, chance_of, rule_numbers, rule_line, later_words, step_of, admit, later_line, stored_words, stored_later};
 
-use trlab_asm::cut;
+use trlab_lines::cut;
 use trlab_texts::Cause;
 use trlab_texts::word::{as_word, behind, is_word, long_number, number_from, two_words};
 use trlab_words::{CERTAIN, Chance};

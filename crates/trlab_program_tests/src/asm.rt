@@ -1,7 +1,8 @@
 //! Lines, faults in words, and the laws of program text.
 
 use std::alloc::AllocError;
-use trlab_asm::{AsmFault, Why, laws, next_line};
+use trlab_asm::{AsmFault, Why, laws};
+use trlab_lines::next_line;
 
 /// Whether a text is cut into this line and the rest.
 fn is_cut(text: &[u8], line: &[u8], rest: &[u8]) -> bool {

@@ -3,8 +3,8 @@ use Rattle.std.proofs.Common.{◌≡◌, ◌==◌, ℕ, suc, ◌≤◌, List, []
 use Rattle.std.specs.Prelude.{IsTrue, ◌↔◌}
 use Rattle.std.specs.List.{onto_first}
 use Rattle.std.proofs.lemmas.Bool.{eqb-true, eq-eqb}
-use Rattle.trlab_asm.specs.Lines.{lines_of}
-use Rattle.trlab_asm.proofs.Cuts.{no_line_in}
+use Rattle.trlab_lines.specs.Lines.{lines_of}
+use Rattle.trlab_lines.proofs.Cuts.{no_line_in}
 
 onto_some : (c : ℕ) (lines : List (List ℕ)) → onto_first c lines ≡ [] → ⊥
 onto_some c [] e = cc

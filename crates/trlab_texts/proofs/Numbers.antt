@@ -9,8 +9,8 @@ use Rattle.std.proofs.lemmas.Slice.Eq.{bytes_eq-Decides}
 use Rattle.std.proofs.lemmas.Bool.{leb-true, le-leb, ltb-true, lt-ltb}
 use Rattle.trlab_bounds.specs.declared.programs.TheConstants.{MOST_DIGITS}
 use Rattle.trlab_bounds.specs.declared.texts.TheConstants.{LONGEST_NUMBER}
-use Rattle.trlab_asm.specs.Operands.{all_digits, is_numeral}
-use Rattle.trlab_asm.proofs.Digits.{own}
+use Rattle.trlab_lines.specs.Numbers.{all_digits, is_numeral}
+use Rattle.trlab_lines.proofs.Digits.{own}
 use Rattle.trlab_texts.specs.Words.{number_of, within}
 use Rattle.trlab_texts.specs.declared.fault.Cause.{Cause}
 use Rattle.trlab_texts.specs.declared.fault.Cause.TheVariants.{Number}

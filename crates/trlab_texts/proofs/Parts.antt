@@ -3,8 +3,8 @@ use Rattle.std.proofs.Common.{◌≡◌, ℕ, ◌+◌, ◌-◌, ◌<◌, List, [
 use Rattle.std.proofs.Math.Seq.{take-append_seam}
 use Rattle.std.specs.Prelude.{Option, None, Some, codes}
 use Rattle.std.specs.Str.{bytes_eq}
-use Rattle.trlab_asm.specs.Lines.{lines_of, BeginsWithLine, HasNoEnd}
-use Rattle.trlab_asm.proofs.Cuts.{line_and_rest, no_line, no_byte_in}
+use Rattle.trlab_lines.specs.Lines.{lines_of, BeginsWithLine, HasNoEnd}
+use Rattle.trlab_lines.proofs.Cuts.{line_and_rest, no_line, no_byte_in}
 use Rattle.trlab_texts.specs.declared.fault.Cause.TheVariants.{Line}
 use Rattle.trlab_texts.specs.declared.fault.TextFault.TheVariants.{At}
 use Rattle.trlab_texts.specs.Programs.{part_of, with_first}

@@ -9,7 +9,7 @@ use Rattle.std.proofs.lemmas.Str.Parse.{digit_from_value}
 use Rattle.std.proofs.lemmas.Slice.Eq.{bytes_eq-Decides}
 use Rattle.std.proofs.lemmas.Bool.{leb-true, lt-ltb, le-leb, ne_eqb}
 use Rattle.trlab_texts.proofs.Numbers.{number_of_some}
-use Rattle.trlab_asm.specs.Cutting.{behind}
+use Rattle.trlab_lines.specs.Cutting.{behind}
 use Rattle.trlab_texts.specs.Words.{is_word, has_space, number_of, within, one_word, word_behind, number_within}
 use Rattle.trlab_texts.specs.declared.fault.Cause.{Cause}
 use Rattle.trlab_texts.specs.declared.fault.Cause.TheVariants.{Line, Number}

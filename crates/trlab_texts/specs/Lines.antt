@@ -1,6 +1,6 @@
 -- What is left of a text while it is read line by line.
 use Rattle.std.specs.Prelude.{◌≡◌, ℕ, ◌+◌, List, ◌∷◌}
-use Rattle.trlab_asm.specs.Lines.{lines_of}
+use Rattle.trlab_lines.specs.Lines.{lines_of}
 
 -- the rest of a text: the lines that are left, and the number of the first
 pub record Rest : Type 0 where

@@ -1,7 +1,7 @@
 //! What is left of a text while it is read line by line.
 
 ghost use Rattle.std.specs.Prelude.{◌≡◌, ◌+◌, ◌<◌, ◌^◌, [], ◌∷◌, None, length, MatchOption, MatchResult, IsTrue, ◌↔◌};
-ghost use Rattle.trlab_asm.specs.Lines.{lines_of};
+ghost use Rattle.trlab_lines.specs.Lines.{lines_of};
 ghost use Rattle.trlab_texts.specs.Lines.{IsNextLine, Rest as RestOfLines, start};
 ghost use Rattle.trlab_texts.specs.Programs.{IsPart, part_of};
 ghost use Rattle.std.specs.Fn.{FnOnceReturnsAt};
@@ -11,7 +11,7 @@ ghost use Rattle.trlab_texts.specs.Words.{next_word_is};
 use crate::fault::{Cause, TextFault};
 use crate::word::head_word;
 use std::marker::Model;
-use trlab_asm::next_line;
+use trlab_lines::next_line;
 
 /// The rest of a text: the lines that are left, and the number of the first, which counts from 1.
 #[derive(Drop)]

@@ -2,13 +2,13 @@
 
 ghost use Rattle.std.specs.Prelude.{◌≡◌, ◌≢◌, ◌≤◌, ℕ, decimal, MatchOption, option_map};
 ghost use Rattle.trlab_bounds.specs.declared.texts.TheConstants.{LONGEST_NUMBER};
-ghost use Rattle.trlab_asm.specs.Cutting.{behind};
+ghost use Rattle.trlab_lines.specs.Cutting.{behind};
 ghost use Rattle.std.specs.Result.{result_map_both};
 ghost use Rattle.trlab_texts.specs.Words.{is_word, word_behind, number_of, within, number_within, as_word, head_word, two_words};
 
 use crate::fault::Cause;
-use trlab_asm::{cut, digits_value, is_numeral};
 use trlab_bounds::programs::MOST_DIGITS;
+use trlab_lines::{cut, digits_value, is_numeral};
 
 /// What stands behind a front of a line.
 pub fn behind<'a>(front: &[u8], line: &'a [u8]) -> Option<&'a [u8]>

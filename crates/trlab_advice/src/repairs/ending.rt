@@ -7,7 +7,7 @@ use crate::repairs::Repair;
 use crate::repairs::program::{is_program_head, name_and_operands};
 use crate::spot::{Spot, spot_at};
 use crate::subject::Subject;
-use trlab_asm::next_line;
+use trlab_lines::next_line;
 
 /// What most likely mends a text that ends within a program: of its last program a line `end` that has
 /// something beside it, or else such a line anew.

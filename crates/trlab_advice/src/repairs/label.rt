@@ -7,7 +7,7 @@ use crate::alike::{edits_within, most_edits};
 use crate::repairs::Repair;
 use crate::repairs::program::{is_program_head, name_and_operands};
 use std::alloc::{AllocError, Global};
-use trlab_asm::{cut, label_and_rest, next_line, only_word, without_comment};
+use trlab_lines::{cut, label_and_rest, next_line, only_word, without_comment};
 
 /// How many labels of a program are looked at, at most.
 const MOST_LABELS: u32 = 4096;

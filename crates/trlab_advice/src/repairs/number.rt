@@ -5,8 +5,8 @@ ghost use Rattle.trlab_advice.specs.Repairs.{mends_hex, mends_key, mends_number}
 
 use crate::odd::{Oddity, oddity_of};
 use crate::repairs::Repair;
-use trlab_asm::{cut, digits_value, is_numeral};
 use trlab_bounds::programs::CERTAIN;
+use trlab_lines::{cut, digits_value, is_numeral};
 use trlab_texts::word::{behind, head_word};
 
 /// The number that some digits behind a point are of a whole, in parts of 2^31, to the nearest part.

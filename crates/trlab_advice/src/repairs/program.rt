@@ -11,9 +11,11 @@ use crate::repairs::number::parts_of;
 use crate::subject::Subject;
 use std::alloc::{AllocError, Global};
 use trlab_asm::{
-    INPUTS, MNEMONICS, Mnemonic, REGISTERS, cut, input_text, is_numeral, label_and_rest,
-    mnemonic_named, mnemonic_text, only_word, register_text, up_to_blank, without_comment,
-    without_indent,
+    INPUTS, MNEMONICS, Mnemonic, REGISTERS, input_text, mnemonic_named, mnemonic_text,
+    register_text,
+};
+use trlab_lines::{
+    cut, is_numeral, label_and_rest, only_word, up_to_blank, without_comment, without_indent,
 };
 use trlab_texts::word::{behind, head_word};
 

@@ -8,7 +8,7 @@ ghost use Rattle.trlab_code.specs.declared.kind.Kind.TheVariants.{Motion as OfMo
 ghost use Rattle.trlab_code.specs.Program.{Program};
 ghost use Rattle.trlab_verify.specs.CheckedProgram.{CheckedProgram};
 ghost use Rattle.trlab_verify.specs.Faults.{Tells};
-ghost use Rattle.trlab_asm.specs.Lines.{lines_of};
+ghost use Rattle.trlab_lines.specs.Lines.{lines_of};
 ghost use Rattle.trlab_texts.specs.Reading.{Reports};
 ghost use Rattle.trlab_texts.specs.Programs.{VerdictSays, heading, part, program_behind, program_part};
 

@@ -1,5 +1,5 @@
 use Rattle.std.proofs.Common.{◌≡◌, length}
-use Rattle.trlab_asm.specs.Lines.{lines_of}
+use Rattle.trlab_lines.specs.Lines.{lines_of}
 use Rattle.trlab_advice.specs.Quoting.{line_at}
 use Rattle.trlab_advice.proofs.line.line_at.Given as goal
 

@@ -1,5 +1,5 @@
 use Rattle.std.proofs.Common.{◌≡◌, ◌≤◌, ◌+◌, length}
-use Rattle.trlab_asm.specs.Lines.{lines_of}
+use Rattle.trlab_lines.specs.Lines.{lines_of}
 use Rattle.trlab_asm.specs.Stored.{stored_parts}
 use Rattle.trlab_asm.specs.Assembly.{nothing, first_pass}
 use Rattle.trlab_asm.proofs.assembly.read_parts.Given as goal

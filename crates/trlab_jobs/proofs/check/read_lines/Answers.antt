@@ -1,6 +1,6 @@
 use Rattle.std.proofs.Common.{ℕ, List, subst, sym}
 use Rattle.std.specs.Prelude.{Err}
-use Rattle.trlab_asm.specs.Lines.{lines_of}
+use Rattle.trlab_lines.specs.Lines.{lines_of}
 use Rattle.trlab_texts.specs.Reading.{Reports}
 use Rattle.trlab_jobs.specs.Check.{Check, CheckLinesSay}
 use Rattle.trlab_jobs.proofs.CodeAlone.{check_says, check_fails}

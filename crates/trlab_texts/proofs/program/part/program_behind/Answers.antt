@@ -1,5 +1,5 @@
 use Rattle.std.proofs.Common.{arith}
-use Rattle.trlab_asm.specs.Lines.{lines_of}
+use Rattle.trlab_lines.specs.Lines.{lines_of}
 use Rattle.trlab_texts.proofs.FaultLines.{line_within}
 use Rattle.trlab_texts.proofs.program.part.program_behind.Goals as goal
 

@@ -6,8 +6,8 @@ use Rattle.std.proofs.lemmas.Bool.{ltb-false, eqb-true, eq-eqb, ne_eqb}
 use Rattle.std.proofs.lemmas.List.{take-append-drop, get_or-take, length-take-le}
 use Rattle.std.proofs.lemmas.List.Quantifiers.{position-Some}
 use Rattle.std.proofs.lemmas.List.Sums.{fails_before_first}
-use Rattle.trlab_asm.specs.Cutting.{around, cut}
-use Rattle.trlab_asm.specs.Lines.{lines_of, HasNoEnd}
+use Rattle.trlab_lines.specs.Cutting.{around, cut}
+use Rattle.trlab_lines.specs.Lines.{lines_of, HasNoEnd}
 
 rest_has_no_end : (c : ℕ) (line : List ℕ) → HasNoEnd (c ∷ line) → HasNoEnd line
 rest_has_no_end c line none = λ k d inside. none (suc k) d (omega arith)

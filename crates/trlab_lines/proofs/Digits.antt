@@ -5,7 +5,7 @@ use Rattle.std.specs.Str.Parse.{digits_value}
 use Rattle.std.proofs.lemmas.Str.Parse.{IsNumeralModel, numerals_by_value, digits_value_short, digits_value-take-le, digit_at}
 use Rattle.std.proofs.lemmas.Int.Digits.{digits_value_more}
 use Rattle.std.proofs.lemmas.Bool.Decides.{nat_tests}
-use Rattle.trlab_asm.specs.Operands.{all_digits}
+use Rattle.trlab_lines.specs.Numbers.{all_digits}
 
 pub own : IsNumeralModel (λ ds. all_digits ds ≡ true) (digits_value 10)
 own = numerals_by_value (λ ds. all_digits ds ≡ true) (search rules)

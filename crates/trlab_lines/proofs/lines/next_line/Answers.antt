@@ -1,8 +1,8 @@
 use Rattle.std.proofs.Common.{◌<◌, length, arith}
 use Rattle.std.proofs.Common.{inl}
 use Rattle.std.proofs.lemmas.Grind.{common_steps}
-use Rattle.trlab_asm.proofs.Cuts.{no_line, no_line_in, nowhere, only_line, lines_of_cut, bytes_of_cut, no_end_of_cut, no_cut}
-use Rattle.trlab_asm.proofs.lines.next_line.Goals as goal
+use Rattle.trlab_lines.proofs.Cuts.{no_line, no_line_in, nowhere, only_line, lines_of_cut, bytes_of_cut, no_end_of_cut, no_cut}
+use Rattle.trlab_lines.proofs.lines.next_line.Goals as goal
 
 pub returns-then-is_empty-clause-lines : goal.returns-then-is_empty-clause-lines
 returns-then-is_empty-clause-lines c = grind (arith, no_line_in)

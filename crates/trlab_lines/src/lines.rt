@@ -1,7 +1,7 @@
 //! Lines: LF ends each, and may be missing at the last.
 
 ghost use Rattle.std.specs.Prelude.{◌≡◌, ◌<◌, [], ◌∷◌, length, MatchOption, IfSome};
-ghost use Rattle.trlab_asm.specs.Lines.{lines_of, BeginsWithLine, HasNoEnd};
+ghost use Rattle.trlab_lines.specs.Lines.{lines_of, BeginsWithLine, HasNoEnd};
 
 use crate::cutting::cut;
 

@@ -2,7 +2,7 @@
 
 ghost use Rattle.std.specs.Prelude.{◌≡◌, ◌<◌, ◌==◌, not, length, IfSome, option_map};
 ghost use Rattle.std.specs.List.{position};
-ghost use Rattle.trlab_asm.specs.Cutting.{cut, is_blank, without_indent, up_to_blank, first_word, only_word, without_comment, label_and_rest};
+ghost use Rattle.trlab_lines.specs.Cutting.{cut, is_blank, without_indent, up_to_blank, first_word, only_word, without_comment, label_and_rest};
 
 /// Whether a byte separates words.
 fn is_blank(byte: u8) -> bool
