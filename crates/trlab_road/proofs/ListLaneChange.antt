@@ -4,7 +4,7 @@ use Rattle.std.proofs.lemmas.Bool.{cases_lt, cases_eq}
 use Rattle.std.proofs.lemmas.List.{length-take-le, drop_more, append-nil, append_assoc}
 use Rattle.std.proofs.lemmas.List.FromFn.{take-map-range_with_len}
 use Rattle.std.specs.Int.{from_bool}
-use Rattle.trlab_road.specs.declared.lane_car.LaneCar.{LaneCar}
+use Rattle.trlab_road.specs.LaneCars.{LaneCar}
 use Rattle.trlab_road.specs.Cells.{Cell, at, lane_cars}
 use Rattle.trlab_road.specs.LaneChange.{cell_after_change, LaneCrosses}
 use Rattle.trlab_road.specs.Stored.{cell_at, cells_of, Rises, no_car, place_of, IsFirstFrom, lane_crosses_at}

@@ -2,7 +2,7 @@
 use Rattle.std.proofs.Common.{Some, ◌≡◌, ℕ, zero, suc, ◌+◌, ◌<◌, List, [], ◌∷◌, length, get_or, map, set, take, replicate, refl, sym, ◌∙◌, ap, subst, arith}
 use Rattle.std.specs.List.{range_with_len}
 use Rattle.std.proofs.lemmas.List.{map-set, get_or-take, take_more, length-take-le}
-use Rattle.trlab_road.specs.declared.lane_car.LaneCar.{LaneCar}
+use Rattle.trlab_road.specs.LaneCars.{LaneCar}
 use Rattle.trlab_road.specs.Pictures.{character, point, speed_character, picture}
 use Rattle.trlab_road.specs.Stored.{cell_at, cells_of, Rises, no_car, place_of}
 use Rattle.trlab_road.proofs.Lists.{rises_high, rises_order}

@@ -2,7 +2,7 @@
 use Rattle.std.proofs.Common.{◌≡◌, ◌≢◌, ℕ, ◌<◌, ◌≤◌, true, false, List, length, ◌∙◌, ap, inl, inr, arith}
 use Rattle.std.specs.Prelude.{is_none}
 use Rattle.std.proofs.lemmas.Bool.{cases_eq, cond-true, cond-false}
-use Rattle.trlab_road.specs.declared.lane_car.LaneCar.{LaneCar}
+use Rattle.trlab_road.specs.LaneCars.{LaneCar}
 use Rattle.trlab_road.specs.Gaps.{ahead, behind, clear_cells, gap, side, sidegap, sideback}
 use Rattle.trlab_road.specs.Stored.{cells_of, Rises, place_of, IsParted, IsFirstFrom}
 use Rattle.trlab_road.proofs.Lists.{length_cells, cells_at, rises_order}

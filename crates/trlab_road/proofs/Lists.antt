@@ -7,7 +7,7 @@ use Rattle.std.proofs.lemmas.List.{length-map}
 use Rattle.std.proofs.lemmas.Option.{some_pair_parts}
 use Rattle.std.proofs.lemmas.List.FromFn.{length-map-range_with_len, get_or-map-range_with_len}
 use Rattle.trlab_road.specs.declared.car.Car.{Car}
-use Rattle.trlab_road.specs.declared.lane_car.LaneCar.{LaneCar}
+use Rattle.trlab_road.specs.LaneCars.{LaneCar}
 use Rattle.trlab_road.specs.Cells.{Cell, Lane, at, lane_cars}
 use Rattle.trlab_road.specs.Standing.{standing_from}
 use Rattle.trlab_road.specs.Stored.{cell_at, cells_of, Rises, no_car, place_of, car_on}

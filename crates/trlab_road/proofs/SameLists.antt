@@ -7,7 +7,7 @@ use Rattle.std.specs.Prelude.{nat_eq, ◌&&◌}
 use Rattle.std.proofs.lemmas.List.{length-map}
 use Rattle.std.proofs.lemmas.Bool.Decides.{Decides-eqb, Decides-and, Decides-like}
 use Rattle.std.proofs.lemmas.Slice.Eq.{slice_eq-Decides}
-use Rattle.trlab_road.specs.declared.lane_car.LaneCar.{LaneCar}
+use Rattle.trlab_road.specs.LaneCars.{LaneCar}
 use Rattle.trlab_road.specs.Cells.{Cells, Lane}
 use Rattle.trlab_road.specs.Stored.{IsStored, AreSorted, cells_of, lanes_from, lists_of}
 use Rattle.trlab_road.proofs.ListRoads.{list_told, sorted_rest, length_first}

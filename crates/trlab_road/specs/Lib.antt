@@ -1,3 +1,4 @@
+pub mod LaneCars
 pub mod Cells
 pub mod Gaps
 pub mod Standing

@@ -6,7 +6,7 @@ ghost use Rattle.trlab_bounds.specs.declared.roads.TheConstants.{GREATEST_LENGTH
 ghost use Rattle.trlab_road.specs.Gaps.{behind, clear_cells, gap, headspeed};
 ghost use Rattle.trlab_road.specs.Stored.{IsParted, Rises, cells_of, place_of};
 
-use crate::lane_car::LaneCar;
+use crate::lane_car::{LaneCar, place_at, speed_at};
 
 /// What is ahead of a car on its own lane.
 #[derive(Clone, Copy, Debug, PartialEq, Eq)]
@@ -26,19 +26,17 @@ pub fn look_ahead(cars: &[LaneCar], cells: usize, index: usize) -> Ahead
     ensures headspeed { result.headspeed ≡ headspeed (cells_of cells cars.now) (place_of cars.now index) }
     ensures within { result.gap < cells }
 {
-    let place = cars[index].place;
+    let place = place_at(cars, index);
     let next = index + 1;
     if next < cars.len() {
-        let car = cars[next];
         Ahead {
-            gap: car.place - place - 1,
-            headspeed: car.speed,
+            gap: place_at(cars, next) - place - 1,
+            headspeed: speed_at(cars, next),
         }
     } else {
-        let first = cars[0];
         Ahead {
-            gap: cells as u32 - 1 - place + first.place,
-            headspeed: first.speed,
+            gap: cells as u32 - 1 - place + place_at(cars, 0),
+            headspeed: speed_at(cars, 0),
         }
     }
 }
@@ -53,11 +51,11 @@ pub fn gap_ahead(cars: &[LaneCar], cells: usize, place: usize, next: usize) -> u
     ensures within { result < cells }
 {
     if next < cars.len() {
-        cars[next].place as usize - place - 1
+        place_at(cars, next) as usize - place - 1
     } else if cars.is_empty() {
         cells - 1
     } else {
-        cells - 1 - place + cars[0].place as usize
+        cells - 1 - place + place_at(cars, 0) as usize
     }
 }
 
@@ -74,10 +72,10 @@ pub fn gap_behind(cars: &[LaneCar], cells: usize, place: usize, next: usize) -> 
     ensures within { result < cells }
 {
     if next > 0 {
-        place - cars[next - 1].place as usize - 1
+        place - place_at(cars, next - 1) as usize - 1
     } else if cars.is_empty() {
         cells - 1
     } else {
-        cells - 1 - cars[cars.len() - 1].place as usize + place
+        cells - 1 - place_at(cars, cars.len() - 1) as usize + place
     }
 }

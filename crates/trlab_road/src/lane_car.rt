@@ -1,9 +1,121 @@
 //! Cars as lanes keep them: the lane is that of the list in which a car stands.
 
-/// A car of a lane: its number, its place and its speed.
-#[derive(Clone, Copy, Debug, PartialEq, Eq)]
+ghost use Rattle.std.specs.Prelude.{◌≡◌, ◌<◌, ◌≤◌, ◌&&◌, length, nat_eq, slice_index_or};
+ghost use Rattle.trlab_bounds.specs.declared.roads.TheConstants.{GREATEST_LENGTH, GREATEST_LIMIT};
+ghost use Rattle.trlab_road.specs.Stored.{no_car, place_of};
+
+use std::marker::Model;
+
+/// A car of a lane: its number, its place and its speed. They are kept in eight bytes, since all
+/// workers read every car in each phase of a step.
+#[derive(Clone, Copy, Debug)]
 pub struct LaneCar {
-    pub number: u32,
-    pub place: u32,
-    pub speed: u32,
+    number: u32,
+    /// The speed in the lowest six bits, the place in those above.
+    place_and_speed: u32,
+}
+
+impl Model for LaneCar {
+    ghost use Rattle.std.specs.Prelude.{◌+◌, ◌*◌, ◌/◌, ◌%◌};
+    ghost use Rattle.std.proofs.lemmas.Nat.{div-add-mod'};
+    ghost use Rattle.trlab_road.specs.LaneCars.{LaneCar as ListedCar};
+
+    ghost Value = { ListedCar };
+
+    ghost view = { λ car. record {
+      number = car.number;
+      place = car.place_and_speed / 64;
+      speed = car.place_and_speed % 64;
+    } };
+
+    ghost inverse = { λ car. record {
+      number = car.number;
+      place_and_speed = car.place * 64 + car.speed;
+    } };
+
+    ghost inverse_ok = { λ car h i. record {
+      number = car.number;
+      place_and_speed = div-add-mod' car.place_and_speed 64 i;
+    } };
+}
+
+impl PartialEq for LaneCar {
+    ghost use Rattle.std.proofs.Common.{rules};
+    ghost use Rattle.std.specs.Cmp.Rules.{comparing};
+
+    ghost eq = { λ a b. nat_eq a.number b.number && (nat_eq a.place b.place && nat_eq a.speed b.speed) };
+
+    ghost laws = { Prim.search (comparing, rules) };
+
+    fn eq(&self, other: &LaneCar) -> bool {
+        self.number == other.number
+            && self.place() == other.place()
+            && self.speed() == other.speed()
+    }
+}
+
+impl LaneCar {
+    /// A car of a number, which stands at a place, in cells, with a speed, in cells a step.
+    #[inline(always)]
+    pub fn new(number: u32, place: u32, speed: u32) -> LaneCar
+        requires on_lane { place ≤ GREATEST_LENGTH }
+        requires slow { speed ≤ GREATEST_LIMIT }
+        ensures { result ≡ record { number = number; place = place; speed = speed } }
+    {
+        LaneCar {
+            number,
+            place_and_speed: place * 64 + speed,
+        }
+    }
+
+    /// The number of the car.
+    #[inline(always)]
+    pub fn number(self) -> u32
+        ensures { result ≡ self.number }
+    {
+        self.number
+    }
+
+    /// Its place, in cells.
+    #[inline(always)]
+    pub fn place(self) -> u32
+        ensures { result ≡ self.place }
+    {
+        self.place_and_speed / 64
+    }
+
+    /// Its speed, in cells a step.
+    #[inline(always)]
+    pub fn speed(self) -> u32
+        ensures { result ≡ self.speed }
+    {
+        self.place_and_speed % 64
+    }
+}
+
+/// A car of a list.
+#[inline(always)]
+pub fn car_at(cars: &[LaneCar], index: usize) -> LaneCar
+    requires { index < length cars.now }
+    ensures { result ≡ slice_index_or cars.now index no_car }
+{
+    cars[index]
+}
+
+/// The place of a car of a list.
+#[inline(always)]
+pub fn place_at(cars: &[LaneCar], index: usize) -> u32
+    requires { index < length cars.now }
+    ensures { result ≡ place_of cars.now index }
+{
+    cars[index].place()
+}
+
+/// The speed of a car of a list.
+#[inline(always)]
+pub fn speed_at(cars: &[LaneCar], index: usize) -> u32
+    requires { index < length cars.now }
+    ensures { result ≡ (slice_index_or cars.now index no_car).speed }
+{
+    cars[index].speed()
 }

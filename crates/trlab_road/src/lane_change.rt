@@ -8,7 +8,7 @@ ghost use Rattle.trlab_road.specs.Cells.{Cells, lane_cars};
 ghost use Rattle.trlab_road.specs.LaneChange.{Crosses, LaneCrosses, crosses_at};
 ghost use Rattle.trlab_road.specs.Stored.{Rises, IsRising, AreSorted, IsFirstFrom, cell_at, cells_of, lanes_from, place_of, LaneLeaves, lane_crosses_at};
 
-use crate::lane_car::LaneCar;
+use crate::lane_car::{LaneCar, car_at, place_at};
 use crate::lanes::list_of;
 use crate::room::Room;
 use std::alloc::{AllocError, Global};
@@ -25,7 +25,11 @@ fn next_place(cars: &[LaneCar], k: usize, cells: u32) -> u32
     ensures here { k < length cars.now → result ≡ place_of cars.now k }
     ensures past { length cars.now ≤ k → result ≡ cells }
 {
-    if k < cars.len() { cars[k].place } else { cells }
+    if k < cars.len() {
+        place_at(cars, k)
+    } else {
+        cells
+    }
 }
 
 /// Puts the cars of a lane that cross into a list; only the proof reads how many cells the lane has.
@@ -46,7 +50,7 @@ fn leaving_cars(
     leaving.clear();
     for k in 0..lane.cars.len() {
         if crosses[lane.from + k] {
-            leaving.push(lane.cars[k])?;
+            leaving.push(car_at(lane.cars, k))?;
         }
     }
     Ok(())
@@ -64,7 +68,7 @@ fn run_end(lane: AnsweredLane, crosses: &[bool], begin: usize, due: u32) -> usiz
     ensures before { (k : ℕ) → begin ≤ k → k < result → place_of lane.entry.cars.now k < due }
 {
     let mut end = begin + 1;
-    while end < lane.cars.len() && lane.cars[end].place < due && !crosses[lane.from + end] {
+    while end < lane.cars.len() && place_at(lane.cars, end) < due && !crosses[lane.from + end] {
         end += 1;
     }
     end
@@ -111,9 +115,9 @@ fn change_lane(
             // who comes finds the cell empty, or its car leaves
             let own_here = standing == due;
             if own_here && !crosses[own.from + i] {
-                next.push(own.cars[i])?;
+                next.push(car_at(own.cars, i))?;
             } else {
-                next.push(coming[j])?;
+                next.push(car_at(coming, j))?;
             }
             i += usize::from(own_here);
             j += 1;

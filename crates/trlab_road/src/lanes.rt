@@ -31,10 +31,10 @@ pub fn car_of(lanes: &[Vec<LaneCar>], lane: u32, index: usize) -> Car
 {
     let car = lanes[lane as usize][index];
     Car {
-        number: car.number,
+        number: car.number(),
         lane,
-        place: car.place,
-        speed: car.speed,
+        place: car.place(),
+        speed: car.speed(),
     }
 }
 

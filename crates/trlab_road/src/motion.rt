@@ -1,8 +1,8 @@
 //! The motion: the cars of each lane go ahead at once, where they stand in its list. Only the last car can
 //! pass the end of the lane, and is the first then.
 
-ghost use Rattle.std.specs.Prelude.{◌≡◌, ◌+◌, ◌≤◌, length, sum_by};
-ghost use Rattle.trlab_bounds.specs.declared.roads.TheConstants.{GREATEST_LENGTH};
+ghost use Rattle.std.specs.Prelude.{◌≡◌, ◌+◌, ◌<◌, ◌≤◌, ℕ, length, slice_index, sum_by};
+ghost use Rattle.trlab_bounds.specs.declared.roads.TheConstants.{GREATEST_LENGTH, GREATEST_LIMIT};
 ghost use Rattle.trlab_road.specs.Cells.{lane_cars};
 ghost use Rattle.trlab_road.specs.Motion.{LaneFits, LaneMoves};
 ghost use Rattle.trlab_road.specs.Stored.{ListsFit, ListsMove, Rises, AreSorted, cells_of, lanes_from, lane_answer};
@@ -18,6 +18,7 @@ pub fn move_lane(cars: &mut Vec<LaneCar>, cells: u32, speeds: &[u32], from: usiz
     requires one_each { from + length cars.old.items ≤ length speeds.now }
     requires within { LaneFits (lane_answer (cells_of cells cars.old.items) speeds.now from)
         (cells_of cells cars.old.items) }
+    requires slow { (k : ℕ) → k < length speeds.now → slice_index speeds.now k ≤ GREATEST_LIMIT }
     ensures rises { Rises 0 cells cars.new.items }
     ensures moves { LaneMoves (lane_answer (cells_of cells cars.old.items) speeds.now from)
         (cells_of cells cars.old.items) (cells_of cells cars.new.items) }
@@ -30,32 +31,17 @@ pub fn move_lane(cars: &mut Vec<LaneCar>, cells: u32, speeds: &[u32], from: usiz
     for k in 0..straight {
         let car = cars[k];
         let speed = speeds[from + k];
-        cars[k] = LaneCar {
-            number: car.number,
-            place: car.place + speed,
-            speed,
-        };
+        let ahead = car.place() + speed;
+        cars[k] = LaneCar::new(car.number(), ahead, speed);
     }
-    let number = last.number;
+    let number = last.number();
     let speed = speeds[from + straight];
-    let place = last.place + speed;
+    let place = last.place() + speed;
     // there is room for the last car, since it was there
     let _ = if place < cells {
-        cars.push(LaneCar {
-            number,
-            place,
-            speed,
-        })
+        cars.push(LaneCar::new(number, place, speed))
     } else {
-        let place = place - cells;
-        cars.insert(
-            0,
-            LaneCar {
-                number,
-                place,
-                speed,
-            },
-        )
+        cars.insert(0, LaneCar::new(number, place - cells, speed))
     };
 }
 
@@ -65,6 +51,7 @@ pub fn move_lanes(lanes: &mut [Vec<LaneCar>], cells: u32, speeds: &[u32])
     requires sorted { AreSorted cells lanes.old }
     requires one_each { sum_by lane_cars (lanes_from cells lanes.old) ≤ length speeds.now }
     requires within { ListsFit cells lanes.old speeds.now }
+    requires slow { (k : ℕ) → k < length speeds.now → slice_index speeds.now k ≤ GREATEST_LIMIT }
     ensures sorted { AreSorted cells lanes.new }
     ensures moves { ListsMove cells lanes.old lanes.new speeds.now }
 {

@@ -5,7 +5,7 @@ ghost use Rattle.trlab_bounds.specs.declared.roads.TheConstants.{GREATEST_LIMIT}
 ghost use Rattle.trlab_road.specs.Stored.{Rises, cells_of, no_car};
 ghost use Rattle.trlab_road.specs.Pictures.{ShowsCell, ShowsSpeed, picture, speed_character};
 
-use crate::lane_car::LaneCar;
+use crate::lane_car::{LaneCar, place_at, speed_at};
 use std::alloc::AllocError;
 use trlab_bounds::roads::GREATEST_LIMIT;
 
@@ -66,8 +66,7 @@ pub fn push_picture(out: &mut Vec<u8>, cars: &[LaneCar], cells: u32) -> Result<(
     let start = out.len();
     out.resize(start + cells as usize, POINT)?;
     for k in 0..cars.len() {
-        let car = cars[k];
-        out[start + car.place as usize] = speed_character(car.speed);
+        out[start + place_at(cars, k) as usize] = speed_character(speed_at(cars, k));
     }
     Ok(())
 }

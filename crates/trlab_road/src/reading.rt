@@ -85,11 +85,7 @@ pub fn draw_lane(alloc: Global, picture: &[u8], from: u32) -> Result<Vec<LaneCar
     let mut number = from;
     for (place, character) in picture.iter().enumerate() {
         if let Some(speed) = speed_shown(*character) {
-            cars.push(LaneCar {
-                number,
-                place: place as u32,
-                speed,
-            })?;
+            cars.push(LaneCar::new(number, place as u32, speed))?;
             number += 1;
         }
     }

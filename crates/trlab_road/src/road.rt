@@ -16,7 +16,7 @@ ghost use Rattle.trlab_road.specs.Motion.{MayMove, CleanMotion, IsOnLane, Moves,
 use crate::car::Car;
 use crate::fault::RoadFault;
 use crate::gap::{Ahead, look_ahead};
-use crate::lane_car::LaneCar;
+use crate::lane_car::{LaneCar, place_at};
 use crate::lane_change::change_lanes;
 use crate::lanes::{car_of, copy_lanes, count_cars, find, list_of, same_lanes};
 use crate::motion::move_lanes;
@@ -267,7 +267,7 @@ impl Road {
         ensures behind_below { result.behind < length (lane_of self.now 0) }
     {
         let (lane, index) = find(&self.lanes, k);
-        let place = list_of(&self.lanes, lane)[index].place;
+        let place = place_at(list_of(&self.lanes, lane), index);
         let other = list_of(&self.lanes, 1 - lane);
         look_beside(other, self.cells as usize, place, near)
     }

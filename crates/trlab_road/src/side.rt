@@ -7,7 +7,7 @@ ghost use Rattle.trlab_road.specs.Gaps.{side, sideback, sidegap};
 ghost use Rattle.trlab_road.specs.Stored.{Rises, IsRising, IsFirstFrom, cells_of, place_of};
 
 use crate::gap::{gap_ahead, gap_behind};
-use crate::lane_car::LaneCar;
+use crate::lane_car::{LaneCar, place_at};
 
 /// The index of the first car from a place on.
 fn first_from(cars: &[LaneCar], place: u32) -> usize
@@ -17,7 +17,7 @@ fn first_from(cars: &[LaneCar], place: u32) -> usize
     cars.partition_point(
         |car: &LaneCar| -> bool
             ensures { result ≡ nat_lt car.now.place place }
-        { car.place < place },
+        { car.place() < place },
     )
 }
 
@@ -46,7 +46,7 @@ fn past_one(cars: &[LaneCar], place: u32, next: usize) -> usize
     if next == cars.len() {
         return next;
     }
-    next + usize::from(cars[next].place < place)
+    next + usize::from(place_at(cars, next) < place)
 }
 
 /// The index of the first car from a place on, looked for from an index near it: from car to car
@@ -55,12 +55,12 @@ fn first_near(cars: &[LaneCar], place: u32, near: usize) -> usize
     requires sorted { IsRising cars.now }
     ensures { IsFirstFrom cars.now place result }
 {
-    if near == 0 || near > cars.len() || cars[near - 1].place >= place {
+    if near == 0 || near > cars.len() || place_at(cars, near - 1) >= place {
         return first_from(cars, place);
     }
     let near = past_one(cars, place, past_one(cars, place, near));
     for next in near..cars.len() {
-        if cars[next].place >= place {
+        if place_at(cars, next) >= place {
             return next;
         }
     }
@@ -79,7 +79,7 @@ pub fn look_beside(cars: &[LaneCar], cells: usize, place: u32, near: usize) -> B
     ensures behind_within { result.behind < cells }
 {
     let next = first_near(cars, place, near);
-    if next < cars.len() && cars[next].place == place {
+    if next < cars.len() && place_at(cars, next) == place {
         return Beside {
             is_empty: false,
             ahead: 0,

@@ -51,11 +51,7 @@ pub fn even_lanes(
     let mut second = Vec::new(alloc);
     for number in 0..count {
         let flat = number * (lanes * cells) / count;
-        let car = LaneCar {
-            number: number as u32,
-            place: (flat / lanes) as u32,
-            speed: 0,
-        };
+        let car = LaneCar::new(number as u32, (flat / lanes) as u32, 0);
         if flat % lanes == 0 {
             first.push(car)?;
         } else {

@@ -1,5 +1,5 @@
 use Rattle.std.proofs.Common.{◌≡◌, ◌<◌, ◌≤◌, ◌+◌, ◌-◌, ℕ, List, length, sym, arith}
-use Rattle.trlab_road.specs.declared.lane_car.LaneCar.{LaneCar}
+use Rattle.trlab_road.specs.LaneCars.{LaneCar}
 use Rattle.trlab_road.specs.Gaps.{gap}
 use Rattle.trlab_road.specs.Stored.{Rises, cells_of, place_of}
 use Rattle.trlab_road.proofs.Headspeeds.{first_headspeed, next_headspeed}
@@ -32,10 +32,10 @@ pub overflow_sub-result-else-next-cars-2 : goal.overflow_sub-result-else-next-ca
 overflow_sub-result-else-next-cars-2 c = let a = rises_high 0 c.args.cells c.args.cars.now c.args.index c.requires.sorted c.requires.here in omega (arith, a)
 
 pub returns-then-next-cars-clause-gap : goal.returns-then-next-cars-clause-gap
-returns-then-next-cars-clause-gap c = of_next c.args.cells c.args.cars.now c.requires.sorted c.args.index c.requires.here c.if-next-cars.true
+returns-then-next-cars-clause-gap c = rw (c.place_at.ensures, c.place_at-place.ensures) (of_next c.args.cells c.args.cars.now c.requires.sorted c.args.index c.requires.here c.if-next-cars.true)
 
 pub returns-then-next-cars-clause-headspeed : goal.returns-then-next-cars-clause-headspeed
-returns-then-next-cars-clause-headspeed c = next_headspeed c.args.cells c.args.cars.now c.requires.sorted c.args.index c.requires.here c.if-next-cars.true
+returns-then-next-cars-clause-headspeed c = rw c.speed_at.ensures (next_headspeed c.args.cells c.args.cars.now c.requires.sorted c.args.index c.requires.here c.if-next-cars.true)
 
 pub returns-then-next-cars-clause-within : goal.returns-then-next-cars-clause-within
 returns-then-next-cars-clause-within c =
@@ -43,10 +43,10 @@ returns-then-next-cars-clause-within c =
     let b = past c.args.cells c.args.cars.now c.requires.sorted c.args.index c.requires.here c.if-next-cars.true in omega (arith, a, b)
 
 pub returns-else-next-cars-clause-gap : goal.returns-else-next-cars-clause-gap
-returns-else-next-cars-clause-gap c = of_first c.args.cells c.args.cars.now c.requires.sorted c.args.index c.requires.here (let h = c.if-next-cars.false in omega arith)
+returns-else-next-cars-clause-gap c = rw (c.place_at-place.ensures, c.place_at-else-next-cars.ensures) (of_first c.args.cells c.args.cars.now c.requires.sorted c.args.index c.requires.here (let h = c.if-next-cars.false in omega arith))
 
 pub returns-else-next-cars-clause-headspeed : goal.returns-else-next-cars-clause-headspeed
-returns-else-next-cars-clause-headspeed c = first_headspeed c.args.cells c.args.cars.now c.requires.sorted c.args.index c.requires.here (let h = c.if-next-cars.false in omega arith)
+returns-else-next-cars-clause-headspeed c = rw c.speed_at-else-next-cars.ensures (first_headspeed c.args.cells c.args.cars.now c.requires.sorted c.args.index c.requires.here (let h = c.if-next-cars.false in omega arith))
 
 pub returns-else-next-cars-clause-within : goal.returns-else-next-cars-clause-within
 returns-else-next-cars-clause-within c =

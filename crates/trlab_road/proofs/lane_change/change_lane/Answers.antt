@@ -137,14 +137,14 @@ loop-standing-preserved c =
       | then-own_here+then-not-crosses-own+in_ok-push w ↦
           let same : standing ≡ x = w.if-own_here.true in
           let own_here = sought_here n own x i r m.own_at (own_low same) (own_there same) in
-          rw (w.next-is, w.in_ok-push.ensures.items)
+          rw (w.next-is, w.in_ok-push.ensures.items, w.car_at.ensures)
           (merged_push n own beside oc bc r q items i j x m _ _ (j + 1) s t inside (own_there same) (stays (oc x) (cell_at own x) (cell_at beside x) _ own_here (sym answer ∙ w.if-not-crosses-own.true)))
       | else-own_here+in_ok-push-2 w ↦
           let gone : cond (oc x) None (cell_at own x) ≡ None = elim w.else-own_here.branch [
             | else-own_here-via-then-own_here+else-not-crosses-own w' ↦ left (oc x) (cell_at own x) (sym answer ∙ w'.if-not-crosses-own.false)
             | else-own_here-via-else-own_here w' ↦ empty (oc x) (cell_at own x) (sought_none n own x i r m.own_at (apart w'.if-own_here.false))
           ] in
-          rw (w.next-is, w.in_ok-push-2.ensures.items)
+          rw (w.next-is, w.in_ok-push-2.ensures.items, w.car_at-else-own_here.ensures)
           (merged_push n own beside oc bc r q items i j x m _ _ (j + 1) s t inside there (sym here ∙ comes (oc x) (cell_at own x) (cell_at beside x) gone))
     ] in
     let further = c.next_place-standing-else-standing-due.ensures in

@@ -1,6 +1,6 @@
 use Rattle.std.proofs.Common.{◌≡◌, ℕ, List, Bool, length, take, refl, ap, subst, arith}
 use Rattle.std.specs.Prelude.{sum_by}
-use Rattle.trlab_road.specs.declared.lane_car.LaneCar.{LaneCar}
+use Rattle.trlab_road.specs.LaneCars.{LaneCar}
 use Rattle.trlab_road.specs.Cells.{lane_cars}
 use Rattle.trlab_road.specs.LaneChange.{LaneCrosses}
 use Rattle.trlab_road.specs.Stored.{cells_of, lanes_from, lane_crosses_at}

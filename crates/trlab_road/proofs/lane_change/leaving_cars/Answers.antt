@@ -9,7 +9,7 @@ loop-k-preserved c =
     let cars = c.args.lane.cars.now in
     let low : c.loop-k.k < length cars = omega arith in
     elim c.if-crosses-lane.branch [
-      | then-crosses-lane+in_ok-push w ↦ rw (w.leaving-is, w.in_ok-push.ensures.items)
+      | then-crosses-lane+in_ok-push w ↦ rw (w.leaving-is, w.in_ok-push.ensures.items, w.car_at.ensures)
           (one_leaves n cars c.args.crosses.now c.args.lane.from c.requires.sorted c.loop-k.leaving.items c.loop-k.k low c.loop-k.invariant w.if-crosses-lane.true)
       | else-crosses-lane w ↦ rw w.leaving-is
           (one_stays n cars c.args.crosses.now c.args.lane.from c.requires.sorted c.loop-k.leaving.items c.loop-k.k low c.loop-k.invariant w.if-crosses-lane.false)

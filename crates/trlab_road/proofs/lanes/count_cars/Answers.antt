@@ -1,5 +1,5 @@
 use Rattle.std.proofs.Common.{◌≡◌, ◌<◌, ◌≤◌, ◌∙◌, ℕ, List, Vec, Global, length, get_or, ap, arith}
-use Rattle.trlab_road.specs.declared.lane_car.LaneCar.{LaneCar}
+use Rattle.trlab_road.specs.LaneCars.{LaneCar}
 use Rattle.trlab_bounds.specs.declared.roads.TheConstants.{GREATEST_LENGTH}
 use Rattle.trlab_road.specs.Stored.{list_at}
 use Rattle.trlab_road.proofs.ListRoads.{list_read, one_list_more}

@@ -1,6 +1,6 @@
 use Rattle.std.proofs.Common.{◌≡◌, ◌<◌, ◌∙◌, ℕ, List, length, get_or, set, ap, subst, below_more, arith}
 use Rattle.std.proofs.lemmas.List.{length-set}
-use Rattle.trlab_road.specs.declared.lane_car.LaneCar.{LaneCar}
+use Rattle.trlab_road.specs.LaneCars.{LaneCar}
 use Rattle.trlab_road.specs.Motion.{LaneMoves}
 use Rattle.trlab_road.specs.Stored.{cells_of, list_at, lane_answer}
 use Rattle.trlab_road.proofs.ListRoads.{list_here, list_written, list_unwritten, list_counted, list_within}

@@ -1,6 +1,6 @@
 use Rattle.std.proofs.Common.{◌≡◌, ◌∙◌, ◌+◌, ◌-◌, ◌++◌, ℕ, List, [], length, take, set, replicate, refl, ap, arith}
 use Rattle.std.proofs.lemmas.List.{length-map, length-append, take_all, set-append_right}
-use Rattle.trlab_road.specs.Pictures.{point, picture}
+use Rattle.trlab_road.specs.Pictures.{point, picture, speed_character}
 use Rattle.trlab_road.specs.Stored.{cells_of, place_of}
 use Rattle.trlab_road.proofs.Lists.{length_cells, rises_high}
 use Rattle.trlab_road.proofs.ListPictures.{empty_picture, picture_more}
@@ -35,5 +35,5 @@ index_mut-requires c =
 pub loop-k-preserved : goal.loop-k-preserved
 loop-k-preserved c =
     let shown = cells_of c.args.cells (take c.loop-k.k c.args.cars.now) in
-    rw c.loop-k.invariant (set_behind c.args.out.now.items (picture shown) c.len-start.result (place_of c.args.cars.now c.loop-k.k) _ (c.len-start.ensures ∙ c.args.out.now.ok.0)
-    ∙ ap (λ bytes. c.args.out.now.items ++ bytes) (picture_more c.args.cells c.args.cars.now c.loop-k.k _ c.requires.sorted c.loop-k-test.true c.speed_character.ensures))
+    rw (c.loop-k.invariant, c.place_at.ensures) (set_behind c.args.out.now.items (picture shown) c.len-start.result (place_of c.args.cars.now c.loop-k.k) _ (c.len-start.ensures ∙ c.args.out.now.ok.0)
+    ∙ ap (λ bytes. c.args.out.now.items ++ bytes) (picture_more c.args.cells c.args.cars.now c.loop-k.k _ c.requires.sorted c.loop-k-test.true (c.speed_character.ensures ∙ ap speed_character c.speed_at.ensures)))

@@ -21,7 +21,7 @@ loop-place-preserved c =
           rw (w.cars-is, w.number-is, w.in_ok-push.ensures.items)
           (drawn_more c.args.from c.args.picture.now c.loop-place.cars.items c.loop-place.number c.loop-place.place c.loop-place.invariant c.loop-place-test.true _
           (λ e. no_point w.in-Some.speed (sym shown ∙ e))
-          (ap (λ v. record { number = c.loop-place.number; place = c.loop-place.place; speed = v }) speed))
+          (w.new.ensures ∙ ap (λ v. record { number = c.loop-place.number; place = c.loop-place.place; speed = v }) speed))
       | in_default w ↦ rw (w.cars-is, w.number-is)
           (drawn_skip c.args.from c.args.picture.now c.loop-place.cars.items c.loop-place.number c.loop-place.place c.loop-place.invariant c.loop-place-test.true
           (only_point _ (c.requires.shown c.loop-place.place c.loop-place-test.true) (w.in_default.ensures.none refl)))

@@ -1,7 +1,7 @@
 use Rattle.std.proofs.Common.{◌≡◌, ◌+◌, ◌<◌, ◌≤◌, ◌∙◌, ℕ, List, [], ◌∷◌, ◌++◌, map, Vec, Global, length, drop, sym, refl, ap, subst, arith, append_assoc, drop-cons, add-one}
 use Rattle.std.proofs.lemmas.List.{length-map, length_push, map-append}
 use Rattle.trlab_bounds.specs.declared.roads.TheConstants.{GREATEST_LENGTH, GREATEST_LIMIT}
-use Rattle.trlab_road.specs.declared.lane_car.LaneCar.{LaneCar}
+use Rattle.trlab_road.specs.LaneCars.{LaneCar}
 use Rattle.trlab_road.specs.Cells.{Lane, lane_cars}
 use Rattle.trlab_road.specs.Stored.{Rises, cells_of, lanes_from, lane_of_picture, lanes_of_pictures}
 use Rattle.trlab_road.specs.Pictures.{ShowsCell, picture_at, character_at}

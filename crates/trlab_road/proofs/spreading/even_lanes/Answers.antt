@@ -1,5 +1,5 @@
 use Rattle.std.proofs.Common.{◌≡◌, ◌≢◌, ◌*◌, ◌/◌, ◌<◌, ◌≤◌, mod-lt, ℕ, zero, suc, [], ◌∷◌, Vec, Global, length, refl, sym, arith}
-use Rattle.trlab_road.specs.declared.lane_car.LaneCar.{LaneCar}
+use Rattle.trlab_road.specs.LaneCars.{LaneCar}
 use Rattle.trlab_road.specs.Spreading.{IsEvenLane, even_lane}
 use Rattle.trlab_road.specs.Stored.{Rises, cells_of, list_at}
 use Rattle.trlab_road.proofs.EvenLanes.{even_all}
@@ -32,7 +32,7 @@ loop-number-preserved c =
       | then-flat-lanes-eq0+in_ok-push w ↦
           let on = w.if-flat-lanes-eq0.true in
           record {
-            first = rw (w.first-is, w.in_ok-push.ensures.items) (list_more lanes cells n 0 i c.loop-number.first.items _ some c.requires.room c.loop-number-test.true inv.first on refl);
+            first = rw (w.first-is, w.in_ok-push.ensures.items) (list_more lanes cells n 0 i c.loop-number.first.items _ some c.requires.room c.loop-number-test.true inv.first on c.new-car.ensures);
             second = rw w.second-is (list_skip lanes cells n 1 i c.loop-number.second.items inv.second (not_second _ on));
           }
       | else-flat-lanes-eq0+in_ok-push-2 w ↦
@@ -40,7 +40,7 @@ loop-number-preserved c =
           record {
             first = rw w.first-is (list_skip lanes cells n 0 i c.loop-number.first.items inv.first other);
             second = rw (w.second-is, w.in_ok-push-2.ensures.items)
-                (list_more lanes cells n 1 i c.loop-number.second.items _ some c.requires.room c.loop-number-test.true inv.second (on_second lanes cells n i some c.requires.few other) refl);
+                (list_more lanes cells n 1 i c.loop-number.second.items _ some c.requires.room c.loop-number-test.true inv.second (on_second lanes cells n i some c.requires.few other) c.new-car.ensures);
           }
     ]
 

@@ -1,5 +1,5 @@
 use Rattle.std.proofs.Common.{◌≡◌, ◌∙◌, ℕ, List, [], Vec, Global, get_or, sym, ap, subst}
-use Rattle.trlab_road.specs.declared.lane_car.LaneCar.{LaneCar}
+use Rattle.trlab_road.specs.LaneCars.{LaneCar}
 use Rattle.trlab_road.specs.Cells.{Lane}
 use Rattle.trlab_road.specs.Gaps.{gap, headspeed}
 use Rattle.trlab_road.specs.Stored.{IsFoundAt, cells_of, lanes_from, list_at, place_of}

@@ -1,5 +1,5 @@
 use Rattle.std.proofs.Common.{◌≡◌, ◌<◌, ◌-◌, ◌∙◌, ℕ, false, List, [], Vec, Global, length, get_or, sym, ap, subst, arith}
-use Rattle.trlab_road.specs.declared.lane_car.LaneCar.{LaneCar}
+use Rattle.trlab_road.specs.LaneCars.{LaneCar}
 use Rattle.trlab_road.specs.Cells.{Lane}
 use Rattle.trlab_road.specs.Gaps.{side, sideback, sidegap}
 use Rattle.trlab_road.specs.Stored.{IsFoundAt, cells_of, lanes_from, list_at, place_of}
@@ -18,7 +18,11 @@ pub look_beside-requires-clause-inside : goal.look_beside-requires-clause-inside
 look_beside-requires-clause-inside c =
     let n = c.self.inside.cells in
     let f = subst (λ (ls : List (Vec LaneCar Global)). IsFoundAt ls c.args.k c.find-lane.result.0 c.find-lane.result.1) c.deref.ensures.value c.find-lane.ensures in
-    rw (c.list_of.ensures, c.deref-2.ensures.value) (found_inside n c.self.inside.lanes.items c.self.inside.limit _ _ _ c.self.invariant.sorted f)
+    rw (c.place_at-place.ensures, c.list_of.ensures, c.deref-2.ensures.value) (found_inside n c.self.inside.lanes.items c.self.inside.limit _ _ _ c.self.invariant.sorted f)
+
+-- what was told at a place is told at the same one
+told_at : {X : Type 0} (look : Lane → ℕ → X) (lane : Lane) (x y : ℕ) (g : X) → x ≡ y → g ≡ look lane x → g ≡ look lane y
+told_at look lane x y g same is = is ∙ ap (look lane) same
 
 -- what was told of the lane that was looked at is told of the lane beside
 here : {X : Type 0} (told : Lane → ℕ → X) (n l i m : ℕ) (g : X) (lists first second : List (Vec LaneCar Global)) (cars beside : List LaneCar) → m < length lists → first ≡ lists → cars ≡ list_at first l
@@ -36,7 +40,7 @@ returns-clause-value c =
     let two = rw (← c.self.view_is) at c.requires.two in
     let count = lanes_count n lists c.self.inside.limit c.self.invariant in
     rw (← c.self.view_is) (found_in_order (λ l x. side (get_or (lanes_from n lists) (1 - l) []) x) n lists c.self.inside.limit _ _ _ c.self.invariant.sorted f c.look_beside.result.is_empty
-    (here side n _ _ _ c.look_beside.result.is_empty lists _ _ _ _ (omega (arith, two, count)) c.deref-2.ensures.value c.list_of.ensures c.deref-3.ensures.value c.list_of-other.ensures c.look_beside.ensures.empty) false)
+    (here side n _ _ _ c.look_beside.result.is_empty lists _ _ _ _ (omega (arith, two, count)) c.deref-2.ensures.value c.list_of.ensures c.deref-3.ensures.value c.list_of-other.ensures (told_at side (cells_of n c.list_of-other.result.now) _ _ _ c.place_at-place.ensures c.look_beside.ensures.empty)) false)
 
 pub returns-clause-empty : goal.returns-clause-empty
 returns-clause-empty c =
@@ -46,7 +50,7 @@ returns-clause-empty c =
     let two = rw (← c.self.view_is) at c.requires.two in
     let count = lanes_count n lists c.self.inside.limit c.self.invariant in
     rw (← c.self.view_is) (found_by (λ l x. side (get_or (lanes_from n lists) (1 - l) []) x) n lists c.self.inside.limit _ _ _ c.self.invariant.sorted f c.look_beside.result.is_empty
-    (here side n _ _ _ c.look_beside.result.is_empty lists _ _ _ _ (omega (arith, two, count)) c.deref-2.ensures.value c.list_of.ensures c.deref-3.ensures.value c.list_of-other.ensures c.look_beside.ensures.empty))
+    (here side n _ _ _ c.look_beside.result.is_empty lists _ _ _ _ (omega (arith, two, count)) c.deref-2.ensures.value c.list_of.ensures c.deref-3.ensures.value c.list_of-other.ensures (told_at side (cells_of n c.list_of-other.result.now) _ _ _ c.place_at-place.ensures c.look_beside.ensures.empty)))
 
 pub returns-clause-ahead : goal.returns-clause-ahead
 returns-clause-ahead c =
@@ -56,7 +60,7 @@ returns-clause-ahead c =
     let two = rw (← c.self.view_is) at c.requires.two in
     let count = lanes_count n lists c.self.inside.limit c.self.invariant in
     rw (← c.self.view_is) (found_by (λ l x. sidegap (get_or (lanes_from n lists) (1 - l) []) x) n lists c.self.inside.limit _ _ _ c.self.invariant.sorted f c.look_beside.result.ahead
-    (here sidegap n _ _ _ c.look_beside.result.ahead lists _ _ _ _ (omega (arith, two, count)) c.deref-2.ensures.value c.list_of.ensures c.deref-3.ensures.value c.list_of-other.ensures c.look_beside.ensures.ahead))
+    (here sidegap n _ _ _ c.look_beside.result.ahead lists _ _ _ _ (omega (arith, two, count)) c.deref-2.ensures.value c.list_of.ensures c.deref-3.ensures.value c.list_of-other.ensures (told_at sidegap (cells_of n c.list_of-other.result.now) _ _ _ c.place_at-place.ensures c.look_beside.ensures.ahead)))
 
 pub returns-clause-behind : goal.returns-clause-behind
 returns-clause-behind c =
@@ -66,7 +70,7 @@ returns-clause-behind c =
     let two = rw (← c.self.view_is) at c.requires.two in
     let count = lanes_count n lists c.self.inside.limit c.self.invariant in
     rw (← c.self.view_is) (found_by (λ l x. sideback (get_or (lanes_from n lists) (1 - l) []) x) n lists c.self.inside.limit _ _ _ c.self.invariant.sorted f c.look_beside.result.behind
-    (here sideback n _ _ _ c.look_beside.result.behind lists _ _ _ _ (omega (arith, two, count)) c.deref-2.ensures.value c.list_of.ensures c.deref-3.ensures.value c.list_of-other.ensures c.look_beside.ensures.behind))
+    (here sideback n _ _ _ c.look_beside.result.behind lists _ _ _ _ (omega (arith, two, count)) c.deref-2.ensures.value c.list_of.ensures c.deref-3.ensures.value c.list_of-other.ensures (told_at sideback (cells_of n c.list_of-other.result.now) _ _ _ c.place_at-place.ensures c.look_beside.ensures.behind)))
 
 pub returns-clause-ahead_below : goal.returns-clause-ahead_below
 returns-clause-ahead_below c = rw (← c.self.view_is, length_first c.self.inside.cells c.self.inside.lanes.items c.self.inside.limit c.self.invariant) c.look_beside.ensures.ahead_within

@@ -1,6 +1,6 @@
 use Rattle.std.proofs.Common.{◌≡◌, ◌<◌, ℕ, List, Vec, Global, length, refl, sym, subst, ◌∙◌, arith}
 use Rattle.std.proofs.lemmas.List.{length-map}
-use Rattle.trlab_road.specs.declared.lane_car.LaneCar.{LaneCar}
+use Rattle.trlab_road.specs.LaneCars.{LaneCar}
 use Rattle.trlab_road.specs.Cells.{Lane}
 use Rattle.trlab_road.specs.Spreading.{IsEvenLane, IsEven}
 use Rattle.trlab_road.specs.Stored.{cells_of, lanes_from, list_at}
