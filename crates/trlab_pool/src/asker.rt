@@ -34,7 +34,7 @@ impl<'a, R: Wait, G: Gate> Asker for Pool<'a, R, G> {
     fn speeds(
         &self,
         alloc: Global,
-        answers: &mut Vec<u32>,
+        answers: &mut Vec<u8>,
         road: &mut Road,
         motion: &Motion,
         dice: &Dice,
@@ -65,6 +65,7 @@ impl<'a, R: Wait, G: Gate> Asker for Pool<'a, R, G> {
         let change = change.copy(alloc)?;
         *answers =
             told_of!(alloc, road as whole => self.crossings_of(alloc, whole, change, dice.copy()));
+        prove!(answers.len() == cars as usize);
         Ok(())
     }
 }

@@ -17,7 +17,7 @@ const NAP: u64 = 1000;
 /// The phases that are open, of which there is one at a time, and a number that grows with each.
 #[derive(Drop)]
 pub struct Hall {
-    pub(crate) motions: Board<u32, Motion>,
+    pub(crate) motions: Board<u8, Motion>,
     pub(crate) changes: Board<bool, Change>,
     turn: AtomicU64,
     closed: AtomicBool,

@@ -159,7 +159,8 @@ impl<'a, R: Wait, G: Gate> Pool<'a, R, G> {
         self.ask_all(alloc, board, program, dice, road, workers)
     }
 
-    /// The road, and the speeds that a motion program answers to all its cars, in standing order.
+    /// The road, and the speeds that a motion program answers to all its cars, in standing order, each in
+    /// a byte.
     ///
     /// # Errors
     ///
@@ -170,7 +171,7 @@ impl<'a, R: Wait, G: Gate> Pool<'a, R, G> {
         road: Road,
         motion: Motion,
         dice: Dice,
-    ) -> (Road, Result<Vec<u32>, AllocError>)
+    ) -> (Road, Result<Vec<u8>, AllocError>)
         ensures road { result.0 ≡ road }
         ensures speeds { IfOk result.1 (λ speeds.
             IsSpeedsPart motion dice road 0 (cars road) speeds.items) }

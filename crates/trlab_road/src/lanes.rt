@@ -1,6 +1,6 @@
 //! The lanes of a road, each the list of its cars by rising place.
 
-ghost use Rattle.std.specs.Prelude.{ℕ, ◌≡◌, ◌<◌, ◌≤◌, ◌↔◌, IsTrue, IfOk, length, slice_index_or, sum_by};
+ghost use Rattle.std.specs.Prelude.{ℕ, ◌≡◌, ◌*◌, ◌<◌, ◌≤◌, ◌↔◌, IsTrue, IfOk, length, slice_index_or, sum_by};
 ghost use Rattle.trlab_bounds.specs.declared.roads.TheConstants.{GREATEST_LENGTH, MOST_LANES};
 ghost use Rattle.trlab_road.specs.Stored.{IsFoundAt, list_at, lists_of, no_car, car_on};
 
@@ -51,7 +51,8 @@ pub fn count_cars(lanes: &[Vec<LaneCar>]) -> u32
     requires few { length lanes.now ≤ MOST_LANES }
     requires small { (l : ℕ) → l < length lanes.now
         → length (list_at lanes.now l) ≤ GREATEST_LENGTH }
-    ensures { result ≡ sum_by length (lists_of lanes.now) }
+    ensures value { result ≡ sum_by length (lists_of lanes.now) }
+    ensures few { result ≤ MOST_LANES * GREATEST_LENGTH }
 {
     let mut count = 0;
     for lane in lanes {

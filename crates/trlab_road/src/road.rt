@@ -1,7 +1,7 @@
 //! A road as callers see it: its cells. It is kept as the list of the cars of each lane, by rising place.
 
-ghost use Rattle.std.specs.Prelude.{◌≡◌, ◌≢◌, ◌⊎◌, ◌<◌, ◌≤◌, ◌↔◌, ℕ, Bool, length, slice_index, slice_index_or, false, ◌++◌, IfOk, OnOk, IsTrue, MatchResult};
-ghost use Rattle.trlab_bounds.specs.declared.roads.TheConstants.{GREATEST_LENGTH};
+ghost use Rattle.std.specs.Prelude.{◌≡◌, ◌≢◌, ◌⊎◌, ◌*◌, ◌<◌, ◌≤◌, ◌↔◌, ℕ, Bool, length, slice_index, slice_index_or, false, ◌++◌, IfOk, OnOk, IsTrue, MatchResult};
+ghost use Rattle.trlab_bounds.specs.declared.roads.TheConstants.{GREATEST_LENGTH, MOST_LANES};
 ghost use Rattle.trlab_road.specs.declared.car.Car.{Car};
 ghost use Rattle.trlab_road.specs.declared.fault.RoadFault.{RoadFault};
 ghost use Rattle.trlab_road.specs.Cells.{Cells, IsAt, cars, lane_of};
@@ -19,7 +19,7 @@ use crate::gap::{Ahead, look_ahead};
 use crate::lane_car::{LaneCar, place_at};
 use crate::lane_change::change_lanes;
 use crate::lanes::{car_of, copy_lanes, count_cars, find, list_of, same_lanes};
-use crate::motion::move_lanes;
+use crate::motion::{in_bytes, move_lanes};
 use crate::picture::push_picture;
 use crate::reading::{check_pictures, draw_lanes};
 use crate::room::Room;
@@ -189,6 +189,7 @@ impl Road {
     /// How many cars.
     pub fn cars(&self) -> u32
         ensures value { result ≡ cars self.now }
+        ensures few { result ≤ MOST_LANES * GREATEST_LENGTH }
         ensures legal { IsLegal self.now }
     {
         count_cars(&self.lanes)
@@ -332,13 +333,13 @@ impl Road {
         ensures legal { IfOk result (λ next. IsLegal next) }
     {
         let mut next = self.copy(alloc)?;
-        next.move_cars(speeds);
+        next.move_cars(&in_bytes(alloc, speeds)?);
         Ok(next)
     }
 
     /// Moves all cars ahead at once, each by its speed of the list, which stands in standing order and
     /// gives the new speeds. It takes no memory.
-    pub fn move_cars(&mut self, speeds: &[u32])
+    pub fn move_cars(&mut self, speeds: &[u8])
         requires { MayMove self.old speeds.now }
         ensures moves { (answer : ℕ → ℕ → ℕ)
             → speeds.now ≡ in_order answer self.old → Moves answer self.old self.new }

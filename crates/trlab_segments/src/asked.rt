@@ -45,14 +45,14 @@ pub trait Asked<A>: Sized {
         → answers program dice road from to (first ++ second) };
 }
 
-impl Asked<u32> for Motion {
+impl Asked<u8> for Motion {
     const PHASE: u32 = 1;
 
     ghost can_ask = { HasLanes };
 
     ghost answers = { IsSpeedsPart };
 
-    fn ask(alloc: Global, phase: &Phase<Motion>, part: Segment) -> Result<Vec<u32>, AllocError> {
+    fn ask(alloc: Global, phase: &Phase<Motion>, part: Segment) -> Result<Vec<u8>, AllocError> {
         let Segment { from, to } = part;
         let mut found = Vec::new(alloc);
         ask_speeds(&mut found, phase.road, phase.program, phase.dice, from, to)?;

@@ -28,7 +28,7 @@ impl<S, C> Calls<S, C> {
 }
 
 impl<
-    S: Fn(Global, &Road, &Motion, &Dice) -> Result<Vec<u32>, AllocError>,
+    S: Fn(Global, &Road, &Motion, &Dice) -> Result<Vec<u8>, AllocError>,
     C: Fn(Global, &Road, &Change, &Dice) -> Result<Vec<bool>, AllocError>,
 > Asker for Calls<S, C> {
     ghost is_ready = { λ calls. TellsSpeeds (S.pre calls.speeds) (S.post calls.speeds)
@@ -37,7 +37,7 @@ impl<
     fn speeds(
         &self,
         alloc: Global,
-        answers: &mut Vec<u32>,
+        answers: &mut Vec<u8>,
         road: &mut Road,
         motion: &Motion,
         dice: &Dice,
@@ -56,7 +56,9 @@ impl<
         change: &Change,
         dice: &Dice,
     ) -> Result<(), AllocError> {
+        let cars = road.cars();
         *answers = (self.crossings)(alloc, &*road, change, dice)?;
+        prove!(answers.len() == cars as usize);
         Ok(())
     }
 }

@@ -63,7 +63,7 @@ impl<'a, R: Threads + Sync, G: Gate + Sync> Crew<'a, R, G> {
         }
     }
 
-    /// The speeds that a motion program answers to all cars of a road, in standing order.
+    /// The speeds that a motion program answers to all cars of a road, in standing order, each in a byte.
     ///
     /// # Errors
     ///
@@ -74,7 +74,7 @@ impl<'a, R: Threads + Sync, G: Gate + Sync> Crew<'a, R, G> {
         road: &Road,
         motion: &Motion,
         dice: &Dice,
-    ) -> Result<Vec<u32>, AllocError>
+    ) -> Result<Vec<u8>, AllocError>
         ensures { IfOk result (λ speeds.
             IsSpeedsPart motion.now dice.now road.now 0 (cars road.now) speeds.items) }
     {

@@ -1,6 +1,7 @@
 //! Who asks the cars of a road. A step takes their answers in standing order, and they are the same whoever asks.
 
-ghost use Rattle.std.specs.Prelude.{◌≡◌, ◌<◌, ◌^◌, OnOk, length};
+ghost use Rattle.std.specs.Prelude.{◌≡◌, ◌*◌, ◌≤◌, OnOk, length};
+ghost use Rattle.trlab_bounds.specs.declared.roads.TheConstants.{GREATEST_LENGTH, MOST_LANES};
 ghost use Rattle.trlab_road.specs.Cells.{cars};
 ghost use Rattle.trlab_step.specs.Answers.{AnswersCrossingsPart, AnswersSpeedsPart, CrossesFreePart, FitsPart};
 
@@ -19,7 +20,7 @@ pub trait Asker {
     // What has to hold for it to ask: who starts threads says here what they may share.
     ghost is_ready: { Self → Type 0 };
 
-    /// The speeds, in cells a step, that a motion program answers.
+    /// The speeds, in cells a step, that a motion program answers, each in a byte.
     ///
     /// # Errors
     ///
@@ -27,7 +28,7 @@ pub trait Asker {
     fn speeds(
         &self,
         alloc: Global,
-        answers: &mut Vec<u32>,
+        answers: &mut Vec<u8>,
         road: &mut Road,
         motion: &Motion,
         dice: &Dice,
@@ -36,7 +37,7 @@ pub trait Asker {
         ensures speeds { OnOk result (
             AnswersSpeedsPart motion.now dice.now road.old 0 (cars road.old) answers.new.items) }
         ensures fits { OnOk result (FitsPart road.old 0 answers.new.items) }
-        ensures few { OnOk result (length answers.new.items < 2 ^ 32) }
+        ensures few { OnOk result (length answers.new.items ≤ MOST_LANES * GREATEST_LENGTH) }
         ensures same { road.new ≡ road.old };
 
     /// Whether the cars of a road of two lanes cross, as a change program answers them.
@@ -57,6 +58,7 @@ pub trait Asker {
         ensures crossings { OnOk result (
             AnswersCrossingsPart change.now dice.now road.old 0 (cars road.old) answers.new.items) }
         ensures free { OnOk result (CrossesFreePart road.old 0 answers.new.items) }
+        ensures few { OnOk result (length answers.new.items ≤ MOST_LANES * GREATEST_LENGTH) }
         ensures same { road.new ≡ road.old };
 }
 
@@ -70,7 +72,7 @@ impl Asker for Caller {
     fn speeds(
         &self,
         _: Global,
-        answers: &mut Vec<u32>,
+        answers: &mut Vec<u8>,
         road: &mut Road,
         motion: &Motion,
         dice: &Dice,

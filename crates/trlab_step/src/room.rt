@@ -9,7 +9,7 @@ pub struct StepRoom {
     /// For the lanes.
     pub(crate) lanes: Room,
     /// For the answers of the cars.
-    pub(crate) speeds: Vec<u32>,
+    pub(crate) speeds: Vec<u8>,
     pub(crate) crosses: Vec<bool>,
 }
 

@@ -1,6 +1,6 @@
 //! The speeds that a motion program answers to the cars of a road: it is run for a block of cars at a time.
 
-ghost use Rattle.std.specs.Prelude.{◌≤◌, IfOk, OnOk};
+ghost use Rattle.std.specs.Prelude.{◌≡◌, ◌≤◌, IfOk, OnOk};
 ghost use Rattle.trlab_road.specs.Cells.{cars};
 ghost use Rattle.trlab_step.specs.Answers.{AnswersSpeedsPart, FitsPart, dice_of};
 
@@ -37,25 +37,37 @@ pub fn move_part(
         AnswersSpeedsPart motion.now (dice_of key.now.0 number step) road.now from to speeds.items) }
     ensures fits { IfOk result (λ speeds. FitsPart road.now from speeds.items) }
 {
-    let mut speeds = Vec::new(alloc);
+    let mut answers = Vec::new(alloc);
     ask_speeds(
-        &mut speeds,
+        &mut answers,
         road,
         motion,
         &Dice::new(key, number, step),
         from,
         to,
     )?;
+    let speeds = in_words(alloc, &answers)?;
     Ok(speeds)
 }
 
-/// Puts the speeds that `move_part` tells into a list, in place of what stands there.
+/// The same speeds, each in 32 bits.
+fn in_words(alloc: Global, speeds: &[u8]) -> Result<Vec<u32>, AllocError>
+    ensures { IfOk result (λ words. words.items ≡ speeds.now) }
+{
+    let mut words = Vec::with_capacity(alloc, speeds.len())?;
+    for speed in speeds {
+        words.push(u32::from(*speed))?;
+    }
+    Ok(words)
+}
+
+/// Puts the speeds that `move_part` tells into a list, each in a byte, in place of what stands there.
 ///
 /// # Errors
 ///
 /// Where an allocation was refused.
 pub fn ask_speeds(
-    speeds: &mut Vec<u32>,
+    speeds: &mut Vec<u8>,
     road: &Road,
     motion: &Motion,
     dice: &Dice,
@@ -77,7 +89,7 @@ pub fn ask_speeds(
         ask_block(&mut views, Kind::Motion, road, begin, end, &mut 0);
         let answers = run_motions(motion, &views, dice);
         for k in begin..end {
-            speeds.push(answers[(k - begin) as usize])?;
+            speeds.push(answers[(k - begin) as usize] as u8)?;
         }
     }
     Ok(())

@@ -129,7 +129,7 @@ fn move_cars<A: Asker>(
     asker: &A,
     alloc: Global,
     road: &mut Road,
-    speeds: &mut Vec<u32>,
+    speeds: &mut Vec<u8>,
     motion: &Motion,
     dice: &Dice,
 ) -> Result<StepTally, AllocError>

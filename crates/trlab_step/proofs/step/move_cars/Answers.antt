@@ -24,4 +24,4 @@ returns-clause-stopped g c =
     all_stood c.args.motion.now _ c.args.road.now c.move_cars.new.self c.speeds.new.answers.items c.tally_of.result.stopped part c.in_ok-speeds.ensures.fits moves stood
 
 pub tally_of-requires : goal.tally_of-requires
-tally_of-requires g c = rw c.deref-2.ensures.value c.in_ok-speeds.ensures.few
+tally_of-requires g c = record { few = rw c.deref-2.ensures.value c.in_ok-speeds.ensures.few }

@@ -9,4 +9,4 @@ pub count_cars-requires-clause-small : goal.count_cars-requires-clause-small
 count_cars-requires-clause-small c = rw c.deref.ensures.value (few_cars c.self.inside.cells c.self.inside.lanes.items c.self.inside.limit c.self.invariant)
 
 pub returns-clause-value : goal.returns-clause-value
-returns-clause-value c = rw (← c.self.view_is) ((rw c.deref.ensures.value at c.count_cars.ensures) ∙ sym (counted c.self.inside.cells c.self.inside.lanes.items c.self.invariant.sorted))
+returns-clause-value c = rw (← c.self.view_is) ((rw c.deref.ensures.value at c.count_cars.ensures.value) ∙ sym (counted c.self.inside.cells c.self.inside.lanes.items c.self.invariant.sorted))
