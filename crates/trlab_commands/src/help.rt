@@ -4,9 +4,10 @@
 pub const ABOUT: &str =
     "Judges driver programs, and drives cars by them: cellular automaton road traffic";
 
-/// The version of the program, and on a line of its own that of the toolchain which proved it.
+/// The version of the program, and on a line of its own the logic in which it is proved, which several
+/// kits of the toolchain have in common.
 pub const VERSION: &str = "0.1.0
-rattle-kit-13f logic dac8208d650f15bf";
+proved in logic dac8208d650f15bf";
 
 /// Below the commands: an example, the exit statuses, and where to read on.
 pub const AFTER: &str = "\

@@ -37,7 +37,7 @@ pub fn speeds_told<R: Wait, G: Gate>(
     pool: &Pool<R, G>,
     alloc: Global,
     step: u32,
-) -> Option<Vec<u32>> {
+) -> Option<Vec<u8>> {
     let motion = at_random(alloc)?.motion().copy(alloc).ok()?;
     let dice = Dice::new(&Key([7; 32]), 9, step);
     let (back, told) = pool.speeds_of(alloc, spread(alloc)?, motion, dice);
@@ -60,13 +60,17 @@ fn crossings_told<R: Wait, G: Gate>(
     with_road(alloc, back, told.ok())
 }
 
-/// The speeds that one thread tells in that step.
-fn speeds_by_one(alloc: Global, step: u32) -> Option<Vec<u32>> {
+/// The speeds that one thread tells in that step, each in a byte.
+fn speeds_by_one(alloc: Global, step: u32) -> Option<Vec<u8>> {
     let road = spread(alloc)?;
     let rule = at_random(alloc)?;
     let key = Key([7; 32]);
     let cars = road.cars();
-    move_part(alloc, &road, rule.motion(), &key, 9, step, 0, cars).ok()
+    let mut speeds = Vec::new(alloc);
+    for speed in &move_part(alloc, &road, rule.motion(), &key, 9, step, 0, cars).ok()? {
+        speeds.push(u8::try_from(*speed).ok()?).ok()?;
+    }
+    Some(speeds)
 }
 
 /// Who crosses, as one thread tells it in that step.
