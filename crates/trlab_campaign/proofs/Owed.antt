@@ -26,7 +26,7 @@ owes_less whole next rest old a b owes wrote = record {
 }
 
 -- where it stops, a front was written
-pub owes_stop : (whole rest : List ℕ) (old a : Option (List ℕ)) → Owes whole rest old a → AppendsFront old a whole
+owes_stop : (whole rest : List ℕ) (old a : Option (List ℕ)) → Owes whole rest old a → AppendsFront old a whole
 owes_stop whole rest old a owes =
     record { count = length owes.done; front = subst (λ (t : List ℕ). Appends old a t) (sym (ap (take (length owes.done)) owes.parts ∙ take-append_seam owes.done rest)) owes.wrote }
 

@@ -13,7 +13,7 @@ use Rattle.trlab_campaign.specs.Device.{AppendsFront}
 use Rattle.trlab_campaign.specs.Output.{step_text, steps_text}
 use Rattle.trlab_campaign.specs.Ending.{WrotePictures, WroteSome}
 use Rattle.trlab_campaign.proofs.Sheets.{plain_sheet}
-use Rattle.trlab_campaign.proofs.Owed.{Owes, owes_all, owes_less, owes_stop, owes_front, owes_none}
+use Rattle.trlab_campaign.proofs.Owed.{Owes, owes_all, owes_less, owes_front, owes_none}
 
 -- the text of so many steps from one on
 abbrev pub text_from : (ℕ → Cells) → ℕ → ℕ → List ℕ
@@ -110,12 +110,6 @@ stop_within job step left road old a b u at text =
       owes_front whole (step_text step (u.roads step)) (text_from u.roads (step + 1) left) old a b (rw (next_text u.roads step left) at u.owes)
           (rw (here job u.roads step road u.each at) text),
     )
-
--- it stops behind the text of a step
-pub stop_behind : (job : Job) (step left : ℕ) (old now : Option (List ℕ)) → Written job step left old now → WroteSome job old now
-stop_behind job step left old now w =
-    let whole = steps_text w.roads (job.steps + 1) in
-    (whole, w.roads, record { road_at = λ s _. w.each s; pictures = refl }, owes_stop whole (text_from w.roads (step + 1) left) old now w.owes)
 
 -- the text of the last step is written
 all_written : (job : Job) (step : ℕ) (road : Cells) (old a b : Option (List ℕ)) → Underway job step 0 old a

@@ -1,6 +1,7 @@
 //! The engine of job texts: the whole text is judged before the first picture is written.
 
 mod pictures;
+mod step_text;
 
 ghost use Rattle.std.specs.Prelude.{◌≡◌, ◌+◌, ◌≤◌, ◌||◌, ◌↔◌, true, false, IfSome};
 ghost use Rattle.std.specs.Io.KnownBytes.{Keeps};

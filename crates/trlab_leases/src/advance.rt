@@ -12,7 +12,7 @@ use crate::suits::suits;
 use std::alloc::{AllocError, Global};
 use thiserror::Error;
 use trlab_machine::Dice;
-use trlab_step::{Asker, take_step};
+use trlab_step::{Asker, Nobody, take_step};
 
 /// Why a lease ran no step.
 #[derive(Clone, Copy, Debug, PartialEq, Eq, Error)]
@@ -57,7 +57,15 @@ impl Lease {
         self.applied.reserve(1)?;
         let rule = order.rule.copy(alloc)?;
         let dice = Dice::new(&self.key, self.road_number, self.step);
-        let tally = take_step(asker, alloc, &mut self.road, &mut self.room, &rule, &dice)?;
+        let tally = take_step(
+            asker,
+            alloc,
+            &mut self.road,
+            &mut self.room,
+            &rule,
+            &dice,
+            &mut Nobody,
+        )?;
         self.applied.push_reserved(Ran { rule, tally });
         self.step += 1;
         Ok(())

@@ -18,6 +18,7 @@ use std::{hint, thread};
 use trlab_machine::Dice;
 use trlab_road::Road;
 use trlab_segments::{Asked, Drawer, Gate, Phase, Tickets, segment_count};
+use trlab_step::Onlooker;
 
 /// How often the caller looks for the last helper before it lets another thread go on.
 const LOOKS: u32 = 1000;
@@ -78,29 +79,35 @@ fn shared_task<A: Copy + Drop, P: Asked<A> + Drop>(
 }
 
 impl<'a, R: Wait, G: Gate> Pool<'a, R, G> {
-    /// The road, and the answers of all its cars in standing order: the caller asks them with up to
-    /// `workers - 1` helpers, who find the phase on its board, and wakes as many.
+    /// The road, and what a program answers to all its cars, in standing order: the caller asks them alone,
+    /// or with helpers, who find the phase on this board. It shows the road to an onlooker once they are
+    /// woken.
     ///
     /// # Errors
     ///
     /// Where an allocation was refused, to the caller or to a helper.
-    pub(crate) fn ask_all<A: Copy + Drop, P: Asked<A> + Drop>(
+    pub(crate) fn answers_of<A: Copy + Drop, P: Asked<A> + Drop, O: Onlooker>(
         &self,
         alloc: Global,
         board: &Board<A, P>,
         program: P,
         dice: Dice,
         road: Road,
-        workers: u32,
+        onlooker: &mut O,
     ) -> (Road, Result<Vec<A>, AllocError>)
-        requires many { 1 < workers }
-        requires few { workers ≤ MOST_WORKERS }
         requires lanes { P.can_ask road }
         ensures road { result.0 ≡ road }
+        ensures seen { O.sees onlooker.old road onlooker.new }
         ensures answers { IfOk result.1 (λ answers. P.answers program dice road 0 (cars road) answers.items) }
     {
+        let workers = self.workers_for(road.cars());
+        if workers == 1 {
+            onlooker.see(&road);
+            return ask_alone(alloc, program, dice, road);
+        }
         let count = segments_for(road.cars(), workers);
         let Ok((tickets, mut reserve)) = Tickets::start(alloc, count, workers) else {
+            onlooker.see(&road);
             return (road, Err(AllocError));
         };
         let mut mine = tickets.split(&mut reserve);
@@ -112,12 +119,16 @@ impl<'a, R: Wait, G: Gate> Pool<'a, R, G> {
         };
         let task = match shared_task(alloc, brief, reserve) {
             Ok(task) => task,
-            Err(road) => return (road, Err(AllocError)),
+            Err(road) => {
+                onlooker.see(&road);
+                return (road, Err(AllocError));
+            }
         };
         if let Ok(shared) = Arc::try_clone(&task) {
             board.publish(self.rt, shared);
             self.wake(workers);
         }
+        onlooker.see(&task.brief.road);
         let parts = draw_all(alloc, &task.brief, &mut mine, 0, self.gate);
         board.withdraw(self.rt);
         alone(self.rt, task).settle(self.rt, alloc, count, mine, parts)
@@ -129,7 +140,7 @@ impl<'a, R: Wait, G: Gate> Pool<'a, R, G> {
 /// # Errors
 ///
 /// Where an allocation was refused.
-pub fn ask_alone<A, P: Asked<A> + Drop>(
+fn ask_alone<A, P: Asked<A> + Drop>(
     alloc: Global,
     program: P,
     dice: Dice,

@@ -5,8 +5,6 @@ ghost use Rattle.trlab_bounds.specs.declared.runs.TheConstants.{MOST_WORKERS};
 ghost use Rattle.trlab_road.specs.Cells.{cars};
 ghost use Rattle.trlab_segments.specs.Answered.{IsCrossesPart, HasTwoLanes, IsSpeedsPart};
 
-use crate::ask::ask_alone;
-use crate::board::Board;
 use crate::hall::{Hall, help_all};
 use std::alloc::{AllocError, Global};
 use std::sync::Wait;
@@ -14,7 +12,8 @@ use std::thread;
 use std::thread::{Threads, join_mut};
 use trlab_machine::Dice;
 use trlab_road::Road;
-use trlab_segments::{Asked, Gate};
+use trlab_segments::Gate;
+use trlab_step::Onlooker;
 use trlab_verify::{Change, Motion};
 
 /// How many cars keep a worker busy for longer than it takes to wake one.
@@ -106,7 +105,7 @@ impl<'a, R: Threads + Wait + Sync, G: Gate + Sync> Pool<'a, R, G> {
 
 impl<'a, R: Wait, G: Gate> Pool<'a, R, G> {
     /// How many workers ask so many cars.
-    fn workers_for(&self, cars: u32) -> u32
+    pub(crate) fn workers_for(&self, cars: u32) -> u32
         ensures some { 0 < result }
         ensures few { result ≤ MOST_WORKERS }
     {
@@ -133,69 +132,48 @@ impl<'a, R: Wait, G: Gate> Pool<'a, R, G> {
         self.workers_for(cars) == 1
     }
 
-    /// The road, and what a program answers to all its cars, in standing order; helpers find the phase on
-    /// this board.
-    ///
-    /// # Errors
-    ///
-    /// Where an allocation was refused to any worker.
-    fn answers_of<A: Copy + Drop, P: Asked<A> + Drop>(
-        &self,
-        alloc: Global,
-        board: &Board<A, P>,
-        program: P,
-        dice: Dice,
-        road: Road,
-    ) -> (Road, Result<Vec<A>, AllocError>)
-        requires lanes { P.can_ask road }
-        ensures road { result.0 ≡ road }
-        ensures answers { IfOk result.1 (λ answers.
-            P.answers program dice road 0 (cars road) answers.items) }
-    {
-        let workers = self.workers_for(road.cars());
-        if workers == 1 {
-            return ask_alone(alloc, program, dice, road);
-        }
-        self.ask_all(alloc, board, program, dice, road, workers)
-    }
-
     /// The road, and the speeds that a motion program answers to all its cars, in standing order, each in
-    /// a byte.
+    /// a byte. An onlooker sees the road while they are asked.
     ///
     /// # Errors
     ///
     /// Where an allocation was refused to any worker.
-    pub fn speeds_of(
+    pub fn speeds_of<O: Onlooker>(
         &self,
         alloc: Global,
         road: Road,
         motion: Motion,
         dice: Dice,
+        onlooker: &mut O,
     ) -> (Road, Result<Vec<u8>, AllocError>)
         ensures road { result.0 ≡ road }
+        ensures seen { O.sees onlooker.old road onlooker.new }
         ensures speeds { IfOk result.1 (λ speeds.
             IsSpeedsPart motion dice road 0 (cars road) speeds.items) }
     {
-        self.answers_of(alloc, &self.hall.motions, motion, dice, road)
+        self.answers_of(alloc, &self.hall.motions, motion, dice, road, onlooker)
     }
 
-    /// The road of two lanes, and whether its cars cross, in standing order, as a change program answers.
+    /// The road of two lanes, and whether its cars cross, in standing order, as a change program answers. An
+    /// onlooker sees the road while they are asked.
     ///
     /// # Errors
     ///
     /// Where an allocation was refused to any worker.
-    pub fn crossings_of(
+    pub fn crossings_of<O: Onlooker>(
         &self,
         alloc: Global,
         road: Road,
         change: Change,
         dice: Dice,
+        onlooker: &mut O,
     ) -> (Road, Result<Vec<bool>, AllocError>)
         requires { HasTwoLanes road }
         ensures road { result.0 ≡ road }
+        ensures seen { O.sees onlooker.old road onlooker.new }
         ensures crosses { IfOk result.1 (λ crosses.
             IsCrossesPart change dice road 0 (cars road) crosses.items) }
     {
-        self.answers_of(alloc, &self.hall.changes, change, dice, road)
+        self.answers_of(alloc, &self.hall.changes, change, dice, road, onlooker)
     }
 }

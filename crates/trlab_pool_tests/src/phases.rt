@@ -10,7 +10,7 @@ use trlab_pool::Pool;
 use trlab_road::Road;
 use trlab_rules::{Rule, rickert};
 use trlab_segments::{Gate, OpenGate};
-use trlab_step::{choose_part, move_part};
+use trlab_step::{Nobody, choose_part, move_part};
 use trlab_words::{CERTAIN, Chance, Key};
 
 /// 60 cars that stand, evenly spread over two lanes.
@@ -40,7 +40,7 @@ pub fn speeds_told<R: Wait, G: Gate>(
 ) -> Option<Vec<u8>> {
     let motion = at_random(alloc)?.motion().copy(alloc).ok()?;
     let dice = Dice::new(&Key([7; 32]), 9, step);
-    let (back, told) = pool.speeds_of(alloc, spread(alloc)?, motion, dice);
+    let (back, told) = pool.speeds_of(alloc, spread(alloc)?, motion, dice, &mut Nobody);
     with_road(alloc, back, told.ok())
 }
 
@@ -56,7 +56,7 @@ fn crossings_told<R: Wait, G: Gate>(
     }
     let change = at_random(alloc)?.change()?.copy(alloc).ok()?;
     let dice = Dice::new(&Key([7; 32]), 9, step);
-    let (back, told) = pool.crossings_of(alloc, road, change, dice);
+    let (back, told) = pool.crossings_of(alloc, road, change, dice, &mut Nobody);
     with_road(alloc, back, told.ok())
 }
 

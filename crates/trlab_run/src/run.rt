@@ -12,7 +12,7 @@ use std::marker::Model;
 use std::snapshot::Snapshot;
 use trlab_machine::Dice;
 use trlab_road::Road;
-use trlab_step::{Asker, StepRoom, StepTally, take_step};
+use trlab_step::{Asker, Nobody, Onlooker, StepRoom, StepTally, take_step};
 use trlab_words::Key;
 
 /// A run of a road under a sheet of rules: the step to which it has come, the road at this step,
@@ -108,6 +108,27 @@ impl Run {
         ensures on { OnOk result (IsOneStepOn self.old self.new) }
         ensures same { OnErr result (self.new ≡ self.old) }
     {
+        self.advance_showing(asker, alloc, &mut Nobody)
+    }
+
+    /// Takes one step, and shows an onlooker the road of the run before it, while the cars are asked.
+    ///
+    /// # Errors
+    ///
+    /// Where an allocation was refused; then nothing changes, and the onlooker has seen the road.
+    pub fn advance_showing<A: Asker, O: Onlooker>(
+        &mut self,
+        asker: &A,
+        alloc: Global,
+        onlooker: &mut O,
+    ) -> Result<(), AllocError>
+        requires ready { A.is_ready asker.now }
+        requires steps { self.old.step + 1 < 2 ^ 32 }
+        ensures on { OnOk result (IsOneStepOn self.old self.new) }
+        ensures seen { O.sees onlooker.old self.old.road onlooker.new }
+        ensures run { IsRoadAt self.old.seed self.old.sheet self.old.step self.old.road }
+        ensures same { OnErr result (self.new ≡ self.old) }
+    {
         let dice = Dice::new(&self.key, self.number, self.step);
         let tally = take_step(
             asker,
@@ -116,6 +137,7 @@ impl Run {
             &mut self.room,
             self.sheet.in_force(self.step),
             &dice,
+            onlooker,
         )?;
         self.sum = if self.warm <= self.step {
             tally_sum(self.sum, tally)

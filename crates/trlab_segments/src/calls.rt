@@ -7,7 +7,7 @@ ghost use Rattle.trlab_segments.specs.Answered.{TellsCrosses, TellsSpeeds};
 use std::alloc::{AllocError, Global};
 use trlab_machine::Dice;
 use trlab_road::Road;
-use trlab_step::Asker;
+use trlab_step::{Asker, Onlooker};
 use trlab_verify::{Change, Motion};
 
 /// Who asks the cars by two calls: one for speeds, and one for lane changes.
@@ -34,28 +34,32 @@ impl<
     ghost is_ready = { λ calls. TellsSpeeds (S.pre calls.speeds) (S.post calls.speeds)
         × TellsCrosses (C.pre calls.crossings) (C.post calls.crossings) };
 
-    fn speeds(
+    fn speeds<O: Onlooker>(
         &self,
         alloc: Global,
         answers: &mut Vec<u8>,
         road: &mut Road,
         motion: &Motion,
         dice: &Dice,
+        onlooker: &mut O,
     ) -> Result<(), AllocError> {
+        onlooker.see(road);
         let cars = road.cars();
         *answers = (self.speeds)(alloc, &*road, motion, dice)?;
         prove!(answers.len() == cars as usize);
         Ok(())
     }
 
-    fn crossings(
+    fn crossings<O: Onlooker>(
         &self,
         alloc: Global,
         answers: &mut Vec<bool>,
         road: &mut Road,
         change: &Change,
         dice: &Dice,
+        onlooker: &mut O,
     ) -> Result<(), AllocError> {
+        onlooker.see(road);
         let cars = road.cars();
         *answers = (self.crossings)(alloc, &*road, change, dice)?;
         prove!(answers.len() == cars as usize);

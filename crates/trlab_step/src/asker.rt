@@ -6,6 +6,7 @@ ghost use Rattle.trlab_road.specs.Cells.{cars};
 ghost use Rattle.trlab_step.specs.Answers.{AnswersCrossingsPart, AnswersSpeedsPart, CrossesFreePart, FitsPart};
 
 use crate::crossings::ask_crossings;
+use crate::onlooker::Onlooker;
 use crate::speeds::ask_speeds;
 use std::alloc::{AllocError, Global};
 use trlab_machine::Dice;
@@ -15,7 +16,8 @@ use trlab_verify::{Change, Motion};
 /// Who asks all cars of a road in a step, and puts their answers in standing order into a list, in
 /// place of what stands there.
 ///
-/// The road is lent to change, so that it may be handed to threads by value; it comes back as it was.
+/// The road is lent to change, so that it may be handed to threads by value; it comes back as it was. An
+/// onlooker is shown it once, whether or not an allocation is refused.
 pub trait Asker {
     // What has to hold for it to ask: who starts threads says here what they may share.
     ghost is_ready: { Self → Type 0 };
@@ -25,19 +27,21 @@ pub trait Asker {
     /// # Errors
     ///
     /// Where an allocation was refused.
-    fn speeds(
+    fn speeds<O: Onlooker>(
         &self,
         alloc: Global,
         answers: &mut Vec<u8>,
         road: &mut Road,
         motion: &Motion,
         dice: &Dice,
+        onlooker: &mut O,
     ) -> Result<(), AllocError>
         requires ready { is_ready self.now }
         ensures speeds { OnOk result (
             AnswersSpeedsPart motion.now dice.now road.old 0 (cars road.old) answers.new.items) }
         ensures fits { OnOk result (FitsPart road.old 0 answers.new.items) }
         ensures few { OnOk result (length answers.new.items ≤ MOST_LANES * GREATEST_LENGTH) }
+        ensures seen { O.sees onlooker.old road.old onlooker.new }
         ensures same { road.new ≡ road.old };
 
     /// Whether the cars of a road of two lanes cross, as a change program answers them.
@@ -45,13 +49,14 @@ pub trait Asker {
     /// # Errors
     ///
     /// Where an allocation was refused.
-    fn crossings(
+    fn crossings<O: Onlooker>(
         &self,
         alloc: Global,
         answers: &mut Vec<bool>,
         road: &mut Road,
         change: &Change,
         dice: &Dice,
+        onlooker: &mut O,
     ) -> Result<(), AllocError>
         requires ready { is_ready self.now }
         requires two_lanes { length road.old.lanes ≡ 2 }
@@ -59,6 +64,7 @@ pub trait Asker {
             AnswersCrossingsPart change.now dice.now road.old 0 (cars road.old) answers.new.items) }
         ensures free { OnOk result (CrossesFreePart road.old 0 answers.new.items) }
         ensures few { OnOk result (length answers.new.items ≤ MOST_LANES * GREATEST_LENGTH) }
+        ensures seen { O.sees onlooker.old road.old onlooker.new }
         ensures same { road.new ≡ road.old };
 }
 
@@ -69,25 +75,29 @@ pub struct Caller;
 impl Asker for Caller {
     ghost is_ready = { λ _. Unit {0} };
 
-    fn speeds(
+    fn speeds<O: Onlooker>(
         &self,
         _: Global,
         answers: &mut Vec<u8>,
         road: &mut Road,
         motion: &Motion,
         dice: &Dice,
+        onlooker: &mut O,
     ) -> Result<(), AllocError> {
+        onlooker.see(road);
         ask_speeds(answers, road, motion, dice, 0, road.cars())
     }
 
-    fn crossings(
+    fn crossings<O: Onlooker>(
         &self,
         _: Global,
         answers: &mut Vec<bool>,
         road: &mut Road,
         change: &Change,
         dice: &Dice,
+        onlooker: &mut O,
     ) -> Result<(), AllocError> {
+        onlooker.see(road);
         ask_crossings(answers, road, change, dice, 0, road.cars())
     }
 }

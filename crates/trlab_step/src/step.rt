@@ -9,6 +9,7 @@ ghost use Rattle.trlab_step.specs.Next.{IsCleanNext, IsNext, IsLaneChangePhase, 
 
 use crate::asker::{Asker, Caller};
 use crate::fault::StepFault;
+use crate::onlooker::{Nobody, Onlooker};
 use crate::room::StepRoom;
 use crate::tally::{StepTally, count_crossing, tally_of};
 use std::alloc::{AllocError, Global};
@@ -44,7 +45,7 @@ pub fn step_road_by<A: Asker>(
     }
     let mut next = road.copy(alloc)?;
     let mut room = StepRoom::new(alloc);
-    let tally = take_step(asker, alloc, &mut next, &mut room, rule, dice)?;
+    let tally = take_step(asker, alloc, &mut next, &mut room, rule, dice, &mut Nobody)?;
     Ok((next, tally))
 }
 
@@ -67,35 +68,39 @@ pub fn step_road(
 }
 
 /// Takes the step that `step_road_by` tells: the road becomes the next road, and the memory of the step
-/// is that of the room.
+/// is that of the room. An onlooker is shown the road as it was, whether or not the step is taken.
 ///
 /// It is the caller's part that the rule is one for the lanes of the road.
 ///
 /// # Errors
 ///
 /// Where an allocation was refused; then the road stays as it was.
-pub fn take_step<A: Asker>(
+pub fn take_step<A: Asker, O: Onlooker>(
     asker: &A,
     alloc: Global,
     road: &mut Road,
     room: &mut StepRoom,
     rule: &Rule,
     dice: &Dice,
+    onlooker: &mut O,
 ) -> Result<StepTally, AllocError>
     requires ready { A.is_ready asker.now }
     requires lanes { IsSome rule.now.change → length road.old.lanes ≡ 2 }
     ensures next { IfOk result (λ tally. IsNext rule.now dice.now road.old road.new tally) }
     ensures clean { IfOk result (λ tally. IsCleanNext rule.now dice.now road.old road.new tally) }
     ensures legal { OnOk result (IsLegal road.new) }
+    ensures seen { O.sees onlooker.old road.old onlooker.new }
     ensures same { OnErr result (road.new ≡ road.old) }
 {
     let motion = rule.motion();
     match rule.change() {
-        None => move_cars(asker, alloc, road, &mut room.speeds, motion, dice),
+        None => move_cars(asker, alloc, road, &mut room.speeds, motion, dice, onlooker),
         Some(change) => {
-            let (mut middle, changes) = change_lanes(asker, alloc, road, room, change, dice)?;
+            let (mut middle, changes) = change_lanes(
+                asker, alloc, road, room, change, dice, onlooker,
+            )?;
             let speeds = &mut room.speeds;
-            let tally = move_cars(asker, alloc, &mut middle, speeds, motion, dice)?;
+            let tally = move_cars(asker, alloc, &mut middle, speeds, motion, dice, &mut Nobody)?;
             mem::replace(road, middle).leave_to(&mut room.lanes);
             Ok(StepTally { changes, ..tally })
         }
@@ -103,13 +108,14 @@ pub fn take_step<A: Asker>(
 }
 
 /// The road after the lane change under a change program, and how many cars crossed.
-fn change_lanes<A: Asker>(
+fn change_lanes<A: Asker, O: Onlooker>(
     asker: &A,
     alloc: Global,
     road: &mut Road,
     room: &mut StepRoom,
     change: &Change,
     dice: &Dice,
+    onlooker: &mut O,
 ) -> Result<(Road, u64), AllocError>
     requires ready { A.is_ready asker.now }
     requires two_lanes { length road.old.lanes ≡ 2 }
@@ -117,21 +123,23 @@ fn change_lanes<A: Asker>(
         IsLaneChangePhase (Some change.now) dice.now road.old after.0 after.1) }
     ensures clean { IfOk result (λ after. CleanLaneChange road.old after.0) }
     ensures legal { IfOk result (λ after. IsLegal after.0) }
+    ensures seen { O.sees onlooker.old road.old onlooker.new }
     ensures same { road.new ≡ road.old }
 {
-    asker.crossings(alloc, &mut room.crosses, road, change, dice)?;
+    asker.crossings(alloc, &mut room.crosses, road, change, dice, onlooker)?;
     let middle = road.after_lane_change_in(alloc, &mut room.lanes, &room.crosses)?;
     Ok((middle, count_crossing(&room.crosses)))
 }
 
 /// Takes the motion, and tells the tally of a step in which no car crossed before.
-fn move_cars<A: Asker>(
+fn move_cars<A: Asker, O: Onlooker>(
     asker: &A,
     alloc: Global,
     road: &mut Road,
     speeds: &mut Vec<u8>,
     motion: &Motion,
     dice: &Dice,
+    onlooker: &mut O,
 ) -> Result<StepTally, AllocError>
     requires { A.is_ready asker.now }
     ensures phase { OnOk result (IsMotionPhase motion.now dice.now road.old road.new) }
@@ -140,9 +148,10 @@ fn move_cars<A: Asker>(
     ensures changes { IfOk result (λ tally. tally.changes ≡ 0) }
     ensures clean { OnOk result (CleanMotion road.old road.new) }
     ensures legal { OnOk result (IsLegal road.new) }
+    ensures seen { O.sees onlooker.old road.old onlooker.new }
     ensures same { OnErr result (road.new ≡ road.old) }
 {
-    asker.speeds(alloc, speeds, road, motion, dice)?;
+    asker.speeds(alloc, speeds, road, motion, dice, onlooker)?;
     road.move_cars(speeds);
     Ok(tally_of(speeds))
 }

@@ -1,9 +1,10 @@
-//! The pictures of a run: each is written as soon as its road is there.
+//! The pictures of a run: that of a road is made while its cars are asked, and written once they have moved.
 
-ghost use Rattle.std.specs.Prelude.{◌≡◌, ◌↔◌, true, false, OnOk, OnErr, IfErr};
+ghost use Rattle.std.specs.Prelude.{◌≡◌, ◌+◌, ◌<◌, ◌^◌, ◌↔◌, true, false, OnOk, OnErr, IfErr};
 ghost use Rattle.std.specs.Io.KnownBytes.{Appends};
 ghost use Rattle.trlab_jobs.specs.Job.{seed_of, sheet_of};
-ghost use Rattle.trlab_run.specs.Progress.{at_start};
+ghost use Rattle.trlab_run.specs.Progress.{IsOneStepOn, at_start};
+ghost use Rattle.trlab_step.specs.Run.{IsRoadAt};
 ghost use Rattle.trlab_campaign.specs.Device.{AppendsFront};
 ghost use Rattle.trlab_campaign.specs.Ending.{HandsOn, JobEnds, WrotePictures, WroteSome};
 ghost use Rattle.trlab_campaign.specs.Output.{step_text};
@@ -12,12 +13,12 @@ ghost use Rattle.trlab_campaign.specs.declared.run.pictures.WriteFault.TheVarian
 
 use crate::device::{DeviceError, Sink, write_text};
 use crate::end::End;
-use crate::output::push_step;
+use crate::run::step_text::StepText;
 use std::alloc::{AllocError, Global};
 use trlab_jobs::Job;
 use trlab_road::Road;
 use trlab_run::{Run, Sheet};
-use trlab_step::Asker;
+use trlab_step::{Asker, Onlooker};
 
 /// Why the pictures were not all written.
 #[derive(Clone, Copy)]
@@ -43,10 +44,53 @@ impl From<DeviceError> for WriteFault {
     }
 }
 
-/// Writes the text of a step; the buffer is used again for each.
-fn write_step<K: Sink>(
+/// The run of a job from step 0 on.
+fn run_of(alloc: Global, job: Job) -> Run
+    ensures { result ≡ at_start (seed_of job) (sheet_of job) }
+{
+    let Job {
+        key,
+        road,
+        first,
+        later,
+        steps: _,
+    } = job;
+    Run::new(alloc, key, 0, 0, road, Sheet::new(first, later))
+}
+
+/// Takes a step of a run, in which the asker asks the cars, and writes the text of the road before it.
+fn show_step<A: Asker, K: Sink>(
+    asker: &A,
     alloc: Global,
-    buffer: &mut Vec<u8>,
+    text: &mut StepText,
+    step: u32,
+    run: &mut Run,
+    writer: &mut K,
+) -> Result<(), WriteFault>
+    requires ready { A.is_ready asker.now }
+    requires works { K.failed writer.old ≡ false }
+    requires steps { run.old.step + 1 < 2 ^ 32 }
+    ensures road { IsRoadAt run.old.seed run.old.sheet run.old.step run.old.road }
+    ensures whole { OnOk result
+        (Appends (K.written writer.old) (K.written writer.new) (step_text step run.old.road)) }
+    ensures front { OnErr result
+        (AppendsFront (K.written writer.old) (K.written writer.new) (step_text step run.old.road)) }
+    ensures on { OnOk result (IsOneStepOn run.old run.new) }
+    ensures works { OnOk result (K.failed writer.new ≡ false) }
+    ensures fails { IfErr result (λ fault. (fault ≡ Device) ↔ (K.failed writer.new ≡ true)) }
+    ensures flushed { K.flushes writer.new ≡ K.flushes writer.old }
+{
+    text.step = step;
+    let advanced = run.advance_showing(asker, alloc, text);
+    text.made?;
+    write_text(writer, &text.bytes)?;
+    advanced?;
+    Ok(())
+}
+
+/// Writes the text of a road at a step.
+fn show_last<K: Sink>(
+    text: &mut StepText,
     step: u32,
     road: &Road,
     writer: &mut K,
@@ -60,24 +104,11 @@ fn write_step<K: Sink>(
     ensures fails { IfErr result (λ fault. (fault ≡ Device) ↔ (K.failed writer.new ≡ true)) }
     ensures flushed { K.flushes writer.new ≡ K.flushes writer.old }
 {
-    buffer.clear();
-    push_step(alloc, buffer, step, road)?;
-    write_text(writer, buffer)?;
+    text.step = step;
+    text.see(road);
+    text.made?;
+    write_text(writer, &text.bytes)?;
     Ok(())
-}
-
-/// The run of a job from step 0 on.
-fn run_of(alloc: Global, job: Job) -> Run
-    ensures { result ≡ at_start (seed_of job) (sheet_of job) }
-{
-    let Job {
-        key,
-        road,
-        first,
-        later,
-        steps: _,
-    } = job;
-    Run::new(alloc, key, 0, 0, road, Sheet::new(first, later))
 }
 
 /// Writes the pictures of a job's road at each step, as they are made.
@@ -99,12 +130,11 @@ fn write_pictures<A: Asker, K: Sink>(
 {
     let steps = job.steps;
     let mut run = run_of(alloc, job);
-    let mut buffer = Vec::new(alloc);
+    let mut text = StepText::new(alloc);
     for step in 0..steps {
-        write_step(alloc, &mut buffer, step, run.road(), writer)?;
-        run.advance(asker, alloc)?;
+        show_step(asker, alloc, &mut text, step, &mut run, writer)?;
     }
-    write_step(alloc, &mut buffer, steps, run.road(), writer)
+    show_last(&mut text, steps, run.road(), writer)
 }
 
 /// Runs a job, in which the asker asks the cars: writes the pictures of its road at each step, and

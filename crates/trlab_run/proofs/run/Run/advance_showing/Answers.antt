@@ -11,8 +11,8 @@ use Rattle.trlab_step.specs.Answers.{dice_of}
 use Rattle.trlab_step.specs.declared.tally.StepTally.{StepTally}
 use Rattle.trlab_step.specs.Next.{IsNext}
 use Rattle.trlab_step.proofs.AskedCars.{same_dice}
-use Rattle.trlab_run.proofs.run.Run.advance.Goals.{then-self, else-self}
-use Rattle.trlab_run.proofs.run.Run.advance.Goals as goal
+use Rattle.trlab_run.proofs.run.Run.advance_showing.Goals.{then-self, else-self}
+use Rattle.trlab_run.proofs.run.Run.advance_showing.Goals as goal
 
 -- the step by the dice of the run
 by_dice_of : (dice : Dice) (key : List ℕ) (number step : ℕ) (rule : Programs) (road next : Cells) (tally : StepTally) → dice.key ≡ key → dice.road ≡ number → dice.step ≡ step
@@ -69,3 +69,9 @@ invariant_of-self-2 g c =
         record { under = c.in_force.ensures; next = by_dice_of c.new-dice.result c.self.inside.key.0 c.self.inside.number c.self.inside.step c.in_force.result.now c.self.inside.road c.take_step.new.road c.in_ok-tally.tally c.new-dice.ensures.key c.new-dice.ensures.road c.new-dice.ensures.step c.in_ok-tally.ensures.next; counted = counted },
       );
     }
+
+pub returns-clause-run : goal.returns-clause-run
+returns-clause-run g c = rw (← c.self.view_is) (c.self.inside.sum, c.self.invariant.comes)
+
+pub returns-in_err-tally-clause-run : goal.returns-in_err-tally-clause-run
+returns-in_err-tally-clause-run g c = rw (← c.self.view_is) (c.self.inside.sum, c.self.invariant.comes)

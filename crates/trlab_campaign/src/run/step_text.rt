@@ -1,0 +1,40 @@
+//! The text of a step, which is made of its road while other workers ask the cars.
+
+ghost use Rattle.std.specs.Prelude.{◌≡◌, Ok, [], OnOk};
+ghost use Rattle.trlab_campaign.specs.Output.{step_text};
+
+use crate::output::push_step;
+use std::alloc::{AllocError, Global};
+use trlab_road::Road;
+use trlab_step::Onlooker;
+
+/// The text of a step; its memory is used again for each.
+#[derive(Drop)]
+pub struct StepText {
+    alloc: Global,
+    pub step: u32,
+    pub bytes: Vec<u8>,
+    /// Whether the bytes are the whole text.
+    pub made: Result<(), AllocError>,
+}
+
+impl StepText {
+    /// The text of no step yet.
+    pub fn new(alloc: Global) -> StepText {
+        StepText {
+            alloc,
+            step: 0,
+            bytes: Vec::new(alloc),
+            made: Ok(()),
+        }
+    }
+}
+
+impl Onlooker for StepText {
+    ghost sees = { λ before road text. OnOk text.made (text.bytes.items ≡ step_text before.step road) };
+
+    fn see(&mut self, road: &Road) {
+        self.bytes.clear();
+        self.made = push_step(self.alloc, &mut self.bytes, self.step, road);
+    }
+}
