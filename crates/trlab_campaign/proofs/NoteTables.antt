@@ -1,5 +1,5 @@
 -- The lines of the notes that the verifier hands out.
-use Rattle.std.proofs.Common.{◌≡◌, ℕ, List, length, flat_map, get_or, sym, ◌∙◌, ap, arith, ◌++◌, ◌∷◌, [], append_assoc}
+use Rattle.std.proofs.Common.{◌≡◌, ℕ, List, length, flat_map, sym, ◌∙◌, ap, arith, ◌++◌, ◌∷◌, [], append_assoc}
 use Rattle.std.proofs.lemmas.List.{get_or-map, length-map}
 use Rattle.std.specs.Prelude.{Result, Ok, Err, OnOk, Some, slice_index_or, codes, decimal}
 use Rattle.std.specs.List.{range_with_len}

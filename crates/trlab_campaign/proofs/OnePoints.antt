@@ -1,12 +1,11 @@
 -- A sweep text has one output only.
-use Rattle.std.proofs.Common.{◌≡◌, ℕ, List, Bool, length, get_or, ap, sym, ◌∙◌, subst, arith}
+use Rattle.std.proofs.Common.{◌≡◌, ℕ, List, Bool, get_or, ap, sym, ◌∙◌, subst, arith}
 use Rattle.std.proofs.lemmas.List.{same_lists}
 use Rattle.std.specs.Prelude.{Result, Ok, Err}
 use Rattle.trlab_diagram.specs.declared.point.Point.{Point}
 use Rattle.trlab_diagram.specs.Table.{points_text}
 use Rattle.trlab_road.specs.Cells.{Cells}
 use Rattle.trlab_road.proofs.EvenRoads.{one_even}
-use Rattle.trlab_step.specs.declared.tally.StepTally.{StepTally}
 use Rattle.trlab_step.specs.Run.{IsTallyAt}
 use Rattle.trlab_step.proofs.RunLaws.{road_is_one}
 use Rattle.trlab_texts.specs.Reading.{Fault}

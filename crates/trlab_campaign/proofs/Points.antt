@@ -1,14 +1,12 @@
 -- The points of a sweep, one after another.
-use Rattle.std.proofs.Common.{◌≡◌, ℕ, zero, suc, ◌+◌, ◌*◌, ◌<◌, ◌≤◌, List, [], ◌∷◌, ◌++◌, length, length-append, get_or, inl, inr, refl, ◌∙◌, sym, arith}
+use Rattle.std.proofs.Common.{◌≡◌, ℕ, zero, suc, ◌*◌, ◌<◌, ◌≤◌, List, [], ◌∷◌, ◌++◌, length, length-append, get_or, inl, inr, ◌∙◌, sym, arith}
 use Rattle.std.proofs.lemmas.Bool.{cases_lt}
 use Rattle.std.proofs.lemmas.List.{get_or_append_left, get_or_push, get_or_default}
 use Rattle.std.specs.Prelude.{All}
 use Rattle.trlab_diagram.specs.declared.point.Point.{Point}
 use Rattle.trlab_diagram.specs.Flow.{IsMeasured}
-use Rattle.trlab_road.specs.Spreading.{CanSpread}
 use Rattle.trlab_step.specs.Laws.{IsRuleFor, IsSheetFor}
 use Rattle.trlab_step.proofs.Sheets.{with_is_sheet, with_all}
-use Rattle.trlab_jobs.specs.Shapes.{all_cells}
 use Rattle.trlab_jobs.specs.Sweep.{Setup, Sweep}
 use Rattle.trlab_campaign.specs.SweepOutput.{IsPoint, ArePoints, sheet_of}
 

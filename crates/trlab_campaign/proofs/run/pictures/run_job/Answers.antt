@@ -1,4 +1,3 @@
-use Rattle.std.proofs.Common.{rules}
 use Rattle.trlab_campaign.proofs.Endings.{pictures_kept}
 use Rattle.trlab_campaign.proofs.run.pictures.run_job.Goals as goal
 

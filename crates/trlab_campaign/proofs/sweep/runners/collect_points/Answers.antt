@@ -1,4 +1,4 @@
-use Rattle.std.proofs.Common.{arith, ◌++◌, ◌∷◌, [], ℕ, ◌<◌, length, length-append, ap, refl}
+use Rattle.std.proofs.Common.{arith, ◌∷◌, [], ◌<◌, length, length-append, ap, refl}
 use Rattle.trlab_jobs.specs.Sweep.{Sweep as Said}
 use Rattle.trlab_campaign.proofs.Points.{one_more}
 use Rattle.trlab_campaign.proofs.sweep.runners.collect_points.Goals as goal
