@@ -5,7 +5,7 @@ ghost use Rattle.std.specs.Arc.{arc_value};
 ghost use Rattle.trlab_bounds.specs.declared.runs.TheConstants.{MOST_WORKERS};
 ghost use Rattle.trlab_pool.specs.Trays.{IsNew};
 ghost use Rattle.trlab_road.specs.Cells.{cars};
-ghost use Rattle.trlab_segments.specs.Segments.{first_car, segment_count as count_for};
+ghost use Rattle.trlab_segments.specs.Segments.{first_car};
 
 use crate::board::Board;
 use crate::brief::Brief;
@@ -22,6 +22,12 @@ use trlab_step::Onlooker;
 
 /// How often the caller looks for the last helper before it lets another thread go on.
 const LOOKS: u32 = 1000;
+
+/// How many segments there are for a worker, where each has enough cars.
+const SEGMENTS_A_WORKER: u32 = 16;
+
+/// How many cars a segment has, so that to draw it costs little beside asking them.
+const CARS_A_SEGMENT: u32 = 256;
 
 /// The phase, once no helper has it.
 fn alone<A, P: Asked<A>, R: Wait>(rt: &R, task: Arc<Task<A, P>, Global>) -> Task<A, P>
@@ -44,14 +50,15 @@ fn alone<A, P: Asked<A>, R: Wait>(rt: &R, task: Arc<Task<A, P>, Global>) -> Task
     unreachable!()
 }
 
-/// How many segments there are for so many workers.
+/// How many segments there are for so many workers: as many as in a single step, and on a road of many cars
+/// more, so that nobody waits long for the last.
 fn segments_for(cars: u32, workers: u32) -> u32
     requires some { 0 < workers }
     requires few { workers ≤ MOST_WORKERS }
-    ensures value { result ≡ count_for cars workers }
-    ensures whole { first_car cars result result ≡ cars }
+    ensures { first_car cars result result ≡ cars }
 {
-    segment_count(cars, workers)
+    let fine = (cars / CARS_A_SEGMENT).min(SEGMENTS_A_WORKER * workers);
+    segment_count(cars, workers).max(fine)
 }
 
 /// What is asked, as all workers see it.

@@ -1,12 +1,16 @@
 //! The pool as the one who asks the cars of a step.
 
+ghost use Rattle.std.specs.Prelude.{◌≡◌, IfOk};
+ghost use Rattle.trlab_road.specs.Cells.{cars};
+
+use crate::board::Board;
 use crate::pool::Pool;
 use std::alloc::{AllocError, Global};
 use std::mem;
 use std::sync::Wait;
 use trlab_machine::Dice;
 use trlab_road::Road;
-use trlab_segments::Gate;
+use trlab_segments::{Asked, Gate};
 use trlab_step::{Asker, Onlooker, ask_crossings, ask_speeds};
 use trlab_verify::{Change, Motion};
 
@@ -18,18 +22,37 @@ fn stand_in(alloc: Global) -> Result<Road, AllocError> {
     }
 }
 
-// What a call of the pool tells, which has the road by value until it is back in its place.
-macro_rules! told_of {
-    ($pool:ident.$call:ident($alloc:ident, $road:ident, $program:ident, $dice:ident, $onlooker:ident)) => {{
-        let (Ok(program), Ok(other)) = ($program.copy($alloc), stand_in($alloc)) else {
-            $onlooker.see($road);
+impl<'a, R: Wait, G: Gate> Pool<'a, R, G> {
+    /// What a program answers to all cars of a road, in standing order. The road is with the workers until
+    /// it is back in its place; an onlooker sees it while they are asked.
+    ///
+    /// # Errors
+    ///
+    /// Where an allocation was refused to any worker.
+    fn told_by<A: Copy + Drop, P: Asked<A> + Drop, O: Onlooker>(
+        &self,
+        alloc: Global,
+        board: &Board<A, P>,
+        program: P,
+        dice: &Dice,
+        road: &mut Road,
+        onlooker: &mut O,
+    ) -> Result<Vec<A>, AllocError>
+        requires lanes { P.can_ask road.old }
+        ensures same { road.new ≡ road.old }
+        ensures seen { O.sees onlooker.old road.old onlooker.new }
+        ensures answers { IfOk result (λ answers.
+            P.answers program dice.now road.old 0 (cars road.old) answers.items) }
+    {
+        let Ok(other) = stand_in(alloc) else {
+            onlooker.see(road);
             return Err(AllocError);
         };
-        let whole = mem::replace($road, other);
-        let (back, told) = $pool.$call($alloc, whole, program, $dice.copy(), $onlooker);
-        *$road = back;
-        told?
-    }};
+        let whole = mem::replace(road, other);
+        let (back, told) = self.answers_of(alloc, board, program, dice.copy(), whole, onlooker);
+        *road = back;
+        told
+    }
 }
 
 impl<'a, R: Wait, G: Gate> Asker for Pool<'a, R, G> {
@@ -49,7 +72,11 @@ impl<'a, R: Wait, G: Gate> Asker for Pool<'a, R, G> {
             onlooker.see(road);
             return ask_speeds(answers, road, motion, dice, 0, cars);
         }
-        *answers = told_of!(self.speeds_of(alloc, road, motion, dice, onlooker));
+        let Ok(program) = motion.copy(alloc) else {
+            onlooker.see(road);
+            return Err(AllocError);
+        };
+        *answers = self.told_by(alloc, &self.hall.motions, program, dice, road, onlooker)?;
         prove!(answers.len() == cars as usize);
         Ok(())
     }
@@ -68,7 +95,11 @@ impl<'a, R: Wait, G: Gate> Asker for Pool<'a, R, G> {
             onlooker.see(road);
             return ask_crossings(answers, road, change, dice, 0, cars);
         }
-        *answers = told_of!(self.crossings_of(alloc, road, change, dice, onlooker));
+        let Ok(program) = change.copy(alloc) else {
+            onlooker.see(road);
+            return Err(AllocError);
+        };
+        *answers = self.told_by(alloc, &self.hall.changes, program, dice, road, onlooker)?;
         prove!(answers.len() == cars as usize);
         Ok(())
     }

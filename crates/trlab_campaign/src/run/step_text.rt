@@ -1,6 +1,6 @@
 //! The text of a step, which is made of its road while other workers ask the cars.
 
-ghost use Rattle.std.specs.Prelude.{◌≡◌, Ok, [], OnOk};
+ghost use Rattle.std.specs.Prelude.{◌≡◌, OnOk};
 ghost use Rattle.trlab_campaign.specs.Output.{step_text};
 
 use crate::output::push_step;
