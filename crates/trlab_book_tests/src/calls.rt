@@ -3,14 +3,14 @@
 
 ghost use Rattle.std.specs.Prelude.{◌≡◌};
 
-use crate::histories::{Made, is_history, ordered, own, seen, went_out};
-use crate::jobs::{braking, shows, steady};
 use crate::shown::{Shown, show};
 use crate::table::Table;
 use std::alloc::Global;
 use std::marker::Brand;
 use std::sync::Wait;
 use std::sync::ledger::{Blank, Ledger};
+use trlab_book_trials::histories::{Made, is_history, ordered, own, seen, went_out};
+use trlab_book_trials::jobs::{braking, shows, steady};
 use trlab_leases::{BookFault, Call, Event, Reply, Snapshot};
 use trlab_rules::Rule;
 

@@ -2,7 +2,6 @@
 
 ghost use Rattle.std.specs.Prelude.{◌≡◌};
 
-use crate::histories::{Made, ordered, own, seen, went_out};
 use crate::table::Table;
 use std::alloc::Global;
 use std::marker::Brand;
@@ -10,6 +9,7 @@ use std::sync::Wait;
 use std::sync::ledger::{Blank, Ledger};
 use std::thread::Threads;
 use trlab_book::{RunFault, run_jobs};
+use trlab_book_trials::histories::{Made, ordered, own, seen, went_out};
 use trlab_leases::{BookFault, Reply};
 use trlab_segments::OpenGate;
 

@@ -2,12 +2,12 @@
 
 ghost use Rattle.std.specs.Prelude.{◌<◌, ◌≤◌};
 
-use crate::jobs::{braking, seed, steady};
 use crate::shown::{Shown, show};
 use std::alloc::Global;
 use std::thread::Threads;
 use trlab_book::advance;
 use trlab_book::laws::Kept;
+use trlab_book_trials::jobs::{braking, seed, steady};
 use trlab_leases::{BookFault, Lease, Snapshot};
 use trlab_segments::OpenGate;
 

@@ -1,5 +1,5 @@
-//! Tests of the shared book by public calls, with values worked out by hand: its desks, its history, and
-//! runners that are held by gates.
+//! Tests of the shared book by public calls of one thread, with values worked out by hand: what calls at a desk
+//! answer and leave in the history, leases of another book, full books, and the book under the lock.
 #![tactic(auto)]
 
 #[cfg(test)]
@@ -7,23 +7,9 @@ mod answers;
 #[cfg(test)]
 mod calls;
 #[cfg(test)]
-mod desks;
-#[cfg(test)]
-mod example;
-#[cfg(test)]
 mod full;
 #[cfg(test)]
-mod gates;
-#[cfg(test)]
-mod histories;
-#[cfg(test)]
-mod jobs;
-#[cfg(test)]
 mod kept;
-#[cfg(test)]
-mod meeting;
-#[cfg(test)]
-mod runs;
 #[cfg(test)]
 mod shown;
 #[cfg(test)]

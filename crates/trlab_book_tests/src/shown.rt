@@ -1,8 +1,8 @@
 //! What reads show of jobs, compared when all calls have been made: a snapshot does not change when its job
 //! goes on.
 
-use crate::jobs::{braking, is_seen, steady};
 use std::alloc::Global;
+use trlab_book_trials::jobs::{braking, is_seen, steady};
 use trlab_leases::{Sheet, Snapshot};
 use trlab_rules::Rule;
 

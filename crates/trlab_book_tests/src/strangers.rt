@@ -3,13 +3,13 @@
 
 ghost use Rattle.std.specs.Prelude.{◌≡◌};
 
-use crate::histories::{Made, ordered, own, seen, went_out};
 use crate::shown::{Shown, show};
 use crate::table::Table;
 use std::alloc::Global;
 use std::marker::Brand;
 use std::sync::Wait;
 use std::sync::ledger::{Blank, Ledger};
+use trlab_book_trials::histories::{Made, ordered, own, seen, went_out};
 use trlab_leases::{BookFault, Reply};
 
 /// What is done with two books.

@@ -8,12 +8,12 @@
 ghost use Rattle.std.specs.Prelude.{◌≡◌};
 
 use crate::answers::{done_told, lease_told, number_told, order_told, snapshot_told};
-use crate::histories::Made;
-use crate::jobs::{braking, seed_of, steady};
 use std::alloc::Global;
 use std::sync::Wait;
 use std::sync::ledger::{Blank, Ledger};
 use trlab_book::{Desk, SharedBook};
+use trlab_book_trials::histories::Made;
+use trlab_book_trials::jobs::{braking, seed_of, steady};
 use trlab_leases::{BookFault, Event, Lease, Offered, Order, Reply, Snapshot};
 use trlab_step::Caller;
 

@@ -1,9 +1,7 @@
 //! Tests of roads and of what drives them by public calls, with values worked out by hand: random
-//! words, roads, steps, runs, tickets, segments, workers and the job book.
+//! words, roads, steps, runs, tickets, segments and workers.
 #![tactic(auto)]
 
-#[cfg(test)]
-mod leases;
 #[cfg(test)]
 mod roads;
 #[cfg(test)]

@@ -1,11 +1,7 @@
 //! The job book, call by call: each list of calls says beside each call what the book tells.
 
-mod calls;
-mod full;
-mod table;
-
-use crate::leases::calls::{Call, Named};
-use crate::leases::table::Table;
+use crate::calls::{Call, Named};
+use crate::table::Table;
 use std::alloc::Global;
 
 /// How many calls of a new book, from the first on, tell what stands beside them.

@@ -1,7 +1,7 @@
 //! Full books.
 
-use crate::leases::calls::{Call, Named};
-use crate::leases::table::Table;
+use crate::calls::{Call, Named};
+use crate::table::Table;
 use std::alloc::Global;
 
 /// How many of some calls, which are all the same, tell what begins so.

@@ -2,14 +2,14 @@
 
 ghost use Rattle.std.specs.Prelude.{◌≡◌};
 
-use crate::histories::{Made, made_by};
-use crate::jobs::{steady, submit};
 use std::alloc::Global;
 use std::marker::Brand;
 use std::sync::Wait;
 use std::sync::ledger::{Blank, Ledger};
 use std::thread::{Threads, join};
 use trlab_book::{Desk, SharedBook};
+use trlab_book_trials::histories::{Made, made_by};
+use trlab_book_trials::jobs::{steady, submit};
 use trlab_leases::{Event, Reply};
 
 /// How many calls each of four threads makes.

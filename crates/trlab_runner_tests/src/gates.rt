@@ -2,8 +2,6 @@
 
 ghost use Rattle.std.specs.Prelude.{◌≡◌};
 
-use crate::histories::{Made, made_by};
-use crate::jobs::{braking, is_seen, submit};
 use crate::meeting::waits_for;
 use std::alloc::Global;
 use std::marker::Brand;
@@ -12,6 +10,8 @@ use std::sync::atomic::{AtomicBool, Ordering};
 use std::sync::ledger::{Blank, Ledger};
 use std::thread::{Threads, join};
 use trlab_book::{Desk, RunFault, SharedBook, run_jobs};
+use trlab_book_trials::histories::{Made, made_by};
+use trlab_book_trials::jobs::{braking, is_seen, submit};
 use trlab_leases::{BookFault, Event, Reply, Snapshot};
 use trlab_segments::Gate;
 

@@ -1,8 +1,7 @@
 //! Calls of a job book, as data.
 
-use crate::steps::{crossing, steady};
 use std::alloc::Global;
-use trlab_rules::{Rule, nasch};
+use trlab_rules::{Rule, nasch, rickert};
 use trlab_words::{CERTAIN, Chance};
 
 /// A rule with a name.
@@ -39,9 +38,19 @@ pub enum Call {
     Read(u32),
 }
 
-/// The rule by which each car brakes in each step.
+/// The rule of 1992, by which no car brakes by chance.
+fn steady(alloc: Global) -> Option<Rule> {
+    nasch(alloc, Chance::new(0)?).ok()
+}
+
+/// The rule of 1992, by which each car brakes in each step.
 fn braking(alloc: Global) -> Option<Rule> {
     nasch(alloc, Chance::new(CERTAIN)?).ok()
+}
+
+/// The rule of 1996, by which no car brakes by chance and each one crosses where it may.
+fn crossing(alloc: Global) -> Option<Rule> {
+    rickert(alloc, Chance::new(0)?, Chance::new(CERTAIN)?).ok()
 }
 
 /// The rule of a name.

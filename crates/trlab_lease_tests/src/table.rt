@@ -2,7 +2,7 @@
 //! promise nothing, so that a test of many calls is proved to be safe in little time: what they tell is
 //! what the tests are for.
 
-use crate::leases::calls::{Call, Named, name_of, rule_named};
+use crate::calls::{Call, Named, name_of, rule_named};
 use std::alloc::Global;
 use trlab_leases::{Book, BookFault, Lease, Order, Seed, Snapshot};
 use trlab_road::Road;

@@ -6,7 +6,6 @@
 
 ghost use Rattle.std.specs.Prelude.{◌≡◌, ◌<◌, ◌≤◌};
 
-use crate::jobs::{chancy, is_seen, road_alone, seed_of, submit};
 use crate::meeting::Meeting;
 use std::alloc::Global;
 use std::marker::Brand;
@@ -14,6 +13,7 @@ use std::sync::Wait;
 use std::sync::ledger::{Blank, Ledger};
 use std::thread::Threads;
 use trlab_book::{Desk, RunFault, SharedBook, run_jobs};
+use trlab_book_trials::jobs::{chancy, is_seen, road_alone, seed_of, submit};
 use trlab_leases::Snapshot;
 use trlab_segments::{Gate, OpenGate};
 

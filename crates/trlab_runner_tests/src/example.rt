@@ -3,13 +3,13 @@
 ghost use Rattle.std.specs.Prelude.{◌≡◌, ◌≤◌};
 ghost use Rattle.trlab_book.specs.Desks.{parts_of};
 
-use crate::jobs::{braking, road_alone, submit};
 use std::alloc::Global;
 use std::marker::Brand;
 use std::sync::Wait;
 use std::sync::ledger::{Blank, Ledger};
 use std::thread::{Threads, join};
 use trlab_book::{Desk, SharedBook, run_jobs};
+use trlab_book_trials::jobs::{braking, road_alone, submit};
 use trlab_leases::{Event, Reply, Snapshot};
 use trlab_segments::OpenGate;
 
