@@ -1,6 +1,8 @@
 -- Different programs have different spellings.
-use Rattle.std.proofs.Common.{◌≡◌, ◌∙◌, ℕ, ◌+◌, ◌*◌, ◌/◌, ◌%◌, ◌^◌, List, [], ◌∷◌, drop, get_or, refl, sym, ap, arith}
+use Rattle.std.proofs.Common.{◌≡◌, ◌∙◌, ℕ, ◌+◌, ◌*◌, ◌/◌, ◌%◌, ◌^◌, ◌&&◌, List, [], ◌∷◌, drop, get_or, Bool, true, false, refl, sym, ap, subst, arith, nat_eq}
 use Rattle.std.specs.List.{flat_map}
+use Rattle.std.specs.Bool.{Decides}
+use Rattle.std.proofs.lemmas.Bool.{eqb-true, eq-eqb}
 use Rattle.trlab_code.specs.declared.kind.Kind.{Kind}
 use Rattle.trlab_code.specs.declared.kind.Kind.TheVariants.{Motion, Change}
 use Rattle.trlab_code.specs.declared.instruction.Register.{Register}
@@ -9,9 +11,11 @@ use Rattle.trlab_code.specs.declared.instruction.Input.{Input}
 use Rattle.trlab_code.specs.declared.instruction.Input.TheVariants.{Speed, Limit, Gap, SideGap, SideBack, Lane, Headspeed}
 use Rattle.trlab_code.specs.declared.instruction.Instr.{Instr}
 use Rattle.trlab_code.specs.declared.instruction.Instr.TheVariants.{Num, Get, Side, Draw, Copy, Add, Sub, Mul, Div, Min, Max, Not, And, Or, Jump, JumpLess, JumpAtMost, JumpTrue, JumpFalse, Go, Cross, Stay}
+use Rattle.trlab_code.specs.declared.row.Row.{Row}
+use Rattle.trlab_code.specs.contracts.row.InstrPartialEq.TheImpl.{eq-value as same}
 use Rattle.trlab_code.specs.Program.{Program}
 use Rattle.trlab_code.specs.Machine.{register_number, input_number}
-use Rattle.trlab_code.specs.Spelling.{kind_byte, instr_bytes, spelling}
+use Rattle.trlab_code.specs.Spelling.{kind_byte, row_of, row_bytes, instr_bytes, spelling}
 
 same_kind : (k l : Kind) → kind_byte k ≡ kind_byte l → k ≡ l
 same_kind Motion Motion h = refl
@@ -95,6 +99,36 @@ instr_back Stay = refl
 -- an instruction is known by its bytes
 pub same_instr : {x y : Instr} → instr_bytes x ≡ instr_bytes y → x ≡ y
 same_instr {x} {y} h = sym (instr_back x) ∙ ap first_of h ∙ instr_back y
+
+both : (p q : Bool) → (p && q) ≡ true → (p ≡ true) × (q ≡ true)
+both true true h = (refl, refl)
+both true false h = absurd (cc h)
+both false q h = absurd (cc h)
+
+and_true : (p q : Bool) → p ≡ true → q ≡ true → (p && q) ≡ true
+and_true p q e f = rw (e, f) refl
+
+-- rows are one where their fields are
+same_row : (r s : Row) → r.opcode ≡ s.opcode → r.a ≡ s.a → r.b ≡ s.b → r.c ≡ s.c → r.number ≡ s.number → r ≡ s
+same_row r s o a b c n = λ i. record { opcode = o i; a = a i; b = b i; c = c i; number = n i }
+
+from_same : (x y : Instr) → same.it x y ≡ true → x ≡ y
+from_same x y h =
+    let o = both _ _ h in
+    let a = both _ _ o.1 in
+    let b = both _ _ a.1 in
+    let c = both _ _ b.1 in
+    same_instr (ap row_bytes (same_row (row_of x) (row_of y) (eqb-true _ _ o.0) (eqb-true _ _ a.0) (eqb-true _ _ b.0) (eqb-true _ _ c.0) (eqb-true _ _ c.1)))
+
+of_itself : (x : Instr) → same.it x x ≡ true
+of_itself x =
+    let n : (m : ℕ) → nat_eq m m ≡ true = λ m. eq-eqb m m refl in
+    let r = row_of x in
+    and_true _ _ (n r.opcode) (and_true _ _ (n r.a) (and_true _ _ (n r.b) (and_true _ _ (n r.c) (n r.number))))
+
+-- the test of two instructions says whether they are one
+pub same_decides : (x y : Instr) → Decides (same.it x y) (x ≡ y)
+same_decides x y = (from_same x y, λ e. subst (λ z. same.it x z ≡ true) e (of_itself x))
 
 same_first : (x y : Instr) (xs ys : List Instr) → flat_map instr_bytes (x ∷ xs) ≡ flat_map instr_bytes (y ∷ ys) → x ≡ y
 same_first x y xs ys h = sym (instr_back x) ∙ ap first_of h ∙ instr_back y

@@ -3,14 +3,15 @@
 ghost use Rattle.std.specs.Prelude.{◌≡◌, ◌+◌, ◌≤◌, ◌↔◌, length, take, drop, IsTrue, IsNone, IfSome, ℕ};
 ghost use Rattle.trlab_code.specs.Machine.{register_number, input_number};
 ghost use Rattle.trlab_code.specs.Program.{IsInRange, IsOfVersion};
-ghost use Rattle.trlab_code.specs.Spelling.{row_of, row_bytes, IsOpcode};
+ghost use Rattle.trlab_code.specs.Spelling.{row, row_of, row_bytes, IsOpcode};
 
 use crate::instruction::{Input, Instr, Register};
 use crate::program::{is_in_range, is_of_version};
+use std::fmt;
 use trlab_bounds::programs::INSTR_BYTES;
 
 /// The opcode of an instruction and its fields, 0 where the instruction has no such field.
-#[derive(Clone, Copy, PartialEq)]
+#[derive(Clone, Copy, Debug, PartialEq)]
 pub(crate) struct Row {
     pub opcode: u8,
     pub a: u8,
@@ -84,41 +85,118 @@ fn input_of(byte: u8) -> Input
     }
 }
 
+/// A row of no registers.
+fn no_registers(opcode: u8, number: u32) -> Row
+    ensures { result ≡ row opcode 0 0 0 number }
+{
+    Row {
+        opcode,
+        a: 0,
+        b: 0,
+        c: 0,
+        number,
+    }
+}
+
+/// A row of one register.
+fn one_register(opcode: u8, a: Register, number: u32) -> Row
+    ensures { result ≡ row opcode (register_number a) 0 0 number }
+{
+    Row {
+        a: a.number() as u8,
+        ..no_registers(opcode, number)
+    }
+}
+
+/// A row of two registers.
+fn two_registers(opcode: u8, a: Register, b: Register, number: u32) -> Row
+    ensures { result ≡ row opcode (register_number a) (register_number b) 0 number }
+{
+    Row {
+        b: b.number() as u8,
+        ..one_register(opcode, a, number)
+    }
+}
+
+/// A row of three registers.
+fn three_registers(opcode: u8, a: Register, b: Register, c: Register) -> Row
+    ensures { result ≡ row opcode (register_number a) (register_number b) (register_number c) 0 }
+{
+    Row {
+        c: c.number() as u8,
+        ..two_registers(opcode, a, b, 0)
+    }
+}
+
+/// A row of a register and a byte.
+fn register_and_byte(opcode: u8, a: Register, b: u8, number: u32) -> Row
+    ensures { result ≡ row opcode (register_number a) b 0 number }
+{
+    Row {
+        b,
+        ..one_register(opcode, a, number)
+    }
+}
+
 /// The row of an instruction.
 pub(crate) fn row_of(instr: Instr) -> Row
     ensures { result ≡ row_of instr }
 {
-    let row = |opcode, a, b, c, number| Row {
-        opcode,
-        a,
-        b,
-        c,
-        number,
-    };
-    let byte = |register: Register| register.number() as u8;
     match instr {
-        Instr::Num(d, n) => row(0x01, byte(d), 0, 0, n),
-        Instr::Get(d, k) => row(0x02, byte(d), k.number() as u8, 0, 0),
-        Instr::Side(d) => row(0x03, byte(d), 0, 0, 0),
-        Instr::Draw(d, k, t) => row(0x04, byte(d), k, 0, t),
-        Instr::Copy(d, a) => row(0x05, byte(d), byte(a), 0, 0),
-        Instr::Add(d, a, b) => row(0x06, byte(d), byte(a), byte(b), 0),
-        Instr::Sub(d, a, b) => row(0x07, byte(d), byte(a), byte(b), 0),
-        Instr::Mul(d, a, n) => row(0x08, byte(d), byte(a), 0, n),
-        Instr::Div(d, a, n) => row(0x09, byte(d), byte(a), 0, n),
-        Instr::Min(d, a, b) => row(0x0a, byte(d), byte(a), byte(b), 0),
-        Instr::Max(d, a, b) => row(0x0b, byte(d), byte(a), byte(b), 0),
-        Instr::Not(d, a) => row(0x0c, byte(d), byte(a), 0, 0),
-        Instr::And(d, a, b) => row(0x0d, byte(d), byte(a), byte(b), 0),
-        Instr::Or(d, a, b) => row(0x0e, byte(d), byte(a), byte(b), 0),
-        Instr::Jump(t) => row(0x0f, 0, 0, 0, t),
-        Instr::JumpLess(a, b, t) => row(0x10, byte(a), byte(b), 0, t),
-        Instr::JumpAtMost(a, b, t) => row(0x11, byte(a), byte(b), 0, t),
-        Instr::JumpTrue(a, t) => row(0x12, byte(a), 0, 0, t),
-        Instr::JumpFalse(a, t) => row(0x13, byte(a), 0, 0, t),
-        Instr::Go(a) => row(0x14, byte(a), 0, 0, 0),
-        Instr::Cross => row(0x15, 0, 0, 0, 0),
-        Instr::Stay => row(0x16, 0, 0, 0, 0),
+        Instr::Num(d, n) => one_register(0x01, d, n),
+        Instr::Get(d, k) => register_and_byte(0x02, d, k.number() as u8, 0),
+        Instr::Side(d) => one_register(0x03, d, 0),
+        Instr::Draw(d, k, t) => register_and_byte(0x04, d, k, t),
+        Instr::Copy(d, a) => two_registers(0x05, d, a, 0),
+        Instr::Add(d, a, b) => three_registers(0x06, d, a, b),
+        Instr::Sub(d, a, b) => three_registers(0x07, d, a, b),
+        Instr::Mul(d, a, n) => two_registers(0x08, d, a, n),
+        Instr::Div(d, a, n) => two_registers(0x09, d, a, n),
+        Instr::Min(d, a, b) => three_registers(0x0a, d, a, b),
+        Instr::Max(d, a, b) => three_registers(0x0b, d, a, b),
+        Instr::Not(d, a) => two_registers(0x0c, d, a, 0),
+        Instr::And(d, a, b) => three_registers(0x0d, d, a, b),
+        Instr::Or(d, a, b) => three_registers(0x0e, d, a, b),
+        Instr::Jump(t) => no_registers(0x0f, t),
+        Instr::JumpLess(a, b, t) => two_registers(0x10, a, b, t),
+        Instr::JumpAtMost(a, b, t) => two_registers(0x11, a, b, t),
+        Instr::JumpTrue(a, t) => one_register(0x12, a, t),
+        Instr::JumpFalse(a, t) => one_register(0x13, a, t),
+        Instr::Go(a) => one_register(0x14, a, 0),
+        Instr::Cross => no_registers(0x15, 0),
+        Instr::Stay => no_registers(0x16, 0),
+    }
+}
+
+impl PartialEq for Instr {
+    ghost use Rattle.std.proofs.Common.{rules};
+    ghost use Rattle.std.specs.Prelude.{nat_eq};
+    ghost use Rattle.std.specs.Ordering.{on, eq_of_both};
+    ghost use Rattle.std.specs.Cmp.Rules.{comparing};
+    ghost use Rattle.trlab_code.specs.Spelling.{row_of};
+
+    ghost eq = { on row_of (eq_of_both (on (λ row. row.opcode) nat_eq) (eq_of_both (on (λ row. row.a) nat_eq)
+        (eq_of_both (on (λ row. row.b) nat_eq) (eq_of_both (on (λ row. row.c) nat_eq) (on (λ row. row.number) nat_eq))))) };
+
+    ghost laws = { Prim.search (comparing, rules) depth 8 };
+
+    /// Instructions are one where their rows are.
+    fn eq(&self, other: &Instr) -> bool {
+        row_of(*self) == row_of(*other)
+    }
+}
+
+impl Eq for Instr {
+    ghost use Rattle.std.proofs.Common.{rules};
+    ghost use Rattle.std.specs.Cmp.Rules.{comparing};
+
+    ghost laws = { Prim.search (comparing, rules) depth 8 };
+}
+
+impl fmt::Debug for Instr {
+    /// Prints the row that spells the instruction.
+    fn fmt<W: fmt::Write>(&self, f: &mut fmt::Formatter<W>) -> fmt::Result {
+        fmt::Debug::fmt(&row_of(*self), f)
     }
 }
 

@@ -2,7 +2,8 @@ use Rattle.std.proofs.Common.{rules, ◌≡◌, ◌∙◌, sym, ap}
 use denote.Enum.Bare.{same_true}
 use Rattle.std.proofs.lemmas.Slice.Eq.{slice_eq-Decides}
 use Rattle.trlab_code.specs.contracts.kind.Kind.{the_type as kinds}
-use Rattle.trlab_verify.proofs.Equals.{same_decides, program_same}
+use Rattle.trlab_code.proofs.Injective.{same_decides}
+use Rattle.trlab_verify.proofs.Equals.{program_same}
 use Rattle.trlab_verify.proofs.copies.are_same.Goals as goal
 
 pub returns-then-eq : goal.returns-then-eq

@@ -1,4 +1,4 @@
-use Rattle.std.proofs.Common.{◌≡◌, ◌∙◌, ℕ, suc, ◌&&◌, ◌||◌, sym, subst, arith, nat_eq, below_more, Bool, false, IsTrue, List, Some, get_or}
+use Rattle.std.proofs.Common.{◌≡◌, ◌∙◌, ℕ, suc, ◌&&◌, ◌||◌, sym, subst, refl, arith, nat_eq, below_more, Bool, false, IsTrue, List, Some, get_or}
 use Rattle.std.specs.Prelude.{slice_get}
 use Rattle.std.proofs.lemmas.Option.{slice_get-get_or, slice_get_within}
 use Rattle.trlab_code.specs.Flow.{falls, target}
@@ -21,6 +21,11 @@ not_from code pc q i r ei er ef (j, ej, h) =
 pub loop-pc-preserved : goal.loop-pc-preserved
 loop-pc-preserved c =
     below_more _ _ c.loop-pc.invariant (not_from c.args.instrs.now c.loop-pc.pc c.args.q (get_or c.args.instrs.now c.loop-pc.pc (Num R0 0)) c.follows.result (slice_get-get_or c.args.instrs.now c.loop-pc.pc (Num R0 0) c.loop-pc-test.true) c.follows.ensures c.if-follows.false)
+
+pub returns-then-follows : goal.returns-then-follows
+returns-then-follows c =
+    let instr = get_or c.args.instrs.now c.loop-pc.pc (Num R0 0) in
+    (λ t. (c.loop-pc.pc, (instr, slice_get-get_or c.args.instrs.now c.loop-pc.pc (Num R0 0) c.loop-pc-test.true, sym c.follows.ensures ∙ c.if-follows.true)), λ w. refl)
 
 pub returns : goal.returns
 returns c =
