@@ -6,11 +6,11 @@ ghost use Rattle.trlab_leases.specs.Answers.{number_reply, order_reply, seen_rep
 ghost use Rattle.trlab_book.specs.Desks.{Counts};
 
 use crate::desk::{Desk, SharedBook};
-use crate::events::copied_job;
+use crate::events::{copied_replace, copied_submit};
 use std::alloc::Global;
 use std::sync::Wait;
 use std::sync::ledger::Ledger;
-use trlab_leases::{BookFault, BoxedRule, Lease, Order, Seed, Snapshot};
+use trlab_leases::{BookFault, Lease, Order, Seed, Snapshot};
 use trlab_rules::Rule;
 
 impl<L: Ledger> SharedBook<L> {
@@ -30,7 +30,7 @@ impl<L: Ledger> SharedBook<L> {
     ) -> Result<u32, BookFault>
         ensures { Counts desk.old (number_reply result) desk.new }
     {
-        let copied = copied_job(alloc, &seed, &rule);
+        let copied = copied_submit(alloc, &seed, &rule, steps);
         self.lock
             .lock(rt)
             .submit(desk, alloc, seed, rule, steps, copied)
@@ -51,7 +51,7 @@ impl<L: Ledger> SharedBook<L> {
     ) -> Result<u32, BookFault>
         ensures { Counts desk.old (number_reply result) desk.new }
     {
-        let copied = BoxedRule::copy_of(alloc, &rule);
+        let copied = copied_replace(alloc, job, &rule);
         self.lock.lock(rt).replace(desk, job, rule, copied)
     }
 

@@ -50,6 +50,19 @@ impl Kept {
         Ok(())
     }
 
+    /// The same, and the copied call comes back.
+    fn make_room_for(&mut self, copied: Result<Call, AllocError>) -> Result<Call, BookFault>
+        ensures same { IsUnchanged self.old self.new }
+        ensures room { OnOk result (vec_len self.new.history < vec_capacity self.new.history) }
+        ensures full { (result ≡ Err HistoryFull) ↔ (is_full self.old.book ≡ true) }
+        ensures free { OnOk result (is_full self.new.book ≡ false) }
+        ensures none { IfErr result (λ f. is_event (Refused f) ≡ false) }
+        ensures call { IfOk result (λ call. copied ≡ Ok call) }
+    {
+        self.make_room()?;
+        Ok(copied?)
+    }
+
     /// Submits a job.
     ///
     /// # Errors
@@ -65,37 +78,30 @@ impl Kept {
         ensures made { Makes self.old (Submit seed rule steps) (number_reply result) self.new }
         ensures full { TellsFull self.old (number_reply result) }
     {
-        let copied = copied_job(alloc, &seed, &rule);
+        let copied = copied_submit(alloc, &seed, &rule, steps);
         self.submit_copied(alloc, seed, rule, steps, copied)
     }
 
-    /// Submits a job of which the history keeps this copy.
-    #[tactic(auto, using(crate::proofs::Replaying::replays_on))]
+    /// Submits a job, where the history keeps this copy of the call.
     pub(crate) fn submit_copied(
         &mut self,
         alloc: Global,
         seed: Seed,
         rule: Rule,
         steps: u32,
-        copied: Result<(BoxedSeed, BoxedRule), AllocError>,
+        copied: Result<Call, AllocError>,
     ) -> Result<u32, BookFault>
-        requires { IfOk copied (λ c. (c.0 ≡ seed) × (c.1 ≡ rule)) }
+        requires { IfOk copied (λ call. call ≡ Submit seed rule steps) }
         ensures made { Makes self.old (Submit seed rule steps) (number_reply result) self.new }
         ensures full { TellsFull self.old (number_reply result) }
     {
-        self.make_room()?;
-        let Ok((seed_kept, rule_kept)) = copied else {
-            return Err(BookFault::Memory);
-        };
+        let call = self.make_room_for(copied)?;
         let answer = self.book.submit(alloc, seed, rule, steps);
         if is_for_memory(&answer) {
             return answer;
         }
         let reply = reply_to_number(&answer);
-        self.history.push_reserved(Event {
-            call: Call::Submit(seed_kept, rule_kept, steps),
-            reply,
-        });
+        self.history.push_reserved(Event { call, reply });
         answer
     }
 
@@ -108,35 +114,28 @@ impl Kept {
         ensures made { Makes self.old (Replace job rule) (number_reply result) self.new }
         ensures full { TellsFull self.old (number_reply result) }
     {
-        let copied = BoxedRule::copy_of(alloc, &rule);
+        let copied = copied_replace(alloc, job, &rule);
         self.replace_copied(job, rule, copied)
     }
 
-    /// Enters a rule of which the history keeps this copy.
-    #[tactic(auto, using(crate::proofs::Replaying::replays_on))]
+    /// Enters a rule, where the history keeps this copy of the call.
     pub(crate) fn replace_copied(
         &mut self,
         job: u32,
         rule: Rule,
-        copied: Result<BoxedRule, AllocError>,
+        copied: Result<Call, AllocError>,
     ) -> Result<u32, BookFault>
-        requires { IfOk copied (λ c. c ≡ rule) }
+        requires { IfOk copied (λ call. call ≡ Replace job rule) }
         ensures made { Makes self.old (Replace job rule) (number_reply result) self.new }
         ensures full { TellsFull self.old (number_reply result) }
     {
-        self.make_room()?;
-        let Ok(rule_kept) = copied else {
-            return Err(BookFault::Memory);
-        };
+        let call = self.make_room_for(copied)?;
         let answer = self.book.replace(job, rule);
         if is_for_memory(&answer) {
             return answer;
         }
         let reply = reply_to_number(&answer);
-        self.history.push_reserved(Event {
-            call: Call::Replace(job, rule_kept),
-            reply,
-        });
+        self.history.push_reserved(Event { call, reply });
         answer
     }
 
@@ -278,18 +277,28 @@ impl Kept {
     }
 }
 
-/// What the history keeps of a submitted job, in memory of its own.
-pub(crate) fn copied_job(
+/// The call `submit` with copies of the seed and the rule, for the history.
+pub(crate) fn copied_submit(
     alloc: Global,
     seed: &Seed,
     rule: &Rule,
-) -> Result<(BoxedSeed, BoxedRule), AllocError>
-    ensures { IfOk result (λ c. (c.0 ≡ seed.now) × (c.1 ≡ rule.now)) }
+    steps: u32,
+) -> Result<Call, AllocError>
+    ensures { IfOk result (λ call. call ≡ Submit seed.now rule.now steps) }
 {
-    Ok((
+    Ok(Call::Submit(
         BoxedSeed::copy_of(alloc, seed)?,
         BoxedRule::copy_of(alloc, rule)?,
+        steps,
     ))
+}
+
+/// The call `replace` with a copy of the rule, for the history.
+pub(crate) fn copied_replace(alloc: Global, job: u32, rule: &Rule) -> Result<Call, AllocError>
+    ensures { IfOk result (λ call. call ≡ Replace job rule.now) }
+{
+    let rule_kept = BoxedRule::copy_of(alloc, rule)?;
+    Ok(Call::Replace(job, rule_kept))
 }
 
 /// What the history keeps of a lease.

@@ -3,6 +3,7 @@
 ghost use Rattle.std.specs.Prelude.{◌≡◌, ◌+◌, cond, IfOk, IfErr};
 ghost use Rattle.trlab_leases.specs.Answers.{back_reply, done_reply, is_event, lease_reply};
 ghost use Rattle.trlab_leases.specs.Answers.{number_reply, order_reply, seen_reply};
+ghost use Rattle.trlab_leases.specs.declared.event.Call.TheVariants.{Replace, Submit};
 ghost use Rattle.trlab_book.specs.Desks.{Counts};
 
 use crate::desk::{Desk, Locked};
@@ -12,7 +13,7 @@ use crate::replies::{
 };
 use std::alloc::{AllocError, Global};
 use std::sync::ledger::{self, Ledger};
-use trlab_leases::{BookFault, BoxedRule, BoxedSeed, Lease, Order, Reply, Seed, Snapshot};
+use trlab_leases::{BookFault, Call, Lease, Order, Reply, Seed, Snapshot};
 use trlab_rules::Rule;
 
 /// Adds the event of a call, where its reply is of one, to the ledger and to the desk.
@@ -34,9 +35,9 @@ impl<L: Ledger> Locked<L> {
         seed: Seed,
         rule: Rule,
         steps: u32,
-        copied: Result<(BoxedSeed, BoxedRule), AllocError>,
+        copied: Result<Call, AllocError>,
     ) -> Result<u32, BookFault>
-        requires { IfOk copied (λ c. (c.0 ≡ seed) × (c.1 ≡ rule)) }
+        requires { IfOk copied (λ call. call ≡ Submit seed rule steps) }
         ensures { Counts desk.old (number_reply result) desk.new }
     {
         let answer = self.kept.submit_copied(alloc, seed, rule, steps, copied);
@@ -49,9 +50,9 @@ impl<L: Ledger> Locked<L> {
         desk: &mut Desk<L>,
         job: u32,
         rule: Rule,
-        copied: Result<BoxedRule, AllocError>,
+        copied: Result<Call, AllocError>,
     ) -> Result<u32, BookFault>
-        requires { IfOk copied (λ c. c ≡ rule) }
+        requires { IfOk copied (λ call. call ≡ Replace job rule) }
         ensures { Counts desk.old (number_reply result) desk.new }
     {
         let answer = self.kept.replace_copied(job, rule, copied);

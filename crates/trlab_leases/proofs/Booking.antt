@@ -1,8 +1,9 @@
 -- Facts of the book machine.
-use Rattle.std.proofs.Common.{◌≡◌, ℕ, ◌<◌, ◌≤◌, ◌==◌, ◌&&◌, ◌↔◌, IsTrue, not, ltb, [], Bool, true, false, List, Option, Some, None, length, ap, sym, ◌∙◌, refl, slice_get, slice_set, slice_index_or, MatchBool, MatchOption, IfOk, Result, Ok, Err, subst}
+use Rattle.std.proofs.Common.{◌≡◌, ℕ, ◌+◌, ◌<◌, ◌≤◌, ◌==◌, ◌&&◌, ◌↔◌, IsTrue, not, ltb, [], Bool, true, false, List, Option, Some, None, length, ap, sym, ◌∙◌, refl, slice_get, slice_set, slice_index_or, MatchBool, MatchOption, IfOk, Result, Ok, Err, subst}
 use Rattle.std.proofs.lemmas.Option.{slice_get-get_or, get_or_from_slice_get}
 use Rattle.std.proofs.lemmas.List.{set-get_or}
-use Rattle.std.proofs.lemmas.Bool.{and_parts, eqb-true, ltb-false}
+use Rattle.std.proofs.lemmas.Bool.{and_parts, cond-false, eqb-true, ltb-false}
+use Rattle.std.specs.List.{position}
 use Rattle.trlab_road.specs.Cells.{Cells}
 use Rattle.trlab_step.specs.declared.tally.StepTally.{StepTally}
 use Rattle.trlab_run.specs.Progress.{IsUnderway}
@@ -13,12 +14,12 @@ use Rattle.trlab_leases.specs.Jobs.{run_of, start_of}
 use Rattle.trlab_leases.specs.Sheets.{AreInForce}
 use Rattle.trlab_leases.specs.Leases.{LeaseState}
 use Rattle.trlab_leases.specs.declared.fault.BookFault.{BookFault}
-use Rattle.trlab_leases.specs.declared.fault.BookFault.TheVariants.{NoSuchJob}
-use Rattle.trlab_leases.specs.declared.event.Reply.TheVariants.{Refused}
+use Rattle.trlab_leases.specs.declared.fault.BookFault.TheVariants.{HistoryFull, NoSuchJob}
+use Rattle.trlab_leases.specs.declared.event.Reply.TheVariants.{Leased, Refused}
 use Rattle.trlab_leases.specs.declared.order.Order.{Order}
 use Rattle.trlab_step.specs.Run.{IsRoadAt, in_force}
-use Rattle.trlab_leases.specs.Comparison.{IsFresh, IsOwnRun, IsRuleAt}
-use Rattle.trlab_leases.specs.Machine.{JobState, Outcome, Served, is_out, is_own, on_job, reading}
+use Rattle.trlab_leases.specs.Comparison.{IsFresh, IsLent, IsOwnRun, IsRuleAt, IsSame, LeaseCall}
+use Rattle.trlab_leases.specs.Machine.{JobState, Outcome, Served, State, after, is_free, is_full, is_out, is_own, leasing, next_after, on_free, on_job, reading, reply_of, served}
 
 -- a job that is there
 pub found : (jobs : List JobState) (i : ℕ) (j : JobState) → i < length jobs → j ≡ slice_index_or jobs i j → slice_get jobs i ≡ Some j
@@ -50,6 +51,52 @@ rule_found jobs i j (Ok o) h e at k =
     let here : slice_get jobs o.job ≡ Some j = ap (slice_get jobs) at ∙ found jobs i j h e in
     let P : Option JobState → Type 0 = λ x. MatchOption x ⊥ (λ s. in_force s.sheet o.step ≡ Some o.rule) in
     subst P (sym here) k
+
+-- what a call on a job that is there replies, and the jobs after it
+pub reply_found : (jobs : List JobState) (i : ℕ) (j : JobState) (f : JobState → Outcome) → i < length jobs → j ≡ slice_index_or jobs i j → (f j).reply ≡ (on_job jobs i f).reply
+reply_found jobs i j f h e = sym (ap (λ s. s.reply) (on_found jobs i j f (found jobs i j h e)))
+
+pub jobs_found : (jobs : List JobState) (i : ℕ) (j : JobState) (f : JobState → Outcome) → i < length jobs → j ≡ slice_index_or jobs i j → slice_set jobs i (f j).job ≡ (on_job jobs i f).jobs
+jobs_found jobs i j f h e = sym (ap (λ s. s.jobs) (on_found jobs i j f (found jobs i j h e)))
+
+-- the lease of a job that is there runs its road
+pub own_found : (jobs : List JobState) (i : ℕ) (j : JobState) (lease : LeaseState) → i < length jobs → j ≡ slice_index_or jobs i j → lease.job ≡ i → IsSame jobs lease → IsOwnRun j lease
+own_found jobs i j lease h e job same =
+    let here : slice_get jobs lease.job ≡ Some j = ap (slice_get jobs) job ∙ found jobs i j h e in
+    let P : Option JobState → Type 0 = λ o. MatchOption o ⊥ (λ k. IsOwnRun k lease) in
+    subst P here same
+
+-- the call `lease` of a book in which a job is free
+served_free : (s : State) (i : ℕ) (j : JobState) → position is_free s.jobs ≡ Some i → i < length s.jobs → j ≡ slice_index_or s.jobs i j
+    → served s LeaseCall ≡ record { reply = Leased i s.next j.done j.steps; jobs = slice_set s.jobs i (leasing i s.next j).job }
+served_free s i j free h e = ap (on_free s.jobs s.next) free ∙ on_found s.jobs i j (leasing i s.next) (found s.jobs i j h e)
+
+pub lease_told : (s now : State) (i : ℕ) (j : JobState) (lease : LeaseState) → s ≡ now → is_full now ≡ false → position is_free s.jobs ≡ Some i → i < length s.jobs → j ≡ slice_index_or s.jobs i j
+    → lease.job ≡ i → IsFresh j s.next lease → Leased lease.job lease.number lease.step lease.steps ≡ reply_of now LeaseCall
+lease_told s now i j lease view room free h e job fresh =
+    let told : reply_of s LeaseCall ≡ Leased i s.next j.done j.steps =
+    cond-false (is_full s) (Refused HistoryFull) (served s LeaseCall).reply (ap is_full view ∙ room) ∙ ap (λ r. r.reply) (served_free s i j free h e) in
+    let number = fresh.number_is in
+    let step = fresh.step in
+    let steps = fresh.steps in
+    let mine : Leased lease.job lease.number lease.step lease.steps ≡ reply_of s LeaseCall = cc in
+    mine ∙ ap (λ (t : State). reply_of t LeaseCall) view
+
+pub lease_leads : (s now : State) (i : ℕ) (j new : JobState) → s ≡ now → is_full now ≡ false → position is_free s.jobs ≡ Some i → i < length s.jobs → j ≡ slice_index_or s.jobs i j
+    → new ≡ (leasing i s.next j).job → record { count = s.count + 1; next = s.next + 1; jobs = slice_set s.jobs i new } ≡ after now LeaseCall
+lease_leads s now i j new view room free h e made =
+    let with : JobState → State = λ k. record { count = s.count + 1; next = s.next + 1; jobs = slice_set s.jobs i k } in
+    let by : Served → State = λ r. record { count = s.count + 1; next = next_after s.next r.reply; jobs = r.jobs } in
+    let leads : after s LeaseCall ≡ with (leasing i s.next j).job =
+    cond-false (is_full s) s (by (served s LeaseCall)) (ap is_full view ∙ room) ∙ ap by (served_free s i j free h e) in
+    ap with made ∙ sym leads ∙ ap (λ (t : State). after t LeaseCall) view
+
+pub lease_lent : (s now : State) (i : ℕ) (j : JobState) (lease : LeaseState) → s ≡ now → i < length s.jobs → j ≡ slice_index_or s.jobs i j
+    → lease.job ≡ i → IsFresh j s.next lease → IsLent now.jobs now.next (Some lease)
+lease_lent s now i j lease view h e job fresh =
+    let here : slice_get s.jobs lease.job ≡ Some j = ap (slice_get s.jobs) job ∙ found s.jobs i j h e in
+    let P : Option JobState → Type 0 = λ o. MatchOption o ⊥ (λ k. IsFresh k s.next lease) in
+    subst (λ (t : State). IsLent t.jobs t.next (Some lease)) view (subst P (sym here) fresh)
 
 -- what it means that a lease is the one that is out
 pub own_parts : (lease : Offered) (job : JobState) → is_own lease job ≡ true → (lease.base ≡ job.done) × (lease.step ≤ job.high) × (lease.same ≡ true)

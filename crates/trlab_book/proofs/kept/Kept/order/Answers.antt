@@ -2,7 +2,6 @@ use Rattle.std.proofs.Common.{◌≡◌, [], ◌∷◌, ◌++◌, false, sym, ap
 use Rattle.std.proofs.lemmas.Bool.{MatchBool-at_false}
 use Rattle.trlab_leases.specs.Answers.{is_memory}
 use Rattle.trlab_leases.specs.Comparison.{OrderCall, offered}
-use Rattle.trlab_leases.specs.Machine.{is_full}
 use Rattle.trlab_leases.specs.Replay.{event}
 use Rattle.trlab_book.proofs.Replaying.{replays_on}
 use Rattle.trlab_book.proofs.kept.Kept.order.Goals as goal

@@ -1,5 +1,7 @@
-use Rattle.std.proofs.Common.{arith, rules}
+use Rattle.std.proofs.Common.{arith, rules, sym, ◌∙◌}
 use Rattle.std.proofs.lemmas.Grind.{common_steps}
+use Rattle.trlab_leases.specs.Machine.{State}
+use Rattle.trlab_leases.proofs.Booking.{lease_leads, lease_lent, lease_told}
 use Rattle.trlab_leases.proofs.book.Book.lease.Goals as goal
 
 pub invariant_of-self-in_err-lease : goal.invariant_of-self-in_err-lease
@@ -7,3 +9,29 @@ invariant_of-self-in_err-lease c = search rules
 
 pub returns-in_err-lease-clause-state : goal.returns-in_err-lease-clause-state
 returns-in_err-lease-clause-state c = grind (arith, common_steps)
+
+pub returns-clause-reply : goal.returns-clause-reply
+returns-clause-reply c =
+    let book = c.self.inside in
+    let state : State = record { count = book.count; next = book.next; jobs = book.jobs.items } in
+    let free = rw c.deref.ensures.value at c.in-Some.ensures.place in
+    let within = rw c.deref.ensures.value at c.in-Some.ensures.within in
+    lease_told state c.args.self.now c.in-Some.index c.index_mut-found.result.now c.in_ok-lease.lease c.self.view_is (sym c.is_full.ensures ∙ c.if-is_full.false)
+    (sym free) within c.index_mut-found.ensures.value c.in_ok-lease.ensures.lease.0 c.in_ok-lease.ensures.lease.1
+
+pub returns-clause-state : goal.returns-clause-state
+returns-clause-state c =
+    let book = c.self.inside in
+    let state : State = record { count = book.count; next = book.next; jobs = book.jobs.items } in
+    let free = rw c.deref.ensures.value at c.in-Some.ensures.place in
+    let within = rw c.deref.ensures.value at c.in-Some.ensures.within in
+    lease_leads state c.args.self.now c.in-Some.index c.index_mut-found.result.now c.lend.new.self c.self.view_is (sym c.is_full.ensures ∙ c.if-is_full.false)
+    (sym free) within c.index_mut-found.ensures.value c.in_ok-lease.ensures.job
+
+pub returns-clause-lent : goal.returns-clause-lent
+returns-clause-lent c =
+    let book = c.self.inside in
+    let state : State = record { count = book.count; next = book.next; jobs = book.jobs.items } in
+    let within = rw c.deref.ensures.value at c.in-Some.ensures.within in
+    lease_lent state c.args.self.now c.in-Some.index c.index_mut-found.result.now c.in_ok-lease.lease c.self.view_is
+    within c.index_mut-found.ensures.value c.in_ok-lease.ensures.lease.0 c.in_ok-lease.ensures.lease.1

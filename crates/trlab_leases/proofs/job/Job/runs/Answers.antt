@@ -1,4 +1,4 @@
-use Rattle.std.proofs.Common.{rules, sym, ◌∙◌}
+use Rattle.std.proofs.Common.{sym, ◌∙◌}
 use Rattle.std.proofs.lemmas.Bool.{false≢true}
 use Rattle.trlab_leases.specs.Machine.{job_state}
 use Rattle.trlab_leases.proofs.Booking.{runs_not, runs_where}
