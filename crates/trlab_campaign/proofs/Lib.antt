@@ -13,3 +13,4 @@ pub mod Points
 pub mod OnePoints
 pub mod SomePoints
 pub mod SomeOutput
+pub mod Verdicts

@@ -1,5 +1,5 @@
 -- The lines of the notes that the verifier hands out.
-use Rattle.std.proofs.Common.{◌≡◌, ℕ, List, length, flat_map, sym, ◌∙◌, ap, arith, ◌++◌, ◌∷◌, [], append_assoc}
+use Rattle.std.proofs.Common.{◌≡◌, ℕ, ◌+◌, ◌<◌, List, length, flat_map, drop, get_or, refl, sym, ◌∙◌, ap, arith, ◌++◌, ◌∷◌, [], append_assoc}
 use Rattle.std.proofs.lemmas.List.{get_or-map, length-map}
 use Rattle.std.specs.Prelude.{Result, Ok, Err, OnOk, Some, slice_index_or, codes, decimal}
 use Rattle.std.specs.List.{range_with_len}
@@ -14,11 +14,19 @@ use Rattle.trlab_verify.specs.TableForm.{empty_form, meaning, meaning_at, said_o
 use Rattle.trlab_verify.specs.Incoming.{note_at}
 use Rattle.trlab_verify.specs.Tables.{AreVerdictNotes, blank}
 use Rattle.trlab_campaign.specs.NoteLines.{maybe_note_line, note_line, notes_text, said_text}
-use Rattle.trlab_campaign.proofs.Lines.{pieces_agree}
+use Rattle.trlab_asm.specs.declared.names.TheConstants.{REGISTERS}
+use Rattle.trlab_campaign.proofs.Lines.{next_whole, pieces_agree}
 
 -- what a form says of a register
 abbrev pub marked_text : Form → Register → List ℕ
 marked_text form register = said_text register (with_side form.side (said_of (slice_index_or form.regs (register_number register) Unset)))
+
+-- of what a form says of the registers the next was put behind a text
+pub next_marked : (form : Form) (i number : ℕ) (d : Register) (old new : List ℕ) → i < length REGISTERS → number ≡ register_number (get_or REGISTERS i d)
+    → new ≡ old ++ said_text (get_or REGISTERS i d) (with_side form.side (said_of (slice_index_or form.regs number Unset)))
+    → new ++ flat_map (marked_text form) (drop (i + 1) REGISTERS) ≡ old ++ flat_map (marked_text form) (drop i REGISTERS)
+next_marked form i number d old new inside is added =
+    next_whole (marked_text form) REGISTERS i d old new _ inside (rw is refl) added
 
 -- the lines of the notes of a table that the verdict has are those of the program
 pub table_lines : (program : Program) (forms : List Form) → AreVerdictNotes program.kind program (table_of program.kind forms)

@@ -1,9 +1,9 @@
 -- The words of a later line, part by part.
-use Rattle.std.proofs.Common.{◌≡◌, List, ℕ, Bool, true, false, ap, ◌∙◌}
-use Rattle.std.specs.Prelude.{Option, None, Some, codes, option_map, option_and_then, if◌then◌else◌}
+use Rattle.std.proofs.Common.{◌≡◌, List, ℕ, Bool, true, false, ap, refl, ◌∙◌}
+use Rattle.std.specs.Prelude.{Option, None, Some, Ok, codes, option_map, option_and_then, if◌then◌else◌}
 use Rattle.trlab_texts.specs.Words.{is_word}
 use Rattle.trlab_lines.specs.Cutting.{behind, cut}
-use Rattle.trlab_jobs.specs.RuleLines.{rule_words, step_and_rule, later_words}
+use Rattle.trlab_jobs.specs.RuleLines.{rule_words, rule_numbers, step_and_rule, step_of, admit, later_words, later_line}
 use Rattle.trlab_jobs.specs.declared.rule_line.RuleLine.{RuleLine}
 
 -- the words of a rule behind a step
@@ -35,3 +35,8 @@ pub step_said : (text rest step words : List ℕ) (rule : Option (RuleLine (List
     → rule ≡ rule_words words → rule_behind step rule ≡ later_words text
 step_said text rest step words rule p q w r =
     ap (rule_behind step) r ∙ (ap (λ (b : Bool). if b then rule_behind step (rule_words words) else None) w ∙ cut_said text rest step words p q)
+
+-- the words of a later line, its numbers, and its step, which is let in
+pub later_said : (room steps least : ℕ) (text : List ℕ) (words : List ℕ × RuleLine (List ℕ)) (step from : ℕ) (rule : RuleLine ℕ) → Some words ≡ later_words text → Ok step ≡ step_of words.0
+    → Ok rule ≡ rule_numbers words.1 → Ok from ≡ admit room steps least step → Ok (from, rule) ≡ later_line room steps least text
+later_said room steps least text words step from rule p q r s = rw (← p, ← q, ← r, ← s) refl

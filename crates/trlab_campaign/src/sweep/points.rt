@@ -41,9 +41,9 @@ fn run_of(alloc: Global, sweep: &Sweep, number: u32, road: Road) -> Result<Run, 
 }
 
 /// What is counted in the first steps of a run.
-fn count_run(alloc: Global, mut run: Run, steps: u32) -> Result<StepTally, AllocError>
-    requires start { run.step ≡ 0 }
-    ensures { IfOk result (λ tally. IsTallyAt run.seed run.sheet steps tally) }
+fn count_run(alloc: Global, run: &mut Run, steps: u32) -> Result<StepTally, AllocError>
+    requires start { run.old.step ≡ 0 }
+    ensures { IfOk result (λ tally. IsTallyAt run.old.seed run.old.sheet steps tally) }
 {
     for _ in 0..steps {
         run.advance(&Caller, alloc)?;
@@ -81,7 +81,9 @@ pub fn run_point(
     ensures is { IfOk result (λ point. IsPoint sweep.now.setup number cars point) }
     ensures measured { IfOk result IsMeasured }
 {
-    let run = run_of(alloc, sweep, number, road)?;
-    let tally = count_run(alloc, run, sweep.warm + sweep.measure)?;
-    Ok(point_of(sweep, cars, tally))
+    let mut run = run_of(alloc, sweep, number, road)?;
+    match count_run(alloc, &mut run, sweep.warm + sweep.measure) {
+        Ok(tally) => Ok(point_of(sweep, cars, tally)),
+        Err(fault) => Err(fault),
+    }
 }

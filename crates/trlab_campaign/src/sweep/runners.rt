@@ -1,7 +1,8 @@
 //! The roads of a sweep as jobs of a book, which runners take. What they leave undone, the caller runs.
 
-ghost use Rattle.std.specs.Prelude.{◌≡◌, ◌<◌, ◌≤◌, All, IfOk, get_or, length};
+ghost use Rattle.std.specs.Prelude.{◌≡◌, ◌<◌, ◌≤◌, All, IfOk, IfSome, get_or, length};
 ghost use Rattle.trlab_diagram.specs.Flow.{IsMeasured};
+ghost use Rattle.trlab_road.specs.Spreading.{IsEven};
 ghost use Rattle.trlab_bounds.specs.declared.runs.TheConstants.{MOST_WORKERS};
 ghost use Rattle.trlab_book.specs.Desks.{parts_of};
 ghost use Rattle.trlab_book.specs.declared.limits.TheConstants.{ALL_PARTS, MOST_RUNNERS};
@@ -17,6 +18,7 @@ use trlab_book::{Desk, SharedBook, run_jobs};
 use trlab_diagram::Point;
 use trlab_jobs::Sweep;
 use trlab_leases::Seed;
+use trlab_road::Road;
 use trlab_segments::OpenGate;
 
 /// Submits the road of each point, so that a job has the number of its point. Where the book takes no
@@ -46,6 +48,30 @@ fn submit_roads<L: Ledger, R: Wait>(
     Ok(())
 }
 
+/// The point of the book's job with this number, whose road starts so, where that has come to its last
+/// step.
+fn point_in_book<L: Ledger, R: Wait>(
+    rt: &R,
+    alloc: Global,
+    book: &SharedBook<L>,
+    desk: &mut Desk<L>,
+    sweep: &Sweep,
+    number: u32,
+    road: &Road,
+) -> Option<Point>
+    requires inside { number < length sweep.now.cars }
+    requires even { IsEven sweep.now.setup.shape.lanes sweep.now.setup.shape.cells
+        sweep.now.setup.shape.limit (get_or sweep.now.cars number 0) road.now }
+    ensures is { IfSome result
+        (λ point. IsPoint sweep.now.setup number (get_or sweep.now.cars number 0) point) }
+    ensures measured { IfSome result IsMeasured }
+{
+    match book.read(rt, alloc, desk, number) {
+        Ok(seen) => point_seen(sweep, number, sweep.cars[number as usize], road, &seen),
+        Err(_) => None,
+    }
+}
+
 /// The point with this number and so many cars: that of the book's job, or where the job has not come
 /// to its last step, that of a run by the caller.
 fn point_of_job<L: Ledger, R: Wait>(
@@ -63,12 +89,10 @@ fn point_of_job<L: Ledger, R: Wait>(
 {
     let cars = sweep.cars[number as usize];
     let road = even_road(alloc, sweep, cars)?;
-    if let Ok(seen) = book.read(rt, alloc, desk, number) {
-        if let Some(point) = point_seen(sweep, number, cars, &road, &seen) {
-            return Ok(point);
-        }
+    match point_in_book(rt, alloc, book, desk, sweep, number, &road) {
+        Some(point) => Ok(point),
+        None => run_point(alloc, sweep, number, cars, road),
     }
-    run_point(alloc, sweep, number, cars, road)
 }
 
 /// The points of a sweep whose roads were run.

@@ -1,5 +1,16 @@
-use Rattle.std.proofs.Common.{rules}
+use Rattle.std.proofs.Common.{sym, ◌∙◌}
+use Rattle.trlab_code.specs.declared.kind.Kind.TheVariants.{Motion as OfMotion, Change as OfChange}
+use Rattle.trlab_jobs.specs.Check.{check_of}
+use Rattle.trlab_campaign.proofs.Verdicts.{accepted_said}
 use Rattle.trlab_campaign.proofs.verdict.verdict.Goals as goal
 
 pub returns-in-Ok : goal.returns-in-Ok
-returns-in-Ok c = search rules
+returns-in-Ok c = rw (← c.check.view_is)
+    (accepted_said c.accepted_output.result (λ answer. answer.0) (λ answer. answer.1.items) (check_of c.check.inside.question c.check.inside.code) OfMotion c.code.result.now c.in-Ok.motion.program c.budget.result
+    (sym c.kind.ensures ∙ c.in-Motion.is) c.in-Ok.ensures.accepted.1 c.code.ensures.value c.in-Ok.ensures.accepted.0 c.budget.ensures.longest c.accepted_output.ensures)
+
+pub returns-in-Ok-verify_change : goal.returns-in-Ok-verify_change
+returns-in-Ok-verify_change c = rw (← c.check.view_is)
+    (accepted_said c.accepted_output-in-Ok-verify_change.result (λ answer. answer.0) (λ answer. answer.1.items) (check_of c.check.inside.question c.check.inside.code) OfChange
+    c.code-in-Ok-verify_change.result.now c.in-Ok-verify_change.change.program c.budget-in-Ok-verify_change.result (sym c.kind.ensures ∙ c.in-Change.is) c.in-Ok-verify_change.ensures.accepted.1
+    c.code-in-Ok-verify_change.ensures.value c.in-Ok-verify_change.ensures.accepted.0 c.budget-in-Ok-verify_change.ensures.longest c.accepted_output-in-Ok-verify_change.ensures)
