@@ -7,11 +7,10 @@ ghost use Rattle.trlab_code.specs.Spelling.{row, row_of, row_bytes, IsOpcode};
 
 use crate::instruction::{Input, Instr, Register};
 use crate::program::{is_in_range, is_of_version};
-use std::fmt;
 use trlab_bounds::programs::INSTR_BYTES;
 
 /// The opcode of an instruction and its fields, 0 where the instruction has no such field.
-#[derive(Clone, Copy, Debug, PartialEq)]
+#[derive(Clone, Copy, PartialEq)]
 pub(crate) struct Row {
     pub opcode: u8,
     pub a: u8,
@@ -191,13 +190,6 @@ impl Eq for Instr {
     ghost use Rattle.std.specs.Cmp.Rules.{comparing};
 
     ghost laws = { Prim.search (comparing, rules) depth 8 };
-}
-
-impl fmt::Debug for Instr {
-    /// Prints the row that spells the instruction.
-    fn fmt<W: fmt::Write>(&self, f: &mut fmt::Formatter<W>) -> fmt::Result {
-        fmt::Debug::fmt(&row_of(*self), f)
-    }
 }
 
 /// The only instruction whose row this can be; any instruction where it is the row of none.
