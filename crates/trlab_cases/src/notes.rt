@@ -1,5 +1,8 @@
 //! Notes as lines of text.
 
+ghost use Rattle.std.specs.Prelude.{◌<◌};
+ghost use Rattle.trlab_bounds.specs.declared.programs.TheConstants.{PLACES};
+
 use std::alloc::{AllocError, Global};
 use trlab_code::PLACES;
 use trlab_verify::{Mark, Note};
@@ -33,14 +36,12 @@ pub fn note_line(alloc: Global, note: &Note) -> Result<String, AllocError> {
 
 /// Adds all that a note says, a blank before each.
 fn add_all(alloc: Global, line: &mut String, note: &Note) -> Result<(), AllocError> {
-    for (name, mark) in NAMES.iter().zip(note.regs.iter()) {
-        add_mark(alloc, line, name, *mark)?;
+    for register in 0..note.regs.len() {
+        add_mark(alloc, line, NAMES[register], note.regs[register])?;
     }
-    for (place, (name, levels)) in NAMES.iter().zip(note.levels.iter()).enumerate() {
-        let at_most = format!(in alloc; " {name}<=")?;
-        add_order(line, place, &at_most, levels, 1)?;
-        let below = format!(in alloc; " {name}<")?;
-        add_order(line, place, &below, levels, 2)?;
+    for place in 0..PLACES {
+        add_order(line, place, "<=", &note.levels[place], 1)?;
+        add_order(line, place, "<", &note.levels[place], 2)?;
     }
     if note.side {
         line.push_str(" side")?;
@@ -67,12 +68,20 @@ fn add_order(
     sign: &str,
     levels: &[u8; PLACES],
     level: u8,
-) -> Result<(), AllocError> {
+) -> Result<(), AllocError>
+    requires { place < PLACES }
+{
     let mut is_first = true;
-    for (other, (name, found)) in NAMES.iter().zip(levels.iter()).enumerate() {
-        if place != other && *found == level {
-            line.push_str(if is_first { sign } else { "," })?;
-            line.push_str(name)?;
+    for other in 0..PLACES {
+        if place != other && levels[other] == level {
+            if is_first {
+                line.push(' ')?;
+                line.push_str(NAMES[place])?;
+                line.push_str(sign)?;
+            } else {
+                line.push(',')?;
+            }
+            line.push_str(NAMES[other])?;
             is_first = false;
         }
     }
