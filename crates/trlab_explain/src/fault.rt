@@ -6,7 +6,6 @@ ghost use Rattle.trlab_explain.specs.Explanations.{BeginsWith, fault_head};
 use crate::forms::{INSTRUCTIONS, form_of};
 use crate::head::{push_fault_head, push_read_as};
 use crate::mends::push_mend;
-use crate::part::push_part_refusal;
 use crate::spots::{EXPECTED_OF_CHECK, expected_at};
 use std::alloc::{AllocError, Global};
 use trlab_advice::{
@@ -14,6 +13,7 @@ use trlab_advice::{
 };
 use trlab_asm::{Why, mnemonic_named};
 use trlab_code::CodeFault;
+use trlab_findings::push_part_refusal;
 use trlab_prose::Page;
 use trlab_road::RoadFault;
 use trlab_texts::Cause;

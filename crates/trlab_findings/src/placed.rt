@@ -18,20 +18,12 @@ pub struct Placed<'a> {
     pub lines: &'a InstrLines,
 }
 
-/// Adds an instruction as the laboratory writes it, with its number.
-fn push_canonical(
-    alloc: Global,
-    page: &mut Page,
-    program: Placed<'_>,
-    pc: u32,
-) -> Result<(), AllocError> {
-    let listing = disassemble(alloc, program.code)?;
-    page.say("instruction ")?;
-    page.number(u64::from(pc))?;
+/// Adds a line of a listing, quoted, with what it is and its number.
+fn push_line(page: &mut Page, what: &str, number: u32, line: &[u8]) -> Result<(), AllocError> {
+    page.say(what)?;
+    page.number(u64::from(number))?;
     page.say(": ")?;
-    if let Some(line) = line_at(&listing, pc.saturating_add(1)) {
-        page.quote(line)?;
-    }
+    page.quote(line)?;
     page.end_line()
 }
 
@@ -42,14 +34,15 @@ pub fn push_instruction(
     program: Placed<'_>,
     pc: u32,
 ) -> Result<(), AllocError> {
-    let Some(number) = program.lines.line_of(pc as usize) else {
-        return push_canonical(alloc, page, program, pc);
-    };
-    page.say("line ")?;
-    page.number(u64::from(number))?;
-    page.say(": ")?;
-    if let Some(line) = line_at(program.text, number) {
-        page.quote(line)?;
+    match program.lines.line_of(pc as usize) {
+        Some(number) => {
+            let line = line_at(program.text, number).unwrap_or(b"");
+            push_line(page, "line ", number, line)
+        }
+        None => {
+            let listing = disassemble(alloc, program.code)?;
+            let line = line_at(&listing, pc.saturating_add(1)).unwrap_or(b"");
+            push_line(page, "instruction ", pc, line)
+        }
     }
-    page.end_line()
 }
