@@ -5,6 +5,7 @@ ghost use Rattle.trlab_explain.specs.Explanations.{BeginsWith, fault_head};
 
 use crate::forms::{INSTRUCTIONS, form_of};
 use crate::head::{push_fault_head, push_read_as};
+use crate::lines::push_both;
 use crate::mends::push_mend;
 use crate::spots::{EXPECTED_OF_CHECK, expected_at};
 use std::alloc::{AllocError, Global};
@@ -90,14 +91,35 @@ fn push_expectation(
     }
 }
 
-/// Adds what to look at where no repair is likely.
-fn push_hint(page: &mut Page, cause: Cause) -> Result<(), AllocError> {
+/// Adds what to look at, if a cause has something of the kind.
+///
+/// # Errors
+///
+/// Want of memory.
+pub fn push_hint(page: &mut Page, cause: Cause) -> Result<(), AllocError> {
     match look_at(cause) {
-        Some(hint) => {
-            page.say("Look at: ")?;
-            page.line(hint)
-        }
+        Some(hint) => push_both(page, "Look at: ", hint),
         None => Ok(()),
+    }
+}
+
+/// Adds what is told of a fault behind its head.
+fn push_fault(
+    alloc: Global,
+    page: &mut Page,
+    subject: Subject,
+    text: &[u8],
+    line: u32,
+    cause: Cause,
+) -> Result<(), AllocError> {
+    if cause != Cause::TooBig {
+        push_read_as(page, subject)?;
+    }
+    push_meaning(page, cause)?;
+    push_expectation(alloc, page, subject, text, line, cause)?;
+    match likely_repair(alloc, subject, text, line, cause)? {
+        Some(repair) => push_mend(page, text, repair),
+        None => push_hint(page, cause),
     }
 }
 
@@ -110,15 +132,7 @@ fn fault_body(
     cause: Cause,
 ) -> Result<Page, AllocError> {
     let mut page = Page::new(alloc);
-    if cause != Cause::TooBig {
-        push_read_as(&mut page, subject)?;
-    }
-    push_meaning(&mut page, cause)?;
-    push_expectation(alloc, &mut page, subject, text, line, cause)?;
-    match likely_repair(alloc, subject, text, line, cause)? {
-        Some(repair) => push_mend(&mut page, text, repair)?,
-        None => push_hint(&mut page, cause)?,
-    }
+    push_fault(alloc, &mut page, subject, text, line, cause)?;
     Ok(page)
 }
 

@@ -22,6 +22,16 @@ pub fn push_count(
     page.line(behind)
 }
 
+/// Adds a line of two pieces.
+///
+/// # Errors
+///
+/// Want of memory.
+pub fn push_both(page: &mut Page, front: &str, behind: &str) -> Result<(), AllocError> {
+    page.say(front)?;
+    page.line(behind)
+}
+
 /// Adds the first lines of a text that have this first word, as many as there may be of them.
 ///
 /// # Errors

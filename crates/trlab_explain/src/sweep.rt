@@ -60,14 +60,19 @@ fn push_points(page: &mut Page, sweep: &Sweep) -> Result<(), AllocError> {
     )
 }
 
+/// Adds what a sweep will do.
+fn push_sweep(page: &mut Page, text: &[u8], sweep: &Sweep) -> Result<(), AllocError> {
+    page.line("This is a good sweep text: `trlab sweep` measures it.")?;
+    push_roads(page, sweep)?;
+    page.line("The rule:")?;
+    push_rules(page, text, b"rule", 1)?;
+    push_points(page, sweep)
+}
+
 /// The page on what a sweep will do.
 fn sweep_page(alloc: Global, text: &[u8], sweep: &Sweep) -> Result<Page, AllocError> {
     let mut page = Page::new(alloc);
-    page.line("This is a good sweep text: `trlab sweep` measures it.")?;
-    push_roads(&mut page, sweep)?;
-    page.line("The rule:")?;
-    push_rules(&mut page, text, b"rule", 1)?;
-    push_points(&mut page, sweep)?;
+    push_sweep(&mut page, text, sweep)?;
     Ok(page)
 }
 
