@@ -1,7 +1,7 @@
 -- Lists from pictures.
-use Rattle.std.proofs.Common.{◌≡◌, ◌≢◌, ℕ, ◌+◌, ◌<◌, ◌≤◌, Some, None, List, [], ◌∷◌, ◌++◌, length, get_or, drop, eqb, refl, sym, ◌∙◌, ap, arith, add-one, append_assoc, drop-cons}
+use Rattle.std.proofs.Common.{◌≡◌, ◌≢◌, ℕ, ◌+◌, ◌<◌, ◌≤◌, Some, None, List, [], ◌∷◌, ◌++◌, length, get_or, drop, eqb, refl, sym, subst, ◌∙◌, ap, arith, add-one, append_assoc, drop-cons}
 use Rattle.std.proofs.lemmas.Bool.{eq-eqb, ne_eqb, cond-true, cond-false}
-use Rattle.std.proofs.lemmas.List.{length_push}
+use Rattle.std.proofs.lemmas.List.{length_push, append-nil, at_drop_all}
 use Rattle.trlab_road.specs.LaneCars.{LaneCar}
 use Rattle.trlab_road.specs.Cells.{Lane}
 use Rattle.trlab_road.specs.Pictures.{point}
@@ -15,6 +15,18 @@ pub record Drawn (from : ℕ) (picture : List ℕ) (cars : List LaneCar) (number
   pub counted : number ≡ from + length cars
   pub few : length cars ≤ i
   pub whole : cells_of i cars ++ lane_of_picture number (drop i picture) ≡ lane_of_picture from picture
+
+-- at the start
+pub drawn_none : (from : ℕ) (picture : List ℕ) (cars : List LaneCar) → cars ≡ [] → Drawn from picture cars from 0
+drawn_none from picture cars e = rw e (record { rises = tt; counted = omega arith; few = omega arith; whole = refl })
+
+-- at the end
+pub drawn_all : (from : ℕ) (picture : List ℕ) (cars : List LaneCar) (number i : ℕ) → Drawn from picture cars number i
+    → i ≡ length picture → Rises 0 (length picture) cars × (cells_of (length picture) cars ≡ lane_of_picture from picture)
+drawn_all from picture cars number i d end = (
+  subst (λ k. Rises 0 k cars) end d.rises,
+  rw (← end) (sym (append-nil (cells_of i cars)) ∙ ap (λ (cs : Lane). cells_of i cars ++ cs) (sym (at_drop_all (lane_of_picture number) picture i (omega (arith, end)))) ∙ d.whole),
+)
 
 module _ (from : ℕ) (picture : List ℕ) (cars : List LaneCar) (number i : ℕ) (d : Drawn from picture cars number i) (low : i < length picture) where
   rest : drop i picture ≡ get_or picture i 0 ∷ drop (i + 1) picture

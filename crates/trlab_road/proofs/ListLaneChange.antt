@@ -59,6 +59,13 @@ pub record IsDue (n : ℕ) (cars : List LaneCar) (k a : ℕ) : Type 0 where
 pub due_low : (n : ℕ) (cars : List LaneCar) (k a : ℕ) → IsDue n cars k a → a < n → k < length cars
 due_low n cars k a d inside = elim (cases_lt k (length cars)) [ inl low ↦ low | inr high ↦ let e = d.past high in absurd (omega (arith, e, inside)) ]
 
+-- the one of two lists whose next car comes first has a car left
+pub own_low : (n : ℕ) (own : List LaneCar) (i a b p : ℕ) → IsDue n own i a → p ≡ min a b → p < n → a < b → i < length own
+own_low n own i a b p d is inside later = due_low n own i a d (omega (arith, is, inside, later))
+
+pub coming_low : (n : ℕ) (coming : List LaneCar) (j a b p : ℕ) → IsDue n coming j b → p ≡ min a b → p < n → b ≤ a → j < length coming
+coming_low n coming j a b p d is inside early = due_low n coming j b d (omega (arith, is, inside, early))
+
 pub due_within : (n : ℕ) (cars : List LaneCar) (k a : ℕ) → Rises 0 n cars → IsDue n cars k a → a ≤ n
 due_within n cars k a r d =
     elim (cases_lt k (length cars)) [

@@ -1,5 +1,5 @@
 -- A run on its way: its road is legal, and what it has counted is little enough.
-use Rattle.std.proofs.Common.{◌≡◌, ℕ, zero, suc, ◌*◌, ◌≤◌, length, refl, sym, subst, arith, Bool, true, false}
+use Rattle.std.proofs.Common.{◌≡◌, ℕ, zero, suc, ◌+◌, ◌*◌, ◌^◌, ◌<◌, ◌≤◌, length, refl, sym, subst, arith, Bool, true, false}
 use Rattle.std.specs.Prelude.{Some, nat_le, if◌then◌else◌}
 use Rattle.trlab_bounds.specs.declared.roads.TheConstants.{GREATEST_LIMIT}
 use Rattle.trlab_road.specs.Cells.{Cells}
@@ -60,3 +60,9 @@ room_for run rule next tally on legal is =
     let like = like_start run.seed run.sheet run.step run.road run.sum on.legal on.suits on.comes in
     one_more true run.step run.sum (tally_sum run.sum tally) tally (small_sum run.seed run.sheet run.step run.road run.sum on.legal on.suits on.comes)
     (small_tally rule (dice_at run.seed run.step) run.road next tally like.legal legal is) refl
+
+-- in fewer than 2 ^ 32 steps the sum stays below 2 ^ 64
+pub counts_fit : (step begun : ℕ) (sum : StepTally) → IsSmallSum (suc step) sum → step ≡ begun → begun + 1 < 2 ^ 32 → (sum.distance < 2 ^ 64) × (sum.stopped < 2 ^ 64) × (sum.changes < 2 ^ 64)
+counts_fit step begun sum small same early =
+    let a = small.distance in let b = small.stopped in let d = small.changes in
+    (omega (arith, a, same, early), omega (arith, b, same, early), omega (arith, d, same, early))

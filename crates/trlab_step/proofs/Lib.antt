@@ -6,5 +6,6 @@ pub mod Totals
 pub mod Parts
 pub mod Stepped
 pub mod PartLaws
+pub mod Blocks
 pub mod AskedCars
 pub mod PublishedLaws

@@ -1,9 +1,9 @@
 use Rattle.std.proofs.Common.{◌≡◌, ◌-◌, ◌≤◌, take, drop, ◌++◌, ◌≢◌, nat_eq, ◌+◌, ◌<◌, ◌∙◌, ℕ, Bool, true, false, None, refl, sym, cond, min, subst, length, arith}
-use Rattle.std.proofs.lemmas.Bool.Decides.{nat_tests}
+use Rattle.std.proofs.lemmas.Bool.{eqb-true, eqb-false}
 use Rattle.trlab_road.specs.LaneChange.{cell_after_change}
 use Rattle.trlab_road.specs.Cells.{Cell}
 use Rattle.trlab_road.specs.Stored.{cells_of, cell_at, lane_crosses_at, place_of, IsFirstFrom}
-use Rattle.trlab_road.proofs.ListLaneChange.{Merged, merged_none, merged_next, merged_skip, merged_push, merged_all, crosses_here, sought_here, sought_none, sought_past, sought_next, due_low, due_none, due_past, due_within, stays, first_at, merged_run}
+use Rattle.trlab_road.proofs.ListLaneChange.{Merged, merged_none, merged_next, merged_skip, merged_push, merged_all, crosses_here, sought_here, sought_none, sought_past, sought_next, due_low, own_low, coming_low, due_none, due_past, due_within, stays, first_at, merged_run}
 use Rattle.trlab_road.proofs.Lists.{rises_high}
 use Rattle.trlab_road.proofs.lane_change.change_lane.Goals.{then-crosses-own, else-crosses-own+in_ok-extend_from_slice, then-own_here+then-not-crosses-own+in_ok-push, else-own_here+in_ok-push-2, else-own_here-via-then-own_here+else-not-crosses-own, else-own_here-via-else-own_here}
 use Rattle.trlab_road.proofs.lane_change.change_lane.Goals as goal
@@ -131,7 +131,7 @@ loop-standing-preserved c =
     let own_there : standing ≡ x → place_of own i ≡ x = λ same. sym (own_due.here (own_low same)) ∙ same in
     let apart : standing ≢ x → i < length own → place_of own i ≢ x = λ other on e. other (own_due.here on ∙ e) in
     let s : IsFirstFrom own (x + 1) (i + c.from-i.result) =
-    rw c.from-i.ensures (sought_next n own x i (nat_eq standing x) r m.own_at (λ e. own_low (grind (arith, nat_tests, e))) (λ e. own_there (grind (arith, nat_tests, e))) (λ f. apart (λ e. grind (arith, nat_tests, f, e)))) in
+    rw c.from-i.ensures (sought_next n own x i (nat_eq standing x) r m.own_at (λ e. own_low (eqb-true standing x e)) (λ e. own_there (eqb-true standing x e)) (λ f. apart (eqb-false standing x f))) in
     let step : Merged n own beside oc bc c.if-own_here.next.items (i + c.from-i.result) (j + 1) (x + 1) =
     elim c.if-own_here.branch [
       | then-own_here+then-not-crosses-own+in_ok-push w ↦
@@ -157,3 +157,59 @@ loop-standing-preserved c =
 
 pub returns-clause-crosses : goal.returns-clause-crosses
 returns-clause-crosses c = merged_all _ _ _ _ _ _ _ _ _ c.loop-standing.invariant.merged (let h = c.loop-standing-test.false in let is = c.min.ensures in omega (arith, h, is))
+
+-- the next car of either list is a car
+pub run_end-end-requires-clause-each : goal.run_end-end-requires-clause-each
+run_end-end-requires-clause-each c = c.requires.own_each
+
+pub run_end-end-requires-clause-begin : goal.run_end-end-requires-clause-begin
+run_end-end-requires-clause-begin c = own_low _ _ _ _ _ _ c.loop-standing.invariant.own_due c.min.ensures c.loop-standing-test.true c.if-standing-due.true
+
+pub run_end-end-requires-clause-stays : goal.run_end-end-requires-clause-stays
+run_end-end-requires-clause-stays c = c.if-crosses-own.false
+
+pub run_end-end-requires-clause-before : goal.run_end-end-requires-clause-before
+run_end-end-requires-clause-before c =
+    let own_due = c.loop-standing.invariant.own_due in
+    let low = own_low _ _ _ _ _ _ own_due c.min.ensures c.loop-standing-test.true c.if-standing-due.true in
+    let here = own_due.here low in
+    let later = c.if-standing-due.true in
+    omega (arith, here, later)
+
+pub split_at-requires : goal.split_at-requires
+split_at-requires c =
+    let end = c.run_end-end.ensures.within.0 in
+    let within = c.run_end-end.ensures.within.1 in
+    omega (arith, end, within)
+
+pub overflow_sub-end : goal.overflow_sub-end
+overflow_sub-end c = let end = c.run_end-end.ensures.within.0 in omega (arith, end)
+
+pub split_at-requires-else-crosses-own : goal.split_at-requires-else-crosses-own
+split_at-requires-else-crosses-own c =
+    let within = c.run_end-end.ensures.within.1 in
+    let back = c.split_at.ensures.back_len in
+    omega (arith, within, back)
+
+pub car_at-requires : goal.car_at-requires
+car_at-requires c =
+    let test = c.loop-standing-test.true in
+    let is = c.min.ensures in
+    let same = c.if-own_here.true in
+    due_low _ _ _ _ c.loop-standing.invariant.own_due (omega (arith, test, is, same))
+
+pub car_at-requires-else-own_here : goal.car_at-requires-else-own_here
+car_at-requires-else-own_here c = coming_low _ _ _ _ _ _ c.loop-standing.invariant.coming_due c.min.ensures c.loop-standing-test.true c.if-standing-due.false
+
+pub loop-standing-smaller-then-standing-due : goal.loop-standing-smaller-then-standing-due
+loop-standing-smaller-then-standing-due c =
+    let low = own_low _ _ _ _ _ _ c.loop-standing.invariant.own_due c.min.ensures c.loop-standing-test.true c.if-standing-due.true in
+    elim c.if-crosses-own.branch [
+      | then-crosses-own w ↦ let on = w.i-is in omega (arith, low, on)
+      | else-crosses-own+in_ok-extend_from_slice w ↦ let on = w.i-is in let end = w.run_end-end.ensures.within.0 in omega (arith, low, on, end)
+    ]
+
+pub loop-standing-smaller : goal.loop-standing-smaller
+loop-standing-smaller c =
+    let low = coming_low _ _ _ _ _ _ c.loop-standing.invariant.coming_due c.min.ensures c.loop-standing-test.true c.if-standing-due.false in
+    omega (arith, low)

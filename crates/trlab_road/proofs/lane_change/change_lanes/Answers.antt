@@ -1,34 +1,79 @@
-use Rattle.std.proofs.Common.{◌≡◌, ℕ, List, Bool, length, take, refl, ap, subst, arith}
+use Rattle.std.proofs.Common.{◌≡◌, ◌+◌, ◌<◌, ◌≤◌, ◌∙◌, ℕ, List, Vec, Global, Bool, length, take, refl, ap, subst, arith}
 use Rattle.std.specs.Prelude.{sum_by}
 use Rattle.trlab_road.specs.LaneCars.{LaneCar}
 use Rattle.trlab_road.specs.Cells.{lane_cars}
 use Rattle.trlab_road.specs.LaneChange.{LaneCrosses}
-use Rattle.trlab_road.specs.Stored.{cells_of, lanes_from, lane_crosses_at}
+use Rattle.trlab_road.specs.Stored.{Rises, AreSorted, cells_of, lanes_from, list_at, lane_crosses_at}
 use Rattle.trlab_road.proofs.ListLeaving.{crosses_from}
 use Rattle.trlab_road.proofs.ListRoads.{list_counted, list_within, crosses_two, two_written, two_sorted}
 use Rattle.trlab_road.proofs.lane_change.change_lanes.Goals as goal
 
-pub change_lane-requires-clause-own_each : goal.change_lane-requires-clause-own_each
-change_lane-requires-clause-own_each c =
-    let two = c.requires.two in
-    let a = list_within c.args.cells c.args.lanes.now 0 c.requires.sorted (omega arith) in let b = ap length c.list_of.ensures in let d = c.requires.one_each in omega (arith, a, b, d)
+lane_0 : (lanes : ℕ) → lanes ≡ 2 → 0 < lanes
+lane_0 lanes two = omega (arith, two)
 
-pub leaving_cars-requires-2-clause-each : goal.leaving_cars-requires-2-clause-each
-leaving_cars-requires-2-clause-each c =
-    let two = c.requires.two in
-    let a = list_within c.args.cells c.args.lanes.now 1 c.requires.sorted (omega arith) in let z = list_counted c.args.cells c.args.lanes.now 0 c.requires.sorted (omega arith) in
-    let b = ap length c.list_of.ensures in let e = ap length c.list_of-2.ensures in let d = c.requires.one_each in omega (arith, a, b, d, e, z)
+lane_1 : (lanes : ℕ) → lanes ≡ 2 → 1 < lanes
+lane_1 lanes two = omega (arith, two)
 
-pub change_lane-requires-2-clause-own_each : goal.change_lane-requires-2-clause-own_each
-change_lane-requires-2-clause-own_each c =
-    let two = c.requires.two in
-    let a = list_within c.args.cells c.args.lanes.now 1 c.requires.sorted (omega arith) in let z = list_counted c.args.cells c.args.lanes.now 0 c.requires.sorted (omega arith) in
-    let b = ap length c.list_of.ensures in let e = ap length c.list_of-2.ensures in let d = c.requires.one_each in omega (arith, a, b, d, e, z)
+-- the lists of the two lanes, and as many answers as cars
+module _ (n : ℕ) (lists : List (Vec LaneCar Global)) (answers : List Bool) (own : List LaneCar) (two : length lists ≡ 2) (sorted : AreSorted n lists) (each : sum_by lane_cars (lanes_from n lists) ≤ length answers) (is : own ≡ list_at lists 0) where
+  each_0 : 0 + length own ≤ length answers
+  each_0 =
+      let a = list_within n lists 0 sorted (lane_0 (length lists) two) in
+      let b = ap length is in
+      omega (arith, a, b, each)
+
+  sorted_0 : Rises 0 n own
+  sorted_0 = rw is (sorted.rises 0 (lane_0 (length lists) two))
+
+  each_1 : (beside : List LaneCar) → beside ≡ list_at lists 1 → length own + length beside ≤ length answers
+  each_1 beside there =
+      let a = list_within n lists 1 sorted (lane_1 (length lists) two) in
+      let z = list_counted n lists 0 sorted (lane_0 (length lists) two) in
+      let b = ap length is in
+      let d = ap length there in
+      omega (arith, a, z, b, d, each)
+
+  count_0 : length own ≡ sum_by lane_cars (take 1 (lanes_from n lists))
+  count_0 =
+      let z = list_counted n lists 0 sorted (lane_0 (length lists) two) in
+      let b = ap length is in
+      omega (arith, z, b)
+
+pub list_of-requires : goal.list_of-requires
+list_of-requires c = lane_0 (length c.args.lanes.now) c.requires.two
+
+pub list_of-requires-2 : goal.list_of-requires-2
+list_of-requires-2 c = lane_1 (length c.args.lanes.now) c.requires.two
+
+pub leaving_cars-requires-clause-sorted : goal.leaving_cars-requires-clause-sorted
+leaving_cars-requires-clause-sorted c = sorted_0 c.args.cells c.args.lanes.now c.args.crosses.now _ c.requires.two c.requires.sorted c.requires.one_each c.list_of.ensures
+
+pub change_lane-requires-clause-own_sorted : goal.change_lane-requires-clause-own_sorted
+change_lane-requires-clause-own_sorted c = sorted_0 c.args.cells c.args.lanes.now c.args.crosses.now _ c.requires.two c.requires.sorted c.requires.one_each c.list_of.ensures
 
 pub leaving_cars-requires-clause-each : goal.leaving_cars-requires-clause-each
-leaving_cars-requires-clause-each c =
-    let two = c.requires.two in
-    let a = list_within c.args.cells c.args.lanes.now 0 c.requires.sorted (omega arith) in let b = ap length c.list_of.ensures in let d = c.requires.one_each in omega (arith, a, b, d)
+leaving_cars-requires-clause-each c = each_0 c.args.cells c.args.lanes.now c.args.crosses.now _ c.requires.two c.requires.sorted c.requires.one_each c.list_of.ensures
+
+pub change_lane-requires-clause-own_each : goal.change_lane-requires-clause-own_each
+change_lane-requires-clause-own_each c = each_0 c.args.cells c.args.lanes.now c.args.crosses.now _ c.requires.two c.requires.sorted c.requires.one_each c.list_of.ensures
+
+pub leaving_cars-requires-2-clause-sorted : goal.leaving_cars-requires-2-clause-sorted
+leaving_cars-requires-2-clause-sorted c = rw c.list_of-2.ensures (c.requires.sorted.rises 1 (lane_1 (length c.args.lanes.now) c.requires.two))
+
+pub change_lane-requires-2-clause-own_sorted : goal.change_lane-requires-2-clause-own_sorted
+change_lane-requires-2-clause-own_sorted c = rw c.list_of-2.ensures (c.requires.sorted.rises 1 (lane_1 (length c.args.lanes.now) c.requires.two))
+
+pub leaving_cars-requires-2-clause-each : goal.leaving_cars-requires-2-clause-each
+leaving_cars-requires-2-clause-each c = each_1 c.args.cells c.args.lanes.now c.args.crosses.now _ c.requires.two c.requires.sorted c.requires.one_each c.list_of.ensures _ c.list_of-2.ensures
+
+pub change_lane-requires-2-clause-own_each : goal.change_lane-requires-2-clause-own_each
+change_lane-requires-2-clause-own_each c = each_1 c.args.cells c.args.lanes.now c.args.crosses.now _ c.requires.two c.requires.sorted c.requires.one_each c.list_of.ensures _ c.list_of-2.ensures
+
+pub change_lane-requires-clause-small : goal.change_lane-requires-clause-small
+change_lane-requires-clause-small c = c.requires.small
+
+pub change_lane-requires-2-clause-small : goal.change_lane-requires-2-clause-small
+change_lane-requires-2-clause-small c = c.requires.small
 
 -- the answers of a lane stand from the count of the cars before it on
 at_ranks : (n : ℕ) (answers : List Bool) (own lane beside other next : List LaneCar) (f g h k : ℕ) → own ≡ lane → beside ≡ other → f ≡ h → g ≡ k
@@ -45,10 +90,8 @@ returns-clause-crosses c = λ limit.
     let n = c.args.cells in
     let lists = c.args.lanes.now in
     let two = c.requires.two in
-    let z = list_counted n lists 0 c.requires.sorted (omega arith) in
-    let b = ap length c.list_of.ensures in
     let none : 0 ≡ sum_by lane_cars (take 0 (lanes_from n lists)) = refl in
-    let count : length c.list_of.result.now ≡ sum_by lane_cars (take 1 (lanes_from n lists)) = omega (arith, z, b) in
+    let count : length c.list_of.result.now ≡ sum_by lane_cars (take 1 (lanes_from n lists)) = count_0 n lists c.args.crosses.now _ two c.requires.sorted c.requires.one_each c.list_of.ensures in
     rw (two_written c.in_ok-next.next.items c.change_lane.new.next c.change_lane-2.new.next c.in_ok-next.ensures) (crosses_two n limit lists c.change_lane.new.next c.change_lane-2.new.next c.args.crosses.now two
     (at_ranks n c.args.crosses.now _ _ _ _ _ 0 _ _ _ c.list_of.ensures c.list_of-2.ensures none count
     (crosses_from n _ _ _ _ _ _ (rw c.deref.ensures.value at c.in_ok-change_lane.ensures.crosses) c.in_ok-leaving_cars-2.ensures.leaves))
@@ -64,3 +107,9 @@ change_lane-requires-2-clause-coming_sorted c = rw c.deref-2.ensures.value c.in_
 pub returns-clause-sorted : goal.returns-clause-sorted
 returns-clause-sorted c = rw (two_written c.in_ok-next.next.items c.change_lane.new.next c.change_lane-2.new.next c.in_ok-next.ensures)
     (two_sorted c.args.cells c.change_lane.new.next c.change_lane-2.new.next c.in_ok-change_lane.ensures.rises c.in_ok-change_lane-2.ensures.rises)
+
+pub index_mut-requires : goal.index_mut-requires
+index_mut-requires c = lane_0 c.in_ok-next.next.len (c.in_ok-next.next.ok.0 ∙ c.in_ok-next.ensures)
+
+pub index_mut-requires-2 : goal.index_mut-requires-2
+index_mut-requires-2 c = lane_1 c.in_ok-next.next.len (c.in_ok-next.next.ok.0 ∙ c.in_ok-next.ensures)

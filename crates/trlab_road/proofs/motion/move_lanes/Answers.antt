@@ -1,4 +1,4 @@
-use Rattle.std.proofs.Common.{◌≡◌, ◌<◌, ◌∙◌, ℕ, List, length, get_or, set, ap, subst, below_more, arith}
+use Rattle.std.proofs.Common.{◌≡◌, ◌<◌, ◌≤◌, ◌∙◌, ℕ, List, length, get_or, set, refl, ap, subst, below_more, arith}
 use Rattle.std.proofs.lemmas.List.{length-set}
 use Rattle.trlab_road.specs.LaneCars.{LaneCar}
 use Rattle.trlab_road.specs.Motion.{LaneMoves}
@@ -60,3 +60,28 @@ loop-l-preserved c =
           (rw there (moved_here n c.args.speeds.now _ _ _ _ _ here c.loop-l.invariant.counted c.move_lane.ensures.moves));
       stand = λ j h. list_unwritten c.loop-l.lanes l j new (λ e. absurd (omega (arith, e, h))) ∙ c.loop-l.invariant.stand j (omega arith);
     }
+
+pub loop-l-init : goal.loop-l-init
+loop-l-init c = record { counted = refl; rises = λ j h. absurd (omega (arith, h)); moved = λ j h. absurd (omega (arith, h)); stand = λ j h. refl }
+
+pub bounds-lanes-l : goal.bounds-lanes-l
+bounds-lanes-l c = rw c.loop-l.auto.lanes c.loop-l-test.true
+
+pub bounds-lanes-l-in-loop-l : goal.bounds-lanes-l-in-loop-l
+bounds-lanes-l-in-loop-l c = rw (length-set, c.loop-l.auto.lanes) c.loop-l-test.true
+
+pub move_lane-requires-clause-small : goal.move_lane-requires-clause-small
+move_lane-requires-clause-small c = c.requires.small
+
+pub move_lane-requires-clause-slow : goal.move_lane-requires-clause-slow
+move_lane-requires-clause-slow c = c.requires.slow
+
+-- after the loop every lane is behind it
+behind : (j l all : ℕ) → all ≤ l → j < all → j < l
+behind j l all end on = omega (arith, end, on)
+
+pub returns-clause-sorted : goal.returns-clause-sorted
+returns-clause-sorted c = record { rises = λ j h. c.loop-l.invariant.rises j (behind j _ _ c.loop-l-test.false (rw c.loop-l.auto.lanes at h)) }
+
+pub returns-clause-moves : goal.returns-clause-moves
+returns-clause-moves c = record { same_lanes = c.loop-l.auto.lanes; each_lane = λ j h. c.loop-l.invariant.moved j (behind j _ _ c.loop-l-test.false h) }

@@ -1,17 +1,23 @@
-use Rattle.std.proofs.Common.{rules, ◌≢◌, ◌+◌, ◌<◌, ◌≤◌, ◌↔◌, ℕ, List, [], Bor, map, length, slice_index, slice_index_or, ap, refl, subst, sym, rules, arith, below_more}
-use Rattle.std.proofs.lemmas.Bool.{both_ways}
-use Rattle.std.proofs.lemmas.Bool.Decides.{nat_tests}
+use Rattle.std.proofs.Common.{◌≡◌, ◌≢◌, ◌+◌, ◌<◌, ◌≤◌, ◌==◌, ◌↔◌, ℕ, false, List, [], Bor, map, length, slice_index, slice_index_or, ap, refl, sym, inl, inr, arith, below_more}
+use Rattle.std.proofs.lemmas.Bool.{both_ways, eqb-true, eqb-false}
 use Rattle.std.proofs.lemmas.List.{length-map}
 use Rattle.trlab_bounds.specs.declared.roads.TheConstants.{GREATEST_LIMIT}
 use Rattle.trlab_road.specs.Legal.{LanesFit}
 use Rattle.trlab_road.specs.Pictures.{HaveEqualLengths, HaveShape, IsFaultAt, ShowsAnySpeed, ShowsCell, ShowsSpeed, character_at, picture_at, pictures_of}
 use Rattle.trlab_road.proofs.PictureLaws.{picture_read}
 use Rattle.trlab_road.proofs.reading.check_pictures.Goals as goal
+use Rattle.trlab_road.proofs.reading.check_pictures.Goals.{then-is_empty-via-then-is_empty, then-is_empty-via-else-is_empty+then-pictures}
+
+some_pictures : (n : ℕ) → false ≡ (n == 0) → 1 ≤ n
+some_pictures n e = omega (arith, eqb-false n 0 (sym e))
+
+fit_pictures : (held : List (Bor (List ℕ))) → 1 ≤ length held → length held ≤ 2 → LanesFit (length (pictures_of held))
+fit_pictures held some few = let count = length-map held (λ s. s.now) in record { some_lane = omega (arith, some, count); few_lanes = omega (arith, few, count) }
 
 pub overflow_cast-place : goal.overflow_cast-place
 overflow_cast-place c =
     let size = length-map c.args.pictures.now (λ s. s.now) in
-    let equal : HaveEqualLengths (map (λ s. s.now) c.args.pictures.now) = search rules in
+    let equal = c.if-not-has_equal_lanes.ensures.0 refl in
     let same = equal.equal c.loop-lane.lane (rw size c.loop-lane-test.true) in
     let read = ap length (picture_read c.args.pictures.now c.loop-lane.lane) in
     let high = equal.cells.few_cells in
@@ -35,8 +41,7 @@ loop-lane-preserved c =
 module _ (limit : ℕ) (held : List (Bor (List ℕ))) (some : 1 ≤ length held) (few : length held ≤ 2) (equal : HaveEqualLengths (pictures_of held)) (low : limit ≢ 0) (high : limit ≤ GREATEST_LIMIT) where
   shaped : HaveShape limit (pictures_of held)
   shaped =
-      let size = length-map held (λ s. s.now) in
-      record { lanes = subst LanesFit (sym size) (record { some_lane = some; few_lanes = few }); lengths = equal; limit_fits = record { some_limit = omega (arith, low); low_limit = high } }
+      record { lanes = fit_pictures held some few; lengths = equal; limit_fits = record { some_limit = omega (arith, low); low_limit = high } }
 
   module _ (l x : ℕ) (on : l < length held) (earlier : (m y : ℕ) → m < l → y < length (picture_at (pictures_of held) m) → ShowsCell limit (character_at (pictures_of held) m y)) where
     abbrev picture_here : List ℕ
@@ -55,7 +60,7 @@ returns-then-speed c =
     let held = c.args.pictures.now in
     let l = c.loop-lane.lane in
     let x = c.first_bad-place.result in
-    let some : 1 ≤ length held = (let e = c.if-is_empty.ensures in grind (arith, nat_tests, e)) in
+    let some = some_pictures (length held) c.if-is_empty.ensures in
     let equal = c.if-not-has_equal_lanes.ensures.0 refl in
     let fault = fault_at c.args.limit held some c.if-pictures.false equal c.if-limit-eq0.false c.if-limit-gt-GREATEST_LIMIT.false l x c.loop-lane-test.true c.loop-lane.invariant
     c.if-place-picture.true c.first_bad-place.ensures.before (c.first_bad-place.ensures.bad c.if-place-picture.true) in
@@ -66,8 +71,58 @@ returns-else-speed c =
     let held = c.args.pictures.now in
     let l = c.loop-lane.lane in
     let x = c.first_bad-place.result in
-    let some : 1 ≤ length held = (let e = c.if-is_empty.ensures in grind (arith, nat_tests, e)) in
+    let some = some_pictures (length held) c.if-is_empty.ensures in
     let equal = c.if-not-has_equal_lanes.ensures.0 refl in
     let fault = fault_at c.args.limit held some c.if-pictures.false equal c.if-limit-eq0.false c.if-limit-gt-GREATEST_LIMIT.false l x c.loop-lane-test.true c.loop-lane.invariant
     c.if-place-picture.true c.first_bad-place.ensures.before (c.first_bad-place.ensures.bad c.if-place-picture.true) in
     (fault, λ shown. both_ways c.shows_speed-speed.result c.if-speed.false (c.shows_speed-speed.ensures.1 ((any_speed c.args.limit held some c.if-pictures.false equal c.if-limit-eq0.false c.if-limit-gt-GREATEST_LIMIT.false l x c.loop-lane-test.true c.loop-lane.invariant).1 shown)))
+
+pub returns-then-is_empty : goal.returns-then-is_empty
+returns-then-is_empty c = λ fit.
+    let count = length-map c.args.pictures.now (λ s. s.now) in
+    elim c.then-is_empty.branch [
+      | then-is_empty-via-then-is_empty w ↦ let some = fit.some_lane in let none = eqb-true (length c.args.pictures.now) 0 (sym w.if-is_empty.ensures) in absurd (omega (arith, some, none, count))
+      | then-is_empty-via-else-is_empty+then-pictures w ↦ let few = fit.few_lanes in let many = w.if-pictures.true in absurd (omega (arith, few, many, count))
+    ]
+
+pub has_equal_lanes-requires : goal.has_equal_lanes-requires
+has_equal_lanes-requires c = fit_pictures c.args.pictures.now (some_pictures (length c.args.pictures.now) c.if-is_empty.ensures) c.if-pictures.false
+
+pub returns-then-not-has_equal_lanes : goal.returns-then-not-has_equal_lanes
+returns-then-not-has_equal_lanes c = (
+  fit_pictures c.args.pictures.now (some_pictures (length c.args.pictures.now) c.if-is_empty.ensures) c.if-pictures.false,
+  λ equal. both_ways _ c.if-not-has_equal_lanes.true (c.has_equal_lanes.ensures.1 equal),
+)
+
+pub returns-then-limit-eq0 : goal.returns-then-limit-eq0
+returns-then-limit-eq0 c = (
+  fit_pictures c.args.pictures.now (some_pictures (length c.args.pictures.now) c.if-is_empty.ensures) c.if-pictures.false,
+  c.if-not-has_equal_lanes.ensures.0 refl,
+  λ fit.
+      let some = fit.some_limit in
+      let low = fit.low_limit in
+      elim c.then-limit-eq0.either [
+        | inl none ↦ absurd (omega (arith, some, none))
+        | inr high ↦ absurd (omega (arith, low, high.1))
+      ],
+)
+
+pub loop-lane-init : goal.loop-lane-init
+loop-lane-init c = λ m y low h. absurd (omega (arith, low))
+
+pub first_bad-place-requires : goal.first_bad-place-requires
+first_bad-place-requires c = c.if-limit-gt-GREATEST_LIMIT.false
+
+pub overflow_cast-lane : goal.overflow_cast-lane
+overflow_cast-lane c = let on = c.loop-lane-test.true in let few = c.if-pictures.false in omega (arith, on, few)
+
+pub returns : goal.returns
+returns c =
+    let held = c.args.pictures.now in
+    let some = some_pictures (length held) c.if-is_empty.ensures in
+    let count = length-map held (λ s. s.now) in
+    let past = c.loop-lane-test.false in
+    record {
+      shape = shaped c.args.limit held some c.if-pictures.false (c.if-not-has_equal_lanes.ensures.0 refl) c.if-limit-eq0.false c.if-limit-gt-GREATEST_LIMIT.false;
+      cells = λ l x on h. c.loop-lane.invariant l x (omega (arith, on, count, past)) h;
+    }

@@ -1,5 +1,5 @@
 use Rattle.std.proofs.Common.{◌≡◌, ◌+◌, ◌<◌, ◌≤◌, ◌∙◌, ℕ, List, [], ◌∷◌, ◌++◌, map, Vec, Global, length, drop, sym, refl, ap, subst, arith, append_assoc, drop-cons, add-one}
-use Rattle.std.proofs.lemmas.List.{length-map, length_push, map-append}
+use Rattle.std.proofs.lemmas.List.{length-map, length_push, map-append, append-nil, at_drop_all}
 use Rattle.trlab_bounds.specs.declared.roads.TheConstants.{GREATEST_LENGTH, GREATEST_LIMIT}
 use Rattle.trlab_road.specs.LaneCars.{LaneCar}
 use Rattle.trlab_road.specs.Cells.{Lane, lane_cars}
@@ -121,3 +121,42 @@ loop-picture-preserved c =
       rises = rw items (one_more (λ j xs. Rises 0 c.args.cells xs) c.loop-picture.lanes.items c.in_ok-cars.cars i inv.size inv.rises lane.rises);
       few = omega (arith, few, before, size, whole);
     }
+
+pub loop-picture-init : goal.loop-picture-init
+loop-picture-init c =
+    let empty = c.in_ok-lanes.ensures.items in
+    let ps = map (λ s. s.now) c.args.pictures.now in
+    record {
+      whole = ap (λ xs. lanes_from c.args.cells xs ++ lanes_of_pictures 0 ps) empty;
+      size = ap length empty;
+      rises = λ m h. absurd (omega (arith, h));
+      few = omega arith;
+    }
+
+pub bounds-pictures-picture-index : goal.bounds-pictures-picture-index
+bounds-pictures-picture-index c = c.loop-picture-test.true
+
+pub slice_bounds-draw_lane-end : goal.slice_bounds-draw_lane-end
+slice_bounds-draw_lane-end c = refl
+
+pub draw_lane-requires-clause-few : goal.draw_lane-requires-clause-few
+draw_lane-requires-clause-few c =
+    let count = length-map c.args.pictures.now (λ s. s.now) in
+    let few = c.loop-picture.invariant.few in
+    let two = c.requires.good.shape.lanes.few_lanes in
+    let on = c.loop-picture-test.true in
+    omega (arith, count, few, two, on)
+
+pub returns-clause-sorted : goal.returns-clause-sorted
+returns-clause-sorted c =
+    let size = c.loop-picture.invariant.size in
+    record { rises = λ l h. c.loop-picture.invariant.rises l (omega (arith, h, size)) }
+
+pub returns-clause-drawn : goal.returns-clause-drawn
+returns-clause-drawn c =
+    let ps = map (λ s. s.now) c.args.pictures.now in
+    let lanes = lanes_from c.args.cells c.loop-picture.lanes.items in
+    let count = length-map c.args.pictures.now (λ s. s.now) in
+    let past = c.loop-picture-test.false in
+    let rest = at_drop_all (lanes_of_pictures c.loop-picture.number) ps c.loop-picture.picture-index (omega (arith, count, past)) in
+    sym (append-nil lanes) ∙ ap (λ xs. lanes ++ xs) (sym rest) ∙ c.loop-picture.invariant.whole

@@ -1,5 +1,5 @@
-use Rattle.std.proofs.Common.{◌≡◌, ◌≢◌, ◌*◌, ◌/◌, ◌<◌, ◌≤◌, mod-lt, ℕ, zero, suc, [], ◌∷◌, Vec, Global, length, refl, sym, arith}
-use Rattle.std.proofs.Math.Nat.{mul-le-mul_left, mul-le-mul_right}
+use Rattle.std.proofs.Common.{◌≡◌, ◌≢◌, ◌*◌, ◌/◌, ◌<◌, ◌≤◌, mod-lt, ℕ, zero, suc, [], ◌∷◌, Vec, Global, length, sym, arith}
+use Rattle.std.proofs.Math.Nat.{mul-le-mul_right}
 use Rattle.trlab_road.specs.LaneCars.{LaneCar}
 use Rattle.trlab_road.specs.Spreading.{IsEvenLane, even_lane}
 use Rattle.trlab_road.specs.Stored.{Rises, cells_of, list_at}

@@ -1,6 +1,8 @@
 use Rattle.std.proofs.Common.{◌∙◌, ap}
 use Rattle.std.specs.Prelude.{count_by}
 use Rattle.trlab_step.proofs.Stepped.{lane_change_is_done}
+use Rattle.std.proofs.lemmas.Result.{err_from_is_err_and}
+use Rattle.trlab_step.proofs.Parts.{whole_free}
 use Rattle.trlab_step.proofs.step.change_lanes.Goals as goal
 
 pub returns-clause-phase : goal.returns-clause-phase
@@ -9,3 +11,54 @@ returns-clause-phase g c =
     let crossed = rw (c.deref.ensures.value, c.crossings.ensures.same) at c.in_ok-middle.ensures.crosses in
     let counted = c.count_crossing.ensures ∙ ap (count_by (λ crosses. crosses)) c.deref-2.ensures.value in
     lane_change_is_done c.args.change.now _ c.args.road.now c.in_ok-middle.middle c.crossings.new.answers.items c.count_crossing.result c.requires.two_lanes part crossed counted
+
+pub crossings-requires-clause-ready : goal.crossings-requires-clause-ready
+crossings-requires-clause-ready g c = c.requires.ready
+
+pub crossings-requires-clause-two_lanes : goal.crossings-requires-clause-two_lanes
+crossings-requires-clause-two_lanes g c = c.requires.two_lanes
+
+pub after_lane_change_in-requires : goal.after_lane_change_in-requires
+after_lane_change_in-requires g c = rw (c.deref.ensures.value, c.crossings.ensures.same) (whole_free c.args.change.now _ c.args.road.now c.crossings.new.answers.items c.requires.two_lanes c.in_ok-crossings.ensures.crossings c.in_ok-crossings.ensures.free)
+
+pub returns-in_err-crossings-clause-phase : goal.returns-in_err-crossings-clause-phase
+returns-in_err-crossings-clause-phase g c = let p = err_from_is_err_and c.from_residual.result c.from_residual.ensures.1 in rw p.1 tt
+
+pub returns-in_err-crossings-clause-clean : goal.returns-in_err-crossings-clause-clean
+returns-in_err-crossings-clause-clean g c = let p = err_from_is_err_and c.from_residual.result c.from_residual.ensures.1 in rw p.1 tt
+
+pub returns-in_err-crossings-clause-legal : goal.returns-in_err-crossings-clause-legal
+returns-in_err-crossings-clause-legal g c = let p = err_from_is_err_and c.from_residual.result c.from_residual.ensures.1 in rw p.1 tt
+
+pub returns-in_err-crossings-clause-seen : goal.returns-in_err-crossings-clause-seen
+returns-in_err-crossings-clause-seen g c = c.crossings.ensures.seen
+
+pub returns-in_err-crossings-clause-same : goal.returns-in_err-crossings-clause-same
+returns-in_err-crossings-clause-same g c = c.crossings.ensures.same
+
+pub returns-in_err-middle-clause-phase : goal.returns-in_err-middle-clause-phase
+returns-in_err-middle-clause-phase g c = let p = err_from_is_err_and c.from_residual-in_err-middle.result c.from_residual-in_err-middle.ensures.1 in rw p.1 tt
+
+pub returns-in_err-middle-clause-clean : goal.returns-in_err-middle-clause-clean
+returns-in_err-middle-clause-clean g c = let p = err_from_is_err_and c.from_residual-in_err-middle.result c.from_residual-in_err-middle.ensures.1 in rw p.1 tt
+
+pub returns-in_err-middle-clause-legal : goal.returns-in_err-middle-clause-legal
+returns-in_err-middle-clause-legal g c = let p = err_from_is_err_and c.from_residual-in_err-middle.result c.from_residual-in_err-middle.ensures.1 in rw p.1 tt
+
+pub returns-in_err-middle-clause-seen : goal.returns-in_err-middle-clause-seen
+returns-in_err-middle-clause-seen g c = c.crossings.ensures.seen
+
+pub returns-in_err-middle-clause-same : goal.returns-in_err-middle-clause-same
+returns-in_err-middle-clause-same g c = c.crossings.ensures.same
+
+pub returns-clause-clean : goal.returns-clause-clean
+returns-clause-clean g c = rw c.crossings.ensures.same at c.in_ok-middle.ensures.clean
+
+pub returns-clause-legal : goal.returns-clause-legal
+returns-clause-legal g c = c.in_ok-middle.ensures.legal
+
+pub returns-clause-seen : goal.returns-clause-seen
+returns-clause-seen g c = c.crossings.ensures.seen
+
+pub returns-clause-same : goal.returns-clause-same
+returns-clause-same g c = c.crossings.ensures.same

@@ -1,4 +1,4 @@
-use Rattle.std.proofs.Common.{◌≡◌, ◌<◌, ◌-◌, ◌∙◌, ℕ, false, List, [], Vec, Global, length, get_or, sym, ap, subst, arith}
+use Rattle.std.proofs.Common.{◌≡◌, ◌<◌, ◌≤◌, ◌-◌, ◌∙◌, ℕ, false, List, [], Vec, Global, length, get_or, sym, ap, subst, arith}
 use Rattle.trlab_road.specs.LaneCars.{LaneCar}
 use Rattle.trlab_road.specs.Cells.{Lane}
 use Rattle.trlab_road.specs.Gaps.{side, sideback, sidegap}
@@ -77,3 +77,42 @@ returns-clause-ahead_below c = rw (← c.self.view_is, length_first c.self.insid
 
 pub returns-clause-behind_below : goal.returns-clause-behind_below
 returns-clause-behind_below c = rw (← c.self.view_is, length_first c.self.inside.cells c.self.inside.lanes.items c.self.inside.limit c.self.invariant) c.look_beside.ensures.behind_within
+
+-- the list of the car's lane, and that of the other lane
+pub find-lane-requires-clause-few : goal.find-lane-requires-clause-few
+find-lane-requires-clause-few c =
+    let count = lanes_count c.self.inside.cells c.self.inside.lanes.items c.self.inside.limit c.self.invariant in
+    let few = c.self.invariant.legal.shape.lanes.few_lanes in
+    rw c.deref.ensures.value (omega (arith, count, few))
+
+found_of : (lists read : List (Vec LaneCar Global)) (k l i : ℕ) → read ≡ lists → IsFoundAt read k l i → IsFoundAt lists k l i
+found_of lists read k l i e f = rw e at f
+
+pub list_of-requires : goal.list_of-requires
+list_of-requires c = rw c.deref-2.ensures.value (found_of _ _ _ _ _ c.deref.ensures.value c.find-lane.ensures).on_lane
+
+pub place_at-place-requires : goal.place_at-place-requires
+place_at-place-requires c = rw (c.list_of.ensures, c.deref-2.ensures.value) (found_of _ _ _ _ _ c.deref.ensures.value c.find-lane.ensures).low
+
+-- of two lanes the other one is a lane too
+on_two : (lists road l : ℕ) → road ≡ 2 → road ≡ lists → l < lists → (l ≤ 1) × (1 - l < lists)
+on_two lists road l two count low = (omega (arith, two, count, low), omega (arith, two, count))
+
+pub overflow_sub-lane : goal.overflow_sub-lane
+overflow_sub-lane c =
+    let two = rw (← c.self.view_is) at c.requires.two in
+    let count = lanes_count c.self.inside.cells c.self.inside.lanes.items c.self.inside.limit c.self.invariant in
+    (on_two _ _ _ two count (found_of _ _ _ _ _ c.deref.ensures.value c.find-lane.ensures).on_lane).0
+
+pub list_of-other-requires : goal.list_of-other-requires
+list_of-other-requires c =
+    let two = rw (← c.self.view_is) at c.requires.two in
+    let count = lanes_count c.self.inside.cells c.self.inside.lanes.items c.self.inside.limit c.self.invariant in
+    rw c.deref-3.ensures.value (on_two _ _ _ two count (found_of _ _ _ _ _ c.deref.ensures.value c.find-lane.ensures).on_lane).1
+
+pub look_beside-requires-clause-sorted : goal.look_beside-requires-clause-sorted
+look_beside-requires-clause-sorted c =
+    let two = rw (← c.self.view_is) at c.requires.two in
+    let count = lanes_count c.self.inside.cells c.self.inside.lanes.items c.self.inside.limit c.self.invariant in
+    let on = (on_two _ _ _ two count (found_of _ _ _ _ _ c.deref.ensures.value c.find-lane.ensures).on_lane).1 in
+    rw (c.list_of-other.ensures, c.deref-3.ensures.value) (c.self.invariant.sorted.rises _ on)

@@ -1,9 +1,11 @@
-use Rattle.std.proofs.Common.{◌≡◌, ℕ, List, sym, subst}
+use Rattle.std.proofs.Common.{◌≡◌, ◌≤◌, ◌∙◌, ℕ, List, Err, length, map, refl, sym, ap, subst, inl, inr, arith}
 use Rattle.std.proofs.lemmas.Result.{err_from_is_err_and}
+use Rattle.std.proofs.lemmas.List.{length-map}
+use Rattle.trlab_bounds.specs.declared.roads.TheConstants.{GREATEST_LIMIT}
 use Rattle.trlab_road.specs.Cells.{Lane, Cells}
 use Rattle.trlab_road.specs.Legal.{IsLegal}
-use Rattle.trlab_road.specs.Pictures.{AreGoodPictures, Shows}
-use Rattle.trlab_road.proofs.PictureLaws.{draws, shown_legal, one_shown}
+use Rattle.trlab_road.specs.Pictures.{AreGoodPictures, Shows, ShowsCell}
+use Rattle.trlab_road.proofs.PictureLaws.{picture_read, draws, shown_legal, one_shown}
 use Rattle.trlab_road.proofs.PictureFaults.{no_fault_shown, told_fault, told_road}
 use Rattle.trlab_road.proofs.road.Road.parse.Goals as goal
 use Rattle.trlab_road.specs.Stored.{lanes_of_pictures}
@@ -42,3 +44,50 @@ returns-in_err-check_pictures-clause-told c = let p = err_from_is_err_and c.from
 
 pub returns-clause-told : goal.returns-clause-told
 returns-clause-told c = told_road c.args.limit _ _ (legal c.args.limit _ _ c.in_ok-check_pictures.ensures c.in_ok-lanes.ensures.drawn) (shows c.args.limit _ _ c.in_ok-check_pictures.ensures c.in_ok-lanes.ensures.drawn)
+
+pub returns-in_err-check_pictures-clause-shown : goal.returns-in_err-check_pictures-clause-shown
+returns-in_err-check_pictures-clause-shown c = let p = err_from_is_err_and c.from_residual.result c.from_residual.ensures.1 in rw (p.1, p.2) c.in_err-check_pictures.ensures
+
+pub returns-in_err-check_pictures-clause-legal : goal.returns-in_err-check_pictures-clause-legal
+returns-in_err-check_pictures-clause-legal c = let p = err_from_is_err_and c.from_residual.result c.from_residual.ensures.1 in rw p.1 tt
+
+pub returns-in_err-lanes-clause-shown : goal.returns-in_err-lanes-clause-shown
+returns-in_err-lanes-clause-shown c = let p = err_from_is_err_and c.from_residual-in_err-lanes.result c.from_residual-in_err-lanes.ensures.1 in rw (p.1, p.2) tt
+
+pub returns-in_err-lanes-clause-legal : goal.returns-in_err-lanes-clause-legal
+returns-in_err-lanes-clause-legal c = let p = err_from_is_err_and c.from_residual-in_err-lanes.result c.from_residual-in_err-lanes.ensures.1 in rw p.1 tt
+
+pub returns-in_err-lanes-clause-back : goal.returns-in_err-lanes-clause-back
+returns-in_err-lanes-clause-back c = let p = err_from_is_err_and c.from_residual-in_err-lanes.result c.from_residual-in_err-lanes.ensures.1 in λ road legal s. rw (p.1, p.2) refl
+
+pub returns-in_err-lanes-clause-told : goal.returns-in_err-lanes-clause-told
+returns-in_err-lanes-clause-told c = let p = err_from_is_err_and c.from_residual-in_err-lanes.result c.from_residual-in_err-lanes.ensures.1 in λ fault f other. inr (p.1 ∙ ap Err p.2)
+
+-- good pictures are good under the greatest limit too
+shows_more : (limit character : ℕ) → limit ≤ GREATEST_LIMIT → ShowsCell limit character → ShowsCell GREATEST_LIMIT character
+shows_more limit character low (inl empty) = inl empty
+shows_more limit character low (inr shown) = inr (record { speed = shown.speed; within = (let within = shown.within in omega (arith, low, within)); shown = shown.shown })
+
+good_more : (limit : ℕ) (ps : List (List ℕ)) → AreGoodPictures limit ps → AreGoodPictures GREATEST_LIMIT ps
+good_more limit ps good = record {
+  shape = record { lanes = good.shape.lanes; lengths = good.shape.lengths; limit_fits = record { some_limit = omega arith; low_limit = omega arith } };
+  cells = λ l x on h. shows_more limit _ good.shape.limit_fits.low_limit (good.cells l x on h);
+}
+
+pub draw_lanes-requires-clause-good : goal.draw_lanes-requires-clause-good
+draw_lanes-requires-clause-good c = good_more c.args.limit _ c.in_ok-check_pictures.ensures
+
+pub draw_lanes-requires-clause-first : goal.draw_lanes-requires-clause-first
+draw_lanes-requires-clause-first c = sym (ap length (picture_read c.args.lanes.now 0))
+
+pub bounds-lanes-0 : goal.bounds-lanes-0
+bounds-lanes-0 c =
+    let some = c.in_ok-check_pictures.ensures.shape.lanes.some_lane in
+    let count = length-map c.args.lanes.now (λ s. s.now) in
+    omega (arith, some, count)
+
+pub overflow_cast-result : goal.overflow_cast-result
+overflow_cast-result c =
+    let few = c.in_ok-check_pictures.ensures.shape.lengths.cells.few_cells in
+    let size = ap length (picture_read c.args.lanes.now 0) in
+    omega (arith, few, size)

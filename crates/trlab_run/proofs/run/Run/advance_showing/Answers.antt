@@ -1,6 +1,7 @@
-use Rattle.std.proofs.Common.{◌≡◌, ◌∙◌, ℕ, List, ap, arith, add-one, subst}
+use Rattle.std.proofs.Common.{◌≡◌, ◌∙◌, ℕ, List, ap, refl, arith, add-one, subst}
 use Rattle.trlab_run.specs.Progress.{Progress}
-use Rattle.trlab_run.proofs.OnTheWay.{rule_here, room_for}
+use Rattle.trlab_run.proofs.OnTheWay.{rule_here, room_for, counts_fit}
+use Rattle.std.proofs.lemmas.Result.{err_from_is_err_and}
 use Rattle.std.proofs.lemmas.Bool.{le-leb, lt-leb}
 use Rattle.std.specs.Prelude.{nat_le, if◌then◌else◌}
 use Rattle.trlab_step.specs.Run.{tally_sum}
@@ -28,28 +29,19 @@ pub tally_sum-self-inside-requires-clause-distance :
     goal.tally_sum-self-inside-requires-clause-distance
 tally_sum-self-inside-requires-clause-distance g c =
     let room = room_for _ c.in_force.result.now c.take_step.new.road c.in_ok-tally.tally c.self.invariant c.in_ok-tally.ensures.legal (by_dice_of c.new-dice.result c.self.inside.key.0 c.self.inside.number c.self.inside.step c.in_force.result.now c.self.inside.road c.take_step.new.road c.in_ok-tally.tally c.new-dice.ensures.key c.new-dice.ensures.road c.new-dice.ensures.step c.in_ok-tally.ensures.next) in
-    let few = room.distance in
-    let same : c.self.inside.step ≡ c.args.self.now.step = ap (λ (run : Progress). run.step) c.self.view_is in
-    let early = c.requires.steps in
-    omega arith
+    (counts_fit _ _ _ room (ap (λ (run : Progress). run.step) c.self.view_is) c.requires.steps).0
 
 pub tally_sum-self-inside-requires-clause-stopped :
     goal.tally_sum-self-inside-requires-clause-stopped
 tally_sum-self-inside-requires-clause-stopped g c =
     let room = room_for _ c.in_force.result.now c.take_step.new.road c.in_ok-tally.tally c.self.invariant c.in_ok-tally.ensures.legal (by_dice_of c.new-dice.result c.self.inside.key.0 c.self.inside.number c.self.inside.step c.in_force.result.now c.self.inside.road c.take_step.new.road c.in_ok-tally.tally c.new-dice.ensures.key c.new-dice.ensures.road c.new-dice.ensures.step c.in_ok-tally.ensures.next) in
-    let few = room.stopped in
-    let same : c.self.inside.step ≡ c.args.self.now.step = ap (λ (run : Progress). run.step) c.self.view_is in
-    let early = c.requires.steps in
-    omega arith
+    (counts_fit _ _ _ room (ap (λ (run : Progress). run.step) c.self.view_is) c.requires.steps).1
 
 pub tally_sum-self-inside-requires-clause-changes :
     goal.tally_sum-self-inside-requires-clause-changes
 tally_sum-self-inside-requires-clause-changes g c =
     let room = room_for _ c.in_force.result.now c.take_step.new.road c.in_ok-tally.tally c.self.invariant c.in_ok-tally.ensures.legal (by_dice_of c.new-dice.result c.self.inside.key.0 c.self.inside.number c.self.inside.step c.in_force.result.now c.self.inside.road c.take_step.new.road c.in_ok-tally.tally c.new-dice.ensures.key c.new-dice.ensures.road c.new-dice.ensures.step c.in_ok-tally.ensures.next) in
-    let few = room.changes in
-    let same : c.self.inside.step ≡ c.args.self.now.step = ap (λ (run : Progress). run.step) c.self.view_is in
-    let early = c.requires.steps in
-    omega arith
+    (counts_fit _ _ _ room (ap (λ (run : Progress). run.step) c.self.view_is) c.requires.steps).2
 
 pub invariant_of-self-2 : goal.invariant_of-self-2
 invariant_of-self-2 g c =
@@ -75,3 +67,27 @@ returns-clause-run g c = rw (← c.self.view_is) (c.self.inside.sum, c.self.inva
 
 pub returns-in_err-tally-clause-run : goal.returns-in_err-tally-clause-run
 returns-in_err-tally-clause-run g c = rw (← c.self.view_is) (c.self.inside.sum, c.self.invariant.comes)
+
+pub invariant_of-self : goal.invariant_of-self
+invariant_of-self g c = rw c.in_err-tally.ensures.same c.self.invariant
+
+pub returns-in_err-tally-clause-on : goal.returns-in_err-tally-clause-on
+returns-in_err-tally-clause-on g c = let p = err_from_is_err_and c.from_residual.result c.from_residual.ensures.1 in rw p.1 tt
+
+pub returns-in_err-tally-clause-seen : goal.returns-in_err-tally-clause-seen
+returns-in_err-tally-clause-seen g c = rw (← c.self.view_is) c.take_step.ensures.seen
+
+pub returns-in_err-tally-clause-same : goal.returns-in_err-tally-clause-same
+returns-in_err-tally-clause-same g c = let p = err_from_is_err_and c.from_residual.result c.from_residual.ensures.1 in rw (p.1, c.in_err-tally.ensures.same) c.self.view_is
+
+pub overflow_add-self : goal.overflow_add-self
+overflow_add-self g c =
+    let early = c.requires.steps in
+    let same : c.self.inside.step ≡ c.args.self.now.step = ap (λ (run : Progress). run.step) c.self.view_is in
+    omega (arith, early, same)
+
+pub returns-clause-on : goal.returns-clause-on
+returns-clause-on g c = rw (← c.self.view_is) (record { same_seed = refl; same_sheet = refl; next_step = refl })
+
+pub returns-clause-seen : goal.returns-clause-seen
+returns-clause-seen g c = rw (← c.self.view_is) c.take_step.ensures.seen

@@ -1,0 +1,53 @@
+-- The blocks of cars that are asked one after another.
+use Rattle.std.proofs.Common.{◌≡◌, ℕ, ◌+◌, ◌-◌, ◌*◌, ◌/◌, ◌<◌, ◌≤◌, List, [], min, Bool, arith}
+use Rattle.trlab_road.specs.declared.car.Car.{Car}
+use Rattle.trlab_road.specs.Cells.{Cells}
+use Rattle.trlab_step.specs.Answers.{AreAnswersPart, CrossesFreePart, FitsPart}
+
+-- before the first block there is no answer
+pub part_none : {X : Type 0} (IsAnswer : Car → X → Type 0) (road : Cells) (from to : ℕ) (answers : List X) → answers ≡ [] → to ≡ from → AreAnswersPart IsAnswer road from to answers
+part_none IsAnswer road from to answers e there = rw e (record { one_each = omega (arith, there); each = λ k car answer h here. absurd cc })
+
+pub fits_none : (road : Cells) (from : ℕ) (speeds : List ℕ) → speeds ≡ [] → FitsPart road from speeds
+fits_none road from speeds e = rw e (record { within_gaps = λ k h. absurd (omega (arith, h)); within_limit = λ k h. absurd (omega (arith, h)) })
+
+pub free_none : (road : Cells) (from : ℕ) (crosses : List Bool) → crosses ≡ [] → CrossesFreePart road from crosses
+free_none road from crosses e = rw e (record { side_empty = λ k h goes. absurd (omega (arith, h)) })
+
+-- where the first and the last block begin and end
+pub first_begin : (from to : ℕ) → from ≤ to → min to (from + 0) ≡ from
+first_begin from to rising = omega (arith, rising)
+
+pub last_end : (from to block : ℕ) → from ≤ to → (to - from) / 16 + 1 ≤ block → min to (from + 16 * block) ≡ to
+last_end from to block rising past = omega (arith, rising, past)
+
+module _ (from to block : ℕ) (rising : from ≤ to) (low : block < (to - from) / 16 + 1) where
+  pub begin_low : from + 16 * block ≤ to
+  begin_low = omega (arith, rising, low)
+
+  pub begin_is : min to (from + 16 * block) ≡ from + 16 * block
+  begin_is = let b = begin_low in omega (arith, b)
+
+  -- a block ends behind sixteen cars, or behind the last car
+  module _ (size : ℕ) (is : size ≡ min 16 (to - (from + 16 * block))) where
+    pub end_low : from + 16 * block + size ≤ to
+    end_low = let b = begin_low in omega (arith, b, is)
+
+    pub end_near : from + 16 * block + size ≤ from + 16 * block + 16
+    end_near = omega (arith, is)
+
+    pub end_after : from + 16 * block ≤ from + 16 * block + size
+    end_after = omega arith
+
+    pub next_begin : (k : ℕ) → from + 16 * block + size ≤ k → k ≤ from + 16 * block + size → k ≡ min to (from + 16 * (block + 1))
+    next_begin k past within = let b = begin_low in omega (arith, b, is, past, within)
+
+    -- a car of the block
+    pub car_near : (k : ℕ) → from + 16 * block ≤ k → k < from + 16 * block + size → k - (from + 16 * block) < 16
+    car_near k past within = omega (arith, is, past, within)
+
+    pub car_at : (k : ℕ) → from + 16 * block ≤ k → from + 16 * block + (k - (from + 16 * block)) ≡ k
+    car_at k past = omega (arith, past)
+
+    pub car_low : (k : ℕ) → from + 16 * block ≤ k → k < from + 16 * block + size → k - (from + 16 * block) < from + 16 * block + size - (from + 16 * block)
+    car_low k past within = omega (arith, past, within)
