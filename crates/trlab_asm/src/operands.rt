@@ -22,25 +22,24 @@ fn both<A: Drop, B: Drop>(first: Result<A, Why>, second: Result<B, Why>) -> Resu
     Ok((first?, second?))
 }
 
-/// The one word of an operand.
-fn word(text: &[u8]) -> Result<&[u8], Why>
-    ensures { map_ok (λ word. word.now) result ≡ word text.now }
-{
-    only_word(text).ok_or(Why::Operand)
-}
-
 /// A register.
 pub(crate) fn register(text: &[u8]) -> Result<Register, Why>
     ensures { result ≡ register text.now }
 {
-    register_named(word(text)?).ok_or(Why::Operand)
+    match only_word(text) {
+        Some(word) => register_named(word).ok_or(Why::Operand),
+        None => Err(Why::Operand),
+    }
 }
 
 /// An input.
 fn input(text: &[u8]) -> Result<Input, Why>
     ensures { result ≡ input text.now }
 {
-    input_named(word(text)?).ok_or(Why::Operand)
+    match only_word(text) {
+        Some(word) => input_named(word).ok_or(Why::Operand),
+        None => Err(Why::Operand),
+    }
 }
 
 /// The digits of an operand that has the form of a number.
@@ -48,7 +47,10 @@ fn numeral(text: &[u8]) -> Result<&[u8], Why>
     ensures value { map_ok (λ digits. digits.now) result ≡ numeral text.now }
     ensures digits { IfOk result (λ digits. all_digits digits.now ≡ true) }
 {
-    digits_of(word(text)?)
+    match only_word(text) {
+        Some(word) => digits_of(word),
+        None => Err(Why::Operand),
+    }
 }
 
 /// A number that is at least low.
@@ -64,17 +66,19 @@ fn number(low: u32, text: &[u8]) -> Result<u32, Why>
 pub(crate) fn target(text: &[u8]) -> Result<Target<'_>, Why>
     ensures { result ≡ target text.now }
 {
-    target_named(word(text)?)
+    match only_word(text) {
+        Some(word) => target_named(word),
+        None => Err(Why::Operand),
+    }
 }
 
 /// No operand.
 pub(crate) fn no_operand(text: &[u8]) -> Result<(), Why>
     ensures { result ≡ no_operand text.now }
 {
-    if word(text)?.is_empty() {
-        Ok(())
-    } else {
-        Err(Why::Operand)
+    match only_word(text) {
+        Some([]) => Ok(()),
+        _ => Err(Why::Operand),
     }
 }
 
