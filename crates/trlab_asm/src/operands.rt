@@ -9,7 +9,7 @@ ghost use Rattle.trlab_asm.specs.Results.{map_ok, ◌>>=◌ as ◌followed◌};
 
 use crate::fault::Why;
 use crate::names::{input_named, register_named};
-use crate::numbers::{digits_of, value_within};
+use crate::numbers::{digits_of, number_of, value_within};
 use crate::target::{Target, target_named};
 use trlab_bounds::programs::GREATEST_NUMBER;
 use trlab_code::{CERTAIN, Input, Register, WORDS};
@@ -58,8 +58,10 @@ fn number(low: u32, text: &[u8]) -> Result<u32, Why>
     ensures value { result ≡ number low GREATEST_NUMBER text.now }
     ensures low { IfOk result (λ n. low ≤ n) }
 {
-    let digits = numeral(text)?;
-    value_within(low, GREATEST_NUMBER, digits)
+    match only_word(text) {
+        Some(word) => number_of(low, word),
+        None => Err(Why::Operand),
+    }
 }
 
 /// A jump's operand.
