@@ -1,7 +1,7 @@
 //! The assembler: a first pass over the lines finds labels and instructions, a second one gives jumps
 //! the pcs of their labels.
 
-ghost use Rattle.std.specs.Prelude.{◌≡◌, ◌≤◌, ◌⊎◌, Ok, vec_len, All, MatchResult, IfOk};
+ghost use Rattle.std.specs.Prelude.{◌≡◌, ◌≤◌, ◌⊎◌, Ok, vec_len, All, map, MatchResult, IfOk};
 ghost use Rattle.trlab_code.specs.Program.{IsInRange};
 ghost use Rattle.trlab_bounds.specs.declared.programs.TheConstants.{MOST_INSTRUCTIONS};
 ghost use Rattle.trlab_lines.specs.Lines.{lines_of};
@@ -112,6 +112,13 @@ pub fn assemble(alloc: Global, kind: Kind, text: &[u8]) -> Result<Code, AsmFault
     }
 }
 
+/// The numbers of the lines of instructions.
+fn numbers_of(alloc: Global, reads: &[LineDraft<'_>]) -> Result<Vec<usize>, AllocError>
+    ensures { IfOk result (λ numbers. numbers.items ≡ map (λ read. read.line) reads.now) }
+{
+    reads.iter().map(LineDraft::line).collect(alloc)
+}
+
 /// The numbers of the lines on which the instructions of a text stand, counted from 1.
 ///
 /// # Errors
@@ -122,10 +129,5 @@ pub fn instruction_lines(alloc: Global, text: &[u8]) -> Result<Vec<usize>, AsmFa
         × (first_pass nothing 1 (lines_of text.now) ≡ Ok parts) × (numbers.items ≡ line_numbers parts)) }
 {
     let parts = read_parts(alloc, text)?;
-    let reads = parts.reads();
-    let mut numbers = Vec::with_capacity(alloc, reads.len())?;
-    for read in reads {
-        numbers.push(read.line()).map_err(AllocError::from)?;
-    }
-    Ok(numbers)
+    numbers_of(alloc, parts.reads()).map_err(AsmFault::from)
 }
