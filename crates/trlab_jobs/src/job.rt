@@ -56,12 +56,7 @@ impl Model for Job {
 }
 
 /// Reads what stands behind the lanes: a rule, how many steps to go, and rules of later steps.
-fn read_rules(
-    alloc: Global,
-    key: [u8; 32],
-    road: Road,
-    rest: Rest<'_>,
-) -> Result<Job, TextFault>
+fn read_rules(alloc: Global, key: [u8; 32], road: Road, rest: Rest<'_>) -> Result<Job, TextFault>
     requires { IsLegal road }
     ensures told { Reports (UpToTheEnd (job_behind key road) rest.entry) result }
     ensures stored { IfOk result IsStored }

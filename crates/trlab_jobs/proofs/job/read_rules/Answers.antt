@@ -42,7 +42,9 @@ returns-clause-told c =
     let after : Rest = c.in_ok-later.field-0-1 in
     let say : Job = record { key = c.args.key; road = c.args.road; first = c.in_ok-first.first; later = c.in_ok-later.later.items; steps = c.in_ok-steps.steps } in
     let first = rw c.lanes-count.ensures.value at c.in_ok-first.ensures.told in
-    let later = rw c.lanes-count.ensures.value at c.in_ok-later.ensures.told in
-    (after, behind_rule c.args.key c.args.road c.in_ok-first.first c.args.rest c.in_ok-first.rest (Ok (say, after)) first
-    (behind_steps c.args.key c.args.road c.in_ok-first.first c.in_ok-steps.steps c.in_ok-first.rest c.in_ok-steps.rest (Ok (say, after)) (line_by _ (exactly steps_line) c.in_ok-first.rest (Ok (c.in_ok-steps.steps, c.in_ok-steps.rest)) (λ text says p. search rules) c.in_ok-steps.ensures)
-    (behind_all c.args.key c.args.road c.in_ok-first.first c.in_ok-steps.steps c.in_ok-later.later.items c.in_ok-steps.rest after later)))
+    let later = rw c.lanes-count.ensures.value at c.in_ok-later.ensures.told in (
+      after,
+      behind_rule c.args.key c.args.road c.in_ok-first.first c.args.rest c.in_ok-first.rest (Ok (say, after)) first
+          (behind_steps c.args.key c.args.road c.in_ok-first.first c.in_ok-steps.steps c.in_ok-first.rest c.in_ok-steps.rest (Ok (say, after)) (line_by _ (exactly steps_line) c.in_ok-first.rest (Ok (c.in_ok-steps.steps, c.in_ok-steps.rest)) (λ text says p. search rules) c.in_ok-steps.ensures)
+          (behind_all c.args.key c.args.road c.in_ok-first.first c.in_ok-steps.steps c.in_ok-later.later.items c.in_ok-steps.rest after later)),
+    )
