@@ -12,30 +12,39 @@ use Rattle.trlab_jobs.proofs.JobLines.{after_lanes, after_rule, after_steps, aft
 use Rattle.trlab_texts.proofs.Readings.{line_by, stops}
 use Rattle.trlab_jobs.proofs.job.read_rules.Goals as goal
 
-pub returns-in_err-first-clause-told : goal.returns-in_err-first-clause-told
-returns-in_err-first-clause-told c =
+pub returns-in_err-first : goal.returns-in_err-first
+returns-in_err-first c =
     let fault = handed_on c.from_residual.result c.in_err-first.field-0.0 c.from_residual.ensures.0 c.from_residual.ensures.1 in
     let told = subst (λ n. Reports {A = Programs × Rest} (rule n c.args.rest) (Err c.in_err-first.field-0.0)) c.lanes-count.ensures.value c.in_err-first.ensures.told in
-    rw fault (ends_in_fault (after_lanes c.args.key c.args.road) c.args.rest c.in_err-first.field-0.0
-    (stops (rule (length c.args.road.lanes)) (after_rule c.args.key c.args.road) c.args.rest c.in_err-first.field-0.0 told))
+    record {
+      told = rw fault (ends_in_fault (after_lanes c.args.key c.args.road) c.args.rest c.in_err-first.field-0.0
+          (stops (rule (length c.args.road.lanes)) (after_rule c.args.key c.args.road) c.args.rest c.in_err-first.field-0.0 told));
+      stored = rw fault tt;
+    }
 
-pub returns-in_err-steps-clause-told : goal.returns-in_err-steps-clause-told
-returns-in_err-steps-clause-told c =
+pub returns-in_err-steps : goal.returns-in_err-steps
+returns-in_err-steps c =
     let fault = handed_on c.from_residual-in_err-steps.result c.in_err-steps.field-0.0 c.from_residual-in_err-steps.ensures.0 c.from_residual-in_err-steps.ensures.1 in
     let first = rw c.lanes-count.ensures.value at c.in_ok-first.ensures.told in
-    rw fault (ends_in_fault (after_lanes c.args.key c.args.road) c.args.rest c.in_err-steps.field-0.0
-    (behind_rule c.args.key c.args.road c.in_ok-first.first c.args.rest c.in_ok-first.rest (Err c.in_err-steps.field-0.0) first
-    (stops (line (exactly steps_line)) (after_steps c.args.key c.args.road c.in_ok-first.first) c.in_ok-first.rest c.in_err-steps.field-0.0 (line_by _ (exactly steps_line) c.in_ok-first.rest (Err c.in_err-steps.field-0.0) (λ text says p. search rules) c.in_err-steps.ensures))))
+    record {
+      told = rw fault (ends_in_fault (after_lanes c.args.key c.args.road) c.args.rest c.in_err-steps.field-0.0
+          (behind_rule c.args.key c.args.road c.in_ok-first.first c.args.rest c.in_ok-first.rest (Err c.in_err-steps.field-0.0) first
+          (stops (line (exactly steps_line)) (after_steps c.args.key c.args.road c.in_ok-first.first) c.in_ok-first.rest c.in_err-steps.field-0.0 (line_by _ (exactly steps_line) c.in_ok-first.rest (Err c.in_err-steps.field-0.0) (λ text says p. search rules) c.in_err-steps.ensures))));
+      stored = rw fault tt;
+    }
 
-pub returns-in_err-later-clause-told : goal.returns-in_err-later-clause-told
-returns-in_err-later-clause-told c =
+pub returns-in_err-later : goal.returns-in_err-later
+returns-in_err-later c =
     let fault = handed_on c.from_residual-in_err-later.result c.in_err-later.field-0.0 c.from_residual-in_err-later.ensures.0 c.from_residual-in_err-later.ensures.1 in
     let first = rw c.lanes-count.ensures.value at c.in_ok-first.ensures.told in
     let told = subst (λ n. Reports {A = Sheet × Rest} (later_rules n c.in_ok-steps.steps c.in_ok-steps.rest) (Err c.in_err-later.field-0.0)) c.lanes-count.ensures.value c.in_err-later.ensures.told in
-    rw fault (ends_in_fault (after_lanes c.args.key c.args.road) c.args.rest c.in_err-later.field-0.0
-    (behind_rule c.args.key c.args.road c.in_ok-first.first c.args.rest c.in_ok-first.rest (Err c.in_err-later.field-0.0) first
-    (behind_steps c.args.key c.args.road c.in_ok-first.first c.in_ok-steps.steps c.in_ok-first.rest c.in_ok-steps.rest (Err c.in_err-later.field-0.0) (line_by _ (exactly steps_line) c.in_ok-first.rest (Ok (c.in_ok-steps.steps, c.in_ok-steps.rest)) (λ text says p. search rules) c.in_ok-steps.ensures)
-    (stops (later_rules (length c.args.road.lanes) c.in_ok-steps.steps) (after_all c.args.key c.args.road c.in_ok-first.first c.in_ok-steps.steps) c.in_ok-steps.rest c.in_err-later.field-0.0 told))))
+    record {
+      told = rw fault (ends_in_fault (after_lanes c.args.key c.args.road) c.args.rest c.in_err-later.field-0.0
+          (behind_rule c.args.key c.args.road c.in_ok-first.first c.args.rest c.in_ok-first.rest (Err c.in_err-later.field-0.0) first
+          (behind_steps c.args.key c.args.road c.in_ok-first.first c.in_ok-steps.steps c.in_ok-first.rest c.in_ok-steps.rest (Err c.in_err-later.field-0.0) (line_by _ (exactly steps_line) c.in_ok-first.rest (Ok (c.in_ok-steps.steps, c.in_ok-steps.rest)) (λ text says p. search rules) c.in_ok-steps.ensures)
+          (stops (later_rules (length c.args.road.lanes) c.in_ok-steps.steps) (after_all c.args.key c.args.road c.in_ok-first.first c.in_ok-steps.steps) c.in_ok-steps.rest c.in_err-later.field-0.0 told))));
+      stored = rw fault tt;
+    }
 
 pub returns-clause-told : goal.returns-clause-told
 returns-clause-told c =
