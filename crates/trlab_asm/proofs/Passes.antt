@@ -1,8 +1,7 @@
 -- The two passes, one step after the other.
-use Rattle.std.proofs.Common.{◌≡◌, ℕ, suc, ◌+◌, ◌<◌, ◌≤◌, List, [], ◌∷◌, ◌++◌, length, drop, get_or, refl, arith, sym, ap, append_assoc, append-nil, add-one, drop-cons}
-use Rattle.std.specs.Prelude.{Result, Ok, Err}
+use Rattle.std.proofs.Common.{◌≡◌, ℕ, suc, ◌+◌, ◌<◌, ◌≤◌, List, [], ◌∷◌, ◌++◌, length, drop, get_or, refl, sym, ap, append_assoc, append-nil, add-one, drop-cons}
+use Rattle.std.specs.Prelude.{false, ◌==◌, Result, Ok, Err}
 use Rattle.std.proofs.Math.ListN.{drop_of_length-le}
-use Rattle.std.proofs.lemmas.Bool.{ne_eqb}
 use Rattle.trlab_code.specs.declared.instruction.Instr.{Instr}
 use Rattle.trlab_asm.specs.Results.{◌>>=◌}
 use Rattle.trlab_asm.specs.Reading.{Labels, Line, line_says}
@@ -52,8 +51,5 @@ unfolding second_pass
 second_end labels reads i front past = rw (drop_of_length-le reads past) (ap Ok (append-nil front))
 
 -- where there is an instruction, the second pass tells the rest
-pub some_instrs : (parts : Parts) (reads : List LineDraft) (labels : Labels) → 0 < length reads → reads ≡ parts.reads → labels ≡ parts.labels → instrs_of parts ≡ second_pass labels reads
-some_instrs parts reads labels some all known = rw (all, known) (some_of parts (rw all at some))
-  where
-    some_of : (parts : Parts) → 0 < length parts.reads → instrs_of parts ≡ second_pass parts.labels parts.reads
-    some_of parts some = rw (ne_eqb (length parts.reads) 0 (λ e. absurd (omega arith))) refl
+pub some_instrs : (parts : Parts) (reads : List LineDraft) (labels : Labels) → false ≡ (length reads == 0) → reads ≡ parts.reads → labels ≡ parts.labels → instrs_of parts ≡ second_pass labels reads
+some_instrs parts reads labels some all known = rw (← all, ← known, ← some) refl

@@ -1,12 +1,12 @@
 //! The assembler: a first pass over the lines finds labels and instructions, a second one gives jumps
 //! the pcs of their labels.
 
-ghost use Rattle.std.specs.Prelude.{◌≡◌, ◌≤◌, ◌⊎◌, Ok, vec_len, All, MatchResult, IfOk};
+ghost use Rattle.std.specs.Prelude.{◌≡◌, ◌≤◌, ◌⊎◌, Ok, length, vec_len, All, map, MatchResult, IfOk};
 ghost use Rattle.trlab_code.specs.Program.{IsInRange};
 ghost use Rattle.trlab_bounds.specs.declared.programs.TheConstants.{MOST_INSTRUCTIONS};
 ghost use Rattle.trlab_lines.specs.Lines.{lines_of};
 ghost use Rattle.trlab_asm.specs.Stored.{pcs, stored_parts};
-ghost use Rattle.trlab_asm.specs.Assembly.{Parts as Found, nothing, first_pass, with_target, resolve, instrs_of, code_of, line_numbers, IsOutOfMemory};
+ghost use Rattle.trlab_asm.specs.Assembly.{Parts as Found, nothing, first_pass, with_target, resolve, second_pass, instrs_of, code_of, line_numbers, IsOutOfMemory};
 
 use crate::fault::{AsmFault, Why};
 use crate::labels::Labels;
@@ -66,7 +66,27 @@ fn resolve<'a>(labels: &Labels<'a>, read: &LineDraft<'a>) -> Result<Instr, AsmFa
     }
 }
 
-/// The second pass: the instructions with their targets, or the first fault.
+/// The second pass: the instructions that were read with their targets, or the first fault.
+fn resolve_all<'a>(
+    alloc: Global,
+    labels: &Labels<'a>,
+    reads: &[LineDraft<'a>],
+) -> Result<Vec<Instr>, AsmFault>
+    ensures told { MatchResult result
+        (λ instrs. second_pass (pcs labels.now) reads.now ≡ Ok instrs.items)
+        (λ fault. (second_pass (pcs labels.now) reads.now ≡ Err fault) ⊎ IsOutOfMemory fault) }
+    ensures count { IfOk result (λ instrs. vec_len instrs ≡ length reads.now) }
+    ensures in_range { IfOk result (λ instrs. All IsInRange instrs.items) }
+{
+    let mut instrs = Vec::new(alloc);
+    for read in reads {
+        let instr = resolve(labels, read)?;
+        instrs.push(instr).map_err(AllocError::from)?;
+    }
+    Ok(instrs)
+}
+
+/// The instructions of what was read, or the first fault; none is a fault.
 fn instrs_of(alloc: Global, parts: &Parts<'_>) -> Result<Vec<Instr>, AsmFault>
     ensures told { MatchResult result
         (λ instrs. instrs_of (stored_parts parts.now) ≡ Ok instrs.items)
@@ -77,18 +97,13 @@ fn instrs_of(alloc: Global, parts: &Parts<'_>) -> Result<Vec<Instr>, AsmFault>
 {
     let reads = parts.reads();
     if reads.is_empty() {
-        return Err(AsmFault {
+        Err(AsmFault {
             line: 0,
             why: Why::Empty,
-        });
+        })
+    } else {
+        resolve_all(alloc, parts.labels(), reads)
     }
-    let labels = parts.labels();
-    let mut instrs = Vec::with_capacity(alloc, reads.len())?;
-    for read in reads {
-        let instr = resolve(labels, read)?;
-        instrs.push(instr).map_err(AllocError::from)?;
-    }
-    Ok(instrs)
 }
 
 /// The program of this kind that a text says, or the first fault of the text.
@@ -112,6 +127,13 @@ pub fn assemble(alloc: Global, kind: Kind, text: &[u8]) -> Result<Code, AsmFault
     }
 }
 
+/// The numbers of the lines of instructions.
+fn numbers_of(alloc: Global, reads: &[LineDraft<'_>]) -> Result<Vec<usize>, AllocError>
+    ensures { IfOk result (λ numbers. numbers.items ≡ map (λ read. read.line) reads.now) }
+{
+    reads.iter().map(LineDraft::line).collect(alloc)
+}
+
 /// The numbers of the lines on which the instructions of a text stand, counted from 1.
 ///
 /// # Errors
@@ -122,10 +144,5 @@ pub fn instruction_lines(alloc: Global, text: &[u8]) -> Result<Vec<usize>, AsmFa
         × (first_pass nothing 1 (lines_of text.now) ≡ Ok parts) × (numbers.items ≡ line_numbers parts)) }
 {
     let parts = read_parts(alloc, text)?;
-    let reads = parts.reads();
-    let mut numbers = Vec::with_capacity(alloc, reads.len())?;
-    for read in reads {
-        numbers.push(read.line()).map_err(AllocError::from)?;
-    }
-    Ok(numbers)
+    numbers_of(alloc, parts.reads()).map_err(AsmFault::from)
 }

@@ -1,6 +1,6 @@
 //! The names of registers, inputs and instructions: one table each, by which they are read and printed.
 
-ghost use Rattle.std.specs.Prelude.{◌≡◌, bytes_eq};
+ghost use Rattle.std.specs.Prelude.{◌≡◌, ℕ, List, bytes_eq};
 ghost use Rattle.std.specs.List.{find};
 ghost use Rattle.trlab_asm.specs.Names.{register_text, input_text, mnemonic_text, register_named, input_named, mnemonic_named};
 
@@ -143,53 +143,63 @@ pub fn mnemonic_text(name: Mnemonic) -> &'static [u8]
     }
 }
 
+/// What is named by its text.
+trait Named: Copy {
+    ghost said: { Self → List ℕ };
+
+    /// Its text.
+    fn text(self) -> &'static [u8]
+        ensures { result.now ≡ said self };
+}
+
+impl Named for Register {
+    ghost said = { register_text };
+
+    fn text(self) -> &'static [u8] {
+        register_text(self)
+    }
+}
+
+impl Named for Input {
+    ghost said = { input_text };
+
+    fn text(self) -> &'static [u8] {
+        input_text(self)
+    }
+}
+
+impl Named for Mnemonic {
+    ghost said = { mnemonic_text };
+
+    fn text(self) -> &'static [u8] {
+        mnemonic_text(self)
+    }
+}
+
+/// The first of these that has a text.
+fn first_named<X: Named>(all: &[X], word: &[u8]) -> Option<X>
+    ensures { result ≡ find (λ x. bytes_eq (X.said x) word.now) all.now }
+{
+    all.iter().copied().find(|x| x.text() == word)
+}
+
 /// The register of a text.
 pub(crate) fn register_named(word: &[u8]) -> Option<Register>
     ensures { result ≡ register_named word.now }
 {
-    register_among(&REGISTERS, word)
-}
-
-/// The first of these registers that has a text.
-fn register_among(registers: &[Register], word: &[u8]) -> Option<Register>
-    ensures { result ≡ find (λ register. bytes_eq (register_text register) word.now) registers.now }
-{
-    registers
-        .iter()
-        .copied()
-        .find(|register| register_text(*register) == word)
+    first_named(&REGISTERS, word)
 }
 
 /// The input of a text.
 pub(crate) fn input_named(word: &[u8]) -> Option<Input>
     ensures { result ≡ input_named word.now }
 {
-    input_among(&INPUTS, word)
-}
-
-/// The first of these inputs that has a text.
-fn input_among(inputs: &[Input], word: &[u8]) -> Option<Input>
-    ensures { result ≡ find (λ input. bytes_eq (input_text input) word.now) inputs.now }
-{
-    inputs
-        .iter()
-        .copied()
-        .find(|input| input_text(*input) == word)
+    first_named(&INPUTS, word)
 }
 
 /// The instruction's name of a text.
 pub fn mnemonic_named(word: &[u8]) -> Option<Mnemonic>
     ensures { result ≡ mnemonic_named word.now }
 {
-    mnemonic_among(&MNEMONICS, word)
-}
-
-/// The first of these names that has a text.
-fn mnemonic_among(names: &[Mnemonic], word: &[u8]) -> Option<Mnemonic>
-    ensures { result ≡ find (λ name. bytes_eq (mnemonic_text name) word.now) names.now }
-{
-    names
-        .iter()
-        .copied()
-        .find(|name| mnemonic_text(*name) == word)
+    first_named(&MNEMONICS, word)
 }

@@ -2,11 +2,11 @@
 
 ghost use Rattle.std.specs.Prelude.{◌≡◌, ◌≤◌, true, IfOk};
 ghost use Rattle.trlab_asm.specs.Operands.{digits_of, value_within};
-ghost use Rattle.trlab_asm.specs.Results.{map_ok};
+ghost use Rattle.trlab_asm.specs.Results.{map_ok, ◌>>=◌ as ◌followed◌};
 ghost use Rattle.trlab_lines.specs.Numbers.{all_digits};
 
 use crate::fault::Why;
-use trlab_bounds::programs::MOST_DIGITS;
+use trlab_bounds::programs::{GREATEST_NUMBER, MOST_DIGITS};
 use trlab_lines::{digits_value, is_numeral};
 
 /// The digits of a word that has the form of a number.
@@ -37,4 +37,12 @@ pub(crate) fn value_within(low: u32, high: u32, digits: &[u8]) -> Result<u32, Wh
     } else {
         Err(Why::Number)
     }
+}
+
+/// The number of a word, where it is from low to the greatest.
+pub(crate) fn number_of(low: u32, word: &[u8]) -> Result<u32, Why>
+    ensures value { result ≡ digits_of word.now followed value_within low GREATEST_NUMBER }
+    ensures low { IfOk result (λ n. low ≤ n) }
+{
+    value_within(low, GREATEST_NUMBER, digits_of(word)?)
 }

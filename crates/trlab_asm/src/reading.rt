@@ -37,7 +37,7 @@ fn instruction<'a>(pc: usize, name: &[u8], operands: &'a [u8]) -> Result<Option<
         return Err(Why::Word);
     };
     if pc < MOST_INSTRUCTIONS {
-        Ok(Some(read_draft(name, operands)?))
+        read_draft(name, operands).map(Some)
     } else {
         Err(Why::TooLong)
     }

@@ -4,9 +4,9 @@ ghost use Rattle.std.specs.Prelude.{◌≡◌, option_map};
 ghost use Rattle.trlab_asm.specs.Operands.{Target as Goal, is_label, all_label_bytes, pc_named, target_named};
 
 use crate::fault::Why;
-use crate::numbers::{digits_of, value_within};
+use crate::numbers::number_of;
 use std::marker::Model;
-use trlab_bounds::programs::{GREATEST_NUMBER, LONGEST_LABEL};
+use trlab_bounds::programs::LONGEST_LABEL;
 
 /// Where a jump goes: a pc; or the pc that a label names, which is not known yet and is written as 0.
 #[derive(Drop)]
@@ -46,8 +46,7 @@ fn pc_named(text: &[u8]) -> Result<Target<'_>, Why>
     let Some(digits) = text.strip_prefix(b"@") else {
         return Err(Why::Operand);
     };
-    let digits = digits_of(digits)?;
-    let pc = value_within(0, GREATEST_NUMBER, digits)?;
+    let pc = number_of(0, digits)?;
     Ok(Target { pc, label: None })
 }
 

@@ -1,16 +1,18 @@
 -- What is said of a rule by its line, and by the lines behind it.
-use Rattle.std.proofs.Common.{◌≡◌, ℕ, refl, subst}
-use Rattle.std.specs.Prelude.{Result, Ok, Err, MatchResult}
+use Rattle.std.proofs.Common.{◌≡◌, ◌≤◌, ℕ, Bool, true, false, Option, None, Some, arith, ap, refl, subst}
+use Rattle.std.specs.Prelude.{Result, Ok, Err, MatchResult, IsSome, nat_eq}
+use Rattle.std.proofs.lemmas.Bool.{eqb-false}
 use Rattle.trlab_rules.specs.Rules.{Programs}
+use Rattle.trlab_verify.specs.CheckedProgram.{CheckedProgram}
 use Rattle.trlab_texts.specs.declared.fault.Cause.{Cause}
 use Rattle.trlab_texts.specs.declared.fault.LineFault.{LineFault}
 use Rattle.trlab_texts.specs.declared.fault.LineFault.TheVariants.{Wrong, Memory as NoMemory}
 use Rattle.trlab_texts.specs.declared.fault.TextFault.{TextFault}
 use Rattle.trlab_jobs.specs.declared.rule_line.RuleLine.{RuleLine}
 use Rattle.trlab_texts.specs.Lines.{Rest}
-use Rattle.trlab_texts.specs.Reading.{Reading, line, exactly, say, ◌>>=◌, of_line, fault_at, Reports, ReportsLine}
+use Rattle.trlab_texts.specs.Reading.{Fault, Reading, line, exactly, say, ◌>>=◌, of_line, perhaps, fault_at, Reports, ReportsLine}
 use Rattle.trlab_jobs.specs.RuleLines.{later_line, rule_line}
-use Rattle.trlab_jobs.specs.RuleParts.{rule, rule_from}
+use Rattle.trlab_jobs.specs.RuleParts.{change_by, next_is_change, change_part, rule, rule_from}
 use Rattle.trlab_jobs.specs.Later.{later_rule}
 use Rattle.trlab_texts.proofs.Readings.{goes_on, stops}
 
@@ -60,3 +62,28 @@ pub later_says : (room lanes steps least number : ℕ) (place after behind : Res
     → later_rule room lanes steps least place (Ok ((at.0, rule), behind))
 later_says room lanes steps least number place after behind at rule here one two =
     (Ok (at, after), (one, (Ok (rule, behind), (rw here at two, refl))))
+
+-- where a change part was read, the road has two lanes
+change_on_two : (one_lane : Bool) (lanes : ℕ) (place after : Rest) (change : CheckedProgram) → (one_lane ≡ false → lanes ≡ 2) → change_by one_lane place (Ok (change, after)) → lanes ≡ 2
+change_on_two true lanes place after change two says = absurd cc
+change_on_two false lanes place after change two says = two refl
+
+-- what was read, if there is something
+abbrev read_of : Result (Option CheckedProgram × Rest) Fault → Option CheckedProgram
+read_of (Ok found) = found.0
+read_of (Err fault) = None
+
+-- a change part was read, if there is one
+perhaps_on_two : (next one_lane : Bool) (lanes : ℕ) (place after : Rest) (change : Option CheckedProgram) → (one_lane ≡ false → lanes ≡ 2)
+    → perhaps next (change_by one_lane) place (Ok (change, after)) → IsSome change → lanes ≡ 2
+perhaps_on_two next one_lane lanes place after None two says some = absurd (cc some)
+perhaps_on_two true one_lane lanes place after (Some change) two (Ok (found, behind), (one, is)) some = change_on_two one_lane lanes place behind found two one
+perhaps_on_two true one_lane lanes place after (Some change) two (Err fault, (one, is)) some = absurd (cc is)
+perhaps_on_two false one_lane lanes place after (Some change) two is some =
+    let none : ◌≡◌ {A = Option CheckedProgram} (Some change) None = ap read_of is in
+    absurd cc
+
+-- so on a road of one lane or two
+pub on_two_lanes : (lanes : ℕ) (place after : Rest) (change : Option CheckedProgram) → 1 ≤ lanes → lanes ≤ 2 → change_part lanes place (Ok (change, after)) → IsSome change → lanes ≡ 2
+on_two_lanes lanes place after change some few says =
+    perhaps_on_two (next_is_change place.left) (nat_eq lanes 1) lanes place after change (λ e. omega (arith, eqb-false lanes 1 e)) says

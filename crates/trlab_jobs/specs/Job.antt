@@ -63,6 +63,19 @@ job = do
   later ← later_rules (length road.lanes) steps
   say (record { key = key; road = road; first = first; later = later; steps = steps })
 
+-- the lines behind those of the road: a rule, a count of steps, and rules of later steps
+abbrev pub job_behind : List ℕ → Cells → Reading Job
+job_behind key road = do
+  first ← rule (length road.lanes)
+  steps ← line (exactly steps_line)
+  later ← later_rules (length road.lanes) steps
+  say (record { key = key; road = road; first = first; later = later; steps = steps })
+
+-- what is said by the lines from a place on, of which the last may stay unread
+abbrev pub UpToTheEnd : {A : Type 0} → Reading A → Rest → Result A Fault → Type 0
+UpToTheEnd reading place (Ok say) = (rest : Rest) × reading place (Ok (say, rest))
+UpToTheEnd reading place (Err fault) = reading place (Err fault)
+
 -- what the lines of a text say
 abbrev pub LinesSay : List ℕ → Result Job Fault → Type 0
 LinesSay text (Ok say) = (rest : Rest) × job (start text) (Ok (say, rest))

@@ -1,8 +1,9 @@
 //! Job texts: a key, a road, a rule, how many steps to go, and rules of later steps.
 
 ghost use Rattle.std.specs.Prelude.{◌≤◌, IfOk, length};
+ghost use Rattle.trlab_road.specs.Legal.{IsLegal};
 ghost use Rattle.trlab_texts.specs.Reading.{Reports};
-ghost use Rattle.trlab_jobs.specs.Job.{JobText, LinesSay};
+ghost use Rattle.trlab_jobs.specs.Job.{JobText, LinesSay, UpToTheEnd, job_behind};
 ghost use Rattle.trlab_jobs.specs.Stored.{IsStored};
 ghost use Rattle.trlab_bounds.specs.declared.texts.TheConstants.{TEXT_LIMIT};
 
@@ -54,16 +55,12 @@ impl Model for Job {
     }) };
 }
 
-/// Reads the lines of a text that is not too long.
-fn read_lines(alloc: Global, text: &[u8]) -> Result<Job, TextFault>
-    requires { length text.now ≤ TEXT_LIMIT }
-    ensures told { Reports (LinesSay text.now) result }
+/// Reads what stands behind the lanes: a rule, how many steps to go, and rules of later steps.
+fn read_rules(alloc: Global, key: [u8; 32], road: Road, rest: Rest<'_>) -> Result<Job, TextFault>
+    requires { IsLegal road }
+    ensures told { Reports (UpToTheEnd (job_behind key road) rest.entry) result }
     ensures stored { IfOk result IsStored }
 {
-    let ((), rest) = Rest::start(text).read_line(line::road_line)?;
-    let (key, rest) = rest.read_line(line::key_line)?;
-    let (limit, rest) = rest.read_line(line::limit_line)?;
-    let (road, rest) = lane::lanes(alloc, limit, rest)?;
     let count = road.lanes();
     let (first, rest) = rule::rule(alloc, count, rest)?;
     let (steps, rest) = rest.read_line(line::steps_line)?;
@@ -75,6 +72,19 @@ fn read_lines(alloc: Global, text: &[u8]) -> Result<Job, TextFault>
         later,
         steps,
     })
+}
+
+/// Reads the lines of a text that is not too long.
+fn read_lines(alloc: Global, text: &[u8]) -> Result<Job, TextFault>
+    requires { length text.now ≤ TEXT_LIMIT }
+    ensures told { Reports (LinesSay text.now) result }
+    ensures stored { IfOk result IsStored }
+{
+    let ((), rest) = Rest::start(text).read_line(line::road_line)?;
+    let (key, rest) = rest.read_line(line::key_line)?;
+    let (limit, rest) = rest.read_line(line::limit_line)?;
+    let (road, rest) = lane::lanes(alloc, limit, rest)?;
+    read_rules(alloc, key, road, rest)
 }
 
 /// Reads a job text.

@@ -21,7 +21,6 @@ pub fn is_numeral(text: &[u8]) -> bool
 }
 
 /// The number that at most ten decimal digits stand for, of which some may be 0 in front.
-#[tactic(auto, using(crate::proofs::Digits::value_step))]
 pub fn digits_value(digits: &[u8]) -> u64
     requires digits { all_digits digits.now ≡ true }
     requires few { length digits.now ≤ MOST_DIGITS }

@@ -3,7 +3,7 @@ use Rattle.trlab_code.specs.Program.{IsInRange}
 use Rattle.trlab_asm.specs.Stored.{pcs}
 use Rattle.trlab_asm.specs.Assembly.{second_pass}
 use Rattle.trlab_asm.proofs.Passes.{following}
-use Rattle.trlab_asm.proofs.assembly.instrs_of.Given as goal
+use Rattle.trlab_asm.proofs.assembly.resolve_all.Given as goal
 
 abbrev pub invariant-loop-read : goal.invariant-loop-read
 invariant-loop-read l = record {
