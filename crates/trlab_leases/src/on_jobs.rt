@@ -1,10 +1,14 @@
 //! Calls on one job of a list.
 
-ghost use Rattle.std.specs.Prelude.{◌≡◌, ◌↔◌, ◌<◌, ◌≤◌, IsTrue, IfOk, IfErr, IfSome, MatchBool, length, ltb, not};
+ghost use Rattle.std.specs.Prelude.{◌≡◌, ◌↔◌, ◌<◌, ◌≤◌, ℕ, true, IsTrue, IfOk, IfErr, IfSome, MatchBool, length, ltb, not, vec_len, vec_capacity};
 ghost use Rattle.std.specs.List.{position};
+ghost use Rattle.trlab_road.specs.Legal.{IsLegal};
+ghost use Rattle.trlab_step.specs.Laws.{IsRuleFor};
 ghost use Rattle.trlab_leases.specs.Answers.{back_reply, done_reply, is_memory, number_reply, order_reply, seen_reply};
 ghost use Rattle.trlab_leases.specs.Comparison.{IsRuleAt, IsSame, IsSeen, offered};
+ghost use Rattle.trlab_leases.specs.Leases.{suits};
 ghost use Rattle.trlab_leases.specs.Machine.{cancelling, giving_back, is_free, on_job, ordering, reading, replacing, revoking, submitting};
+ghost use Rattle.trlab_leases.specs.declared.event.Reply.TheVariants.{Refused};
 
 use crate::fault::BookFault;
 use crate::job::Job;
@@ -32,17 +36,31 @@ pub(crate) fn submit_in(
         (jobs.new.items ≡ (submitting jobs.old.items seed rule steps).jobs) }
     ensures few { length jobs.new.items ≤ 256 }
 {
-    if !suits(&rule, &seed.road) {
+    make_room(jobs, &seed, &rule)?;
+    let job = Job::new(alloc, seed, rule, steps)?;
+    let number = jobs.len() as u32;
+    jobs.push_reserved(job);
+    Ok(number)
+}
+
+/// Makes room for one job more, where the list takes one and its rule suits its road.
+fn make_room(jobs: &mut Vec<Job>, seed: &Seed, rule: &Rule) -> Result<(), BookFault>
+    ensures jobs { jobs.new.items ≡ jobs.old.items }
+    ensures room { IfOk result (λ _. vec_len jobs.new < vec_capacity jobs.new) }
+    ensures taken { IfOk result (λ _. (suits rule.now seed.now.road ≡ true) × (length jobs.old.items < 256)) }
+    ensures rule { IfOk result (λ _. IsRuleFor (length seed.now.road.lanes) rule.now) }
+    ensures refused { IfErr result (λ fault. MatchBool (is_memory result) (Unit {0})
+        ((steps : ℕ) → submitting jobs.old.items seed.now rule.now steps
+        ≡ record { reply = Refused fault; jobs = jobs.old.items })) }
+    ensures legal { IsLegal seed.now.road }
+{
+    if !suits(rule, &seed.road) {
         return Err(BookFault::LanesMismatch);
     }
     if is_most(jobs.len()) {
         return Err(BookFault::Full);
     }
-    jobs.reserve(1)?;
-    let job = Job::new(alloc, seed, rule, steps)?;
-    let number = jobs.len() as u32;
-    jobs.push_reserved(job);
-    Ok(number)
+    Ok(jobs.reserve(1)?)
 }
 
 /// Whether a book takes no more jobs than so many.
