@@ -91,9 +91,11 @@ pub(crate) fn revoke_in(jobs: &mut Vec<Job>, index: u32) -> Result<(), BookFault
     ensures jobs { jobs.new.items ≡ (on_job jobs.old.items index revoking).jobs }
     ensures len { length jobs.new.items ≡ length jobs.old.items }
 {
-    jobs.get_mut(index as usize)
-        .ok_or(BookFault::NoSuchJob)?
-        .revoke()
+    if index as usize >= jobs.len() {
+        return Err(BookFault::NoSuchJob);
+    }
+    let found = &mut jobs[index as usize];
+    found.revoke()
 }
 
 /// Ends a job, and its lease.
@@ -102,9 +104,11 @@ pub(crate) fn cancel_in(jobs: &mut Vec<Job>, index: u32) -> Result<(), BookFault
     ensures jobs { jobs.new.items ≡ (on_job jobs.old.items index cancelling).jobs }
     ensures len { length jobs.new.items ≡ length jobs.old.items }
 {
-    jobs.get_mut(index as usize)
-        .ok_or(BookFault::NoSuchJob)?
-        .cancel()
+    if index as usize >= jobs.len() {
+        return Err(BookFault::NoSuchJob);
+    }
+    let found = &mut jobs[index as usize];
+    found.cancel()
 }
 
 /// The least job that can go out.
@@ -170,15 +174,14 @@ pub(crate) fn give_back_in(
 }
 
 /// A snapshot of a job.
-#[tactic(auto, using(crate::proofs::Booking::reading_stays))]
 pub(crate) fn read_in(jobs: &[Job], alloc: Global, index: u32) -> Result<Snapshot, BookFault>
     ensures reply { MatchBool (is_memory result) (Unit {0})
         (seen_reply result ≡ (on_job jobs.now index reading).reply) }
     ensures seen { IfOk result (λ seen. IsSeen jobs.now index seen) }
     ensures jobs { (on_job jobs.now index reading).jobs ≡ jobs.now }
 {
-    let Some(found) = jobs.get(index as usize) else {
+    if index as usize >= jobs.len() {
         return Err(BookFault::NoSuchJob);
-    };
-    Ok(found.read(alloc)?)
+    }
+    Ok(jobs[index as usize].read(alloc)?)
 }
