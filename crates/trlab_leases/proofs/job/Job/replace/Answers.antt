@@ -1,5 +1,7 @@
-use Rattle.std.proofs.Common.{rules, subst}
+use Rattle.std.proofs.Common.{rules, length, subst, sym}
+use Rattle.trlab_step.specs.Laws.{IsRuleFor}
 use Rattle.trlab_step.specs.Run.{IsSheet}
+use Rattle.trlab_leases.specs.Machine.{JobState}
 use Rattle.trlab_leases.specs.Jobs.{start_of}
 use Rattle.trlab_leases.proofs.Entering.{begin_entered, underway_entered}
 use Rattle.trlab_leases.proofs.job.Job.replace.Goals as goal
@@ -8,12 +10,13 @@ pub invariant_of-self-2 : goal.invariant_of-self-2
 invariant_of-self-2 c =
     let j = c.self.inside in
     let i = c.self.invariant in
+    let rule = subst (λ (s : JobState). IsRuleFor (length s.seed.road.lanes) c.args.rule) (sym c.self.view_is) c.in_ok-admits.ensures.rule in
     let is = subst IsSheet c.in_ok-enter.ensures.ok.0 c.in_ok-enter.ensures.ok.2 in
     rw c.in_ok-enter.ensures.ok.0 (record {
       ordered = i.ordered;
       within = i.within;
       begin = begin_entered j.high c.args.rule j.sheet;
-      run = underway_entered (start_of j.seed) j.sheet j.high c.args.rule j.done _ j.tally i.ordered (c.suits.ensures.rule c.if-not-suits.false) is i.run;
+      run = underway_entered (start_of j.seed) j.sheet j.high c.args.rule j.done _ j.tally i.ordered rule is i.run;
     })
 
 pub enter-requires : goal.enter-requires
