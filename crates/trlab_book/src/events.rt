@@ -27,8 +27,9 @@ impl Kept {
     pub fn new(alloc: Global) -> Kept
         ensures { (result.history.items ≡ []) × (result.book ≡ start) }
     {
+        let book = Book::new(alloc);
         Kept {
-            book: Book::new(alloc),
+            book,
             history: Vec::new(alloc),
         }
     }

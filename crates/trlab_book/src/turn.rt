@@ -49,14 +49,32 @@ fn take_leases<L: Ledger, R: Threads + Wait + Sync, G: Gate + Sync>(
     ensures { parts_of desk.new ≡ parts_of desk.old }
 {
     for _ in rt.forever() {
-        match book.lease(rt, alloc, desk) {
-            Ok(Some(lease)) => take_turn(rt, alloc, book, desk, lease, team)?,
-            Ok(None) => return Ok(()),
-            Err(BookFault::HistoryFull) => return Err(RunFault::HistoryFull),
-            Err(_) => return Err(RunFault::Memory),
+        if let Some(ended) = take_free(rt, alloc, book, desk, team) {
+            return ended;
         }
     }
     Ok(())
+}
+
+/// Leases a free job for one turn. Where none is free, or after a fault, it answers how the runner ends.
+fn take_free<L: Ledger, R: Threads + Wait + Sync, G: Gate + Sync>(
+    rt: &R,
+    alloc: Global,
+    book: &SharedBook<L>,
+    desk: &mut Desk<L>,
+    team: &Team<R, G>,
+) -> Option<Result<(), RunFault>>
+    ensures { parts_of desk.new ≡ parts_of desk.old }
+{
+    match book.lease(rt, alloc, desk) {
+        Ok(Some(lease)) => match take_turn(rt, alloc, book, desk, lease, team) {
+            Ok(()) => None,
+            Err(fault) => Some(Err(fault)),
+        },
+        Ok(None) => Some(Ok(())),
+        Err(BookFault::HistoryFull) => Some(Err(RunFault::HistoryFull)),
+        Err(_) => Some(Err(RunFault::Memory)),
+    }
 }
 
 /// Runs a lease for some steps and gives it back.
@@ -70,14 +88,13 @@ fn take_turn<L: Ledger, R: Threads + Wait + Sync, G: Gate + Sync>(
 ) -> Result<(), RunFault>
     ensures { parts_of desk.new ≡ parts_of desk.old }
 {
-    let job = lease.job();
     let mut lease = lease;
-    if let Err(fault) = run_steps(rt, alloc, book, desk, &mut lease, team) {
-        return end_lease(rt, book, desk, job, fault);
-    }
-    match book.give_back(rt, desk, lease) {
-        Ok(()) => Ok(()),
-        Err((_, fault)) => end_lease(rt, book, desk, job, fault),
+    match run_steps(rt, alloc, book, desk, &mut lease, team) {
+        Ok(()) => match book.give_back(rt, desk, lease) {
+            Ok(()) => Ok(()),
+            Err((lease, fault)) => end_lease(rt, book, desk, lease, fault),
+        },
+        Err(fault) => end_lease(rt, book, desk, lease, fault),
     }
 }
 
@@ -97,7 +114,9 @@ fn run_steps<L: Ledger, R: Threads + Wait + Sync, G: Gate + Sync>(
             return Ok(());
         }
         let order = book.order(rt, alloc, desk, lease)?;
-        match team.take_step(alloc, lease, &order) {
+        let ran = team.take_step(alloc, lease, &order);
+        drop(order);
+        match ran {
             Ok(()) => {}
             Err(LeaseFault::WrongOrder) => return Err(BookFault::StrangerLease),
             Err(LeaseFault::Memory) => return Err(BookFault::Memory),
@@ -106,17 +125,19 @@ fn run_steps<L: Ledger, R: Threads + Wait + Sync, G: Gate + Sync>(
     Ok(())
 }
 
-/// What becomes of a lease after a fault. Where memory ran out it is revoked, so that others can take
-/// the job; a lease that the book no longer takes is dropped, and the runner goes on.
+/// Drops a lease after a fault. Where memory ran out it is revoked, so that others can take the job; where
+/// the book no longer takes it, the runner goes on.
 fn end_lease<L: Ledger, R: Wait>(
     rt: &R,
     book: &SharedBook<L>,
     desk: &mut Desk<L>,
-    job: u32,
+    lease: Lease,
     fault: BookFault,
 ) -> Result<(), RunFault>
     ensures { parts_of desk.new ≡ parts_of desk.old }
 {
+    let job = lease.job();
+    drop(lease);
     match fault {
         BookFault::HistoryFull => Err(RunFault::HistoryFull),
         BookFault::Memory => match book.revoke(rt, desk, job) {

@@ -6,7 +6,7 @@ use Rattle.std.proofs.lemmas.Bool.{and_parts, cond-false, eqb-true, ltb-false}
 use Rattle.std.specs.List.{position}
 use Rattle.trlab_road.specs.Cells.{Cells}
 use Rattle.trlab_step.specs.declared.tally.StepTally.{StepTally}
-use Rattle.trlab_run.specs.Progress.{IsUnderway}
+use Rattle.trlab_run.specs.Progress.{IsUnderway, Progress}
 use Rattle.trlab_leases.specs.declared.event.Offered.{Offered}
 use Rattle.trlab_leases.specs.declared.ran.Ran.{Ran}
 use Rattle.trlab_step.proofs.RunLaws.{road_at_is_one}
@@ -15,10 +15,11 @@ use Rattle.trlab_leases.specs.Sheets.{AreInForce}
 use Rattle.trlab_leases.specs.Leases.{LeaseState}
 use Rattle.trlab_leases.specs.declared.fault.BookFault.{BookFault}
 use Rattle.trlab_leases.specs.declared.fault.BookFault.TheVariants.{HistoryFull, NoSuchJob}
-use Rattle.trlab_leases.specs.declared.event.Reply.TheVariants.{Leased, Refused}
+use Rattle.trlab_leases.specs.declared.event.Reply.{Reply}
+use Rattle.trlab_leases.specs.declared.event.Reply.TheVariants.{Leased, Refused, Seen}
 use Rattle.trlab_leases.specs.declared.order.Order.{Order}
-use Rattle.trlab_step.specs.Run.{IsRoadAt, in_force}
-use Rattle.trlab_leases.specs.Comparison.{IsFresh, IsLent, IsOwnRun, IsRuleAt, IsSame, LeaseCall}
+use Rattle.trlab_step.specs.Run.{IsRoadAt, Sheet, in_force}
+use Rattle.trlab_leases.specs.Comparison.{IsFresh, IsLent, IsOwnRun, IsRuleAt, IsSame, IsSeen, IsSnapshotOf, LeaseCall}
 use Rattle.trlab_leases.specs.Machine.{JobState, Outcome, Served, State, after, is_free, is_full, is_out, is_own, leasing, next_after, on_free, on_job, reading, reply_of, served}
 
 -- a job that is there
@@ -56,8 +57,22 @@ rule_found jobs i j (Ok o) h e at k =
 pub reply_found : (jobs : List JobState) (i : ℕ) (j : JobState) (f : JobState → Outcome) → i < length jobs → j ≡ slice_index_or jobs i j → (f j).reply ≡ (on_job jobs i f).reply
 reply_found jobs i j f h e = sym (ap (λ s. s.reply) (on_found jobs i j f (found jobs i j h e)))
 
+pub reply_made : (jobs : List JobState) (i : ℕ) (old : JobState) (f : JobState → Outcome) (m : Bool) (told : Reply) → i < length jobs → old ≡ slice_index_or jobs i old → MatchBool m (Unit {0}) (told ≡ (f old).reply) → MatchBool m (Unit {0}) (told ≡ (on_job jobs i f).reply)
+reply_made jobs i old f true told h e n = tt
+reply_made jobs i old f false told h e n = n ∙ reply_found jobs i old f h e
+
 pub jobs_found : (jobs : List JobState) (i : ℕ) (j : JobState) (f : JobState → Outcome) → i < length jobs → j ≡ slice_index_or jobs i j → slice_set jobs i (f j).job ≡ (on_job jobs i f).jobs
 jobs_found jobs i j f h e = sym (ap (λ s. s.jobs) (on_found jobs i j f (found jobs i j h e)))
+
+-- a snapshot of a job that is there
+pub seen_found : (jobs : List JobState) (i : ℕ) (j : JobState) (seen : Progress) → i < length jobs → j ≡ slice_index_or jobs i j → IsSnapshotOf j seen → IsSeen jobs i seen
+seen_found jobs i j seen h e is =
+    let P : Option JobState → Type 0 = λ o. MatchOption o ⊥ (λ k. IsSnapshotOf k seen) in
+    subst P (sym (found jobs i j h e)) is
+
+pub seen_told : (jobs : List JobState) (i : ℕ) (j : JobState) (seen : Progress) → i < length jobs → j ≡ slice_index_or jobs i j → IsSnapshotOf j seen → Seen seen.step (length seen.sheet) ≡ (on_job jobs i reading).reply
+seen_told jobs i j seen h e is =
+    ap (λ n. Seen n (length seen.sheet)) is.step ∙ ap (λ (s : Sheet). Seen j.done (length s)) is.sheet ∙ reply_found jobs i j reading h e
 
 -- the lease of a job that is there runs its road
 pub own_found : (jobs : List JobState) (i : ℕ) (j : JobState) (lease : LeaseState) → i < length jobs → j ≡ slice_index_or jobs i j → lease.job ≡ i → IsSame jobs lease → IsOwnRun j lease

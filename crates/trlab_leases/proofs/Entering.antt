@@ -1,5 +1,5 @@
 -- A rule that enters a sheet: the sheet stays one, and what was in force before stays in force.
-use Rattle.std.proofs.Common.{◌≡◌, ℕ, zero, suc, ◌+◌, ◌<◌, ◌≤◌, Bool, [], ◌∷◌, ◌++◌, ap, sym, ◌∙◌, refl, arith, length, ltb, length-append, append-nil, ◌≢◌}
+use Rattle.std.proofs.Common.{◌≡◌, ℕ, zero, suc, ◌+◌, ◌<◌, ◌≤◌, Bool, [], ◌∷◌, ◌++◌, ap, sym, ◌∙◌, refl, arith, length, ltb, length-append, append-nil, ◌≢◌, ◌==◌, ◌||◌, not, true, false, subst}
 use Rattle.std.proofs.lemmas.Bool.{ltb-true, lt-ltb, le-ltb, lt-leb, cond_both, cond-true, cond-false, ltb-false}
 use Rattle.std.proofs.lemmas.List.Elements.{filter-append, All-filter, All-append}
 use Rattle.std.specs.Prelude.{Option, Some, None, All, filter, nat_le, unwrap_or, if◌then◌else◌}
@@ -10,6 +10,10 @@ use Rattle.trlab_step.specs.Run.{Seed, Sheet, IsSheet, Rises, in_force, ComesTo}
 use Rattle.trlab_step.specs.Laws.{IsRuleFor}
 use Rattle.trlab_run.specs.Progress.{IsUnderway}
 use Rattle.trlab_leases.specs.Sheets.{BeginBy, IsBookSheet, entered}
+use Rattle.trlab_leases.specs.Leases.{suits}
+use Rattle.trlab_leases.specs.Machine.{JobState, Outcome, refused, replacing}
+use Rattle.trlab_leases.specs.declared.event.Reply.TheVariants.{Number}
+use Rattle.trlab_leases.specs.declared.fault.BookFault.TheVariants.{Ended, LanesMismatch, SheetFull}
 use Rattle.trlab_leases.proofs.InForce.{rises_from_0, none_in_force}
 
 -- whether an entry begins before a step
@@ -140,3 +144,21 @@ underway_entered seed sheet from rule step road sum h suits is on =
       };
       comes = comes_entered seed sheet from rule step road sum h (rises_from_0 sheet on.suits.is_sheet) is on.comes;
     }
+
+-- what entering a rule in a job replies, and the job after it
+pub rule_taken : (job now : JobState) (rule : Programs) (sheet : Sheet) → job ≡ now → (now.cancelled || (now.high == now.steps)) ≡ false → suits rule now.seed.road ≡ true → sheet ≡ entered job.sheet job.high rule → length sheet ≤ 1024
+    → record { reply = Number job.high; job = record job { sheet = sheet } } ≡ replacing rule now
+rule_taken job now rule sheet view under suit put few =
+    let P : JobState → Type 0 = λ s. (s.cancelled || (s.high == s.steps)) ≡ false → suits rule s.seed.road ≡ true → record { reply = Number job.high; job = record job { sheet = sheet } } ≡ replacing rule s in
+    subst P view (λ a b. taken a b) under suit
+  where
+    taken : (job.cancelled || (job.high == job.steps)) ≡ false → suits rule job.seed.road ≡ true → record { reply = Number job.high; job = record job { sheet = sheet } } ≡ replacing rule job
+    taken a b =
+        let most = ap length put in
+        let made : Outcome = record { reply = Number job.high; job = record job { sheet = entered job.sheet job.high rule } } in
+        let full : Outcome = if ltb 1024 (length (entered job.sheet job.high rule)) then refused SheetFull job else made in
+        let lanes : Outcome = if not (suits rule job.seed.road) then refused LanesMismatch job else full in
+        ap (λ (v : Sheet). (record { reply = Number job.high; job = record job { sheet = v } })) put
+        ∙ sym (cond-false (job.cancelled || (job.high == job.steps)) (refused Ended job) lanes a
+        ∙ cond-false (not (suits rule job.seed.road)) (refused LanesMismatch job) full (ap not b)
+        ∙ cond-false (ltb 1024 (length (entered job.sheet job.high rule))) (refused SheetFull job) made (le-ltb 1024 (length (entered job.sheet job.high rule)) (omega (arith, most, few))))

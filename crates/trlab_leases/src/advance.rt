@@ -54,18 +54,17 @@ impl Lease {
         if !self.fits(order) {
             return Err(LeaseFault::WrongOrder);
         }
-        self.applied.reserve(1)?;
-        let rule = order.rule.copy(alloc)?;
+        let Ok(()) = self.applied.reserve(1) else {
+            return Err(LeaseFault::Memory);
+        };
+        let Ok(rule) = order.rule.copy(alloc) else {
+            return Err(LeaseFault::Memory);
+        };
         let dice = Dice::new(&self.key, self.road_number, self.step);
-        let tally = take_step(
-            asker,
-            alloc,
-            &mut self.road,
-            &mut self.room,
-            &rule,
-            &dice,
-            &mut Nobody,
-        )?;
+        let (road, room) = (&mut self.road, &mut self.room);
+        let Ok(tally) = take_step(asker, alloc, road, room, &rule, &dice, &mut Nobody) else {
+            return Err(LeaseFault::Memory);
+        };
         self.applied.push_reserved(Ran { rule, tally });
         self.step += 1;
         Ok(())

@@ -1,6 +1,6 @@
 //! One job of the book.
 
-ghost use Rattle.std.specs.Prelude.{◌≡◌, IsTrue, IfOk, IfErr, OnErr, Some, length, ◌↔◌, MatchBool};
+ghost use Rattle.std.specs.Prelude.{◌≡◌, ◌==◌, ◌||◌, true, false, IsTrue, IfOk, IfErr, OnErr, Some, length, ◌↔◌, MatchBool};
 ghost use Rattle.trlab_road.specs.Legal.{IsLegal};
 ghost use Rattle.trlab_run.specs.Progress.{IsUnderway};
 ghost use Rattle.trlab_step.specs.Laws.{IsRuleFor};
@@ -8,7 +8,8 @@ ghost use Rattle.trlab_step.specs.Run.{in_force};
 ghost use Rattle.trlab_leases.specs.Answers.{back_reply, done_reply, is_memory, number_reply, order_reply};
 ghost use Rattle.trlab_leases.specs.Comparison.{IsFresh, IsOwnRun, IsSnapshotOf, offered};
 ghost use Rattle.trlab_leases.specs.Jobs.{run_of};
-ghost use Rattle.trlab_leases.specs.Machine.{cancelling, giving_back, is_free, is_own, leasing, new_job, ordering, replacing, revoking};
+ghost use Rattle.trlab_leases.specs.Leases.{suits};
+ghost use Rattle.trlab_leases.specs.Machine.{cancelling, giving_back, is_free, is_own, leasing, new_job, ordering, refused, replacing, revoking};
 
 use crate::fault::BookFault;
 use crate::lease::Lease;
@@ -95,14 +96,25 @@ impl Job {
         ensures job { MatchBool (is_memory result) (self.new ≡ self.old)
             (self.new ≡ (replacing rule self.old).job) }
     {
+        self.admits(&rule)?;
+        self.sheet.enter(self.high, rule)?;
+        Ok(self.high)
+    }
+
+    /// Whether the job has not ended, and a rule suits its road.
+    fn admits(&self, rule: &Rule) -> Result<(), BookFault>
+        ensures ok { IfOk result (λ _. (self.now.cancelled || (self.now.high == self.now.steps) ≡ false)
+            × (suits rule.now self.now.seed.road ≡ true)) }
+        ensures rule { IfOk result (λ _. IsRuleFor (length self.now.seed.road.lanes) rule.now) }
+        ensures err { IfErr result (λ fault. replacing rule.now self.now ≡ refused fault self.now) }
+    {
         if self.cancelled || self.high == self.steps {
             return Err(BookFault::Ended);
         }
-        if !suits(&rule, &self.seed.road) {
+        if !suits(rule, &self.seed.road) {
             return Err(BookFault::LanesMismatch);
         }
-        self.sheet.enter(self.high, rule)?;
-        Ok(self.high)
+        Ok(())
     }
 
     /// Ends the lease that is out.

@@ -1,10 +1,14 @@
 //! Calls on one job of a list.
 
-ghost use Rattle.std.specs.Prelude.{◌≡◌, ◌↔◌, ◌<◌, ◌≤◌, IsTrue, IfOk, IfErr, IfSome, MatchBool, length, ltb, not};
+ghost use Rattle.std.specs.Prelude.{◌≡◌, ◌↔◌, ◌<◌, ◌≤◌, ℕ, true, IsTrue, IfOk, IfErr, IfSome, MatchBool, length, ltb, not, vec_len, vec_capacity};
 ghost use Rattle.std.specs.List.{position};
+ghost use Rattle.trlab_road.specs.Legal.{IsLegal};
+ghost use Rattle.trlab_step.specs.Laws.{IsRuleFor};
 ghost use Rattle.trlab_leases.specs.Answers.{back_reply, done_reply, is_memory, number_reply, order_reply, seen_reply};
 ghost use Rattle.trlab_leases.specs.Comparison.{IsRuleAt, IsSame, IsSeen, offered};
+ghost use Rattle.trlab_leases.specs.Leases.{suits};
 ghost use Rattle.trlab_leases.specs.Machine.{cancelling, giving_back, is_free, on_job, ordering, reading, replacing, revoking, submitting};
+ghost use Rattle.trlab_leases.specs.declared.event.Reply.TheVariants.{Refused};
 
 use crate::fault::BookFault;
 use crate::job::Job;
@@ -32,17 +36,31 @@ pub(crate) fn submit_in(
         (jobs.new.items ≡ (submitting jobs.old.items seed rule steps).jobs) }
     ensures few { length jobs.new.items ≤ 256 }
 {
-    if !suits(&rule, &seed.road) {
+    make_room(jobs, &seed, &rule)?;
+    let job = Job::new(alloc, seed, rule, steps)?;
+    let number = jobs.len() as u32;
+    jobs.push_reserved(job);
+    Ok(number)
+}
+
+/// Makes room for one job more, where the list takes one and its rule suits its road.
+fn make_room(jobs: &mut Vec<Job>, seed: &Seed, rule: &Rule) -> Result<(), BookFault>
+    ensures jobs { jobs.new.items ≡ jobs.old.items }
+    ensures room { IfOk result (λ _. vec_len jobs.new < vec_capacity jobs.new) }
+    ensures taken { IfOk result (λ _. (suits rule.now seed.now.road ≡ true) × (length jobs.old.items < 256)) }
+    ensures rule { IfOk result (λ _. IsRuleFor (length seed.now.road.lanes) rule.now) }
+    ensures refused { IfErr result (λ fault. MatchBool (is_memory result) (Unit {0})
+        ((steps : ℕ) → submitting jobs.old.items seed.now rule.now steps
+        ≡ record { reply = Refused fault; jobs = jobs.old.items })) }
+    ensures legal { IsLegal seed.now.road }
+{
+    if !suits(rule, &seed.road) {
         return Err(BookFault::LanesMismatch);
     }
     if is_most(jobs.len()) {
         return Err(BookFault::Full);
     }
-    jobs.reserve(1)?;
-    let job = Job::new(alloc, seed, rule, steps)?;
-    let number = jobs.len() as u32;
-    jobs.push_reserved(job);
-    Ok(number)
+    Ok(jobs.reserve(1)?)
 }
 
 /// Whether a book takes no more jobs than so many.
@@ -73,9 +91,11 @@ pub(crate) fn revoke_in(jobs: &mut Vec<Job>, index: u32) -> Result<(), BookFault
     ensures jobs { jobs.new.items ≡ (on_job jobs.old.items index revoking).jobs }
     ensures len { length jobs.new.items ≡ length jobs.old.items }
 {
-    jobs.get_mut(index as usize)
-        .ok_or(BookFault::NoSuchJob)?
-        .revoke()
+    if index as usize >= jobs.len() {
+        return Err(BookFault::NoSuchJob);
+    }
+    let found = &mut jobs[index as usize];
+    found.revoke()
 }
 
 /// Ends a job, and its lease.
@@ -84,9 +104,11 @@ pub(crate) fn cancel_in(jobs: &mut Vec<Job>, index: u32) -> Result<(), BookFault
     ensures jobs { jobs.new.items ≡ (on_job jobs.old.items index cancelling).jobs }
     ensures len { length jobs.new.items ≡ length jobs.old.items }
 {
-    jobs.get_mut(index as usize)
-        .ok_or(BookFault::NoSuchJob)?
-        .cancel()
+    if index as usize >= jobs.len() {
+        return Err(BookFault::NoSuchJob);
+    }
+    let found = &mut jobs[index as usize];
+    found.cancel()
 }
 
 /// The least job that can go out.
@@ -152,15 +174,14 @@ pub(crate) fn give_back_in(
 }
 
 /// A snapshot of a job.
-#[tactic(auto, using(crate::proofs::Booking::reading_stays))]
 pub(crate) fn read_in(jobs: &[Job], alloc: Global, index: u32) -> Result<Snapshot, BookFault>
     ensures reply { MatchBool (is_memory result) (Unit {0})
         (seen_reply result ≡ (on_job jobs.now index reading).reply) }
     ensures seen { IfOk result (λ seen. IsSeen jobs.now index seen) }
     ensures jobs { (on_job jobs.now index reading).jobs ≡ jobs.now }
 {
-    let Some(found) = jobs.get(index as usize) else {
+    if index as usize >= jobs.len() {
         return Err(BookFault::NoSuchJob);
-    };
-    Ok(found.read(alloc)?)
+    }
+    Ok(jobs[index as usize].read(alloc)?)
 }

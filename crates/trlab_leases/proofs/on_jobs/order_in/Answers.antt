@@ -1,9 +1,14 @@
 use Rattle.std.proofs.Common.{rules}
 use Rattle.trlab_leases.specs.Machine.{ordering}
 use Rattle.trlab_leases.specs.Comparison.{offered}
-use Rattle.trlab_leases.specs.Answers.{is_memory}
-use Rattle.trlab_leases.proofs.Booking.{jobs_made, rule_found}
+use Rattle.trlab_leases.specs.Answers.{is_memory, order_reply}
+use Rattle.trlab_leases.proofs.Booking.{jobs_made, reply_made, rule_found}
 use Rattle.trlab_leases.proofs.on_jobs.order_in.Goals as goal
+
+pub returns-clause-reply : goal.returns-clause-reply
+returns-clause-reply c =
+    reply_made c.args.jobs.now.items c.args.lease.now.job c.index_mut-found.result.now (ordering (offered c.args.lease.now c.args.same)) (is_memory c.order.result) (order_reply c.order.result)
+    (search (rules, c.if-index-len.false, c.len.ensures, c.job-index.ensures)) (rw c.job-index.ensures at c.index_mut-found.ensures.value) c.order.ensures.reply
 
 pub returns-clause-jobs : goal.returns-clause-jobs
 returns-clause-jobs c =

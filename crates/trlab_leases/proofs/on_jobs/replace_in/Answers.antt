@@ -1,8 +1,13 @@
 use Rattle.std.proofs.Common.{rules}
 use Rattle.trlab_leases.specs.Machine.{replacing}
-use Rattle.trlab_leases.specs.Answers.{is_memory}
-use Rattle.trlab_leases.proofs.Booking.{jobs_made}
+use Rattle.trlab_leases.specs.Answers.{is_memory, number_reply}
+use Rattle.trlab_leases.proofs.Booking.{jobs_made, reply_made}
 use Rattle.trlab_leases.proofs.on_jobs.replace_in.Goals as goal
+
+pub returns-clause-reply : goal.returns-clause-reply
+returns-clause-reply c =
+    reply_made c.args.jobs.now.items c.args.index c.index_mut-found.result.now (replacing c.args.rule) (is_memory c.replace.result) (number_reply c.replace.result)
+    (search (rules, c.if-index-len.false, c.len.ensures)) c.index_mut-found.ensures.value c.replace.ensures.reply
 
 pub returns-clause-jobs : goal.returns-clause-jobs
 returns-clause-jobs c =
