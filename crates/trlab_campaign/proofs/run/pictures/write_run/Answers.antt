@@ -13,14 +13,18 @@ loop-step-init g c =
       flushed = refl;
     }
 
-pub returns-in_err-show_step-clause-whole : goal.returns-in_err-show_step-clause-whole
-returns-in_err-show_step-clause-whole g c = λ job stored starts ends. rw (err_from_is_err_and c.from_residual.result c.from_residual.ensures.1).1 tt
-
-pub returns-in_err-show_step-clause-front : goal.returns-in_err-show_step-clause-front
-returns-in_err-show_step-clause-front g c = λ job stored starts ends.
+pub returns-in_err-show_step : goal.returns-in_err-show_step
+returns-in_err-show_step g c =
     let fault = err_from_is_err_and c.from_residual.result c.from_residual.ensures.1 in
-    rw fault.1 (step_stops c.args.steps c.loop-step.step _ c.args.run.now c.loop-step.run _ _ _ c.loop-step.invariant.writes c.show_step.ensures.road c.in_err-show_step.ensures.front
-    job (record { stored = stored; starts = starts; ends = ends }))
+    record {
+      whole = λ job stored starts ends. rw fault.1 tt;
+      front = λ job stored starts ends. rw fault.1
+          (step_stops c.args.steps c.loop-step.step _ c.args.run.now c.loop-step.run _ _ _ c.loop-step.invariant.writes c.show_step.ensures.road c.in_err-show_step.ensures.front
+          job (record { stored = stored; starts = starts; ends = ends }));
+      works = rw fault.1 tt;
+      fails = rw (fault.1, fault.2) c.in_err-show_step.ensures.fails;
+      flushed = c.show_step.ensures.flushed ∙ c.loop-step.invariant.flushed;
+    }
 
 pub loop-step-preserved : goal.loop-step-preserved
 loop-step-preserved g c =
@@ -47,3 +51,12 @@ returns-clause-front g c = λ job stored starts ends.
     let left : c.args.steps - c.loop-step.step ≡ 0 = omega arith in
     let writes = rw (left, last) at c.loop-step.invariant.writes in
     last_front c.show_last.result c.args.steps c.args.run.now c.loop-step.run _ _ _ _ writes c.road.ensures.run c.show_last.ensures.front job (record { stored = stored; starts = starts; ends = ends })
+
+pub returns-clause-works : goal.returns-clause-works
+returns-clause-works g c = c.show_last.ensures.works
+
+pub returns-clause-fails : goal.returns-clause-fails
+returns-clause-fails g c = c.show_last.ensures.fails
+
+pub returns-clause-flushed : goal.returns-clause-flushed
+returns-clause-flushed g c = c.show_last.ensures.flushed ∙ c.loop-step.invariant.flushed
