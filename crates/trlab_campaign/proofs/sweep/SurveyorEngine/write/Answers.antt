@@ -8,3 +8,18 @@ returns-in-Err-At-clause-answer g c =
 
 pub returns-clause-answer : goal.returns-clause-answer
 returns-clause-answer g c = c.write_table-end.ensures.answer c.args.text.now c.in-Ok.ensures.told
+
+pub refuse-requires : goal.refuse-requires
+refuse-requires g c = c.requires.works
+
+pub returns-in-Err-At-clause-handed : goal.returns-in-Err-At-clause-handed
+returns-in-Err-At-clause-handed g c = c.refuse.ensures.handed
+
+pub returns-in-Err-At-clause-device : goal.returns-in-Err-At-clause-device
+returns-in-Err-At-clause-device g c = c.refuse.ensures.device
+
+pub returns-clause-handed : goal.returns-clause-handed
+returns-clause-handed g c = c.write_table-end.ensures.handed
+
+pub returns-clause-device : goal.returns-clause-device
+returns-clause-device g c = c.write_table-end.ensures.device
