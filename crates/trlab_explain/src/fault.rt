@@ -5,6 +5,7 @@ ghost use Rattle.trlab_explain.specs.Explanations.{BeginsWith, fault_head};
 
 use crate::forms::{INSTRUCTIONS, form_of};
 use crate::head::{push_fault_head, push_read_as};
+use crate::lines::{push_count, push_number, push_words};
 use crate::mends::push_mend;
 use crate::part::push_part_refusal;
 use crate::spots::{EXPECTED_OF_CHECK, expected_at};
@@ -20,9 +21,7 @@ use trlab_texts::Cause;
 
 /// Adds what a cause means.
 fn push_meaning(page: &mut Page, cause: Cause) -> Result<(), AllocError> {
-    page.say("Cause ")?;
-    page.number(cause.number())?;
-    page.say(": ")?;
+    push_number(page, "Cause ", cause.number(), ": ")?;
     page.line(meaning_of_cause(cause))
 }
 
@@ -35,9 +34,7 @@ fn push_place(page: &mut Page, cause: Cause) -> Result<(), AllocError> {
         ) => { ("It stands at cell ", place) }
         _ => return Ok(()),
     };
-    page.say(words)?;
-    page.number(u64::from(place))?;
-    page.line(", counted from 0.")
+    push_count(page, words, u64::from(place), ", counted from 0.")
 }
 
 /// Adds what has to stand at a line of a text.
@@ -91,35 +88,43 @@ fn push_expectation(
 }
 
 /// Adds what to look at where no repair is likely.
-fn push_hint(page: &mut Page, cause: Cause) -> Result<(), AllocError> {
+pub fn push_hint(page: &mut Page, cause: Cause) -> Result<(), AllocError> {
     match look_at(cause) {
-        Some(hint) => {
-            page.say("Look at: ")?;
-            page.line(hint)
-        }
+        Some(hint) => push_words(page, "Look at: ", hint),
         None => Ok(()),
     }
 }
 
-/// What is told of a fault behind its head.
-fn fault_body(
+/// Adds what mends a fault, or what to look at.
+fn push_repair(
     alloc: Global,
+    page: &mut Page,
     subject: Subject,
     text: &[u8],
     line: u32,
     cause: Cause,
-) -> Result<Page, AllocError> {
-    let mut page = Page::new(alloc);
-    if cause != Cause::TooBig {
-        push_read_as(&mut page, subject)?;
-    }
-    push_meaning(&mut page, cause)?;
-    push_expectation(alloc, &mut page, subject, text, line, cause)?;
+) -> Result<(), AllocError> {
     match likely_repair(alloc, subject, text, line, cause)? {
-        Some(repair) => push_mend(&mut page, text, repair)?,
-        None => push_hint(&mut page, cause)?,
+        Some(repair) => push_mend(page, text, repair),
+        None => push_hint(page, cause),
     }
-    Ok(page)
+}
+
+/// Adds what is told of a fault behind its head.
+fn push_fault(
+    alloc: Global,
+    page: &mut Page,
+    subject: Subject,
+    text: &[u8],
+    line: u32,
+    cause: Cause,
+) -> Result<(), AllocError> {
+    if cause != Cause::TooBig {
+        push_read_as(page, subject)?;
+    }
+    push_meaning(page, cause)?;
+    push_expectation(alloc, page, subject, text, line, cause)?;
+    push_repair(alloc, page, subject, text, line, cause)
 }
 
 /// The page on the first fault of a text.
@@ -136,9 +141,10 @@ pub fn fault_page(
 ) -> Result<Page, AllocError>
     ensures { IfOk result (BeginsWith (fault_head text.now (record { line = line; cause = cause }))) }
 {
+    let mut body = Page::new(alloc);
+    push_fault(alloc, &mut body, subject, text, line, cause)?;
     let mut page = Page::new(alloc);
     push_fault_head(&mut page, text, line, cause)?;
-    let body = fault_body(alloc, subject, text, line, cause)?;
     page.add(&body)?;
     Ok(page)
 }

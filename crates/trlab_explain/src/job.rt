@@ -5,7 +5,7 @@ ghost use Rattle.trlab_explain.specs.Explanations.{TellsAs};
 ghost use Rattle.trlab_advice.specs.declared.subject.Subject.TheVariants.{Job as OfJob};
 
 use crate::fault::fault_page;
-use crate::lines::{push_count, push_rules};
+use crate::lines::{push_count, push_counts, push_rules};
 use std::alloc::{AllocError, Global};
 use trlab_advice::Subject;
 use trlab_bounds::runs::MOST_LATER;
@@ -43,28 +43,48 @@ fn output_bytes(road: &Road, steps: u32) -> u64 {
 fn push_road(page: &mut Page, road: &Road) -> Result<(), AllocError> {
     let cells = u64::from(road.lanes()).saturating_mul(u64::from(road.length()));
     let cars = u64::from(road.cars());
-    push_count(page, "Lanes: ", u64::from(road.lanes()), ", each a ring.")?;
-    push_count(page, "Cells of a lane: ", u64::from(road.length()), ".")?;
-    push_count(page, "Cars: ", cars, ".")?;
     let share = cars.saturating_mul(1000) / cells.max(1);
-    push_count(page, "Density: ", share, " cars in 1000 cells.")?;
-    push_count(page, "Limit: ", u64::from(road.limit()), " cells a step.")
+    push_counts(
+        page,
+        &[
+            ("Lanes: ", u64::from(road.lanes()), ", each a ring."),
+            ("Cells of a lane: ", u64::from(road.length()), "."),
+            ("Cars: ", cars, "."),
+            ("Density: ", share, " cars in 1000 cells."),
+            ("Limit: ", u64::from(road.limit()), " cells a step."),
+        ],
+    )
+}
+
+/// Adds the rules of a job.
+fn push_job_rules(page: &mut Page, text: &[u8], job: &Job) -> Result<(), AllocError> {
+    page.line("The first rule:")?;
+    push_rules(page, text, b"rule", 1)?;
+    if job.later.is_empty() {
+        return Ok(());
+    }
+    page.line("Rules of later steps:")?;
+    push_rules(page, text, b"at", MOST_LATER)
+}
+
+/// Adds what a job will do.
+fn push_job(page: &mut Page, text: &[u8], job: &Job) -> Result<(), AllocError> {
+    page.line("This is a good job text: `trlab run` drives it.")?;
+    push_road(page, &job.road)?;
+    push_job_rules(page, text, job)?;
+    push_count(page, "Steps: ", u64::from(job.steps), ".")?;
+    push_count(
+        page,
+        "Output: ",
+        output_bytes(&job.road, job.steps),
+        " bytes.",
+    )
 }
 
 /// The page on what a job will do.
 fn job_page(alloc: Global, text: &[u8], job: &Job) -> Result<Page, AllocError> {
     let mut page = Page::new(alloc);
-    page.line("This is a good job text: `trlab run` drives it.")?;
-    push_road(&mut page, &job.road)?;
-    page.line("The first rule:")?;
-    push_rules(&mut page, text, b"rule", 1)?;
-    if !job.later.is_empty() {
-        page.line("Rules of later steps:")?;
-        push_rules(&mut page, text, b"at", MOST_LATER)?;
-    }
-    push_count(&mut page, "Steps: ", u64::from(job.steps), ".")?;
-    let bytes = output_bytes(&job.road, job.steps);
-    push_count(&mut page, "Output: ", bytes, " bytes.")?;
+    push_job(&mut page, text, job)?;
     Ok(page)
 }
 

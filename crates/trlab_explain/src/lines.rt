@@ -22,6 +22,44 @@ pub fn push_count(
     page.line(behind)
 }
 
+/// Adds lines with numbers: of each what stands in front of it, the number, and what stands behind.
+///
+/// # Errors
+///
+/// Want of memory.
+pub fn push_counts(page: &mut Page, rows: &[(&str, u64, &str)]) -> Result<(), AllocError> {
+    for row in rows {
+        push_count(page, row.0, row.1, row.2)?;
+    }
+    Ok(())
+}
+
+/// Adds a number between words.
+///
+/// # Errors
+///
+/// Want of memory.
+pub fn push_number(
+    page: &mut Page,
+    front: &str,
+    number: u64,
+    behind: &str,
+) -> Result<(), AllocError> {
+    page.say(front)?;
+    page.number(number)?;
+    page.say(behind)
+}
+
+/// Adds words, and others that end the line.
+///
+/// # Errors
+///
+/// Want of memory.
+pub fn push_words(page: &mut Page, front: &str, words: &str) -> Result<(), AllocError> {
+    page.say(front)?;
+    page.line(words)
+}
+
 /// Adds the first lines of a text that have this first word, as many as there may be of them.
 ///
 /// # Errors

@@ -102,6 +102,13 @@ fn shown_words(repair: Repair) -> Option<(&'static str, u32)> {
     }
 }
 
+/// Adds the name that was meant.
+fn push_meant(page: &mut Page, name: &[u8]) -> Result<(), AllocError> {
+    page.say("perhaps `")?;
+    page.show_all(name)?;
+    page.line("` is meant.")
+}
+
 /// Adds a repair of a text.
 ///
 /// # Errors
@@ -110,9 +117,7 @@ fn shown_words(repair: Repair) -> Option<(&'static str, u32)> {
 pub fn push_mend(page: &mut Page, text: &[u8], repair: Repair) -> Result<(), AllocError> {
     page.say("Repair: ")?;
     if let Repair::Name(name) = repair {
-        page.say("perhaps `")?;
-        page.show_all(name)?;
-        return page.line("` is meant.");
+        return push_meant(page, name);
     }
     if let Some((words, line)) = shown_words(repair) {
         return push_about(page, words, text, line);

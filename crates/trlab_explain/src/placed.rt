@@ -1,6 +1,7 @@
 //! Programs and where they stand in a text.
 
 use crate::instr_lines::InstrLines;
+use crate::lines::push_number;
 use std::alloc::{AllocError, Global};
 use trlab_advice::line_at;
 use trlab_asm::disassemble;
@@ -18,6 +19,20 @@ pub struct Placed<'a> {
     pub lines: &'a InstrLines,
 }
 
+/// Adds a line that has a number, where there is one.
+fn push_numbered(
+    page: &mut Page,
+    front: &str,
+    number: u32,
+    line: Option<&[u8]>,
+) -> Result<(), AllocError> {
+    push_number(page, front, u64::from(number), ": ")?;
+    if let Some(line) = line {
+        page.quote(line)?;
+    }
+    page.end_line()
+}
+
 /// Adds an instruction as the laboratory writes it, with its number.
 fn push_canonical(
     alloc: Global,
@@ -26,13 +41,12 @@ fn push_canonical(
     pc: u32,
 ) -> Result<(), AllocError> {
     let listing = disassemble(alloc, program.code)?;
-    page.say("instruction ")?;
-    page.number(u64::from(pc))?;
-    page.say(": ")?;
-    if let Some(line) = line_at(&listing, pc.saturating_add(1)) {
-        page.quote(line)?;
-    }
-    page.end_line()
+    push_numbered(
+        page,
+        "instruction ",
+        pc,
+        line_at(&listing, pc.saturating_add(1)),
+    )
 }
 
 /// Adds an instruction: its line of the text, or as the laboratory writes it where it has none.
@@ -42,14 +56,8 @@ pub fn push_instruction(
     program: Placed<'_>,
     pc: u32,
 ) -> Result<(), AllocError> {
-    let Some(number) = program.lines.line_of(pc as usize) else {
-        return push_canonical(alloc, page, program, pc);
-    };
-    page.say("line ")?;
-    page.number(u64::from(number))?;
-    page.say(": ")?;
-    if let Some(line) = line_at(program.text, number) {
-        page.quote(line)?;
+    match program.lines.line_of(pc as usize) {
+        Some(number) => push_numbered(page, "line ", number, line_at(program.text, number)),
+        None => push_canonical(alloc, page, program, pc),
     }
-    page.end_line()
 }

@@ -1,6 +1,7 @@
 //! The explanation of a refused program: the instruction, the reason, what the verifier knows there,
 //! and the usual repair.
 
+use crate::lines::{push_count, push_number, push_words};
 use crate::marks::{push_known, push_register};
 use crate::operands::{leads_to, operands};
 use crate::placed::{Placed, push_instruction};
@@ -64,9 +65,13 @@ fn push_largest(page: &mut Page, note: &Note, instr: Instr) -> Result<(), AllocE
         Instr::Mul(_, a, n) => u64::from(most_of(note, a)) * u64::from(n),
         _ => return Ok(()),
     };
-    page.say("The result may be as large as ")?;
-    page.number(largest)?;
-    page.line(".")
+    push_count(page, "The result may be as large as ", largest, ".")
+}
+
+/// Adds the name of a register, and words.
+fn push_beside(page: &mut Page, register: Register, words: &str) -> Result<(), AllocError> {
+    push_register(page, register)?;
+    page.say(words)
 }
 
 /// Adds which difference may be below zero.
@@ -74,14 +79,11 @@ fn push_difference(page: &mut Page, instr: Instr) -> Result<(), AllocError> {
     let Instr::Sub(_, a, b) = instr else {
         return Ok(());
     };
-    push_register(page, b)?;
-    page.say(" is not known to be at most ")?;
-    push_register(page, a)?;
-    page.say(", so ")?;
-    push_register(page, a)?;
-    page.say(" - ")?;
-    push_register(page, b)?;
-    page.line(" may be below zero.")
+    push_beside(page, b, " is not known to be at most ")?;
+    push_beside(page, a, ", so ")?;
+    push_beside(page, a, " - ")?;
+    push_beside(page, b, " may be below zero.")?;
+    page.end_line()
 }
 
 /// Adds which speed may be above an input.
@@ -89,10 +91,8 @@ fn push_speed(page: &mut Page, instr: Instr, input: &str) -> Result<(), AllocErr
     let Instr::Go(a) = instr else {
         return Ok(());
     };
-    push_register(page, a)?;
-    page.say(" is not known to be at most the ")?;
-    page.say(input)?;
-    page.line(".")
+    push_beside(page, a, " is not known to be at most the ")?;
+    push_words(page, input, ".")
 }
 
 /// Adds what the operands have to do with the reason.
@@ -164,6 +164,15 @@ fn push_notes(alloc: Global, page: &mut Page, refused: &Refused<'_>) -> Result<(
     Ok(())
 }
 
+/// Adds what leads to the refused instruction, and what is known there.
+fn push_context(alloc: Global, page: &mut Page, refused: &Refused<'_>) -> Result<(), AllocError> {
+    if refused.reason == 1 {
+        return push_skip(alloc, page, refused);
+    }
+    push_notes(alloc, page, refused)?;
+    push_ways(alloc, page, refused)
+}
+
 /// Adds why a program is refused.
 ///
 /// # Errors
@@ -175,16 +184,9 @@ pub fn push_refusal(
     refused: &Refused<'_>,
 ) -> Result<(), AllocError> {
     push_instruction(alloc, page, refused.program, refused.at)?;
-    page.say("Reason ")?;
-    page.number(u64::from(refused.reason))?;
-    page.say(": ")?;
+    push_number(page, "Reason ", u64::from(refused.reason), ": ")?;
     page.line(meaning_of_reason(refused.reason))?;
-    if refused.reason == 1 {
-        push_skip(alloc, page, refused)?;
-    } else {
-        push_notes(alloc, page, refused)?;
-        push_ways(alloc, page, refused)?;
-    }
-    page.say("Repair: ")?;
-    page.line(repair_of_reason(refused.reason, refused.program.code.kind()))
+    push_context(alloc, page, refused)?;
+    let repair = repair_of_reason(refused.reason, refused.program.code.kind());
+    push_words(page, "Repair: ", repair)
 }

@@ -6,9 +6,11 @@ ghost use Rattle.trlab_campaign.specs.declared.end.End.TheVariants.{DeviceFault}
 ghost use Rattle.trlab_explain.specs.Explanations.{BeginsWith, TellsNumber, topic_front};
 
 use crate::explain::write_told;
+use crate::fault::push_hint;
+use crate::lines::push_words;
 use crate::numbered::{MOST_REASON, cause_numbered};
 use std::alloc::{AllocError, AllocGlobal, Global};
-use trlab_advice::{look_at, meaning_of_cause, meaning_of_reason, repair_of_reason};
+use trlab_advice::{meaning_of_cause, meaning_of_reason, repair_of_reason};
 use trlab_campaign::{End, Sink};
 use trlab_code::Kind;
 use trlab_prose::Page;
@@ -40,67 +42,65 @@ fn push_repairs(page: &mut Page, reason: u32) -> Result<(), AllocError> {
     let motion = repair_of_reason(reason, Kind::Motion);
     let change = repair_of_reason(reason, Kind::Change);
     if motion == change {
-        page.say("Repair: ")?;
-        return page.line(motion);
+        return push_words(page, "Repair: ", motion);
     }
-    page.say("Repair of a motion program: ")?;
-    page.line(motion)?;
-    page.say("Repair of a change program: ")?;
-    page.line(change)
+    push_words(page, "Repair of a motion program: ", motion)?;
+    push_words(page, "Repair of a change program: ", change)
 }
 
-/// What is told of a cause behind its number.
-fn cause_body(alloc: Global, cause: Cause) -> Result<Page, AllocError> {
-    let mut page = Page::new(alloc);
+/// Adds why a program is refused that a text has, where that is the cause.
+fn push_verdict(page: &mut Page, cause: Cause) -> Result<(), AllocError> {
+    let Cause::Verdict(reason) = cause else {
+        return Ok(());
+    };
+    push_words(
+        page,
+        "It is refused for this reason: ",
+        meaning_of_reason(reason),
+    )?;
+    push_repairs(page, reason)
+}
+
+/// Adds what is told of a cause behind its number.
+fn push_cause(page: &mut Page, cause: Cause) -> Result<(), AllocError> {
     page.line(meaning_of_cause(cause))?;
-    if let Cause::Verdict(reason) = cause {
-        page.say("It is refused for this reason: ")?;
-        page.line(meaning_of_reason(reason))?;
-        push_repairs(&mut page, reason)?;
-    }
-    if let Some(hint) = look_at(cause) {
-        page.say("Look at: ")?;
-        page.line(hint)?;
-    }
+    push_verdict(page, cause)?;
+    push_hint(page, cause)?;
     page.line(
         "`trlab explain < FILE` tells it of a text that has it; docs/TEXTS.md has all causes.",
-    )?;
-    Ok(page)
+    )
 }
 
-/// What is told of a reason behind its number.
-fn reason_body(alloc: Global, reason: u32) -> Result<Page, AllocError> {
-    let mut page = Page::new(alloc);
+/// Adds what is told of a reason behind its number.
+fn push_reason(page: &mut Page, reason: u32) -> Result<(), AllocError> {
     page.line(meaning_of_reason(reason))?;
-    push_repairs(&mut page, reason)?;
+    push_repairs(page, reason)?;
     page.line(
         "`trlab explain < FILE` tells it of a program that has it; docs/PROGRAMS.md has all reasons.",
-    )?;
-    Ok(page)
+    )
 }
 
-/// What is told of a number behind it, and whether there is no such number.
-fn number_body(alloc: Global, topic: Topic, number: u32) -> Result<(bool, Page), AllocError> {
+/// Adds what is told of a number behind it. Whether there is no such number is the answer.
+fn push_meaning(page: &mut Page, topic: Topic, number: u32) -> Result<bool, AllocError> {
     match (topic, cause_numbered(number)) {
-        (Topic::Cause, Some(cause)) => Ok((false, cause_body(alloc, cause)?)),
-        (Topic::Reason, _) if 1 <= number && number <= MOST_REASON => {
-            Ok((false, reason_body(alloc, number)?))
-        }
+        (Topic::Cause, Some(cause)) => push_cause(page, cause)?,
+        (Topic::Reason, _) if 1 <= number && number <= MOST_REASON => push_reason(page, number)?,
         _ => {
-            let mut page = Page::new(alloc);
             page.line("there is none of this number.")?;
-            Ok((true, page))
+            return Ok(true);
         }
     }
+    Ok(false)
 }
 
 /// The page on a number, and whether there is no such number.
 fn number_page(alloc: Global, topic: Topic, number: u32) -> Result<(bool, Page), AllocError>
     ensures { IfOk result (λ told. BeginsWith (topic_front topic number) told.1) }
 {
+    let mut body = Page::new(alloc);
+    let is_none = push_meaning(&mut body, topic, number)?;
     let mut page = Page::new(alloc);
     push_topic(&mut page, topic, number)?;
-    let (is_none, body) = number_body(alloc, topic, number)?;
     page.add(&body)?;
     Ok((is_none, page))
 }
