@@ -5,7 +5,7 @@ ghost use Rattle.clap.specs.Words.{FailsBy, Text, app_of, fault_of, rows_of, rul
 ghost use Rattle.clap.specs.declared.builder.command.Command.TheViews.{out-Command as fields_of};
 ghost use Rattle.clap.specs.Matches.{found_of};
 ghost use Rattle.trlab_commands.specs.Requests.{Asks, GivesNumber, HasCounts, HasValue, IsNamedFirst};
-ghost use Rattle.trlab_commands.specs.CommandLine.{check_command, command_line, run_command, runners_option, sweep_command, workers_option};
+ghost use Rattle.trlab_commands.specs.CommandLine.{check_command, command_line, count_option, run_command, runners_option, sweep_command, workers_option};
 
 use crate::help::{
     ABOUT, AFTER, CHECK_ABOUT, CHECK_AFTER, RUN_ABOUT, RUN_AFTER, RUNNERS_HELP, SWEEP_ABOUT,
@@ -35,30 +35,33 @@ pub enum Wanted {
     },
 }
 
-/// The option `--workers n`, n from 1 to 16, which is 1 where it is not given.
+/// The option `--name n`, n from 1 to a greatest number, which is 1 where it is not given.
+fn count_option<'a>(alloc: Global, name: &'a str, most: u32, help: &'a str) -> Arg<'a>
+    ensures rule { rule_of result ≡ count_option name.now most }
+    ensures local { result.global ≡ false }
+{
+    Arg::new(alloc, name)
+        .long(name)
+        .value_name("n")
+        .value_parser(value_parser!(u32).range(1..=i64::from(most)))
+        .default_value("1")
+        .help(help)
+}
+
+/// The option `--workers n`.
 fn workers_option<'a>(alloc: Global) -> Arg<'a>
     ensures rule { rule_of result ≡ workers_option }
     ensures local { result.global ≡ false }
 {
-    Arg::new(alloc, "workers")
-        .long("workers")
-        .value_name("n")
-        .value_parser(value_parser!(u32).range(1..=i64::from(MOST_WORKERS)))
-        .default_value("1")
-        .help(WORKERS_HELP)
+    count_option(alloc, "workers", MOST_WORKERS, WORKERS_HELP)
 }
 
-/// The option `--runners n`, n from 1 to 16, which is 1 where it is not given.
+/// The option `--runners n`.
 fn runners_option<'a>(alloc: Global) -> Arg<'a>
     ensures rule { rule_of result ≡ runners_option }
     ensures local { result.global ≡ false }
 {
-    Arg::new(alloc, "runners")
-        .long("runners")
-        .value_name("n")
-        .value_parser(value_parser!(u32).range(1..=i64::from(MOST_RUNNERS)))
-        .default_value("1")
-        .help(RUNNERS_HELP)
+    count_option(alloc, "runners", MOST_RUNNERS, RUNNERS_HELP)
 }
 
 /// The command `check`.

@@ -5,9 +5,8 @@ ghost use Rattle.trlab_explain.specs.Explanations.{BeginsWith, fault_head};
 
 use crate::forms::{INSTRUCTIONS, form_of};
 use crate::head::{push_fault_head, push_read_as};
-use crate::lines::{push_count, push_number, push_words};
+use crate::lines::{push_both, push_count};
 use crate::mends::push_mend;
-use crate::part::push_part_refusal;
 use crate::spots::{EXPECTED_OF_CHECK, expected_at};
 use std::alloc::{AllocError, Global};
 use trlab_advice::{
@@ -15,13 +14,16 @@ use trlab_advice::{
 };
 use trlab_asm::{Why, mnemonic_named};
 use trlab_code::CodeFault;
+use trlab_findings::push_part_refusal;
 use trlab_prose::Page;
 use trlab_road::RoadFault;
 use trlab_texts::Cause;
 
 /// Adds what a cause means.
 fn push_meaning(page: &mut Page, cause: Cause) -> Result<(), AllocError> {
-    push_number(page, "Cause ", cause.number(), ": ")?;
+    page.say("Cause ")?;
+    page.number(cause.number())?;
+    page.say(": ")?;
     page.line(meaning_of_cause(cause))
 }
 
@@ -87,10 +89,14 @@ fn push_expectation(
     }
 }
 
-/// Adds what to look at where no repair is likely.
+/// Adds what to look at, if a cause has something of the kind.
+///
+/// # Errors
+///
+/// Want of memory.
 pub fn push_hint(page: &mut Page, cause: Cause) -> Result<(), AllocError> {
     match look_at(cause) {
-        Some(hint) => push_words(page, "Look at: ", hint),
+        Some(hint) => push_both(page, "Look at: ", hint),
         None => Ok(()),
     }
 }

@@ -81,6 +81,21 @@ fn push_job(page: &mut Page, text: &[u8], job: &Job) -> Result<(), AllocError> {
     )
 }
 
+/// Adds what a job will do.
+fn push_job(page: &mut Page, text: &[u8], job: &Job) -> Result<(), AllocError> {
+    page.line("This is a good job text: `trlab run` drives it.")?;
+    push_road(page, &job.road)?;
+    page.line("The first rule:")?;
+    push_rules(page, text, b"rule", 1)?;
+    if !job.later.is_empty() {
+        page.line("Rules of later steps:")?;
+        push_rules(page, text, b"at", MOST_LATER)?;
+    }
+    push_count(page, "Steps: ", u64::from(job.steps), ".")?;
+    let bytes = output_bytes(&job.road, job.steps);
+    push_count(page, "Output: ", bytes, " bytes.")
+}
+
 /// The page on what a job will do.
 fn job_page(alloc: Global, text: &[u8], job: &Job) -> Result<Page, AllocError> {
     let mut page = Page::new(alloc);

@@ -2,23 +2,16 @@
 //! will do, in plain words.
 #![tactic(auto)]
 
-mod accepted;
 mod check;
 mod explain;
 mod fault;
 mod forms;
 mod head;
-mod instr_lines;
 mod job;
 pub mod laws;
 mod lines;
-mod marks;
 mod mends;
 mod numbered;
-mod operands;
-mod part;
-mod placed;
-mod refusal;
 mod spots;
 mod sweep;
 mod topics;

@@ -34,30 +34,14 @@ pub fn push_counts(page: &mut Page, rows: &[(&str, u64, &str)]) -> Result<(), Al
     Ok(())
 }
 
-/// Adds a number between words.
+/// Adds a line of two pieces.
 ///
 /// # Errors
 ///
 /// Want of memory.
-pub fn push_number(
-    page: &mut Page,
-    front: &str,
-    number: u64,
-    behind: &str,
-) -> Result<(), AllocError> {
+pub fn push_both(page: &mut Page, front: &str, behind: &str) -> Result<(), AllocError> {
     page.say(front)?;
-    page.number(number)?;
-    page.say(behind)
-}
-
-/// Adds words, and others that end the line.
-///
-/// # Errors
-///
-/// Want of memory.
-pub fn push_words(page: &mut Page, front: &str, words: &str) -> Result<(), AllocError> {
-    page.say(front)?;
-    page.line(words)
+    page.line(behind)
 }
 
 /// Adds the first lines of a text that have this first word, as many as there may be of them.

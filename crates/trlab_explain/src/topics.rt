@@ -7,7 +7,7 @@ ghost use Rattle.trlab_explain.specs.Explanations.{BeginsWith, TellsNumber, topi
 
 use crate::explain::write_told;
 use crate::fault::push_hint;
-use crate::lines::push_words;
+use crate::lines::push_both;
 use crate::numbered::{MOST_REASON, cause_numbered};
 use std::alloc::{AllocError, AllocGlobal, Global};
 use trlab_advice::{meaning_of_cause, meaning_of_reason, repair_of_reason};
@@ -42,10 +42,10 @@ fn push_repairs(page: &mut Page, reason: u32) -> Result<(), AllocError> {
     let motion = repair_of_reason(reason, Kind::Motion);
     let change = repair_of_reason(reason, Kind::Change);
     if motion == change {
-        return push_words(page, "Repair: ", motion);
+        return push_both(page, "Repair: ", motion);
     }
-    push_words(page, "Repair of a motion program: ", motion)?;
-    push_words(page, "Repair of a change program: ", change)
+    push_both(page, "Repair of a motion program: ", motion)?;
+    push_both(page, "Repair of a change program: ", change)
 }
 
 /// Adds why a program is refused that a text has, where that is the cause.
@@ -53,7 +53,7 @@ fn push_verdict(page: &mut Page, cause: Cause) -> Result<(), AllocError> {
     let Cause::Verdict(reason) = cause else {
         return Ok(());
     };
-    push_words(
+    push_both(
         page,
         "It is refused for this reason: ",
         meaning_of_reason(reason),
@@ -80,8 +80,8 @@ fn push_reason(page: &mut Page, reason: u32) -> Result<(), AllocError> {
     )
 }
 
-/// Adds what is told of a number behind it. Whether there is no such number is the answer.
-fn push_meaning(page: &mut Page, topic: Topic, number: u32) -> Result<bool, AllocError> {
+/// Adds what is told of a number behind it, and answers whether there is no such number.
+fn push_number(page: &mut Page, topic: Topic, number: u32) -> Result<bool, AllocError> {
     match (topic, cause_numbered(number)) {
         (Topic::Cause, Some(cause)) => push_cause(page, cause)?,
         (Topic::Reason, _) if 1 <= number && number <= MOST_REASON => push_reason(page, number)?,
@@ -98,7 +98,7 @@ fn number_page(alloc: Global, topic: Topic, number: u32) -> Result<(bool, Page),
     ensures { IfOk result (λ told. BeginsWith (topic_front topic number) told.1) }
 {
     let mut body = Page::new(alloc);
-    let is_none = push_meaning(&mut body, topic, number)?;
+    let is_none = push_number(&mut body, topic, number)?;
     let mut page = Page::new(alloc);
     push_topic(&mut page, topic, number)?;
     page.add(&body)?;

@@ -1,19 +1,17 @@
 //! The explanation of the verdict on a program.
 
-ghost use Rattle.std.specs.Prelude.{IfOk, true, false};
+ghost use Rattle.std.specs.Prelude.{◌≡◌, IfOk, true, false};
+ghost use Rattle.trlab_code.specs.declared.kind.Kind.TheVariants.{Motion as OfMotion, Change as OfChange};
 ghost use Rattle.trlab_verify.specs.Faults.{Tells};
 ghost use Rattle.trlab_jobs.specs.Check.{Check as Request};
 ghost use Rattle.trlab_explain.specs.Explanations.{BeginsWith, TellsProgram};
 ghost use Rattle.trlab_campaign.specs.CheckOutput.{refused_line};
 
-use crate::accepted::push_accepted;
 use crate::head::push_refused_line;
-use crate::instr_lines::{InstrLines, behind_line};
-use crate::placed::Placed;
-use crate::refusal::{Refused, push_refusal};
 use std::alloc::{AllocError, Global};
 use trlab_advice::line_at;
 use trlab_code::{Code, Kind};
+use trlab_findings::{InstrLines, Placed, Refused, behind_line, push_accepted, push_refusal};
 use trlab_jobs::Check;
 use trlab_prose::Page;
 use trlab_texts::word::behind;
@@ -101,6 +99,36 @@ fn explain_refusal(
     }
 }
 
+/// Whether a program is refused as a motion program, and the page on it.
+fn explain_motion(alloc: Global, text: &[u8], code: Code) -> Result<(bool, Page), AllocError>
+    requires { code.kind ≡ OfMotion }
+    ensures { (check : Request) → check.program ≡ code
+        → IfOk result (λ told. TellsProgram check told.0 told.1) }
+{
+    match verify_motion(alloc, code) {
+        Ok(motion) => {
+            let page = accepted_page(alloc, text, motion.code(), motion.budget())?;
+            Ok((false, page))
+        }
+        Err((code, fault)) => explain_refusal(alloc, text, &code, fault),
+    }
+}
+
+/// Whether a program is refused as a change program, and the page on it.
+fn explain_change(alloc: Global, text: &[u8], code: Code) -> Result<(bool, Page), AllocError>
+    requires { code.kind ≡ OfChange }
+    ensures { (check : Request) → check.program ≡ code
+        → IfOk result (λ told. TellsProgram check told.0 told.1) }
+{
+    match verify_change(alloc, code) {
+        Ok(change) => {
+            let page = accepted_page(alloc, text, change.code(), change.budget())?;
+            Ok((false, page))
+        }
+        Err((code, fault)) => explain_refusal(alloc, text, &code, fault),
+    }
+}
+
 /// Whether the program of a check text is refused, and the page on it.
 ///
 /// # Errors
@@ -111,19 +139,7 @@ pub fn explain_program(alloc: Global, text: &[u8], check: Check) -> Result<(bool
 {
     let Check { code, .. } = check;
     match code.kind() {
-        Kind::Motion => match verify_motion(alloc, code) {
-            Ok(motion) => Ok((
-                false,
-                accepted_page(alloc, text, motion.code(), motion.budget())?,
-            )),
-            Err((code, fault)) => explain_refusal(alloc, text, &code, fault),
-        },
-        Kind::Change => match verify_change(alloc, code) {
-            Ok(change) => Ok((
-                false,
-                accepted_page(alloc, text, change.code(), change.budget())?,
-            )),
-            Err((code, fault)) => explain_refusal(alloc, text, &code, fault),
-        },
+        Kind::Motion => explain_motion(alloc, text, code),
+        Kind::Change => explain_change(alloc, text, code),
     }
 }

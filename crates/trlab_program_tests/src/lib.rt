@@ -1,13 +1,9 @@
-//! Tests of driver programs by public calls, with values worked out by hand: codes and views in
-//! range, laws of program text, what the verifier keeps, tables of notes, the machine, standard rules.
+//! Tests of driver programs by public calls, with values worked out by hand: laws of program text,
+//! what the verifier keeps, tables of notes, the machine, standard rules.
 #![tactic(auto)]
 
 #[cfg(test)]
 mod asm;
-#[cfg(test)]
-mod blocks;
-#[cfg(test)]
-mod codes;
 #[cfg(test)]
 mod kept;
 #[cfg(test)]

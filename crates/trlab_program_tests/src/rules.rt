@@ -1,7 +1,7 @@
 //! The standard rules, and each public function once.
 
 use std::alloc::Global;
-use trlab_rules::{Rule, nasch, rickert, slowed_1992, vdr};
+use trlab_rules::{Rule, nasch, rickert, vdr};
 use trlab_verify::Change;
 use trlab_words::Chance;
 
@@ -87,26 +87,4 @@ fn other_rules_are_not_equal(rt: HostRuntime) {
     assert!(rt; differ(of_1992(alloc, p), of_1998(alloc, p, p)));
     assert!(rt; differ(of_1992(alloc, p), of_1996(alloc, p, p)));
     assert!(rt; differ(of_1996(alloc, p, p), of_1992(alloc, p)));
-}
-
-/// The speed of a car after acceleration and slowing down, by its speed, its limit and its gap.
-fn slowed(speed: u32, limit: u32, gap: u32) -> u32 {
-    slowed_1992(speed, limit, gap)
-}
-
-#[test]
-fn slows_as_in_1992(rt: HostRuntime) {
-    let most = 4294967295;
-    for (speed, limit, gap, wanted) in [
-        (3, 5, 2, 2),
-        (5, 5, 9, 5),
-        (0, 5, 0, 0),
-        (2, 5, 2, 2),
-        (2, 5, 3, 3),
-        (7, 5, 9, 7),
-        (most, most, most, most),
-        (0, most, most, 1),
-    ] {
-        assert_eq!(rt; slowed(speed, limit, gap), wanted);
-    }
 }

@@ -1,8 +1,9 @@
 use Rattle.std.proofs.Common.{◌≡◌, ◌≢◌, ◌*◌, ◌/◌, ◌<◌, ◌≤◌, mod-lt, ℕ, zero, suc, [], ◌∷◌, Vec, Global, length, refl, sym, arith}
+use Rattle.std.proofs.Math.Nat.{mul-le-mul_left, mul-le-mul_right}
 use Rattle.trlab_road.specs.LaneCars.{LaneCar}
 use Rattle.trlab_road.specs.Spreading.{IsEvenLane, even_lane}
 use Rattle.trlab_road.specs.Stored.{Rises, cells_of, list_at}
-use Rattle.trlab_road.proofs.EvenLanes.{even_all}
+use Rattle.trlab_road.proofs.EvenLanes.{even_all, even_inside}
 use Rattle.trlab_road.proofs.ListEven.{EvenList, list_none, list_skip, list_more}
 use Rattle.trlab_road.proofs.spreading.even_lanes.Goals as goal
 use Rattle.trlab_road.proofs.spreading.even_lanes.Goals.{then-flat-lanes-eq0+in_ok-push, else-flat-lanes-eq0+in_ok-push-2}
@@ -90,3 +91,41 @@ returns-then-lanes-eq1-clause-same_lanes c = rw c.in_ok-vec.ensures.items (sym c
 
 pub returns-clause-same_lanes : goal.returns-clause-same_lanes
 returns-clause-same_lanes c = rw c.in_ok-vec-2.ensures.items (omega (arith, c.requires.some, c.requires.few, c.if-lanes-eq1.false))
+
+-- at most 200000 cells, and each car on one of them
+pub overflow_mul-flat : goal.overflow_mul-flat
+overflow_mul-flat c = let few = mul-le-mul_right c.args.cells c.requires.few in let small = c.requires.small in omega (arith, few, small)
+
+pub overflow_mul-flat-in-loop-number : goal.overflow_mul-flat-in-loop-number
+overflow_mul-flat-in-loop-number c =
+    let all = c.args.lanes * c.args.cells in
+    let few : all ≤ 200000 = let a = mul-le-mul_right c.args.cells c.requires.few in let small = c.requires.small in omega (arith, a, small) in
+    let low : c.loop-number.number ≤ 200000 = let a = c.loop-number-test.true in let b = c.requires.room in omega (arith, a, b, few) in
+    let a = mul-le-mul_right all low in
+    omega (arith, a, few)
+
+pub nonzero_div-flat : goal.nonzero_div-flat
+nonzero_div-flat c = let low = c.loop-number-test.true in omega (arith, low)
+
+pub nonzero_div-flat-in-loop-number : goal.nonzero_div-flat-in-loop-number
+nonzero_div-flat-in-loop-number c = c.requires.some
+
+pub overflow_cast-number : goal.overflow_cast-number
+overflow_cast-number c =
+    let few = mul-le-mul_right c.args.cells c.requires.few in
+    let small = c.requires.small in
+    let low = c.loop-number-test.true in
+    let room = c.requires.room in
+    omega (arith, few, small, low, room)
+
+pub overflow_cast-flat : goal.overflow_cast-flat
+overflow_cast-flat c =
+    let inside = even_inside c.args.lanes c.args.cells c.args.count c.loop-number.number c.requires.some c.requires.room c.loop-number-test.true in
+    let small = c.requires.small in
+    omega (arith, inside, small)
+
+pub new-car-requires-clause-on_lane : goal.new-car-requires-clause-on_lane
+new-car-requires-clause-on_lane c =
+    let inside = even_inside c.args.lanes c.args.cells c.args.count c.loop-number.number c.requires.some c.requires.room c.loop-number-test.true in
+    let small = c.requires.small in
+    omega (arith, inside, small)

@@ -64,7 +64,7 @@ fn refusal_of(alloc: Global, code: Code) -> Option<(Code, VerifyFault)> {
     }
 }
 
-/// Adds the fault of the program of a part, which stands on these lines.
+/// Adds the fault of the program of a part.
 fn push_part_fault(
     alloc: Global,
     page: &mut Page,

@@ -1,6 +1,5 @@
 //! The explanation of an accepted program.
 
-use crate::lines::push_count;
 use crate::marks::push_known;
 use crate::placed::{Placed, push_instruction};
 use std::alloc::{AllocError, Global};
@@ -50,12 +49,9 @@ pub fn push_accepted(
     program: Placed<'_>,
     budget: u32,
 ) -> Result<(), AllocError> {
-    push_count(
-        page,
-        "This driver program is accepted: a car needs at most ",
-        u64::from(budget),
-        " instructions for a step.",
-    )?;
+    page.say("This driver program is accepted: a car needs at most ")?;
+    page.number(u64::from(budget))?;
+    page.line(" instructions for a step.")?;
     page.line("Above each instruction stands what is known of the registers before it:")?;
     match notes(alloc, program.code) {
         Ok(table) => push_table(alloc, page, program, &table),

@@ -1,7 +1,6 @@
 //! The explanation of a refused program: the instruction, the reason, what the verifier knows there,
 //! and the usual repair.
 
-use crate::lines::{push_count, push_number, push_words};
 use crate::marks::{push_known, push_register};
 use crate::operands::{leads_to, operands};
 use crate::placed::{Placed, push_instruction};
@@ -65,7 +64,9 @@ fn push_largest(page: &mut Page, note: &Note, instr: Instr) -> Result<(), AllocE
         Instr::Mul(_, a, n) => u64::from(most_of(note, a)) * u64::from(n),
         _ => return Ok(()),
     };
-    push_count(page, "The result may be as large as ", largest, ".")
+    page.say("The result may be as large as ")?;
+    page.number(largest)?;
+    page.line(".")
 }
 
 /// Adds the name of a register, and words.
@@ -92,7 +93,8 @@ fn push_speed(page: &mut Page, instr: Instr, input: &str) -> Result<(), AllocErr
         return Ok(());
     };
     push_beside(page, a, " is not known to be at most the ")?;
-    push_words(page, input, ".")
+    page.say(input)?;
+    page.line(".")
 }
 
 /// Adds what the operands have to do with the reason.
@@ -164,6 +166,14 @@ fn push_notes(alloc: Global, page: &mut Page, refused: &Refused<'_>) -> Result<(
     Ok(())
 }
 
+/// Adds a reason, in words.
+fn push_reason(page: &mut Page, reason: u32) -> Result<(), AllocError> {
+    page.say("Reason ")?;
+    page.number(u64::from(reason))?;
+    page.say(": ")?;
+    page.line(meaning_of_reason(reason))
+}
+
 /// Adds what leads to the refused instruction, and what is known there.
 fn push_context(alloc: Global, page: &mut Page, refused: &Refused<'_>) -> Result<(), AllocError> {
     if refused.reason == 1 {
@@ -184,9 +194,8 @@ pub fn push_refusal(
     refused: &Refused<'_>,
 ) -> Result<(), AllocError> {
     push_instruction(alloc, page, refused.program, refused.at)?;
-    push_number(page, "Reason ", u64::from(refused.reason), ": ")?;
-    page.line(meaning_of_reason(refused.reason))?;
+    push_reason(page, refused.reason)?;
     push_context(alloc, page, refused)?;
-    let repair = repair_of_reason(refused.reason, refused.program.code.kind());
-    push_words(page, "Repair: ", repair)
+    page.say("Repair: ")?;
+    page.line(repair_of_reason(refused.reason, refused.program.code.kind()))
 }
