@@ -101,21 +101,6 @@ pub fn push_hint(page: &mut Page, cause: Cause) -> Result<(), AllocError> {
     }
 }
 
-/// Adds what mends a fault, or what to look at.
-fn push_repair(
-    alloc: Global,
-    page: &mut Page,
-    subject: Subject,
-    text: &[u8],
-    line: u32,
-    cause: Cause,
-) -> Result<(), AllocError> {
-    match likely_repair(alloc, subject, text, line, cause)? {
-        Some(repair) => push_mend(page, text, repair),
-        None => push_hint(page, cause),
-    }
-}
-
 /// Adds what is told of a fault behind its head.
 fn push_fault(
     alloc: Global,
@@ -130,7 +115,10 @@ fn push_fault(
     }
     push_meaning(page, cause)?;
     push_expectation(alloc, page, subject, text, line, cause)?;
-    push_repair(alloc, page, subject, text, line, cause)
+    match likely_repair(alloc, subject, text, line, cause)? {
+        Some(repair) => push_mend(page, text, repair),
+        None => push_hint(page, cause),
+    }
 }
 
 /// The page on the first fault of a text.

@@ -56,31 +56,6 @@ fn push_road(page: &mut Page, road: &Road) -> Result<(), AllocError> {
     )
 }
 
-/// Adds the rules of a job.
-fn push_job_rules(page: &mut Page, text: &[u8], job: &Job) -> Result<(), AllocError> {
-    page.line("The first rule:")?;
-    push_rules(page, text, b"rule", 1)?;
-    if job.later.is_empty() {
-        return Ok(());
-    }
-    page.line("Rules of later steps:")?;
-    push_rules(page, text, b"at", MOST_LATER)
-}
-
-/// Adds what a job will do.
-fn push_job(page: &mut Page, text: &[u8], job: &Job) -> Result<(), AllocError> {
-    page.line("This is a good job text: `trlab run` drives it.")?;
-    push_road(page, &job.road)?;
-    push_job_rules(page, text, job)?;
-    push_count(page, "Steps: ", u64::from(job.steps), ".")?;
-    push_count(
-        page,
-        "Output: ",
-        output_bytes(&job.road, job.steps),
-        " bytes.",
-    )
-}
-
 /// Adds what a job will do.
 fn push_job(page: &mut Page, text: &[u8], job: &Job) -> Result<(), AllocError> {
     page.line("This is a good job text: `trlab run` drives it.")?;

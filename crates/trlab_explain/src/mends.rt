@@ -102,13 +102,6 @@ fn shown_words(repair: Repair) -> Option<(&'static str, u32)> {
     }
 }
 
-/// Adds the name that was meant.
-fn push_meant(page: &mut Page, name: &[u8]) -> Result<(), AllocError> {
-    page.say("perhaps `")?;
-    page.show_all(name)?;
-    page.line("` is meant.")
-}
-
 /// Adds a repair of a text.
 ///
 /// # Errors
@@ -117,7 +110,9 @@ fn push_meant(page: &mut Page, name: &[u8]) -> Result<(), AllocError> {
 pub fn push_mend(page: &mut Page, text: &[u8], repair: Repair) -> Result<(), AllocError> {
     page.say("Repair: ")?;
     if let Repair::Name(name) = repair {
-        return push_meant(page, name);
+        page.say("perhaps `")?;
+        page.show_all(name)?;
+        return page.line("` is meant.");
     }
     if let Some((words, line)) = shown_words(repair) {
         return push_about(page, words, text, line);

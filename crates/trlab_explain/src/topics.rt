@@ -48,23 +48,17 @@ fn push_repairs(page: &mut Page, reason: u32) -> Result<(), AllocError> {
     push_both(page, "Repair of a change program: ", change)
 }
 
-/// Adds why a program is refused that a text has, where that is the cause.
-fn push_verdict(page: &mut Page, cause: Cause) -> Result<(), AllocError> {
-    let Cause::Verdict(reason) = cause else {
-        return Ok(());
-    };
-    push_both(
-        page,
-        "It is refused for this reason: ",
-        meaning_of_reason(reason),
-    )?;
-    push_repairs(page, reason)
-}
-
 /// Adds what is told of a cause behind its number.
 fn push_cause(page: &mut Page, cause: Cause) -> Result<(), AllocError> {
     page.line(meaning_of_cause(cause))?;
-    push_verdict(page, cause)?;
+    if let Cause::Verdict(reason) = cause {
+        push_both(
+            page,
+            "It is refused for this reason: ",
+            meaning_of_reason(reason),
+        )?;
+        push_repairs(page, reason)?;
+    }
     push_hint(page, cause)?;
     page.line(
         "`trlab explain < FILE` tells it of a text that has it; docs/TEXTS.md has all causes.",

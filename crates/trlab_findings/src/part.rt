@@ -64,27 +64,6 @@ fn refusal_of(alloc: Global, code: Code) -> Option<(Code, VerifyFault)> {
     }
 }
 
-/// Adds the fault of the program of a part.
-fn push_part_fault(
-    alloc: Global,
-    page: &mut Page,
-    program: Placed<'_>,
-    fault: VerifyFault,
-) -> Result<(), AllocError> {
-    match fault {
-        VerifyFault::Why { at, reason } => push_refusal(
-            alloc,
-            page,
-            &Refused {
-                program,
-                at,
-                reason,
-            },
-        ),
-        VerifyFault::Memory => Err(AllocError),
-    }
-}
-
 /// Adds why the program of a part is refused, whose first line has a number.
 ///
 /// # Errors
@@ -102,10 +81,21 @@ pub fn push_part_refusal(
     let Some((code, fault)) = refusal_of(alloc, code) else {
         return Ok(());
     };
+    let VerifyFault::Why { at, reason } = fault else {
+        return Err(AllocError);
+    };
     let program = Placed {
         text,
         code: &code,
         lines: &lines,
     };
-    push_part_fault(alloc, page, program, fault)
+    push_refusal(
+        alloc,
+        page,
+        &Refused {
+            program,
+            at,
+            reason,
+        },
+    )
 }

@@ -166,23 +166,6 @@ fn push_notes(alloc: Global, page: &mut Page, refused: &Refused<'_>) -> Result<(
     Ok(())
 }
 
-/// Adds a reason, in words.
-fn push_reason(page: &mut Page, reason: u32) -> Result<(), AllocError> {
-    page.say("Reason ")?;
-    page.number(u64::from(reason))?;
-    page.say(": ")?;
-    page.line(meaning_of_reason(reason))
-}
-
-/// Adds what leads to the refused instruction, and what is known there.
-fn push_context(alloc: Global, page: &mut Page, refused: &Refused<'_>) -> Result<(), AllocError> {
-    if refused.reason == 1 {
-        return push_skip(alloc, page, refused);
-    }
-    push_notes(alloc, page, refused)?;
-    push_ways(alloc, page, refused)
-}
-
 /// Adds why a program is refused.
 ///
 /// # Errors
@@ -194,8 +177,16 @@ pub fn push_refusal(
     refused: &Refused<'_>,
 ) -> Result<(), AllocError> {
     push_instruction(alloc, page, refused.program, refused.at)?;
-    push_reason(page, refused.reason)?;
-    push_context(alloc, page, refused)?;
+    page.say("Reason ")?;
+    page.number(u64::from(refused.reason))?;
+    page.say(": ")?;
+    page.line(meaning_of_reason(refused.reason))?;
+    if refused.reason == 1 {
+        push_skip(alloc, page, refused)?;
+    } else {
+        push_notes(alloc, page, refused)?;
+        push_ways(alloc, page, refused)?;
+    }
     page.say("Repair: ")?;
     page.line(repair_of_reason(refused.reason, refused.program.code.kind()))
 }
