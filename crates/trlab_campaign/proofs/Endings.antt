@@ -1,5 +1,5 @@
 -- How runs end, by what was written.
-use Rattle.std.proofs.Common.{ℕ, ◌<◌, List, length, refl, subst, Bool, true, false, inr}
+use Rattle.std.proofs.Common.{ℕ, ◌<◌, List, length, refl, subst, Bool, true, false, inl, inr}
 use Rattle.std.specs.Prelude.{Option, None, Some, IfSome, Ok, Err}
 use Rattle.std.specs.Io.KnownBytes.{Keeps}
 use Rattle.trlab_campaign.specs.declared.end.End.{End}
@@ -14,7 +14,7 @@ use Rattle.trlab_campaign.specs.CheckOutput.{VerdictOutput, IsCheckOutput}
 use Rattle.trlab_jobs.specs.Sweep.{Sweep, SweepText}
 use Rattle.trlab_campaign.specs.SweepOutput.{SweepOutput, IsSweepOutput}
 use Rattle.trlab_campaign.specs.Ending.{EndsSo, OutputEnds, WrotePictures, WroteSome, JobEnds}
-use Rattle.trlab_campaign.proofs.KnownBytes.{front_kept}
+use Rattle.trlab_campaign.proofs.KnownBytes.{front_kept, keeps_same}
 
 -- all pictures were written, and the last call kept the bytes
 pub pictures_kept : (job : Job) (old a b : Option (List ℕ)) → WrotePictures job old a → Keeps a b → WroteSome job old b
@@ -64,3 +64,8 @@ pub too_big_ends : (IsWhole : List ℕ → Outputs) (e : End) (left old new : Op
     → IfSome left (λ all. TEXT_LIMIT < length all) → OutputEnds true too_big_line e old new → IfSome left (λ text. EndsSo (IsWhole text) e old new)
 too_big_ends IsWhole e None old new refuses big ends = tt
 too_big_ends IsWhole e (Some all) old new refuses big ends = output_ends (IsWhole all) true too_big_line e old new (refuses all big) ends
+
+-- nothing was written where the reader failed
+pub fault_ends : (IsWhole : List ℕ → Outputs) (left old : Option (List ℕ)) → IfSome left (λ text. EndsSo (IsWhole text) DeviceFault old old)
+fault_ends IsWhole None old = tt
+fault_ends IsWhole (Some all) old = inl (keeps_same old)

@@ -5,6 +5,10 @@ use Rattle.std.specs.Prelude.{Option, None, Some, IfSome}
 use Rattle.std.specs.Io.KnownBytes.{Appends, Consumes, IsAtEnd, Keeps}
 use Rattle.trlab_campaign.specs.Device.{AppendsFront}
 
+pub keeps_same : (a : Option (List ℕ)) → Keeps a a
+keeps_same None = tt
+keeps_same (Some xs) = refl
+
 pub consumes_none : (a : Option (List ℕ)) → Consumes a a []
 consumes_none None = tt
 consumes_none (Some xs) = refl
@@ -21,6 +25,10 @@ consumes_kept None b c xs p q = tt
 consumes_kept (Some x) None c xs p q = absurd p
 consumes_kept (Some x) (Some y) None xs p q = absurd q
 consumes_kept (Some x) (Some y) (Some z) xs p q = p ∙ ap (λ t. xs ++ t) (sym q)
+
+-- a call that gave no byte
+pub consumes_last : (a b c : Option (List ℕ)) (xs part : List ℕ) (count : ℕ) → count ≡ 0 → Consumes a b xs → Consumes b c (take count part) → Consumes a c xs
+consumes_last a b c xs part count is p q = subst (λ (t : List ℕ). Consumes a c t) (append-nil xs) (consumes_more a b c xs [] p (rw is at q))
 
 -- so many bytes were there
 pub consumes_length : (a b : Option (List ℕ)) (xs : List ℕ) → Consumes a b xs → IfSome a (λ all. length xs ≤ length all)
@@ -65,6 +73,13 @@ pub appends_whole : (a b : Option (List ℕ)) (text : List ℕ) (done : ℕ) →
 appends_whole a b text done inside all p =
     let here : done ≡ length text = omega arith in
     subst (λ (t : List ℕ). Appends a b t) (take-length text) (rw here at p)
+
+-- a whole text is a front of it, and so is nothing
+pub front_whole : (a b : Option (List ℕ)) (text : List ℕ) → Appends a b text → AppendsFront a b text
+front_whole a b text p = record { count = length text; front = subst (λ (t : List ℕ). Appends a b t) (sym (take-length text)) p }
+
+pub front_none : (a : Option (List ℕ)) (text : List ℕ) → AppendsFront a a text
+front_none a text = record { count = 0; front = appends_none a }
 
 pub front_kept : (a b c : Option (List ℕ)) (text : List ℕ) → Appends a b text → Keeps b c → AppendsFront a c text
 front_kept a b c text p q = record { count = length text; front = subst (λ (t : List ℕ). Appends a c t) (sym (take-length text)) (appends_kept a b c text p q) }

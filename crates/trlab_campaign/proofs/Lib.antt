@@ -4,6 +4,7 @@ pub mod NoteTables
 pub mod Owed
 pub mod Sheets
 pub mod Running
+pub mod Faults
 pub mod Endings
 pub mod OneOutput
 pub mod OneVerdict

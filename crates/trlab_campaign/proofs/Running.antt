@@ -43,6 +43,16 @@ pub record Drives (job : Job) (step : ℕ) (run : Progress) : Type 0 where
   pub sheet : run.sheet ≡ sheet_of job
   pub step_is : run.step ≡ step
 
+-- a run of so many steps is that of a job, and has not gone on yet
+pub record Begins (job : Job) (steps : ℕ) (run : Progress) : Type 0 where
+  pub stored : IsStored job
+  pub starts : run ≡ at_start (seed_of job) (sheet_of job)
+  pub ends : steps ≡ job.steps
+
+-- a run has come to a step, and so many are left: if it began as that of a job, it is on its way as that
+abbrev pub Writes : ℕ → Progress → ℕ → ℕ → Progress → Option (List ℕ) → Option (List ℕ) → Type 0
+Writes steps start step left run old now = (job : Job) → Begins job steps start → Underway job step left old now × Drives job step run
+
 -- a job that was read has a road at each step of its run
 pub roads_of : (job : Job) → IsStored job → (roads : ℕ → Cells) × Roads job roads
 roads_of job plain =
@@ -50,7 +60,7 @@ roads_of job plain =
     (λ s. (at s).0, λ s. ((at s).1, (at s).2))
 
 -- before the first step
-pub begin : (job : Job) (old : Option (List ℕ)) → IsStored job → Underway job 0 job.steps old old
+begin : (job : Job) (old : Option (List ℕ)) → IsStored job → Underway job 0 job.steps old old
 begin job old plain =
     let found = roads_of job plain in
     record {
@@ -61,11 +71,14 @@ begin job old plain =
     }
 
 -- the run of a job begins
-pub begin_run : (job : Job) → Drives job 0 (at_start (seed_of job) (sheet_of job))
-begin_run job = record { seed = refl; sheet = refl; step_is = refl }
+pub begin_run : (steps : ℕ) (run : Progress) (old : Option (List ℕ)) → Writes steps run 0 steps run old old
+begin_run steps run old job begins = (
+  rw begins.ends (begin job old begins.stored),
+  rw begins.starts (record { seed = refl; sheet = refl; step_is = refl }),
+)
 
 -- and goes on
-pub drive_on : (job : Job) (step : ℕ) (old new : Progress) → Drives job step old → IsOneStepOn old new → Drives job (step + 1) new
+drive_on : (job : Job) (step : ℕ) (old new : Progress) → Drives job step old → IsOneStepOn old new → Drives job (step + 1) new
 drive_on job step old new drives on = record {
   seed = on.same_seed ∙ drives.seed;
   sheet = on.same_sheet ∙ drives.sheet;
@@ -73,7 +86,7 @@ drive_on job step old new drives on = record {
 }
 
 -- the road of the run is that of the job
-pub driven_road : (job : Job) (step : ℕ) (run : Progress) (road : Cells) → Drives job step run → IsRoadAt run.seed run.sheet run.step road
+driven_road : (job : Job) (step : ℕ) (run : Progress) (road : Cells) → Drives job step run → IsRoadAt run.seed run.sheet run.step road
     → IsRoadAt (seed_of job) (sheet_of job) step road
 driven_road job step run road drives at = rw (← drives.seed, ← drives.sheet, ← drives.step_is) at
 
@@ -85,7 +98,7 @@ here : (job : Job) (roads : ℕ → Cells) (step : ℕ) (road : Cells) → Roads
 here job roads step road each at = road_at_is_one (seed_of job) (sheet_of job) step (roads step) road (each step) at
 
 -- the text of a step is written
-pub wrote : (job : Job) (step left : ℕ) (road : Cells) (old a b : Option (List ℕ)) → Underway job step left old a
+wrote : (job : Job) (step left : ℕ) (road : Cells) (old a b : Option (List ℕ)) → Underway job step left old a
     → IsRoadAt (seed_of job) (sheet_of job) step road → Appends a b (step_text step road) → Written job step left old b
 wrote job step left road old a b u at text = record {
   roads = u.roads;
@@ -96,11 +109,11 @@ wrote job step left road old a b u at text = record {
 }
 
 -- the next step comes
-pub went_on : (job : Job) (step left : ℕ) (old now : Option (List ℕ)) → Written job step (left + 1) old now → Underway job (step + 1) left old now
+went_on : (job : Job) (step left : ℕ) (old now : Option (List ℕ)) → Written job step (left + 1) old now → Underway job (step + 1) left old now
 went_on job step left old now w = record { roads = w.roads; each = w.each; ends = omega (arith, w.ends); owes = w.owes }
 
 -- it stops within the text of a step
-pub stop_within : (job : Job) (step left : ℕ) (road : Cells) (old a b : Option (List ℕ)) → Underway job step left old a
+stop_within : (job : Job) (step left : ℕ) (road : Cells) (old a b : Option (List ℕ)) → Underway job step left old a
     → IsRoadAt (seed_of job) (sheet_of job) step road → AppendsFront a b (step_text step road) → WroteSome job old b
 stop_within job step left road old a b u at text =
     let whole = steps_text u.roads (job.steps + 1) in (
@@ -119,13 +132,32 @@ all_written job step road old a b u at text =
     let whole = steps_text w.roads (job.steps + 1) in
     (whole, w.roads, record { road_at = λ s _. w.each s; pictures = refl }, owes_none whole old b w.owes)
 
--- what is known where the text of the last step was written or not
-pub last_whole : {E : Type 0} (r : Result (Unit {0}) E) (job : Job) (step : ℕ) (road : Cells) (old a b : Option (List ℕ)) → Underway job step 0 old a
-    → IsRoadAt (seed_of job) (sheet_of job) step road → OnOk r (Appends a b (step_text step road)) → OnOk r (WrotePictures job old b)
-last_whole (Ok x) job step road old a b u at text = all_written job step road old a b u at text
-last_whole (Err e) job step road old a b u at text = tt
+-- the text of a step is written, and the run takes this step
+pub step_on : (steps step left : ℕ) (start run next : Progress) (old a b : Option (List ℕ)) → Writes steps start step (left + 1) run old a
+    → IsRoadAt run.seed run.sheet run.step run.road → Appends a b (step_text step run.road) → IsOneStepOn run next → Writes steps start (step + 1) left next old b
+step_on steps step left start run next old a b writes road text on job begins =
+    let here = writes job begins in
+    let at = driven_road job step run run.road here.1 road in
+    (went_on job step left old b (wrote job step (left + 1) run.road old a b here.0 at text), drive_on job step run next here.1 on)
 
-pub last_front : {E : Type 0} (r : Result (Unit {0}) E) (job : Job) (step : ℕ) (road : Cells) (old a b : Option (List ℕ)) → Underway job step 0 old a
-    → IsRoadAt (seed_of job) (sheet_of job) step road → OnErr r (AppendsFront a b (step_text step road)) → OnErr r (WroteSome job old b)
-last_front (Ok x) job step road old a b u at text = tt
-last_front (Err e) job step road old a b u at text = stop_within job step 0 road old a b u at text
+-- it stops within the text of a step of the run
+pub step_stops : (steps step left : ℕ) (start run : Progress) (old a b : Option (List ℕ)) → Writes steps start step left run old a
+    → IsRoadAt run.seed run.sheet run.step run.road → AppendsFront a b (step_text step run.road) → (job : Job) → Begins job steps start → WroteSome job old b
+step_stops steps step left start run old a b writes road text job begins =
+    let here = writes job begins in
+    stop_within job step left run.road old a b here.0 (driven_road job step run run.road here.1 road) text
+
+-- what is known where the text of the last step was written or not
+pub last_whole : {E : Type 0} (r : Result (Unit {0}) E) (steps : ℕ) (start run : Progress) (road : Cells) (old a b : Option (List ℕ)) → Writes steps start steps 0 run old a
+    → IsRoadAt run.seed run.sheet run.step road → OnOk r (Appends a b (step_text steps road)) → (job : Job) → Begins job steps start → OnOk r (WrotePictures job old b)
+last_whole (Ok x) steps start run road old a b writes at text job begins =
+    let here = writes job begins in
+    all_written job steps road old a b here.0 (driven_road job steps run road here.1 at) text
+last_whole (Err e) steps start run road old a b writes at text job begins = tt
+
+pub last_front : {E : Type 0} (r : Result (Unit {0}) E) (steps : ℕ) (start run : Progress) (road : Cells) (old a b : Option (List ℕ)) → Writes steps start steps 0 run old a
+    → IsRoadAt run.seed run.sheet run.step road → OnErr r (AppendsFront a b (step_text steps road)) → (job : Job) → Begins job steps start → OnErr r (WroteSome job old b)
+last_front (Ok x) steps start run road old a b writes at text job begins = tt
+last_front (Err e) steps start run road old a b writes at text job begins =
+    let here = writes job begins in
+    stop_within job steps 0 road old a b here.0 (driven_road job steps run road here.1 at) text

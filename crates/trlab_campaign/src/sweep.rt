@@ -5,11 +5,12 @@ mod runners;
 mod snapshots;
 mod table;
 
-ghost use Rattle.std.specs.Prelude.{◌≡◌, ◌+◌, ◌<◌, ◌≤◌, ◌||◌, ◌↔◌, true, false, IfSome};
+ghost use Rattle.std.specs.Prelude.{◌≡◌, ◌+◌, ◌<◌, ◌≤◌, ◌||◌, ◌↔◌, ℕ, List, Ok, true, false, IfSome};
 ghost use Rattle.std.specs.Io.KnownBytes.{Keeps};
 ghost use Rattle.std.specs.Thread.{IsSync};
 ghost use Rattle.trlab_bounds.specs.declared.runs.TheConstants.{MOST_WORKERS};
 ghost use Rattle.trlab_book.specs.declared.limits.TheConstants.{MOST_RUNNERS};
+ghost use Rattle.trlab_jobs.specs.Sweep.{SweepText};
 ghost use Rattle.trlab_campaign.specs.Device.{ConsumesUpTo};
 ghost use Rattle.trlab_campaign.specs.Ending.{EndsSo, HandsOn};
 ghost use Rattle.trlab_campaign.specs.SweepOutput.{IsSweepOutput};
@@ -25,7 +26,7 @@ use std::alloc::{AllocGlobal, Global};
 use std::sync::Wait;
 use std::thread::Threads;
 use trlab_bounds::texts::TEXT_LIMIT;
-use trlab_jobs::read_sweep;
+use trlab_jobs::{Sweep, read_sweep};
 use trlab_texts::TextFault;
 
 /// The engine of sweep texts, which writes the table of their points.
@@ -36,6 +37,30 @@ struct Surveyor<'a, R> {
     workers: u32,
     ghost some_runners: { (0 < runners) × (runners ≤ MOST_RUNNERS) },
     ghost some_workers: { (0 < workers) × (workers ≤ MOST_WORKERS) },
+}
+
+/// Writes the table of the points of a sweep.
+fn write_table<R: Threads + Wait + Sync, K: Sink>(
+    rt: &R,
+    alloc: Global,
+    sweep: &Sweep,
+    runners: u32,
+    workers: u32,
+    writer: &mut K,
+) -> End
+    requires runners { (0 < runners) × (runners ≤ MOST_RUNNERS) }
+    requires workers { (0 < workers) × (workers ≤ MOST_WORKERS) }
+    requires works { K.failed writer.old ≡ false }
+    ensures answer { (text : List ℕ) → SweepText text (Ok sweep.now)
+        → EndsSo (IsSweepOutput text) result (K.written writer.old) (K.written writer.new) }
+    ensures handed { HandsOn result
+        (K.handed_on writer.new) (K.flushes writer.old) (K.flushes writer.new) }
+    ensures device { (result ≡ DeviceFault) ↔ (K.failed writer.new ≡ true) }
+{
+    match table(rt, alloc, sweep, runners, workers) {
+        Ok(table) => write_output(false, &table, writer),
+        Err(_) => End::Memory,
+    }
 }
 
 impl<'a, R: Threads + Wait + Sync> Engine for Surveyor<'a, R> {
@@ -49,10 +74,9 @@ impl<'a, R: Threads + Wait + Sync> Engine for Surveyor<'a, R> {
             Err(TextFault::At { line, cause }) => return refuse(alloc, line, cause, writer),
             Err(TextFault::Memory) => return End::Memory,
         };
-        match table(self.rt, alloc, &sweep, self.runners, self.workers) {
-            Ok(table) => write_output(false, &table, writer),
-            Err(_) => End::Memory,
-        }
+        let end = write_table(self.rt, alloc, &sweep, self.runners, self.workers, writer);
+        drop(sweep);
+        end
     }
 
     ghost too_big = { λ _. big_sweep };

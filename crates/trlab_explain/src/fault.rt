@@ -5,7 +5,7 @@ ghost use Rattle.trlab_explain.specs.Explanations.{BeginsWith, fault_head};
 
 use crate::forms::{INSTRUCTIONS, form_of};
 use crate::head::{push_fault_head, push_read_as};
-use crate::lines::push_both;
+use crate::lines::{push_both, push_count};
 use crate::mends::push_mend;
 use crate::spots::{EXPECTED_OF_CHECK, expected_at};
 use std::alloc::{AllocError, Global};
@@ -36,9 +36,7 @@ fn push_place(page: &mut Page, cause: Cause) -> Result<(), AllocError> {
         ) => { ("It stands at cell ", place) }
         _ => return Ok(()),
     };
-    page.say(words)?;
-    page.number(u64::from(place))?;
-    page.line(", counted from 0.")
+    push_count(page, words, u64::from(place), ", counted from 0.")
 }
 
 /// Adds what has to stand at a line of a text.
@@ -123,19 +121,6 @@ fn push_fault(
     }
 }
 
-/// What is told of a fault behind its head.
-fn fault_body(
-    alloc: Global,
-    subject: Subject,
-    text: &[u8],
-    line: u32,
-    cause: Cause,
-) -> Result<Page, AllocError> {
-    let mut page = Page::new(alloc);
-    push_fault(alloc, &mut page, subject, text, line, cause)?;
-    Ok(page)
-}
-
 /// The page on the first fault of a text.
 ///
 /// # Errors
@@ -150,9 +135,10 @@ pub fn fault_page(
 ) -> Result<Page, AllocError>
     ensures { IfOk result (BeginsWith (fault_head text.now (record { line = line; cause = cause }))) }
 {
+    let mut body = Page::new(alloc);
+    push_fault(alloc, &mut body, subject, text, line, cause)?;
     let mut page = Page::new(alloc);
     push_fault_head(&mut page, text, line, cause)?;
-    let body = fault_body(alloc, subject, text, line, cause)?;
     page.add(&body)?;
     Ok(page)
 }

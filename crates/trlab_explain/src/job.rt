@@ -5,7 +5,7 @@ ghost use Rattle.trlab_explain.specs.Explanations.{TellsAs};
 ghost use Rattle.trlab_advice.specs.declared.subject.Subject.TheVariants.{Job as OfJob};
 
 use crate::fault::fault_page;
-use crate::lines::{push_count, push_rules};
+use crate::lines::{push_count, push_counts, push_rules};
 use std::alloc::{AllocError, Global};
 use trlab_advice::Subject;
 use trlab_bounds::runs::MOST_LATER;
@@ -43,12 +43,17 @@ fn output_bytes(road: &Road, steps: u32) -> u64 {
 fn push_road(page: &mut Page, road: &Road) -> Result<(), AllocError> {
     let cells = u64::from(road.lanes()).saturating_mul(u64::from(road.length()));
     let cars = u64::from(road.cars());
-    push_count(page, "Lanes: ", u64::from(road.lanes()), ", each a ring.")?;
-    push_count(page, "Cells of a lane: ", u64::from(road.length()), ".")?;
-    push_count(page, "Cars: ", cars, ".")?;
     let share = cars.saturating_mul(1000) / cells.max(1);
-    push_count(page, "Density: ", share, " cars in 1000 cells.")?;
-    push_count(page, "Limit: ", u64::from(road.limit()), " cells a step.")
+    push_counts(
+        page,
+        &[
+            ("Lanes: ", u64::from(road.lanes()), ", each a ring."),
+            ("Cells of a lane: ", u64::from(road.length()), "."),
+            ("Cars: ", cars, "."),
+            ("Density: ", share, " cars in 1000 cells."),
+            ("Limit: ", u64::from(road.limit()), " cells a step."),
+        ],
+    )
 }
 
 /// Adds what a job will do.

@@ -22,6 +22,18 @@ pub fn push_count(
     page.line(behind)
 }
 
+/// Adds lines with numbers: of each what stands in front of it, the number, and what stands behind.
+///
+/// # Errors
+///
+/// Want of memory.
+pub fn push_counts(page: &mut Page, rows: &[(&str, u64, &str)]) -> Result<(), AllocError> {
+    for row in rows {
+        push_count(page, row.0, row.1, row.2)?;
+    }
+    Ok(())
+}
+
 /// Adds a line of two pieces.
 ///
 /// # Errors

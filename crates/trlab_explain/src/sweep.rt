@@ -5,7 +5,7 @@ ghost use Rattle.trlab_explain.specs.Explanations.{TellsAs};
 ghost use Rattle.trlab_advice.specs.declared.subject.Subject.TheVariants.{Sweep as OfSweep};
 
 use crate::fault::fault_page;
-use crate::lines::{push_count, push_rules};
+use crate::lines::{push_counts, push_rules};
 use std::alloc::{AllocError, Global};
 use trlab_advice::Subject;
 use trlab_jobs::{Sweep, read_sweep};
@@ -27,36 +27,33 @@ fn span_of(cars: &[u32]) -> (u32, u32) {
 fn push_roads(page: &mut Page, sweep: &Sweep) -> Result<(), AllocError> {
     let cells = u64::from(sweep.lanes).saturating_mul(u64::from(sweep.length));
     let (least, most) = span_of(&sweep.cars);
-    push_count(page, "Lanes: ", u64::from(sweep.lanes), ", each a ring.")?;
-    push_count(page, "Cells of a lane: ", u64::from(sweep.length), ".")?;
-    push_count(page, "Limit: ", u64::from(sweep.limit), " cells a step.")?;
-    push_count(page, "Cells of a road: ", cells, ".")?;
-    push_count(page, "Fewest cars: ", u64::from(least), ".")?;
-    push_count(page, "Most cars: ", u64::from(most), ".")
+    push_counts(
+        page,
+        &[
+            ("Lanes: ", u64::from(sweep.lanes), ", each a ring."),
+            ("Cells of a lane: ", u64::from(sweep.length), "."),
+            ("Limit: ", u64::from(sweep.limit), " cells a step."),
+            ("Cells of a road: ", cells, "."),
+            ("Fewest cars: ", u64::from(least), "."),
+            ("Most cars: ", u64::from(most), "."),
+        ],
+    )
 }
 
 /// Adds the points of a sweep, and the work that they are.
 fn push_points(page: &mut Page, sweep: &Sweep) -> Result<(), AllocError> {
     let points = sweep.cars.len() as u64;
-    let steps = u64::from(sweep.warm).saturating_add(u64::from(sweep.measure));
-    push_count(page, "Points: ", points, ", each a line of the table.")?;
-    push_count(
+    let warm = u64::from(sweep.warm);
+    let measure = u64::from(sweep.measure);
+    let work = points.saturating_mul(warm.saturating_add(measure));
+    push_counts(
         page,
-        "Steps of a point before it is counted: ",
-        u64::from(sweep.warm),
-        ".",
-    )?;
-    push_count(
-        page,
-        "Steps of a point that are counted: ",
-        u64::from(sweep.measure),
-        ".",
-    )?;
-    push_count(
-        page,
-        "Work: ",
-        points.saturating_mul(steps),
-        " steps of roads.",
+        &[
+            ("Points: ", points, ", each a line of the table."),
+            ("Steps of a point before it is counted: ", warm, "."),
+            ("Steps of a point that are counted: ", measure, "."),
+            ("Work: ", work, " steps of roads."),
+        ],
     )
 }
 

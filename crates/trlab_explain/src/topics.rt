@@ -87,20 +87,14 @@ fn push_number(page: &mut Page, topic: Topic, number: u32) -> Result<bool, Alloc
     Ok(false)
 }
 
-/// What is told of a number behind it, and whether there is no such number.
-fn number_body(alloc: Global, topic: Topic, number: u32) -> Result<(bool, Page), AllocError> {
-    let mut page = Page::new(alloc);
-    let is_none = push_number(&mut page, topic, number)?;
-    Ok((is_none, page))
-}
-
 /// The page on a number, and whether there is no such number.
 fn number_page(alloc: Global, topic: Topic, number: u32) -> Result<(bool, Page), AllocError>
     ensures { IfOk result (λ told. BeginsWith (topic_front topic number) told.1) }
 {
+    let mut body = Page::new(alloc);
+    let is_none = push_number(&mut body, topic, number)?;
     let mut page = Page::new(alloc);
     push_topic(&mut page, topic, number)?;
-    let (is_none, body) = number_body(alloc, topic, number)?;
     page.add(&body)?;
     Ok((is_none, page))
 }

@@ -25,7 +25,6 @@ pub enum ReadFault {
 /// # Errors
 ///
 /// `TooBig` where that byte has come, and else want of memory or a failed reader.
-#[tactic(auto, using(crate::proofs::KnownBytes::consumes_more, crate::proofs::KnownBytes::consumes_kept, crate::proofs::KnownBytes::consumes_length, crate::proofs::KnownBytes::consumes_none))]
 pub fn read_text<S: Source>(alloc: Global, reader: &mut S) -> Result<Vec<u8>, ReadFault>
     requires { S.failed reader.old ≡ false }
     ensures text { IfOk result
@@ -84,7 +83,6 @@ pub fn write_text<K: Sink>(writer: &mut K, text: &[u8]) -> Result<(), DeviceErro
 /// # Errors
 ///
 /// Those of `write_text`, also where all was written and not handed on.
-#[tactic(auto, using(crate::proofs::KnownBytes::appends_kept, crate::proofs::KnownBytes::front_kept))]
 pub fn write_last<K: Sink>(writer: &mut K, text: &[u8]) -> Result<(), DeviceError>
     ensures whole { OnOk result
         (Appends (K.written writer.old) (K.written writer.new) text.now) }

@@ -2,7 +2,8 @@
 
 ghost use Rattle.std.specs.Prelude.{◌≡◌, ◌+◌, ◌<◌, ◌^◌, ◌↔◌, true, false, OnOk, OnErr, IfErr};
 ghost use Rattle.std.specs.Io.KnownBytes.{Appends};
-ghost use Rattle.trlab_jobs.specs.Job.{seed_of, sheet_of};
+ghost use Rattle.trlab_jobs.specs.Job.{Job as Told, seed_of, sheet_of};
+ghost use Rattle.trlab_jobs.specs.Stored.{IsStored};
 ghost use Rattle.trlab_run.specs.Progress.{IsOneStepOn, at_start};
 ghost use Rattle.trlab_step.specs.Run.{IsRoadAt};
 ghost use Rattle.trlab_campaign.specs.Device.{AppendsFront};
@@ -111,6 +112,32 @@ fn show_last<K: Sink>(
     Ok(())
 }
 
+/// Writes the pictures of the road of a run at each step, as they are made: it starts as that of a job.
+fn write_run<A: Asker, K: Sink>(
+    asker: &A,
+    alloc: Global,
+    run: &mut Run,
+    steps: u32,
+    writer: &mut K,
+) -> Result<(), WriteFault>
+    requires ready { A.is_ready asker.now }
+    requires works { K.failed writer.old ≡ false }
+    requires start { run.old.step ≡ 0 }
+    ensures whole { (job : Told) → IsStored job → run.old ≡ at_start (seed_of job) (sheet_of job) → steps ≡ job.steps
+        → OnOk result (WrotePictures job (K.written writer.old) (K.written writer.new)) }
+    ensures front { (job : Told) → IsStored job → run.old ≡ at_start (seed_of job) (sheet_of job) → steps ≡ job.steps
+        → OnErr result (WroteSome job (K.written writer.old) (K.written writer.new)) }
+    ensures works { OnOk result (K.failed writer.new ≡ false) }
+    ensures fails { IfErr result (λ fault. (fault ≡ Device) ↔ (K.failed writer.new ≡ true)) }
+    ensures flushed { K.flushes writer.new ≡ K.flushes writer.old }
+{
+    let mut text = StepText::new(alloc);
+    for step in 0..steps {
+        show_step(asker, alloc, &mut text, step, run, writer)?;
+    }
+    show_last(&mut text, steps, run.road(), writer)
+}
+
 /// Writes the pictures of a job's road at each step, as they are made.
 fn write_pictures<A: Asker, K: Sink>(
     asker: &A,
@@ -130,11 +157,9 @@ fn write_pictures<A: Asker, K: Sink>(
 {
     let steps = job.steps;
     let mut run = run_of(alloc, job);
-    let mut text = StepText::new(alloc);
-    for step in 0..steps {
-        show_step(asker, alloc, &mut text, step, &mut run, writer)?;
-    }
-    show_last(&mut text, steps, run.road(), writer)
+    let written = write_run(asker, alloc, &mut run, steps, writer);
+    drop(run);
+    written
 }
 
 /// Runs a job, in which the asker asks the cars: writes the pictures of its road at each step, and

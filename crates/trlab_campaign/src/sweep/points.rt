@@ -6,6 +6,7 @@ ghost use Rattle.trlab_road.specs.Legal.{IsLegal};
 ghost use Rattle.trlab_road.specs.Spreading.{IsEven};
 ghost use Rattle.trlab_step.specs.Run.{IsTallyAt};
 ghost use Rattle.trlab_run.specs.Progress.{at_start};
+ghost use Rattle.trlab_jobs.specs.Shapes.{all_steps};
 ghost use Rattle.trlab_jobs.specs.Stored.{Spreads};
 ghost use Rattle.trlab_campaign.specs.SweepOutput.{IsPoint, point_of, seed_of, sheet_of};
 
@@ -51,6 +52,18 @@ fn count_run(alloc: Global, run: &mut Run, steps: u32) -> Result<StepTally, Allo
     Ok(run.tally())
 }
 
+/// What is counted on the road of the point with this number, which is run from its start.
+fn tally_of(alloc: Global, sweep: &Sweep, number: u32, road: Road) -> Result<StepTally, AllocError>
+    requires { length road.lanes ≡ sweep.now.setup.shape.lanes }
+    ensures { IfOk result (λ tally. IsTallyAt (seed_of sweep.now.setup number road)
+        (sheet_of sweep.now.setup) (all_steps sweep.now.setup.span) tally) }
+{
+    let mut run = run_of(alloc, sweep, number, road)?;
+    let tally = count_run(alloc, &mut run, sweep.warm + sweep.measure);
+    drop(run);
+    tally
+}
+
 /// The point at which so much was counted of so many cars.
 pub fn point_of(sweep: &Sweep, cars: u32, tally: StepTally) -> Point
     requires { Spreads sweep.now.setup.shape cars }
@@ -81,9 +94,6 @@ pub fn run_point(
     ensures is { IfOk result (λ point. IsPoint sweep.now.setup number cars point) }
     ensures measured { IfOk result IsMeasured }
 {
-    let mut run = run_of(alloc, sweep, number, road)?;
-    match count_run(alloc, &mut run, sweep.warm + sweep.measure) {
-        Ok(tally) => Ok(point_of(sweep, cars, tally)),
-        Err(fault) => Err(fault),
-    }
+    let tally = tally_of(alloc, sweep, number, road)?;
+    Ok(point_of(sweep, cars, tally))
 }

@@ -1,20 +1,21 @@
-use Rattle.std.proofs.Common.{◌≡◌, ◌++◌, ◌∙◌, take, arith, refl, sym, length-append, length-take}
+use Rattle.std.proofs.Common.{◌≡◌, ◌++◌, ◌∙◌, take, arith, refl, sym, ap, length, length-append, length-take}
+use Rattle.std.proofs.lemmas.List.{take-append-le}
 use Rattle.std.proofs.Math.Bool.{or-false}
 use Rattle.std.proofs.lemmas.Bool.{false≢true}
-use Rattle.std.proofs.lemmas.Grind.{common_steps}
 use Rattle.trlab_bounds.specs.declared.texts.TheConstants.{TEXT_LIMIT}
-use Rattle.trlab_campaign.proofs.KnownBytes.{consumes_more, consumes_none, consumes_kept, consumes_over}
+use Rattle.trlab_campaign.proofs.KnownBytes.{consumes_more, consumes_none, consumes_kept, consumes_last, consumes_over}
 use Rattle.trlab_campaign.proofs.device.whole.read_text.Goals as goal
 
 pub loop-piece-init : goal.loop-piece-init
-loop-piece-init g c = record { read = rw c.new-text.ensures.items (consumes_none _); small = grind (arith, common_steps); works = c.requires }
+loop-piece-init g c = record { read = rw c.new-text.ensures.items (consumes_none _); small = omega (arith, c.new-text.ensures.len); works = c.requires }
 
 pub loop-piece-preserved : goal.loop-piece-preserved
 loop-piece-preserved g c =
-    let added : c.extend_from_slice.new.self.items ≡ c.loop-piece.text.items ++ take c.in-Ok.count c.take.new.buffer = grind (arith, common_steps) in
+    let added : c.extend_from_slice.new.self.items ≡ c.loop-piece.text.items ++ take c.in-Ok.count c.take.new.buffer = grind (arith, take-append-le, c.if-is_err.ensures.negation, c.extend_from_slice.ensures.items) in
+    let all = ap length added ∙ length-append c.loop-piece.text.items (take c.in-Ok.count c.take.new.buffer) in
     record {
       read = rw added (consumes_more _ _ _ _ _ c.loop-piece.invariant.read c.in-Ok.ensures.bytes.0);
-      small = grind (arith, common_steps, length-append, length-take);
+      small = omega (arith, all, length-take c.in-Ok.count c.take.new.buffer, length-take c.min-room.result c.loop-piece.piece);
       works = c.in-Ok.ensures.fails ∙ (or-false _ ∙ c.loop-piece.invariant.works);
     }
 
@@ -49,3 +50,58 @@ returns-then-is_err-clause-fails g c =
 
 pub returns-then-count-eq0-clause-works : goal.returns-then-count-eq0-clause-works
 returns-then-count-eq0-clause-works g c = c.in-Ok.ensures.fails ∙ (or-false _ ∙ c.loop-piece.invariant.works)
+
+pub returns-in-Err-clause-text : goal.returns-in-Err-clause-text
+returns-in-Err-clause-text g c = tt
+
+pub returns-in-Err-clause-small : goal.returns-in-Err-clause-small
+returns-in-Err-clause-small g c = tt
+
+pub returns-in-Err-clause-whole : goal.returns-in-Err-clause-whole
+returns-in-Err-clause-whole g c = tt
+
+pub returns-in-Err-clause-works : goal.returns-in-Err-clause-works
+returns-in-Err-clause-works g c = tt
+
+pub returns-then-is_err-clause-text : goal.returns-then-is_err-clause-text
+returns-then-is_err-clause-text g c = tt
+
+pub returns-then-is_err-clause-small : goal.returns-then-is_err-clause-small
+returns-then-is_err-clause-small g c = tt
+
+pub returns-then-is_err-clause-whole : goal.returns-then-is_err-clause-whole
+returns-then-is_err-clause-whole g c = tt
+
+pub returns-then-is_err-clause-works : goal.returns-then-is_err-clause-works
+returns-then-is_err-clause-works g c = tt
+
+pub returns-clause-text : goal.returns-clause-text
+returns-clause-text g c = tt
+
+pub returns-clause-small : goal.returns-clause-small
+returns-clause-small g c = tt
+
+pub returns-clause-whole : goal.returns-clause-whole
+returns-clause-whole g c = tt
+
+pub returns-clause-works : goal.returns-clause-works
+returns-clause-works g c = tt
+
+pub returns-then-count-eq0-clause-text : goal.returns-then-count-eq0-clause-text
+returns-then-count-eq0-clause-text g c = consumes_last _ _ _ c.loop-piece.text.items c.take.new.buffer c.in-Ok.count c.if-count-eq0.true c.loop-piece.invariant.read c.in-Ok.ensures.bytes.0
+
+pub returns-then-count-eq0-clause-small : goal.returns-then-count-eq0-clause-small
+returns-then-count-eq0-clause-small g c = omega (arith, c.loop-piece-test.true, c.len.ensures)
+
+pub returns-then-count-eq0-clause-whole : goal.returns-then-count-eq0-clause-whole
+returns-then-count-eq0-clause-whole g c = c.in-Ok.ensures.bytes.1 c.if-count-eq0.true (omega (arith, length-take c.min-room.result c.loop-piece.piece))
+
+pub returns-then-count-eq0-clause-read : goal.returns-then-count-eq0-clause-read
+returns-then-count-eq0-clause-read g c =
+    (c.loop-piece.text.items, omega (arith, c.loop-piece.invariant.small), consumes_last _ _ _ c.loop-piece.text.items c.take.new.buffer c.in-Ok.count c.if-count-eq0.true c.loop-piece.invariant.read c.in-Ok.ensures.bytes.0)
+
+pub returns-then-count-eq0-clause-big : goal.returns-then-count-eq0-clause-big
+returns-then-count-eq0-clause-big g c = tt
+
+pub returns-then-count-eq0-clause-fails : goal.returns-then-count-eq0-clause-fails
+returns-then-count-eq0-clause-fails g c = tt

@@ -1,0 +1,62 @@
+use Rattle.std.proofs.Common.{◌≡◌, ◌+◌, ◌-◌, ◌∙◌, ap, arith, refl}
+use Rattle.std.proofs.lemmas.Result.{err_from_is_err_and}
+use Rattle.trlab_campaign.proofs.Running.{begin_run, step_on, step_stops, last_whole, last_front}
+use Rattle.trlab_campaign.proofs.run.pictures.write_run.Goals as goal
+
+pub loop-step-init : goal.loop-step-init
+loop-step-init g c =
+    let all : c.args.steps - 0 ≡ c.args.steps = omega arith in
+    record {
+      writes = rw all (begin_run c.args.steps c.args.run.now _);
+      at = c.requires.start;
+      works = c.requires.works;
+      flushed = refl;
+    }
+
+pub returns-in_err-show_step : goal.returns-in_err-show_step
+returns-in_err-show_step g c =
+    let fault = err_from_is_err_and c.from_residual.result c.from_residual.ensures.1 in
+    record {
+      whole = λ job stored starts ends. rw fault.1 tt;
+      front = λ job stored starts ends. rw fault.1
+          (step_stops c.args.steps c.loop-step.step _ c.args.run.now c.loop-step.run _ _ _ c.loop-step.invariant.writes c.show_step.ensures.road c.in_err-show_step.ensures.front
+          job (record { stored = stored; starts = starts; ends = ends }));
+      works = rw fault.1 tt;
+      fails = rw (fault.1, fault.2) c.in_err-show_step.ensures.fails;
+      flushed = c.show_step.ensures.flushed ∙ c.loop-step.invariant.flushed;
+    }
+
+pub loop-step-preserved : goal.loop-step-preserved
+loop-step-preserved g c =
+    let left : c.args.steps - c.loop-step.step ≡ c.args.steps - (c.loop-step.step + 1) + 1 = omega arith in
+    let writes = rw left at c.loop-step.invariant.writes in
+    let on = c.in_ok-show_step.ensures.on in
+    record {
+      writes = step_on c.args.steps c.loop-step.step _ c.args.run.now c.loop-step.run _ _ _ _ writes c.show_step.ensures.road c.in_ok-show_step.ensures.whole on;
+      at = on.next_step ∙ ap (λ n. n + 1) c.loop-step.invariant.at;
+      works = c.in_ok-show_step.ensures.works;
+      flushed = c.in_ok-show_step.ensures.flushed ∙ c.loop-step.invariant.flushed;
+    }
+
+pub returns-clause-whole : goal.returns-clause-whole
+returns-clause-whole g c = λ job stored starts ends.
+    let last : c.loop-step.step ≡ c.args.steps = omega arith in
+    let left : c.args.steps - c.loop-step.step ≡ 0 = omega arith in
+    let writes = rw (left, last) at c.loop-step.invariant.writes in
+    last_whole c.show_last.result c.args.steps c.args.run.now c.loop-step.run _ _ _ _ writes c.road.ensures.run c.show_last.ensures.whole job (record { stored = stored; starts = starts; ends = ends })
+
+pub returns-clause-front : goal.returns-clause-front
+returns-clause-front g c = λ job stored starts ends.
+    let last : c.loop-step.step ≡ c.args.steps = omega arith in
+    let left : c.args.steps - c.loop-step.step ≡ 0 = omega arith in
+    let writes = rw (left, last) at c.loop-step.invariant.writes in
+    last_front c.show_last.result c.args.steps c.args.run.now c.loop-step.run _ _ _ _ writes c.road.ensures.run c.show_last.ensures.front job (record { stored = stored; starts = starts; ends = ends })
+
+pub returns-clause-works : goal.returns-clause-works
+returns-clause-works g c = c.show_last.ensures.works
+
+pub returns-clause-fails : goal.returns-clause-fails
+returns-clause-fails g c = c.show_last.ensures.fails
+
+pub returns-clause-flushed : goal.returns-clause-flushed
+returns-clause-flushed g c = c.show_last.ensures.flushed ∙ c.loop-step.invariant.flushed
