@@ -48,7 +48,9 @@ fn instrs(alloc: Global, bytes: &[u8], header: Header) -> Result<Vec<Instr>, Cod
     let mut instrs = Vec::with_capacity(alloc, header.count as usize)?;
     for pc in 0..header.count {
         let instr = instr_at(bytes, header.version, pc)?;
-        instrs.push(instr).map_err(|_| CodeFault::Memory)?;
+        if instrs.push(instr).is_err() {
+            return Err(CodeFault::Memory);
+        }
     }
     Ok(instrs)
 }

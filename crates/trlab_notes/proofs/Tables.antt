@@ -168,26 +168,14 @@ twice : (b : Bool) → b ≡ (b && b)
 twice true = refl
 twice false = refl
 
-range_same : (a c b d : ℕ) → a ≡ c → b ≡ d → Between a b ≡ Between c d
-range_same a c b d e f = cc
-
-said_twice : (s : Said) → s ≡ join_said s s
-said_twice Nothing = refl
-said_twice (Between lo hi) = range_same lo (min lo lo) hi (max hi hi) (omega arith) (omega arith)
-said_twice (Implies imp) = ap Implies (twice imp)
-
 least : (k : ℕ) → k ≡ min k k
 least k = omega arith
 
-abbrev SaidWithSide : Stored → List Said → Type 0
-SaidWithSide a said = (x : ℕ) → x < PLACES → get_or said x Nothing ≡ with_side a.side (get_or a.said x Nothing)
+pub join_itself_is : (a : Stored) (said : List Said) → SaidByBoth a a said → made said a.rows a.side ≡ join (note_of a) (note_of a)
+join_itself_is a said h = join_is a a said a.rows a.side h (λ x y lx ly. least (level_of a.rows x y)) (twice a.side)
 
-pub join_itself_is : (a : Stored) (said : List Said) → SaidWithSide a said → made said a.rows a.side ≡ join (note_of a) (note_of a)
-join_itself_is a said h =
-    join_is a a said a.rows a.side (λ x lx. h x lx ∙ said_twice (with_side a.side (get_or a.said x Nothing))) (λ x y lx ly. least (level_of a.rows x y)) (twice a.side)
-
-pub join_itself_tells : (a : Stored) (said : List Said) → SaidWithSide a said → TellsRanges said a.rows
-join_itself_tells a said h = join_tells a a said a.rows (λ x lx. h x lx ∙ said_twice (with_side a.side (get_or a.said x Nothing))) (λ x y lx ly. least (level_of a.rows x y))
+pub join_itself_tells : (a : Stored) (said : List Said) → SaidByBoth a a said → TellsRanges said a.rows
+join_itself_tells a said h = join_tells a a said a.rows h (λ x y lx ly. least (level_of a.rows x y))
 
 -- the rows after a write
 module _ (a : Stored) (d : ℕ) (s : Said) (to from : ℕ → ℕ) (rows : List Row) (row column : ℕ → ℕ) (inside : d < PLACES) (places : length a.said ≡ PLACES) (hr : (y : ℕ) → y < PLACES → row y ≡ level_between (get_or (set a.said d s) d Nothing) (get_or (set a.said d s) y Nothing) (nat_eq d y) (to y)) (hc : (x : ℕ) → x < PLACES → column x ≡ level_between (get_or (set a.said d s) x Nothing) (get_or (set a.said d s) d Nothing) (nat_eq x d) (from x)) (h : (x y : ℕ) → x < PLACES → y < PLACES → level_of rows x y ≡ cond (nat_eq x d) (row y) (cond (nat_eq y d) (column x) (level_of a.rows x y))) where

@@ -49,24 +49,12 @@ pub fn join(a: &Stored, b: &Stored) -> Stored
     }
 }
 
-/// What a note says of each place, the side cell considered.
-fn places_with_side(note: &Stored) -> [Said; PLACES]
-    ensures { (x : ℕ) → x < PLACES →
-        slice_index_or result x Nothing ≡ with_side note.now.side (slice_index_or note.now.said x Nothing) }
-{
-    let mut said = [Said::Nothing; PLACES];
-    for x in 0..PLACES {
-        said[x] = note.said_at(x);
-    }
-    said
-}
-
 /// The join of a note with itself: all that it says of each place.
 pub fn join_itself(note: &Stored) -> Stored
     ensures { note_of result ≡ join (note_of note.now) (note_of note.now) }
 {
     Stored {
-        said: places_with_side(note),
+        said: join_places(note, note),
         rows: note.rows,
         columns: note.columns,
         side: note.side,

@@ -80,31 +80,33 @@ pub fn level_between(s: Said, t: Said, is_same: bool, level: u8) -> u8
     }
 }
 
-/// What is said of the places at the start of a program.
+/// What is said of the places at the start of a program, in the order of their numbers.
 pub fn entry_said(kind: Kind) -> [Said; PLACES]
     ensures { (x : APlace) → said_in result x ≡ entry_said kind x }
 {
-    let mut said = [Said::Nothing; PLACES];
-    said[Place::Input(Input::Speed).number()] = Said::Between(0, GREATEST_LIMIT);
-    said[Place::Input(Input::Limit).number()] = Said::Between(1, GREATEST_LIMIT);
-    said[Place::Input(Input::Gap).number()] = Said::Between(0, GREATEST_GAP);
-    said[Place::Input(Input::Headspeed).number()] = Said::Between(0, GREATEST_LIMIT);
-    if kind == Kind::Change {
-        said[Place::Input(Input::SideGap).number()] = Said::Between(0, GREATEST_GAP);
-        said[Place::Input(Input::SideBack).number()] = Said::Between(0, GREATEST_GAP);
-        said[Place::Input(Input::Lane).number()] = Said::Between(0, 1);
-    }
-    said
+    let unset = Said::Nothing;
+    let speed = Said::Between(0, GREATEST_LIMIT);
+    let limit = Said::Between(1, GREATEST_LIMIT);
+    let gap = Said::Between(0, GREATEST_GAP);
+    let (side_gap, lane) = match kind {
+        Kind::Motion => (unset, unset),
+        Kind::Change => (gap, Said::Between(0, 1)),
+    };
+    [
+        unset, unset, unset, unset, unset, unset, unset, unset, speed, limit, gap, side_gap,
+        side_gap, lane, speed,
+    ]
 }
 
 /// The levels at the start of a program: the speed and that of the car ahead are at most the limit.
 pub fn entry_levels() -> [[u8; PLACES]; PLACES]
     ensures { (x y : APlace) → levels_in result x y ≡ entry_level x y }
 {
-    let mut within_limit = [0; PLACES];
-    within_limit[Place::Input(Input::Limit).number()] = AT_MOST;
-    let mut levels = [[0; PLACES]; PLACES];
-    levels[Place::Input(Input::Speed).number()] = within_limit;
-    levels[Place::Input(Input::Headspeed).number()] = within_limit;
-    levels
+    let none = [0; PLACES];
+    let within_limit = [0, 0, 0, 0, 0, 0, 0, 0, 0, AT_MOST, 0, 0, 0, 0, 0];
+    let (speed, headspeed) = (within_limit, within_limit);
+    [
+        none, none, none, none, none, none, none, none, speed, none, none, none, none, none,
+        headspeed,
+    ]
 }

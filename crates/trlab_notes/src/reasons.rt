@@ -1,8 +1,9 @@
 //! The reasons to refuse an instruction, by the note before it.
 
-ghost use Rattle.std.specs.Prelude.{◌≡◌, ◌<◌};
+ghost use Rattle.std.specs.Prelude.{◌≡◌, ◌<◌, nat_le};
 ghost use Rattle.trlab_code.specs.Machine.{allows, allows_input};
-ghost use Rattle.trlab_notes.specs.Reasons.{is_nothing, is_range, is_flag, may_stand, some_unset, some_of_other_kind, may_be_too_large, may_be_below_zero, may_be_above, may_be_occupied, reason_against};
+ghost use Rattle.trlab_code.specs.Flow.{target};
+ghost use Rattle.trlab_notes.specs.Reasons.{is_nothing, is_range, is_flag, may_stand, some_unset, some_of_other_kind, may_be_too_large, may_be_below_zero, may_be_above, may_be_occupied, on_target, falls_out, first_reason, form_checks, range_checks, reason_against};
 ghost use Rattle.trlab_notes.specs.Stored.{note_of};
 ghost use Rattle.trlab_notes.specs.Transfer.{register_said};
 
@@ -147,6 +148,82 @@ fn may_be_occupied(note: &Stored, instr: Instr) -> bool
     matches!(instr, Instr::Cross) && !note.side
 }
 
+/// Whether a jump does not lead forward from `pc`.
+fn jumps_back(pc: usize, instr: Instr) -> bool
+    ensures { result ≡ on_target (λ t. nat_le t pc) (target instr) }
+{
+    match instr.target() {
+        Some(target) => target as usize <= pc,
+        None => false,
+    }
+}
+
+/// Whether a jump leads behind the last of `len` instructions.
+fn jumps_out(len: usize, instr: Instr) -> bool
+    ensures { result ≡ on_target (λ t. nat_le len t) (target instr) }
+{
+    match instr.target() {
+        Some(target) => len <= target as usize,
+        None => false,
+    }
+}
+
+/// Whether the instruction at `pc` may go on behind the last of `len` instructions.
+fn falls_out(len: usize, pc: usize, instr: Instr) -> bool
+    requires { pc < len }
+    ensures { result ≡ falls_out len pc instr }
+{
+    instr.falls() && len <= pc + 1
+}
+
+/// The least of the reasons 2 to 7: what the instruction is, reads and leads to.
+fn form_reason(
+    kind: Kind,
+    own: Kind,
+    len: usize,
+    pc: usize,
+    note: &Stored,
+    instr: Instr,
+) -> Option<Reason>
+    requires { pc < len }
+    ensures { result ≡ first_reason (form_checks kind own len pc (note_of note.now) instr) }
+{
+    if !is_of_kind(kind, own, instr) {
+        Some(Reason::WrongProgram)
+    } else if has_unset(note, instr) {
+        Some(Reason::MaybeUnset)
+    } else if has_other_kind(note, instr) {
+        Some(Reason::WrongValue)
+    } else if jumps_back(pc, instr) {
+        Some(Reason::JumpsBack)
+    } else if jumps_out(len, instr) {
+        Some(Reason::JumpsOut)
+    } else if falls_out(len, pc, instr) {
+        Some(Reason::FallsOut)
+    } else {
+        None
+    }
+}
+
+/// The least of the reasons 8 to 12: the number or the answer that the instruction makes.
+fn range_reason(note: &Stored, instr: Instr) -> Option<Reason>
+    ensures { result ≡ first_reason (range_checks (note_of note.now) instr) }
+{
+    if may_be_too_large(note, instr) {
+        Some(Reason::MaybeTooLarge)
+    } else if may_be_below_zero(note, instr) {
+        Some(Reason::MaybeBelowZero)
+    } else if may_be_above(Input::Gap, note, instr) {
+        Some(Reason::MaybeAboveGap)
+    } else if may_be_above(Input::Limit, note, instr) {
+        Some(Reason::MaybeAboveLimit)
+    } else if may_be_occupied(note, instr) {
+        Some(Reason::MaybeOccupied)
+    } else {
+        None
+    }
+}
+
 /// The least reason from the second on to refuse the instruction at `pc` in a program of `len` instructions.
 pub fn reason_against(
     kind: Kind,
@@ -159,30 +236,8 @@ pub fn reason_against(
     requires { pc < len }
     ensures { result ≡ reason_against kind own len pc (note_of note.now) instr }
 {
-    let target = instr.target();
-    if !is_of_kind(kind, own, instr) {
-        Some(Reason::WrongProgram)
-    } else if has_unset(note, instr) {
-        Some(Reason::MaybeUnset)
-    } else if has_other_kind(note, instr) {
-        Some(Reason::WrongValue)
-    } else if target.is_some_and(|target| target as usize <= pc) {
-        Some(Reason::JumpsBack)
-    } else if target.is_some_and(|target| len <= target as usize) {
-        Some(Reason::JumpsOut)
-    } else if instr.falls() && len <= pc + 1 {
-        Some(Reason::FallsOut)
-    } else if may_be_too_large(note, instr) {
-        Some(Reason::MaybeTooLarge)
-    } else if may_be_below_zero(note, instr) {
-        Some(Reason::MaybeBelowZero)
-    } else if may_be_above(Input::Gap, note, instr) {
-        Some(Reason::MaybeAboveGap)
-    } else if may_be_above(Input::Limit, note, instr) {
-        Some(Reason::MaybeAboveLimit)
-    } else if may_be_occupied(note, instr) {
-        Some(Reason::MaybeOccupied)
-    } else {
-        None
+    match form_reason(kind, own, len, pc, note, instr) {
+        None => range_reason(note, instr),
+        reason => reason,
     }
 }

@@ -51,7 +51,6 @@ fn has_lesser_levels(m: &Stored, n: &Stored) -> bool
 }
 
 /// Whether a note is no stronger than another.
-#[tactic(auto, using(crate::proofs::Tables::no_stronger, crate::proofs::Tables::no_stronger_said, crate::proofs::Tables::no_stronger_levels))]
 pub fn is_no_stronger(m: &Stored, n: &Stored) -> bool
     ensures { IsTrue result ↔ IsNoStronger (note_of m.now) (note_of n.now) }
 {

@@ -33,6 +33,23 @@ pub struct Pool<'a, R, G> {
     ghost few: { workers ≤ MOST_WORKERS },
 }
 
+/// As many of these workers as there are processors; one where their count is not told.
+fn within_processors<R: Threads>(rt: &R, workers: u32) -> u32
+    requires { 0 < workers }
+    ensures some { 0 < result }
+    ensures few { result ≤ workers }
+{
+    let processors = match thread::available_parallelism(rt) {
+        Ok(count) => count.get(),
+        Err(_) => 1,
+    };
+    if processors < workers as usize {
+        processors as u32
+    } else {
+        workers
+    }
+}
+
 impl<'a, R: Threads + Wait + Sync, G: Gate + Sync> Pool<'a, R, G> {
     /// So many workers, each of whom passes the gate before each segment. One alone asks all cars at
     /// once, and passes no gate.
@@ -52,24 +69,11 @@ impl<'a, R: Threads + Wait + Sync, G: Gate + Sync> Pool<'a, R, G> {
     /// As many of these workers as make the work faster: no more than there are processors, and one for
     /// every 1000 cars of a road.
     pub fn sparing(self) -> Pool<'a, R, G> {
-        let Pool {
-            rt,
-            gate,
-            hall,
-            workers,
-            ..
-        } = self;
-        let processors = thread::available_parallelism(rt).map_or(1, |count| count.get());
-        let workers = if processors < workers as usize {
-            processors as u32
-        } else {
-            workers
-        };
         Pool {
-            rt,
-            gate,
-            hall,
-            workers,
+            rt: self.rt,
+            gate: self.gate,
+            hall: self.hall,
+            workers: within_processors(self.rt, self.workers),
             is_sparing: true,
         }
     }

@@ -38,7 +38,7 @@ segments_up_to border (suc k) start rises =
 first_of_none : (cars count : ℕ) → 0 < count → first_car cars count 0 ≡ 0
 first_of_none cars count some = div-eq_of_lt-le {k = 0} count {m = 0 * cars} (omega arith) (omega arith)
 
-first_rises : (cars count i : ℕ) → 0 < count → first_car cars count i ≤ first_car cars count (i + 1)
+pub first_rises : (cars count i : ℕ) → 0 < count → first_car cars count i ≤ first_car cars count (i + 1)
 first_rises cars count i some =
     let step : i ≤ i + 1 = omega arith in
     le-div (i * cars / count) ((i + 1) * cars) count some (le_trans (div-mul-le_self (i * cars) count) (mul-le-mul_right cars step))

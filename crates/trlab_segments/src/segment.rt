@@ -20,6 +20,16 @@ pub fn segment_count(cars: u32, workers: u32) -> u32
     cars.min(4 * workers)
 }
 
+/// The car with which segment `number` of `count` begins, into which the cars of a road are cut.
+fn first_car(cars: u32, count: u32, number: u32) -> u32
+    requires any { 0 < count }
+    requires number { number ≤ count }
+    ensures value { result ≡ first_car cars count number }
+    ensures within { result ≤ cars }
+{
+    (number as u64 * cars as u64 / count as u64) as u32
+}
+
 impl Segment {
     /// Segment `number` of `count`, into which the cars of a road are cut.
     pub fn of(cars: u32, count: u32, number: u32) -> Segment
@@ -28,10 +38,9 @@ impl Segment {
         ensures to { result.to ≡ first_car cars count (number + 1) }
         ensures within { (result.from ≤ result.to) × (result.to ≤ cars) }
     {
-        let first = |segment: u64| segment * cars as u64 / count as u64;
         Segment {
-            from: first(number as u64) as u32,
-            to: first(number as u64 + 1) as u32,
+            from: first_car(cars, count, number),
+            to: first_car(cars, count, number + 1),
         }
     }
 }

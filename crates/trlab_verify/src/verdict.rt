@@ -15,10 +15,26 @@ use trlab_code::{Code, Instr, Kind, MOST_INSTRUCTIONS};
 use trlab_notes::{Reason, Stored, reason_against};
 
 /// The first instruction that is refused, and the least reason there.
-#[derive(Clone, Copy, Debug, PartialEq, Eq)]
+#[derive(Clone, Copy)]
 pub struct Refusal {
     pub at: u32,
     pub reason: Reason,
+}
+
+/// The notes before the first instruction is judged: it has that of the start, and no other has one.
+pub fn start_notes(
+    alloc: Global,
+    kind: Kind,
+    instrs: &[Instr],
+) -> Result<Vec<Option<Stored>>, AllocError>
+    requires { 1 ≤ length instrs.now }
+    ensures one_each { IfOk result (λ notes. length notes.items ≡ length instrs.now) }
+    ensures begins { IfOk result (λ notes. (q : ℕ) → q < length instrs.now →
+        notes_of notes.items q ≡ maybe_closure (incoming kind instrs.now 0 q)) }
+{
+    let mut notes = vec![in alloc; None; instrs.len()]?;
+    notes[0] = Some(Stored::entry(kind));
+    Ok(notes)
 }
 
 /// Judges each instruction in turn by the join of its incoming notes, and sends notes on from it.
@@ -66,7 +82,6 @@ pub fn verdict(alloc: Global, kind: Kind, code: &Code) -> Result<Option<Refusal>
         (λ no. IsRefused kind code.now no.at (reason_number no.reason))) }
 {
     let instrs = code.instrs();
-    let mut notes = vec![in alloc; None; instrs.len()]?;
-    notes[0] = Some(Stored::entry(kind));
+    let mut notes = start_notes(alloc, kind, instrs)?;
     Ok(judge(kind, code.kind(), instrs, &mut notes))
 }

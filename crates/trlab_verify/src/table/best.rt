@@ -12,7 +12,7 @@ ghost use Rattle.trlab_verify.specs.Tables.{Checks, AreVerdictNotes};
 ghost use Rattle.trlab_verify.specs.Verdict.{IsAccepted};
 
 use super::note::{Note, first_note, write};
-use crate::verdict::judge;
+use crate::verdict::{judge, start_notes};
 use std::alloc::{AllocError, Global};
 use thiserror::Error;
 use trlab_code::{Code, Instr, Kind, MOST_INSTRUCTIONS};
@@ -116,7 +116,6 @@ pub fn notes(alloc: Global, code: &Code) -> Result<Vec<Note>, NotesFault>
 {
     let instrs = code.instrs();
     let kind = code.kind();
-    let mut stored = vec![in alloc; None; instrs.len()]?;
-    stored[0] = Some(Stored::entry(kind));
+    let mut stored = start_notes(alloc, kind, instrs)?;
     judge_notes(alloc, kind, instrs, &mut stored)
 }

@@ -18,12 +18,22 @@ use super::note::{Note, read};
 use trlab_code::{Code, Instr, Kind, MOST_INSTRUCTIONS};
 use trlab_notes::{Stored, is_no_stronger, jump_note, next_note, reason_against};
 
+/// Whether a jump leads to the instruction at q.
+fn jumps_to(instr: Instr, q: usize) -> bool
+    ensures { result ≡ on_target (nat_eq q) (target instr) }
+{
+    match instr.target() {
+        Some(target) => q == target as usize,
+        None => false,
+    }
+}
+
 /// Whether the instruction at q may come after the one at pc.
 fn follows(instr: Instr, pc: usize, q: usize) -> bool
     requires { pc < MOST_INSTRUCTIONS }
     ensures { result ≡ ((falls instr && nat_eq q (suc pc)) || on_target (nat_eq q) (target instr)) }
 {
-    (instr.falls() && q == pc + 1) || instr.target().is_some_and(|target| q == target as usize)
+    (instr.falls() && q == pc + 1) || jumps_to(instr, q)
 }
 
 /// Whether some instruction leads to the one at q.

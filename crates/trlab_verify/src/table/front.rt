@@ -12,7 +12,7 @@ ghost use Rattle.trlab_verify.specs.Verdict.{IsAccepted};
 
 use super::best::write_all;
 use super::note::Note;
-use crate::verdict::{Refusal, judge};
+use crate::verdict::{Refusal, judge, start_notes};
 use std::alloc::{AllocError, Global};
 use trlab_code::{Code, Instr, Kind, MOST_INSTRUCTIONS};
 use trlab_notes::{Reason, Stored};
@@ -65,7 +65,6 @@ pub fn notes_of_refused(alloc: Global, code: &Code) -> Result<Option<Vec<Note>>,
 {
     let instrs = code.instrs();
     let kind = code.kind();
-    let mut stored = vec![in alloc; None; instrs.len()]?;
-    stored[0] = Some(Stored::entry(kind));
+    let mut stored = start_notes(alloc, kind, instrs)?;
     judge_refused(alloc, kind, instrs, &mut stored)
 }

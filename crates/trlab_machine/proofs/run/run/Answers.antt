@@ -1,6 +1,6 @@
 use Rattle.std.proofs.Common.{rules, ◌+◌, ◌*◌, ◌<◌, ◌≤◌, length, arith, sym, ◌∙◌, add-one}
 use Rattle.std.proofs.lemmas.Bool.{eq-eqb, ne_eqb}
-use Rattle.trlab_machine.proofs.Underway.{inside}
+use Rattle.trlab_machine.proofs.Underway.{inside, more}
 use Rattle.trlab_machine.proofs.OnWay.{starts, wrote, fell, jumped, ended}
 use Rattle.trlab_machine.proofs.Stores.{at_written, at_others}
 use Rattle.trlab_machine.proofs.run.run.Goals as goal
@@ -47,3 +47,27 @@ run-preserved c = record {
 
 pub returns-in-Ends-clause-ends : goal.returns-in-Ends-clause-ends
 returns-in-Ends-clause-ends c = rw c.result_number-number.ensures (ended c.run.invariant.car _ (sym c.role_of.ensures ∙ c.in-Ends.is)).0
+
+pub returns-in-Ends-clause-within : goal.returns-in-Ends-clause-within
+returns-in-Ends-clause-within c = (ended c.run.invariant.car _ (sym c.role_of.ensures ∙ c.in-Ends.is)).1
+
+pub overflow_add-steps : goal.overflow_add-steps
+overflow_add-steps c = omega (arith, more c.run.invariant.car.run, c.ranges.budget)
+
+pub overflow_add-pc-else-number-eq1 : goal.overflow_add-pc-else-number-eq1
+overflow_add-pc-else-number-eq1 c = omega (arith, inside c.run.invariant.car.run, c.requires.few)
+
+pub run-smaller-in-Writes : goal.run-smaller-in-Writes
+run-smaller-in-Writes c = omega (arith, more c.run.invariant.car.run)
+
+pub run-smaller-then-number-eq1 : goal.run-smaller-then-number-eq1
+run-smaller-then-number-eq1 c = omega (arith, more c.run.invariant.car.run)
+
+pub run-smaller : goal.run-smaller
+run-smaller c = omega (arith, more c.run.invariant.car.run)
+
+pub result_number-number-requires : goal.result_number-number-requires
+result_number-number-requires c = c.requires.in_range c.run.pc _ (inside c.run.invariant.car.run)
+
+pub bounds-registers-number : goal.bounds-registers-number
+bounds-registers-number c = c.number.ensures.in_range

@@ -6,5 +6,5 @@ use Rattle.trlab_notes.proofs.note.entry_levels.Goals as goal
 
 pub returns : goal.returns
 returns c = λ x y.
-    ap (λ row. get_or row (place_number y) 0) (at_place (λ z. map (entry_level z) places) [] _ (rw (c.number.ensures.value, c.number-2.ensures.value, c.number-3.ensures.value) refl) x)
+    ap (λ row. get_or row (place_number y) 0) (at_place (λ z. map (entry_level z) places) [] _ refl x)
     ∙ at_place (entry_level x) 0 _ refl y

@@ -53,3 +53,21 @@ loop-pc-preserved c =
       incoming_so_far = λ q ge lt. c.send.ensures q (below_same q c.loop-pc.auto.notes c.requires.one_each lt) ∙ rw add-one (one_more_kept c.args.kind c.args.instrs.now c.loop-pc.pc q w.0 n _ _ w.1 ei w.2 (c.loop-pc.invariant.incoming_so_far q (omega arith) lt));
       no_fault = below_more _ _ c.loop-pc.invariant.no_fault (tested c.args.kind c.args.own c.args.instrs.now c.loop-pc.pc w.0 _ None w.1 ei (reason_same c.args.kind c.args.own (length c.args.instrs.now) c.loop-pc.pc w.0 n _ w.2 ∙ sym c.reason_against.ensures ∙ c.in_default-reason_against.is));
     }
+
+pub bounds-notes-pc : goal.bounds-notes-pc
+bounds-notes-pc c = below_same c.loop-pc.pc c.loop-pc.auto.notes c.requires.one_each c.loop-pc-test.true
+
+pub bounds : goal.bounds
+bounds c = below_same c.loop-pc.pc c.loop-pc.auto.notes c.requires.one_each c.loop-pc-test.true
+
+pub overflow_cast-result : goal.overflow_cast-result
+overflow_cast-result c = omega (arith, c.loop-pc-test.true, c.requires.few)
+
+pub overflow_cast-result-in-Some-reason_against : goal.overflow_cast-result-in-Some-reason_against
+overflow_cast-result-in-Some-reason_against c = omega (arith, c.loop-pc-test.true, c.requires.few)
+
+pub returns-clause-verdict : goal.returns-clause-verdict
+returns-clause-verdict c = λ p lt. c.loop-pc.invariant.no_fault p (omega (arith, lt, c.loop-pc-test.false))
+
+pub returns-clause-stored : goal.returns-clause-stored
+returns-clause-stored c = λ _ q lt. c.loop-pc.invariant.done q (omega (arith, lt, c.loop-pc-test.false))

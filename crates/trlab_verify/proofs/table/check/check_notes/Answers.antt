@@ -1,5 +1,6 @@
-use Rattle.std.proofs.Common.{rules, ◌≡◌, ◌∙◌, ℕ, ◌<◌, ◌≤◌, sym, subst, arith, length, Bool, false, IsTrue, List, Some, refl, below_more}
+use Rattle.std.proofs.Common.{◌≡◌, ◌∙◌, ℕ, ◌<◌, ◌≤◌, sym, ap, subst, arith, length, false, List, Some, refl, below_more}
 use Rattle.std.specs.Prelude.{slice_get}
+use Rattle.std.proofs.lemmas.Bool.{both_ways}
 use Rattle.std.proofs.lemmas.List.{get_or-map, length-map}
 use Rattle.std.proofs.lemmas.Option.{slice_get_within}
 use Rattle.trlab_code.specs.declared.kind.Kind.{Kind}
@@ -37,9 +38,6 @@ whole form k is len some first h =
     (length-map form (meaning k) ∙ len) (subst (λ z. IsNoStronger z (entry k)) (same 0 some) first)
     (record { first = first; each = λ pc i e. h pc (slice_get_within is pc i e) i e })
 
-both_false : (b : Bool) → IsTrue b → b ≡ false → ⊥
-both_false b e f = cc (sym e ∙ f)
-
 -- all is well with each note that is handed in, where the table checks
 each_of : (form : List Form) (k : Kind) (is : List Instr) → ChecksFor form k is → (pc : ℕ) (i : Instr) → slice_get is pc ≡ Some i →
     ChecksAt k (record { kind = k; instrs = is }) (meaning_at k form) pc i
@@ -62,23 +60,41 @@ first_of_all form k is some h =
 some : (is code : List Instr) → is ≡ code → 1 ≤ length code → 0 < length is
 some is code e h = subst (λ z. 0 < length z) (sym e) (omega (arith, h))
 
+pub returns-then-table-instrs-clause-exact : goal.returns-then-table-instrs-clause-exact
+returns-then-table-instrs-clause-exact c = (
+  λ e. absurd (both_ways false refl e),
+  λ h. absurd (c.if-table-instrs.true (sym (length-map c.args.table.now (meaning c.args.code.now.kind)) ∙ h.one_each ∙ ap length (sym c.instrs-instrs.ensures.value))),
+)
+
+pub returns-then-table-instrs-clause-safe : goal.returns-then-table-instrs-clause-safe
+returns-then-table-instrs-clause-safe c = λ e. absurd (both_ways false refl e)
+
 pub returns-then-not-is_within-clause-exact : goal.returns-then-not-is_within-clause-exact
 returns-then-not-is_within-clause-exact c = (
-  λ e. absurd (cc e),
+  λ e. absurd (both_ways false refl e),
   λ h.
       let own = moved c.args.table.now c.args.code.now.kind c.kind-kind.result c.args.code.now.instrs c.instrs-instrs.result.now (sym c.kind-kind.ensures) (sym c.instrs-instrs.ensures.value) h in
       let above : 0 < length c.instrs-instrs.result.now = some c.instrs-instrs.result.now c.args.code.now.instrs c.instrs-instrs.ensures.value c.instrs-instrs.ensures.program.some in
       let first = first_of_all c.args.table.now c.kind-kind.result c.instrs-instrs.result.now above own in
-      absurd (both_false c.is_within.result (c.is_within.ensures.1 (subst (IsNoStronger (meaning_at c.kind-kind.result c.args.table.now 0)) (sym c.entry.ensures) (under_note _ (entry c.kind-kind.result) first))) c.if-not-is_within.true),
+      absurd (both_ways c.is_within.result c.if-not-is_within.true (c.is_within.ensures.1 (subst (IsNoStronger (meaning_at c.kind-kind.result c.args.table.now 0)) (sym c.entry.ensures) (under_note _ (entry c.kind-kind.result) first)))),
 )
+
+pub returns-then-not-is_within-clause-safe : goal.returns-then-not-is_within-clause-safe
+returns-then-not-is_within-clause-safe c = λ e. absurd (both_ways false refl e)
+
+pub checks_at-requires-clause-one_each : goal.checks_at-requires-clause-one_each
+checks_at-requires-clause-one_each c = c.if-table-instrs.false
 
 pub returns-then-not-checks_at-clause-exact : goal.returns-then-not-checks_at-clause-exact
 returns-then-not-checks_at-clause-exact c = (
-  λ e. absurd (cc e),
+  λ e. absurd (both_ways false refl e),
   λ h.
       let own = moved c.args.table.now c.args.code.now.kind c.kind-kind.result c.args.code.now.instrs c.instrs-instrs.result.now (sym c.kind-kind.ensures) (sym c.instrs-instrs.ensures.value) h in
-      absurd (both_false c.checks_at.result (c.checks_at.ensures.1 (levels_of c.args.table.now c.kind-kind.result c.instrs-instrs.result.now own c.loop-pc.pc c.loop-pc-test.true, each_of c.args.table.now c.kind-kind.result c.instrs-instrs.result.now own c.loop-pc.pc)) c.if-not-checks_at.true),
+      absurd (both_ways c.checks_at.result c.if-not-checks_at.true (c.checks_at.ensures.1 (levels_of c.args.table.now c.kind-kind.result c.instrs-instrs.result.now own c.loop-pc.pc c.loop-pc-test.true, each_of c.args.table.now c.kind-kind.result c.instrs-instrs.result.now own c.loop-pc.pc))),
 )
+
+pub returns-then-not-checks_at-clause-safe : goal.returns-then-not-checks_at-clause-safe
+returns-then-not-checks_at-clause-safe c = λ e. absurd (both_ways false refl e)
 
 pub loop-pc-preserved : goal.loop-pc-preserved
 loop-pc-preserved c = below_more _ _ c.loop-pc.invariant (c.checks_at.ensures.0 c.if-not-checks_at.false).1
