@@ -266,7 +266,8 @@ impl Kept {
     {
         self.make_room()?;
         let answer = self.book.read(alloc, job);
-        if is_for_memory(&answer) {
+        let wanting = is_for_memory(&answer);
+        if wanting {
             return answer;
         }
         let reply = reply_to_read(&answer);
