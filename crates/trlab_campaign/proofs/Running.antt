@@ -1,5 +1,5 @@
 -- A run whose pictures are written step by step.
-use Rattle.std.proofs.Common.{◌≡◌, ℕ, ◌+◌, List, ◌++◌, flat_map, refl, ◌∙◌, ap, arith, add-one}
+use Rattle.std.proofs.Common.{◌≡◌, ℕ, ◌+◌, ◌-◌, ◌≤◌, List, ◌++◌, flat_map, refl, ◌∙◌, ap, arith, add-one}
 use Rattle.std.specs.Prelude.{Option, Result, OnOk, OnErr, Ok, Err}
 use Rattle.std.specs.List.{range_with_len}
 use Rattle.std.specs.Io.KnownBytes.{Appends}
@@ -146,6 +146,10 @@ pub step_stops : (steps step left : ℕ) (start run : Progress) (old a b : Optio
 step_stops steps step left start run old a b writes road text job begins =
     let here = writes job begins in
     stop_within job step left run.road old a b here.0 (driven_road job step run run.road here.1 road) text
+
+-- behind the last step none is left
+pub no_step_left : (step steps : ℕ) → step ≤ steps → steps ≤ step → (step ≡ steps) × (steps - step ≡ 0)
+no_step_left step steps inside all = (omega arith, omega arith)
 
 -- what is known where the text of the last step was written or not
 pub last_whole : {E : Type 0} (r : Result (Unit {0}) E) (steps : ℕ) (start run : Progress) (road : Cells) (old a b : Option (List ℕ)) → Writes steps start steps 0 run old a

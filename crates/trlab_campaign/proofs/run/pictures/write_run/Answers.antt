@@ -1,6 +1,6 @@
 use Rattle.std.proofs.Common.{◌≡◌, ◌+◌, ◌-◌, ◌∙◌, ap, arith, refl}
 use Rattle.std.proofs.lemmas.Result.{err_from_is_err_and}
-use Rattle.trlab_campaign.proofs.Running.{begin_run, step_on, step_stops, last_whole, last_front}
+use Rattle.trlab_campaign.proofs.Running.{begin_run, step_on, step_stops, no_step_left, last_whole, last_front}
 use Rattle.trlab_campaign.proofs.run.pictures.write_run.Goals as goal
 
 pub loop-step-init : goal.loop-step-init
@@ -40,16 +40,14 @@ loop-step-preserved g c =
 
 pub returns-clause-whole : goal.returns-clause-whole
 returns-clause-whole g c = λ job stored starts ends.
-    let last : c.loop-step.step ≡ c.args.steps = omega arith in
-    let left : c.args.steps - c.loop-step.step ≡ 0 = omega arith in
-    let writes = rw (left, last) at c.loop-step.invariant.writes in
+    let last = no_step_left c.loop-step.step c.args.steps c.loop-step.auto.step-end c.loop-step-test.false in
+    let writes = rw (last.1, last.0) at c.loop-step.invariant.writes in
     last_whole c.show_last.result c.args.steps c.args.run.now c.loop-step.run _ _ _ _ writes c.road.ensures.run c.show_last.ensures.whole job (record { stored = stored; starts = starts; ends = ends })
 
 pub returns-clause-front : goal.returns-clause-front
 returns-clause-front g c = λ job stored starts ends.
-    let last : c.loop-step.step ≡ c.args.steps = omega arith in
-    let left : c.args.steps - c.loop-step.step ≡ 0 = omega arith in
-    let writes = rw (left, last) at c.loop-step.invariant.writes in
+    let last = no_step_left c.loop-step.step c.args.steps c.loop-step.auto.step-end c.loop-step-test.false in
+    let writes = rw (last.1, last.0) at c.loop-step.invariant.writes in
     last_front c.show_last.result c.args.steps c.args.run.now c.loop-step.run _ _ _ _ writes c.road.ensures.run c.show_last.ensures.front job (record { stored = stored; starts = starts; ends = ends })
 
 pub returns-clause-works : goal.returns-clause-works
