@@ -4,7 +4,6 @@ ghost use Rattle.std.specs.Prelude.{◌≡◌};
 ghost use Rattle.trlab_texts.specs.Reading.{fault_at};
 ghost use Rattle.trlab_texts.specs.Causes.{cause_number, why_number, code_fault_number, road_fault_number};
 
-use std::fmt;
 use thiserror::Error;
 use trlab_asm::Why;
 use trlab_code::CodeFault;
@@ -14,55 +13,50 @@ use trlab_road::RoadFault;
 #[derive(Clone, Copy, Debug, PartialEq, Eq, Error)]
 pub enum Cause {
     /// Not the line that must stand here, a wrong count of words, or the text has ended.
+    #[error("not the line that must stand here")]
     Line,
     /// No number, or one outside its range.
+    #[error("not a number in its range")]
     Number,
     /// The key is not 64 hexadecimal digits.
+    #[error("not a key of 64 hexadecimal digits")]
     Key,
     /// A change program on a road of one lane.
+    #[error("a change program needs two lanes")]
     OneLane,
     /// The step does not rise, or is not below the count of steps.
+    #[error("the step does not rise, or is not below the count of steps")]
     Order,
     /// More rules of later steps than a job may have, or more points than a sweep may have.
+    #[error("too many rules of later steps, or too many points")]
     TooMany,
     /// The points so far have more steps together than a sweep may have.
+    #[error("too many steps for one sweep")]
     Work,
     /// The bytes of a program are not hexadecimal.
+    #[error("not in hexadecimal digits")]
     Hex,
     /// The text is longer than a text may be.
+    #[error("the text is too long")]
     TooBig,
     /// The lines of a block are no program.
+    #[error("no program: {0}")]
     Program(Why),
     /// The bytes spell no program of the kind that must stand here.
+    #[error("no program: {0}")]
     Code(CodeFault),
     /// The lanes show no road.
+    #[error("no road: {0}")]
     Road(RoadFault),
     /// The verifier refuses a program of a standard rule.
+    #[error("a program of the standard rule is refused")]
     StandardRefused,
     /// The verifier refuses the program, for this reason.
+    #[error("the program is refused for reason {0}")]
     Verdict(u32),
 }
 
 impl Cause {
-    /// What is wrong, in words, without what a program, a road or the verifier says of it.
-    fn words(self) -> &'static str {
-        match self {
-            Cause::Line => "not the line that must stand here",
-            Cause::Number => "not a number in its range",
-            Cause::Key => "not a key of 64 hexadecimal digits",
-            Cause::OneLane => "a change program needs two lanes",
-            Cause::Order => "the step does not rise, or is not below the count of steps",
-            Cause::TooMany => "too many rules of later steps, or too many points",
-            Cause::Work => "too many steps for one sweep",
-            Cause::Hex => "not in hexadecimal digits",
-            Cause::TooBig => "the text is too long",
-            Cause::Program(_) | Cause::Code(_) => "no program",
-            Cause::Road(_) => "no road",
-            Cause::StandardRefused => "a program of the standard rule is refused",
-            Cause::Verdict(_) => "the program is refused",
-        }
-    }
-
     /// The number of the cause in the line of a refused text.
     pub fn number(self) -> u64
         ensures { result ≡ cause_number self }
@@ -82,19 +76,6 @@ impl Cause {
             Cause::Road(fault) => 30 + road_fault_number(fault),
             Cause::StandardRefused => 40,
             Cause::Verdict(reason) => 40 + u64::from(reason),
-        }
-    }
-}
-
-impl fmt::Display for Cause {
-    fn fmt<W: fmt::Write>(&self, f: &mut fmt::Formatter<W>) -> fmt::Result {
-        f.write_str(self.words())?;
-        match self {
-            Cause::Program(why) => write!(f, ": {why}"),
-            Cause::Code(fault) => write!(f, ": {fault}"),
-            Cause::Road(fault) => write!(f, ": {fault}"),
-            Cause::Verdict(reason) => write!(f, " for reason {reason}"),
-            _ => Ok(()),
         }
     }
 }
