@@ -4,7 +4,6 @@ ghost use Rattle.std.specs.Prelude.{◌≡◌};
 ghost use Rattle.trlab_asm.specs.declared.fault.Why.TheVariants.{Memory};
 
 use std::alloc::AllocError;
-use std::fmt;
 use thiserror::Error;
 
 /// What is wrong, with its number.
@@ -14,36 +13,22 @@ use thiserror::Error;
 /// read in order. `Empty` comes behind all these, and then `NoLabel`, again in the order of lines.
 #[derive(Clone, Copy, Debug, PartialEq, Eq, Error)]
 pub enum Why {
+    #[error("no instruction has this name, or no label can")]
     Word = 1,
+    #[error("an operand has another form, or there are more or fewer")]
     Operand = 2,
+    #[error("a number is out of its range, or has more than 10 digits")]
     Number = 3,
+    #[error("the label stands in an earlier line")]
     LabelTwice = 4,
+    #[error("no line has this label")]
     NoLabel = 5,
+    #[error("a program has at most 128 instructions")]
     TooLong = 6,
+    #[error("there is no instruction")]
     Empty = 7,
+    #[error("out of memory")]
     Memory = 8,
-}
-
-impl Why {
-    /// What is wrong, in words.
-    fn words(self) -> &'static str {
-        match self {
-            Why::Word => "no instruction has this name, or no label can",
-            Why::Operand => "an operand has another form, or there are more or fewer",
-            Why::Number => "a number is out of its range, or has more than 10 digits",
-            Why::LabelTwice => "the label stands in an earlier line",
-            Why::NoLabel => "no line has this label",
-            Why::TooLong => "a program has at most 128 instructions",
-            Why::Empty => "there is no instruction",
-            Why::Memory => "out of memory",
-        }
-    }
-}
-
-impl fmt::Display for Why {
-    fn fmt<W: fmt::Write>(&self, f: &mut fmt::Formatter<W>) -> fmt::Result {
-        f.write_str(self.words())
-    }
 }
 
 /// The first fault of a text. Lines are counted from 1; `Empty` and `Memory` stand at line 0.
