@@ -69,22 +69,19 @@ fn push_largest(page: &mut Page, note: &Note, instr: Instr) -> Result<(), AllocE
     page.line(".")
 }
 
-/// Adds the name of a register, and words.
-fn push_beside(page: &mut Page, register: Register, words: &str) -> Result<(), AllocError> {
-    push_register(page, register)?;
-    page.say(words)
-}
-
 /// Adds which difference may be below zero.
 fn push_difference(page: &mut Page, instr: Instr) -> Result<(), AllocError> {
     let Instr::Sub(_, a, b) = instr else {
         return Ok(());
     };
-    push_beside(page, b, " is not known to be at most ")?;
-    push_beside(page, a, ", so ")?;
-    push_beside(page, a, " - ")?;
-    push_beside(page, b, " may be below zero.")?;
-    page.end_line()
+    push_register(page, b)?;
+    page.say(" is not known to be at most ")?;
+    push_register(page, a)?;
+    page.say(", so ")?;
+    push_register(page, a)?;
+    page.say(" - ")?;
+    push_register(page, b)?;
+    page.line(" may be below zero.")
 }
 
 /// Adds which speed may be above an input.
@@ -92,7 +89,8 @@ fn push_speed(page: &mut Page, instr: Instr, input: &str) -> Result<(), AllocErr
     let Instr::Go(a) = instr else {
         return Ok(());
     };
-    push_beside(page, a, " is not known to be at most the ")?;
+    push_register(page, a)?;
+    page.say(" is not known to be at most the ")?;
     page.say(input)?;
     page.line(".")
 }
