@@ -51,6 +51,14 @@ limit_line text = number_within 1 GREATEST_LIMIT (word_behind (codes "limit ") t
 abbrev pub steps_line : List ℕ → Result ℕ Cause
 steps_line text = number_within 0 MOST_STEPS (word_behind (codes "steps ") text)
 
+-- the lines of a job text behind those of its road: a rule, a count of steps, and rules of later steps
+abbrev pub job_behind : List ℕ → Cells → Reading Job
+job_behind key road = do
+  first ← rule (length road.lanes)
+  steps ← line (exactly steps_line)
+  later ← later_rules (length road.lanes) steps
+  say (record { key = key; road = road; first = first; later = later; steps = steps })
+
 -- the lines of a job text, in their order
 unfoldable pub job : Reading Job
 job = do
@@ -58,18 +66,7 @@ job = do
   key ← line (exactly key_line)
   limit ← line (exactly limit_line)
   road ← lanes limit
-  first ← rule (length road.lanes)
-  steps ← line (exactly steps_line)
-  later ← later_rules (length road.lanes) steps
-  say (record { key = key; road = road; first = first; later = later; steps = steps })
-
--- the lines behind those of the road: a rule, a count of steps, and rules of later steps
-abbrev pub job_behind : List ℕ → Cells → Reading Job
-job_behind key road = do
-  first ← rule (length road.lanes)
-  steps ← line (exactly steps_line)
-  later ← later_rules (length road.lanes) steps
-  say (record { key = key; road = road; first = first; later = later; steps = steps })
+  job_behind key road
 
 -- what is said by the lines from a place on, of which the last may stay unread
 abbrev pub UpToTheEnd : {A : Type 0} → Reading A → Rest → Result A Fault → Type 0
@@ -78,8 +75,7 @@ UpToTheEnd reading place (Err fault) = reading place (Err fault)
 
 -- what the lines of a text say
 abbrev pub LinesSay : List ℕ → Result Job Fault → Type 0
-LinesSay text (Ok say) = (rest : Rest) × job (start text) (Ok (say, rest))
-LinesSay text (Err fault) = job (start text) (Err fault)
+LinesSay text = UpToTheEnd job (start text)
 
 -- what a text says: a job, or its first fault; a text that is too long has that fault alone
 abbrev pub JobText : List ℕ → Result Job Fault → Type 0
