@@ -5,7 +5,7 @@ use trlab_lines::next_line;
 use trlab_texts::word::head_word;
 
 /// A line of a job or sweep text, by what has to stand there.
-#[derive(Clone, Copy, Debug, PartialEq, Eq)]
+#[derive(Clone, Copy, PartialEq, Eq)]
 pub enum Spot {
     /// The line `road 1`.
     Road,

@@ -30,7 +30,7 @@ pub const INPUTS: [Input; 7] = [
 ];
 
 /// The name of an instruction.
-#[derive(Clone, Copy, Debug, PartialEq, Eq)]
+#[derive(Clone, Copy, PartialEq, Eq)]
 pub enum Mnemonic {
     Num,
     Get,

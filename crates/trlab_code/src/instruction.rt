@@ -85,7 +85,7 @@ impl Place {
 /// An instruction. The first register of one that writes is where the result goes.
 ///
 /// Jumps name the index of an instruction; ends are `Go`, `Cross` and `Stay`.
-#[derive(Clone, Copy, Debug)]
+#[derive(Clone, Copy)]
 pub enum Instr {
     /// A number.
     Num(Register, u32),

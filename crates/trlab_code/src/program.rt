@@ -10,7 +10,7 @@ use std::marker::Model;
 use trlab_bounds::programs::{CERTAIN, HEADSPEED_VERSION, MOST_INSTRUCTIONS, PLAIN_VERSION, WORDS};
 
 /// A program of 1 to 128 instructions whose fields are in range.
-#[derive(Debug, Drop)]
+#[derive(Drop)]
 pub struct Code {
     kind: Kind,
     instrs: Vec<Instr>,

@@ -16,7 +16,7 @@ use trlab_texts::word::behind;
 use trlab_texts::{Cause, TextFault};
 
 /// What is asked of a program.
-#[derive(Clone, Copy, Debug, PartialEq, Eq)]
+#[derive(Clone, Copy, PartialEq, Eq)]
 pub enum Question {
     /// Whether the verifier accepts it.
     Verdict,

@@ -5,7 +5,7 @@ use crate::fault::BookFault;
 
 /// What an event says of a lease: its job, its number, the step where it began, the step where it
 /// stands, and whether it runs the road of its job.
-#[derive(Clone, Copy, Debug, PartialEq, Eq)]
+#[derive(Clone, Copy, PartialEq, Eq)]
 pub struct Offered {
     pub job: u32,
     pub number: u32,
@@ -28,7 +28,7 @@ pub enum Call {
 }
 
 /// What the book replies.
-#[derive(Clone, Copy, Debug, PartialEq, Eq)]
+#[derive(Clone, Copy, PartialEq, Eq)]
 pub enum Reply {
     Refused(BookFault),
     /// The number of the submitted job, or the step from which on a rule is in force.

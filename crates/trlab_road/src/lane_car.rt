@@ -8,7 +8,7 @@ use std::marker::Model;
 
 /// A car of a lane: its number, its place and its speed. They are kept in eight bytes, since all
 /// workers read every car in each phase of a step.
-#[derive(Clone, Copy, Debug)]
+#[derive(Clone, Copy)]
 pub struct LaneCar {
     number: u32,
     /// The speed in the lowest six bits, the place in those above.

@@ -8,7 +8,7 @@ use std::marker::Model;
 use trlab_verify::{Change, Motion};
 
 /// An accepted motion program, and for two lanes perhaps an accepted change program.
-#[derive(Debug, Drop)]
+#[derive(Drop)]
 pub struct Rule {
     motion: Motion,
     change: Option<Change>,

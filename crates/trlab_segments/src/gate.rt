@@ -9,7 +9,7 @@ pub trait Gate {
 }
 
 /// A gate that lets everyone through at once.
-#[derive(Clone, Copy, Debug)]
+#[derive(Clone, Copy)]
 pub struct OpenGate;
 
 impl Gate for OpenGate {

@@ -69,7 +69,7 @@ pub trait Asker {
 }
 
 /// The calling thread, which asks the cars block by block.
-#[derive(Clone, Copy, Debug, PartialEq, Eq)]
+#[derive(Clone, Copy, PartialEq, Eq)]
 pub struct Caller;
 
 impl Asker for Caller {

@@ -16,7 +16,7 @@ pub trait Onlooker {
 }
 
 /// Nobody looks.
-#[derive(Clone, Copy, Debug, PartialEq, Eq)]
+#[derive(Clone, Copy, PartialEq, Eq)]
 pub struct Nobody;
 
 impl Onlooker for Nobody {

@@ -22,11 +22,11 @@ pub trait ProgramKind {
 }
 
 /// The kind of motion programs.
-#[derive(Clone, Copy, Debug)]
+#[derive(Clone, Copy)]
 pub struct MotionKind;
 
 /// The kind of change programs.
-#[derive(Clone, Copy, Debug)]
+#[derive(Clone, Copy)]
 pub struct ChangeKind;
 
 impl ProgramKind for MotionKind {
@@ -42,7 +42,7 @@ impl ProgramKind for ChangeKind {
 }
 
 /// An accepted program of a kind: safe for every view and all random words within its budget.
-#[derive(Debug, Drop)]
+#[derive(Drop)]
 pub struct AcceptedProgram<K: ProgramKind> {
     code: Code,
     budget: u32,

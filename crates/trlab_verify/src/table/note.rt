@@ -12,7 +12,7 @@ use trlab_code::{Kind, PLACES};
 use trlab_notes::{Said, Stored, entry_levels, entry_said, level_between};
 
 /// What a note says of a register.
-#[derive(Clone, Copy, Debug, PartialEq, Eq)]
+#[derive(Clone, Copy, PartialEq, Eq)]
 pub enum Mark {
     /// Nothing: the register may be unset, or hold a number on one way and a flag on another.
     Unset,
@@ -24,7 +24,7 @@ pub enum Mark {
 }
 
 /// What is known of the values before an instruction, whichever way a run came there.
-#[derive(Clone, Copy, Debug, PartialEq, Eq)]
+#[derive(Clone, Copy, PartialEq, Eq)]
 pub struct Note {
     /// What is known of the registers `r0` to `r7`.
     pub regs: [Mark; 8],
