@@ -1,4 +1,4 @@
-use Rattle.std.proofs.Common.{◌≡◌, rules, IfOk, ap, subst, sym, ◌∙◌}
+use Rattle.std.proofs.Common.{◌≡◌, IfOk, ap, subst, sym, ◌∙◌}
 use Rattle.trlab_road.specs.Cells.{cars}
 use Rattle.trlab_segments.specs.Drawers.{count_of}
 use Rattle.trlab_segments.specs.Segments.{first_car}
@@ -13,7 +13,7 @@ asked task = task.brief
 
 pub draw_all-parts-requires : goal.draw_all-parts-requires
 draw_all-parts-requires g c =
-    let shown = sym (ap asked c.deref-2.ensures ∙ c.in-Ok-shared_task.ensures.ok) in record {
+    let shown = sym (ap asked c.deref.ensures ∙ c.in-Ok-shared_task.ensures.ok) in record {
       new = subst (λ b. IsNew b.tickets c.split-mine.result) shown (c.split-mine.ensures.from.1, c.split-mine.ensures.tickets.1);
       lanes = subst (λ b. g.P.Asked.can_ask b.road) shown c.requires.lanes;
     }
@@ -22,7 +22,7 @@ pub settle-requires : goal.settle-requires
 settle-requires g c =
     let count = c.segments_for-count.result in
     let road = c.args.road in
-    let shown = ap asked c.deref-2.ensures ∙ c.in-Ok-shared_task.ensures.ok in
+    let shown = ap asked c.deref.ensures ∙ c.in-Ok-shared_task.ensures.ok in
     let left = sym (ap asked c.alone.ensures ∙ c.in-Ok-shared_task.ensures.ok) in
     let whole = subst (λ cars. first_car cars count count ≡ cars) c.cars-2.ensures.value c.segments_for-count.ensures in record {
       count = subst (λ b. count ≡ count_of b.tickets) left (sym c.in-Ok.ensures.count);
@@ -38,8 +38,7 @@ returns-clause-road g c =
 
 pub returns-clause-seen : goal.returns-clause-seen
 returns-clause-seen g c =
-    let shown = ap asked c.deref.ensures ∙ c.in-Ok-shared_task.ensures.ok in
-    rw (← ap (λ (b : Brief g.row.P.Denot). b.road) shown) (search rules)
+    subst (λ b. g.O.Onlooker.sees c.args.onlooker.now b.road c.open.new.onlooker) c.in-Ok-shared_task.ensures.ok c.open.ensures
 
 pub returns-clause-answers : goal.returns-clause-answers
 returns-clause-answers g c =
