@@ -1,2 +1,3 @@
 pub mod Locks
 pub mod Cuts
+pub mod Copies

@@ -86,6 +86,24 @@ fn shared_task<A: Copy + Drop, P: Asked<A> + Drop>(
 }
 
 impl<'a, R: Wait, G: Gate> Pool<'a, R, G> {
+    /// Opens a phase to the helpers of so many workers, and shows its road to an onlooker.
+    fn open<A: Copy + Drop, P: Asked<A> + Drop, O: Onlooker>(
+        &self,
+        board: &Board<A, P>,
+        task: &Arc<Task<A, P>, Global>,
+        workers: u32,
+        onlooker: &mut O,
+    )
+        requires { 0 < workers }
+        ensures { O.sees onlooker.old (arc_value task.now).brief.road onlooker.new }
+    {
+        if let Ok(shared) = Arc::try_clone(task) {
+            board.publish(self.rt, shared);
+            self.wake(workers);
+        }
+        onlooker.see(&task.brief.road);
+    }
+
     /// The road, and what a program answers to all its cars, in standing order: the caller asks them alone,
     /// or with helpers, who find the phase on this board. It shows the road to an onlooker once they are
     /// woken.
@@ -131,11 +149,7 @@ impl<'a, R: Wait, G: Gate> Pool<'a, R, G> {
                 return (road, Err(AllocError));
             }
         };
-        if let Ok(shared) = Arc::try_clone(&task) {
-            board.publish(self.rt, shared);
-            self.wake(workers);
-        }
-        onlooker.see(&task.brief.road);
+        self.open(board, &task, workers, onlooker);
         let parts = draw_all(alloc, &task.brief, &mut mine, 0, self.gate);
         board.withdraw(self.rt);
         alone(self.rt, task).settle(self.rt, alloc, count, mine, parts)

@@ -1,6 +1,6 @@
 //! The pool as the one who asks the cars of a step.
 
-ghost use Rattle.std.specs.Prelude.{◌≡◌, IfOk};
+ghost use Rattle.std.specs.Prelude.{◌≡◌, IfOk, IsOkAnd, Ok};
 ghost use Rattle.trlab_road.specs.Cells.{cars};
 
 use crate::board::Board;
@@ -14,10 +14,20 @@ use trlab_segments::{Asked, Gate};
 use trlab_step::{Asker, Onlooker, ask_crossings, ask_speeds};
 use trlab_verify::{Change, Motion};
 
-/// A road that stands where another was, while that is with the workers.
-fn stand_in(alloc: Global) -> Result<Road, AllocError> {
+/// A program, and a road that stands where another was, while that is with the workers.
+///
+/// # Errors
+///
+/// Where an allocation was refused, now or for the program.
+fn with_stand_in<P: Drop>(
+    alloc: Global,
+    program: Result<P, AllocError>,
+) -> Result<(P, Road), AllocError>
+    ensures { IfOk result (λ both. program ≡ Ok both.0) }
+{
+    let program = program?;
     match Road::even(alloc, 1, 1, 1, 0) {
-        Ok(road) => Ok(road),
+        Ok(road) => Ok((program, road)),
         Err(_) => Err(AllocError),
     }
 }
@@ -28,12 +38,12 @@ impl<'a, R: Wait, G: Gate> Pool<'a, R, G> {
     ///
     /// # Errors
     ///
-    /// Where an allocation was refused to any worker.
+    /// Where an allocation was refused to any worker, or for the program.
     fn told_by<A: Copy + Drop, P: Asked<A> + Drop, O: Onlooker>(
         &self,
         alloc: Global,
         board: &Board<A, P>,
-        program: P,
+        program: Result<P, AllocError>,
         dice: &Dice,
         road: &mut Road,
         onlooker: &mut O,
@@ -41,10 +51,10 @@ impl<'a, R: Wait, G: Gate> Pool<'a, R, G> {
         requires lanes { P.can_ask road.old }
         ensures same { road.new ≡ road.old }
         ensures seen { O.sees onlooker.old road.old onlooker.new }
-        ensures answers { IfOk result (λ answers.
-            P.answers program dice.now road.old 0 (cars road.old) answers.items) }
+        ensures answers { IfOk result (λ answers. IsOkAnd program (λ program.
+            P.answers program dice.now road.old 0 (cars road.old) answers.items)) }
     {
-        let Ok(other) = stand_in(alloc) else {
+        let Ok((program, other)) = with_stand_in(alloc, program) else {
             onlooker.see(road);
             return Err(AllocError);
         };
@@ -72,10 +82,7 @@ impl<'a, R: Wait, G: Gate> Asker for Pool<'a, R, G> {
             onlooker.see(road);
             return ask_speeds(answers, road, motion, dice, 0, cars);
         }
-        let Ok(program) = motion.copy(alloc) else {
-            onlooker.see(road);
-            return Err(AllocError);
-        };
+        let program = motion.copy(alloc);
         *answers = self.told_by(alloc, &self.hall.motions, program, dice, road, onlooker)?;
         prove!(answers.len() == cars as usize);
         Ok(())
@@ -95,10 +102,7 @@ impl<'a, R: Wait, G: Gate> Asker for Pool<'a, R, G> {
             onlooker.see(road);
             return ask_crossings(answers, road, change, dice, 0, cars);
         }
-        let Ok(program) = change.copy(alloc) else {
-            onlooker.see(road);
-            return Err(AllocError);
-        };
+        let program = change.copy(alloc);
         *answers = self.told_by(alloc, &self.hall.changes, program, dice, road, onlooker)?;
         prove!(answers.len() == cars as usize);
         Ok(())

@@ -104,14 +104,13 @@ fn together<A: Drop, P: Asked<A>>(
     ensures { IfOk result (λ all. HasDone P.answers brief.now all.0 all.1.items) }
 {
     let mut more = more?;
-    match before {
-        None => Ok((drawer, more)),
-        Some(before) => {
-            let mut parts = parts;
-            parts.append(&mut more)?;
-            Ok((brief.tickets.gather(before, drawer), parts))
-        }
-    }
+    let Some(before) = before else {
+        return Ok((drawer, more));
+    };
+    let drawer = brief.tickets.gather(before, drawer);
+    let mut parts = parts;
+    parts.append(&mut more)?;
+    Ok((drawer, parts))
 }
 
 /// What everyone did, with every pass that came back.

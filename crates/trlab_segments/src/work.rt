@@ -1,8 +1,8 @@
 //! What workers do in a phase: each draws the numbers of segments, and asks their cars.
 
-ghost use Rattle.std.specs.Prelude.{◌≡◌, ◌<◌, ◌++◌, [], IfOk, IsOk};
+ghost use Rattle.std.specs.Prelude.{◌≡◌, ◌<◌, ◌++◌, [], ◌∷◌, All, IfOk, IsOk, OnOk, map};
 ghost use Rattle.std.specs.Thread.{IsSend, IsSync};
-ghost use Rattle.trlab_segments.specs.Answered.{HasParts, HasWorked, IsPart};
+ghost use Rattle.trlab_segments.specs.Answered.{HasParts, HasWorked, IsPart, number_of};
 ghost use Rattle.trlab_segments.specs.Drawers.{IsFrom, count_of, passes_of, tickets_of};
 
 use crate::asked::Asked;
@@ -14,21 +14,28 @@ use crate::segment::Segment;
 use std::alloc::{AllocError, Global};
 use std::thread::{Threads, join};
 
-/// Asks the cars of the segment with a number, of so many.
-fn part_of<A, P: Asked<A>>(
+/// Asks the cars of the segment with a number, of so many, and puts their part behind the others.
+///
+/// # Errors
+///
+/// Where an allocation was refused.
+fn add_part<A: Drop, P: Asked<A>>(
+    parts: &mut Vec<Part<A>>,
     alloc: Global,
     phase: &Phase<P>,
     count: u32,
     number: u32,
-) -> Result<Part<A>, AllocError>
+) -> Result<(), AllocError>
     requires number { number < count }
     requires lanes { P.can_ask phase.now.road.now }
-    ensures part { IfOk result (λ part. IsPart P.answers phase.now count part) }
-    ensures number { IfOk result (λ part. part.number ≡ number) }
+    ensures numbers { OnOk result (map number_of parts.new.items ≡ map number_of parts.old.items ++ number ∷ []) }
+    ensures right { OnOk result (All (IsPart P.answers phase.now count) parts.old.items
+        → All (IsPart P.answers phase.now count) parts.new.items) }
 {
     let segment = Segment::of(phase.road.cars(), count, number);
     let answers = P::ask(alloc, phase, segment)?;
-    Ok(Part { number, answers })
+    parts.push(Part { number, answers })?;
+    Ok(())
 }
 
 /// Asks the cars of one segment after the other, as their numbers are drawn, until none is left.
@@ -55,7 +62,7 @@ pub fn work<A: Drop, P: Asked<A>, G: Gate>(
     let mut parts = Vec::new(alloc);
     while let Some(number) = tickets.draw(drawer) {
         gate.pass(phase.dice.road, worker, P::PHASE, number);
-        parts.push(part_of(alloc, phase, tickets.plan.count, number)?)?;
+        add_part(&mut parts, alloc, phase, tickets.plan.count, number)?;
     }
     Ok(parts)
 }
