@@ -56,10 +56,11 @@ impl<'a, R: Threads + Sync, G: Gate + Sync> Crew<'a, R, G> {
         let count = segment_count(cars, self.workers);
         let (tickets, drawer) = Tickets::start(alloc, count, self.workers)?;
         let (drawer, parts) = share(self.rt, alloc, phase, &tickets, drawer, self.gate);
-        // Where all parts are there, the tickets are at their end, and each was drawn once.
-        let _ = tickets.finish(drawer);
         let parts = parts?;
-        line_up(alloc, phase, count, &parts)
+        match tickets.finish(drawer) {
+            Ok(()) => line_up(alloc, phase, count, &parts),
+            Err(_) => unreachable!(),
+        }
     }
 
     /// The speeds that a motion program answers to all cars of a road, in standing order, each in a byte.
