@@ -4,7 +4,7 @@ use trlab_machine::Dice;
 use trlab_road::Road;
 
 /// A program that all cars of a road are asked by, on this very road and with these dice.
-#[derive(Clone, Copy)]
+#[derive(Drop)]
 pub struct Phase<'a, P> {
     pub program: &'a P,
     pub road: &'a Road,
