@@ -4,9 +4,9 @@ ghost use Rattle.std.specs.Prelude.{◌≡◌, IfOk, IfSome, true};
 ghost use Rattle.trlab_advice.specs.Quoting.{name_and_operands};
 ghost use Rattle.trlab_advice.specs.Repairs.{mends_operand, mends_word};
 
-use crate::alike::nearest;
 use crate::odd::{Oddity, oddity_of};
 use crate::repairs::Repair;
+use crate::repairs::name::name_repair;
 use crate::repairs::number::parts_of;
 use crate::subject::Subject;
 use std::alloc::{AllocError, Global};
@@ -52,6 +52,15 @@ fn input_names(alloc: Global) -> Result<Vec<&'static [u8]>, AllocError> {
     Ok(names)
 }
 
+/// The names of all registers.
+fn register_names(alloc: Global) -> Result<Vec<&'static [u8]>, AllocError> {
+    let mut names = Vec::new(alloc);
+    for i in 0..REGISTERS.len() {
+        names.push(register_text(REGISTERS[i]))?;
+    }
+    Ok(names)
+}
+
 /// What most likely mends a line whose first word is no instruction.
 pub fn word_repair(
     alloc: Global,
@@ -70,11 +79,7 @@ pub fn word_repair(
             Subject::Check => Repair::NoEnd,
         }));
     }
-    let names = instruction_names(alloc)?;
-    match nearest(alloc, name, &names)? {
-        Some(meant) => Ok(Some(Repair::Name(meant))),
-        None => Ok(None),
-    }
+    name_repair(alloc, name, &instruction_names(alloc)?)
 }
 
 /// Whether an operand of an instruction, counted from 0, has to be a register.
@@ -99,14 +104,7 @@ fn register_repair(alloc: Global, word: &[u8]) -> Result<Option<Repair>, AllocEr
     if behind(b"r", word).is_some_and(|number| is_numeral(number)) {
         return Ok(None);
     }
-    let mut names = Vec::new(alloc);
-    for i in 0..REGISTERS.len() {
-        names.push(register_text(REGISTERS[i]))?;
-    }
-    match nearest(alloc, word, &names)? {
-        Some(meant) => Ok(Some(Repair::Name(meant))),
-        None => Ok(None),
-    }
+    name_repair(alloc, word, &register_names(alloc)?)
 }
 
 /// What mends one operand, which is a word, at a place that is counted from 0.
@@ -125,11 +123,7 @@ fn operand_word(
         return register_repair(alloc, word);
     }
     if name == Mnemonic::Get && word.len() > 2 {
-        let names = input_names(alloc)?;
-        return match nearest(alloc, word, &names)? {
-            Some(meant) => Ok(Some(Repair::Name(meant))),
-            None => Ok(None),
-        };
+        return name_repair(alloc, word, &input_names(alloc)?);
     }
     Ok(None)
 }
