@@ -34,15 +34,12 @@ const CHECK_NAMES: [&[u8]; 4] = [b"motion", b"change", b"code", b"notes"];
 
 /// How far down a text a line of a name stands.
 fn rank_of_name(subject: Subject, name: &[u8]) -> Option<u32> {
-    let rank = if subject == Subject::Sweep {
-        SWEEP_NAMES[..SWEEP_RANKS]
-            .iter()
-            .position(|line| *line == name)?
+    let names = if subject == Subject::Sweep {
+        &SWEEP_NAMES[..SWEEP_RANKS]
     } else {
-        JOB_NAMES[..JOB_RANKS]
-            .iter()
-            .position(|line| *line == name)?
+        &JOB_NAMES[..JOB_RANKS]
     };
+    let rank = names.iter().position(|line| *line == name)?;
     Some(rank as u32)
 }
 
