@@ -16,8 +16,8 @@ use Rattle.clap.specs.Faults.{bundle_fault, bundle_step_fault, entered_fault, fa
 use Rattle.clap.specs.declared.error.kind.ErrorKind.TheVariants.{DisplayHelpOnMissingArgumentOrSubcommand}
 use Rattle.clap.proofs.OnLiterals.{clap_on_literals}
 use Rattle.clap.proofs.WalkLemmas.{walk_stopped}
-use Rattle.trlab_commands.specs.CommandLine.{command_line}
-use Rattle.trlab_commands.proofs.Options.{IsHelp, IsOption, none_fails, own_value}
+use Rattle.trlab_command_line.specs.CommandLine.{command_line}
+use Rattle.trlab_command_line.proofs.Options.{IsHelp, IsOption, none_fails, own_value}
 
 -- the command line once it is built, and its commands
 abbrev top : Shape
