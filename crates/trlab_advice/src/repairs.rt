@@ -3,6 +3,7 @@
 mod ending;
 mod label;
 mod line;
+mod name;
 mod number;
 mod program;
 

@@ -23,9 +23,15 @@ pub enum Subject {
 pub fn subject_of(text: &[u8]) -> Subject
     ensures { result ≡ subject_of (lines_of text.now) }
 {
-    match next_line(text) {
-        Some((line, _)) if head_word(line) == b"road".as_slice() => Subject::Job,
-        Some((line, _)) if head_word(line) == b"sweep".as_slice() => Subject::Sweep,
-        _ => Subject::Check,
+    let Some((line, _)) = next_line(text) else {
+        return Subject::Check;
+    };
+    let word = head_word(line);
+    if word == b"road".as_slice() {
+        Subject::Job
+    } else if word == b"sweep".as_slice() {
+        Subject::Sweep
+    } else {
+        Subject::Check
     }
 }

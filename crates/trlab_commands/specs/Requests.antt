@@ -1,22 +1,11 @@
 -- What the words of the command line ask for.
-use Rattle.std.specs.Prelude.{◌≡◌, ◌≤◌, ⊤, ℕ, List, ◌∷◌, Option, Some, codes, pos}
-use Rattle.std.specs.Str.Parse.{digits_value, without_leading_plus}
-use Rattle.clap.specs.Words.{Row, Text, one_of}
-use Rattle.clap.specs.Lexer.{without_minus}
-use Rattle.clap.specs.Values.{IsSignedIn}
+use Rattle.std.specs.Prelude.{◌≡◌, ◌≤◌, ⊤, List, ◌∷◌, Option, Some, codes}
+use Rattle.clap.specs.Words.{Row, Text}
+use Rattle.trlab_command_line.specs.Numbers.{GivesNumber}
 use Rattle.trlab_commands.specs.declared.words.Wanted.{Wanted}
 use Rattle.trlab_commands.specs.declared.words.Wanted.TheVariants.{Check, Run, Sweep}
 use Rattle.trlab_bounds.specs.declared.runs.TheConstants.{MOST_WORKERS}
 use Rattle.trlab_book.specs.declared.limits.TheConstants.{MOST_RUNNERS}
-
--- among the matches of a command, the value of the option is the decimal numeral of this number
-abbrev pub GivesNumber : Text → List Row → ℕ → Type 0
-GivesNumber option rows number = (numeral : Text) × (one_of option rows ≡ Some numeral)
-    × (digits_value 10 (without_leading_plus numeral) ≡ number)
-
--- among the matches of a command, the option has a value that its parser took: from 1 to a greatest one
-abbrev pub HasValue : Text → ℕ → List Row → Text → Type 0
-HasValue option most rows v = (one_of option rows ≡ Some (without_minus v)) × IsSignedIn (pos 1) (pos most) v
 
 -- what is asked for where a command was entered and has these matches: the command of that name,
 -- with the numbers of its options

@@ -4,13 +4,12 @@
 
 mod command;
 mod explain;
-mod help;
 mod status;
 mod words;
 
 pub use command::carry_out;
 pub use explain::{Explaining, explain_words};
-pub use help::EXPLAIN_HELP;
 pub use status::{REFUSED_WORDS, status_of_end, status_of_print, status_of_words};
+pub use trlab_command_line::EXPLAIN_HELP;
 pub use trlab_explain::{Subject, Topic, explain_number, explain_text};
 pub use words::{Wanted, read_words};

@@ -3,11 +3,11 @@
 ghost use Rattle.std.specs.Prelude.{◌≡◌, IfOk, IfSome, true};
 ghost use Rattle.trlab_advice.specs.Repairs.{mends_line};
 
-use crate::alike::nearest;
 use crate::odd::{Oddity, oddity_of};
 use crate::repairs::Repair;
+use crate::repairs::name::name_repair;
 use crate::spot::{Spot, spot_at};
-use crate::subject::Subject;
+use crate::subject::{Subject, subject_of};
 use std::alloc::{AllocError, Global};
 use trlab_texts::word::head_word;
 
@@ -34,15 +34,12 @@ const CHECK_NAMES: [&[u8]; 4] = [b"motion", b"change", b"code", b"notes"];
 
 /// How far down a text a line of a name stands.
 fn rank_of_name(subject: Subject, name: &[u8]) -> Option<u32> {
-    let rank = if subject == Subject::Sweep {
-        SWEEP_NAMES[..SWEEP_RANKS]
-            .iter()
-            .position(|line| *line == name)?
+    let names = if subject == Subject::Sweep {
+        &SWEEP_NAMES[..SWEEP_RANKS]
     } else {
-        JOB_NAMES[..JOB_RANKS]
-            .iter()
-            .position(|line| *line == name)?
+        &JOB_NAMES[..JOB_RANKS]
     };
+    let rank = names.iter().position(|line| *line == name)?;
     Some(rank as u32)
 }
 
@@ -66,15 +63,9 @@ fn rank_of_spot(subject: Subject, spot: Spot) -> u32 {
 
 /// The command that reads texts with this first line.
 fn command_of(first: &[u8]) -> Option<Subject> {
-    let name = head_word(first);
-    if name == b"road".as_slice() {
-        Some(Subject::Job)
-    } else if name == b"sweep".as_slice() {
-        Some(Subject::Sweep)
-    } else if [b"motion".as_slice(), b"change", b"code", b"notes"].contains(&name) {
-        Some(Subject::Check)
-    } else {
-        None
+    match subject_of(first) {
+        Subject::Check if !CHECK_NAMES.contains(&head_word(first)) => None,
+        subject => Some(subject),
     }
 }
 
@@ -97,14 +88,10 @@ fn displaced(subject: Subject, name: &[u8], spot: Spot) -> Option<Repair>
 fn named(alloc: Global, subject: Subject, name: &[u8]) -> Result<Option<Repair>, AllocError>
     ensures { IfOk result (λ repair. IfSome repair (λ r. mends_line r ≡ true)) }
 {
-    let nearest = match subject {
-        Subject::Job => nearest(alloc, name, &JOB_NAMES)?,
-        Subject::Sweep => nearest(alloc, name, &SWEEP_NAMES)?,
-        Subject::Check => nearest(alloc, name, &CHECK_NAMES)?,
-    };
-    match nearest {
-        Some(meant) => Ok(Some(Repair::Name(meant))),
-        None => Ok(None),
+    match subject {
+        Subject::Job => name_repair(alloc, name, &JOB_NAMES),
+        Subject::Sweep => name_repair(alloc, name, &SWEEP_NAMES),
+        Subject::Check => name_repair(alloc, name, &CHECK_NAMES),
     }
 }
 

@@ -3,7 +3,7 @@
 ghost use Rattle.std.specs.Prelude.{◌≡◌, IfSome, true};
 ghost use Rattle.trlab_advice.specs.Repairs.{mends_hex, mends_key, mends_number};
 
-use crate::odd::{Oddity, oddity_of};
+use crate::odd::{Oddity, has_windows_end};
 use crate::repairs::Repair;
 use trlab_bounds::programs::CERTAIN;
 use trlab_lines::{cut, digits_value, is_numeral};
@@ -39,7 +39,7 @@ fn number_word(word: &[u8]) -> Option<Repair>
 {
     if let Some(parts) = parts_of(word) {
         Some(Repair::Parts(parts))
-    } else if word.first() == Some(&b'-') || word.first() == Some(&b'+') {
+    } else if matches!(word.first(), Some(b'-' | b'+')) {
         Some(Repair::Sign)
     } else if word.len() > 1 && word[0] == b'0' && is_numeral(word) {
         Some(Repair::Zero)
@@ -52,7 +52,7 @@ fn number_word(word: &[u8]) -> Option<Repair>
 pub fn number_repair(line: &[u8]) -> Option<Repair>
     ensures { IfSome result (λ r. mends_number r ≡ true) }
 {
-    if oddity_of(line) == Some(Oddity::CarriageReturn) {
+    if has_windows_end(line) {
         return Some(Repair::Plain(Oddity::CarriageReturn));
     }
     let mut left = line;
@@ -78,7 +78,7 @@ fn first_no_digit(word: &[u8]) -> Option<usize> {
 pub fn key_repair(line: &[u8]) -> Option<Repair>
     ensures { IfSome result (λ r. mends_key r ≡ true) }
 {
-    if oddity_of(line) == Some(Oddity::CarriageReturn) {
+    if has_windows_end(line) {
         return Some(Repair::Plain(Oddity::CarriageReturn));
     }
     let word = behind(b"key ", line)?;
@@ -95,7 +95,7 @@ pub fn key_repair(line: &[u8]) -> Option<Repair>
 pub fn hex_repair(line: &[u8]) -> Option<Repair>
     ensures { IfSome result (λ r. mends_hex r ≡ true) }
 {
-    if oddity_of(line) == Some(Oddity::CarriageReturn) {
+    if has_windows_end(line) {
         return Some(Repair::Plain(Oddity::CarriageReturn));
     }
     let (_, word) = cut(line, b' ')?;

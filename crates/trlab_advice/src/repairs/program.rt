@@ -4,9 +4,9 @@ ghost use Rattle.std.specs.Prelude.{◌≡◌, IfOk, IfSome, true};
 ghost use Rattle.trlab_advice.specs.Quoting.{name_and_operands};
 ghost use Rattle.trlab_advice.specs.Repairs.{mends_operand, mends_word};
 
-use crate::alike::nearest;
-use crate::odd::{Oddity, oddity_of};
+use crate::odd::{Oddity, has_windows_end};
 use crate::repairs::Repair;
+use crate::repairs::name::name_repair;
 use crate::repairs::number::parts_of;
 use crate::subject::Subject;
 use std::alloc::{AllocError, Global};
@@ -28,28 +28,12 @@ pub fn name_and_operands(line: &[u8]) -> (&[u8], &[u8])
     up_to_blank(without_indent(body))
 }
 
+/// The first words of the lines behind which a program begins.
+const PROGRAM_HEADS: [&[u8]; 3] = [b"motion", b"change", b"notes"];
+
 /// Whether a program begins behind a line.
 pub fn is_program_head(line: &[u8]) -> bool {
-    let name = head_word(line);
-    name == b"motion".as_slice() || name == b"change".as_slice() || name == b"notes".as_slice()
-}
-
-/// The names of all instructions.
-fn instruction_names(alloc: Global) -> Result<Vec<&'static [u8]>, AllocError> {
-    let mut names = Vec::new(alloc);
-    for i in 0..MNEMONICS.len() {
-        names.push(mnemonic_text(MNEMONICS[i]))?;
-    }
-    Ok(names)
-}
-
-/// The names of what cars see.
-fn input_names(alloc: Global) -> Result<Vec<&'static [u8]>, AllocError> {
-    let mut names = Vec::new(alloc);
-    for i in 0..INPUTS.len() {
-        names.push(input_text(INPUTS[i]))?;
-    }
-    Ok(names)
+    PROGRAM_HEADS.contains(&head_word(line))
 }
 
 /// What most likely mends a line whose first word is no instruction.
@@ -60,7 +44,7 @@ pub fn word_repair(
 ) -> Result<Option<Repair>, AllocError>
     ensures { IfOk result (λ repair. IfSome repair (λ r. mends_word r ≡ true)) }
 {
-    if oddity_of(line) == Some(Oddity::CarriageReturn) {
+    if has_windows_end(line) {
         return Ok(Some(Repair::Plain(Oddity::CarriageReturn)));
     }
     let (name, _) = name_and_operands(line);
@@ -70,11 +54,7 @@ pub fn word_repair(
             Subject::Check => Repair::NoEnd,
         }));
     }
-    let names = instruction_names(alloc)?;
-    match nearest(alloc, name, &names)? {
-        Some(meant) => Ok(Some(Repair::Name(meant))),
-        None => Ok(None),
-    }
+    name_repair(alloc, name, &MNEMONICS.map(|name| mnemonic_text(name)))
 }
 
 /// Whether an operand of an instruction, counted from 0, has to be a register.
@@ -99,14 +79,11 @@ fn register_repair(alloc: Global, word: &[u8]) -> Result<Option<Repair>, AllocEr
     if behind(b"r", word).is_some_and(|number| is_numeral(number)) {
         return Ok(None);
     }
-    let mut names = Vec::new(alloc);
-    for i in 0..REGISTERS.len() {
-        names.push(register_text(REGISTERS[i]))?;
-    }
-    match nearest(alloc, word, &names)? {
-        Some(meant) => Ok(Some(Repair::Name(meant))),
-        None => Ok(None),
-    }
+    name_repair(
+        alloc,
+        word,
+        &REGISTERS.map(|register| register_text(register)),
+    )
 }
 
 /// What mends one operand, which is a word, at a place that is counted from 0.
@@ -125,11 +102,7 @@ fn operand_word(
         return register_repair(alloc, word);
     }
     if name == Mnemonic::Get && word.len() > 2 {
-        let names = input_names(alloc)?;
-        return match nearest(alloc, word, &names)? {
-            Some(meant) => Ok(Some(Repair::Name(meant))),
-            None => Ok(None),
-        };
+        return name_repair(alloc, word, &INPUTS.map(|input| input_text(input)));
     }
     Ok(None)
 }
@@ -138,7 +111,7 @@ fn operand_word(
 pub fn operand_repair(alloc: Global, line: &[u8]) -> Result<Option<Repair>, AllocError>
     ensures { IfOk result (λ repair. IfSome repair (λ r. mends_operand r ≡ true)) }
 {
-    if oddity_of(line) == Some(Oddity::CarriageReturn) {
+    if has_windows_end(line) {
         return Ok(Some(Repair::Plain(Oddity::CarriageReturn)));
     }
     let (name, operands) = name_and_operands(line);

@@ -1,5 +1,5 @@
 use Rattle.std.proofs.Common.{rules}
 use Rattle.trlab_advice.proofs.subject.subject_of.Goals as goal
 
-pub returns-in-Some-2 : goal.returns-in-Some-2
-returns-in-Some-2 c = search rules
+pub returns-then-eq-2 : goal.returns-then-eq-2
+returns-then-eq-2 c = search rules

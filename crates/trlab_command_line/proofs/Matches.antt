@@ -20,9 +20,9 @@ use Rattle.clap.proofs.CallerReads.{signed_reads}
 use Rattle.clap.proofs.ValueTestLemmas.{accepts-Accepts}
 use Rattle.trlab_bounds.specs.declared.runs.TheConstants.{MOST_WORKERS}
 use Rattle.trlab_book.specs.declared.limits.TheConstants.{MOST_RUNNERS}
-use Rattle.trlab_commands.specs.Requests.{GivesNumber, HasValue}
-use Rattle.trlab_commands.specs.CommandLine.{command_line}
-use Rattle.trlab_commands.proofs.CommandLine.{Taken, check, check_level, run_level, sweep_level, enters_check, enters_run, enters_sweep, run, sweep, taken, workers_value, sweep_runners_value, sweep_workers_value}
+use Rattle.trlab_command_line.specs.Numbers.{GivesNumber, HasValue}
+use Rattle.trlab_command_line.specs.CommandLine.{command_line}
+use Rattle.trlab_command_line.proofs.CommandLine.{Taken, check, check_level, run_level, sweep_level, enters_check, enters_run, enters_sweep, run, sweep, taken, workers_value, sweep_runners_value, sweep_workers_value}
 
 -- the command that was entered, of a command that is the command line
 pub entered_of : (app : App) (words : List Text) (m : ArgMatches) → app ≡ command_line → HasMatchesOf app words m → subcommand_rows_of m ≡ subcommand_of command_line words

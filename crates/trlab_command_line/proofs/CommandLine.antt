@@ -13,11 +13,12 @@ use Rattle.clap.specs.Walk.{Held, Names, Rule, Text, Walk, after_flag, Outcome, 
 use Rattle.clap.specs.Takes.{value_passes}
 use Rattle.clap.specs.Simple.{Shape, built, entered, filled, help_rule, names_of, subcommand_of, version_rule}
 use Rattle.clap.specs.Faults.{bundle_fault, bundle_step_fault, entered_fault, fault_of, flag_word_fault, flags_fault, level_fault, long_fault, other_fault, short_fault, step_fault, turn_fault, walk_fault}
+use Rattle.clap.specs.declared.error.kind.ErrorKind.{ErrorKind}
 use Rattle.clap.specs.declared.error.kind.ErrorKind.TheVariants.{DisplayHelpOnMissingArgumentOrSubcommand}
 use Rattle.clap.proofs.OnLiterals.{clap_on_literals}
 use Rattle.clap.proofs.WalkLemmas.{walk_stopped}
-use Rattle.trlab_commands.specs.CommandLine.{command_line}
-use Rattle.trlab_commands.proofs.Options.{IsHelp, IsOption, none_fails, own_value}
+use Rattle.trlab_command_line.specs.CommandLine.{command_line}
+use Rattle.trlab_command_line.proofs.Options.{IsHelp, IsOption, none_fails, own_value}
 
 -- the command line once it is built, and its commands
 abbrev top : Shape
@@ -49,12 +50,15 @@ version_flag = filled version_rule
 abbrev asked : Bool → Bool → Option Rule
 asked for_help for_version = cond for_help (Some help_flag) (cond for_version (Some version_flag) None)
 
-long_fails : (b v : Bool) (value : Option Text) → long_fault top.rules false (asked b v) value nothing_held ≡ [] → ⊥
-long_fails false false o e = cc
-long_fails false true None e = cc
-long_fails false true (Some o) e = cc
-long_fails true v None e = cc
-long_fails true v (Some o) e = cc
+some_fault : (kind : ErrorKind) (kinds : Kinds) → kind ∷ kinds ≡ [] → ⊥
+some_fault kind kinds e = cc
+
+long_fails : (c : List Rule) (b v : Bool) (value : Option Text) → long_fault c false (asked b v) value nothing_held ≡ [] → ⊥
+long_fails c false false o e = some_fault _ _ e
+long_fails c false true None e = some_fault _ _ e
+long_fails c false true (Some o) e = some_fault _ _ e
+long_fails c true v None e = some_fault _ _ e
+long_fails c true v (Some o) e = some_fault _ _ e
 
 -- so do the flags of `-abc`, unless there are none
 flags_fail : (k : ℕ) (flags : Text) → flags_fault top.rules false k flags 0 nothing_held ≡ [] → bundle_met top.rules k flags 0 plain nothing_held ≡ (nothing_held, plain)
@@ -62,15 +66,15 @@ unfolding flags_fault bundle_met
 flags_fail zero flags e = refl
 flags_fail (suc k) flags e = go (slice_get (chars flags) 0) e
   where
-    flag : (b v : Bool) (rest : Text) (next : Held → Kinds) → short_fault top.rules false (asked b v) rest nothing_held next ≡ [] → ⊥
-    flag false false rest next h = cc
-    flag false true rest next h = cc
-    flag true v rest next h = cc
+    flag : (c : List Rule) (b v : Bool) (rest : Text) (next : Held → Kinds) → short_fault c false (asked b v) rest nothing_held next ≡ [] → ⊥
+    flag c false false rest next h = some_fault _ _ h
+    flag c false true rest next h = some_fault _ _ h
+    flag c true v rest next h = some_fault _ _ h
 
     go : (o : Option ℕ) → bundle_step_fault top.rules false o flags 0 nothing_held (flags_fault top.rules false k) ≡ []
         → bundle_step top.rules o flags 0 plain nothing_held (bundle_met top.rules k) ≡ (nothing_held, plain)
     go None h = refl
-    go (Some x) h = absurd (flag (not false && has_short help_flag x) (not false && has_short version_flag x) (drop (length (encode_utf8 x)) flags) _ h)
+    go (Some x) h = absurd (flag top.rules (not false && has_short help_flag x) (not false && has_short version_flag x) (drop (length (encode_utf8 x)) flags) _ h)
 
 -- the word is no command's name and not `--`
 abbrev StrayFault : Text → Option Text → Kinds
@@ -98,7 +102,7 @@ stray_fails word other e = long (long_of word) (rw other at e)
     long : (o : Option (Text × Option Text)) → or_else (flag_word_fault top.rules false o word nothing_held)
         (step_fault top 1 (long_or_other top.rules idle word o nothing_held).0 (long_or_other top.rules idle word o nothing_held).1) ≡ [] → ⊥
     long None f = short (short_of word) f
-    long (Some p) f = long_fails (not false && has_long help_flag p.0) (not false && has_long version_flag p.0) p.1 (none_fails (flag_word_fault top.rules false (Some p) word nothing_held) _ f).0
+    long (Some p) f = long_fails top.rules (not false && has_long help_flag p.0) (not false && has_long version_flag p.0) p.1 (none_fails (flag_word_fault top.rules false (Some p) word nothing_held) _ f).0
 
 -- the words, where no fault is met: a command's name, and words that it takes
 pub data Taken (words : List Text) : Type 0 where

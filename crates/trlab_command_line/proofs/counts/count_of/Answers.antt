@@ -2,8 +2,8 @@ use Rattle.std.proofs.Common.{◌∙◌}
 use Rattle.std.specs.Str.Parse.{ParsesUnsigned, ExplainsUnsignedError, HasUnsignedDigitsIfOk}
 use Rattle.clap.specs.Words.{found_of, rows_of}
 use Rattle.clap.proofs.WalkLemmas.{one_text-rows}
-use Rattle.trlab_commands.proofs.Matches.{some_number, the_number}
-use Rattle.trlab_commands.proofs.words.count_of.Goals as goal
+use Rattle.trlab_command_line.proofs.Matches.{some_number, the_number}
+use Rattle.trlab_command_line.proofs.counts.count_of.Goals as goal
 
 pub returns : goal.returns
 returns c =

@@ -1,3 +1,3 @@
 mod CommandLine
-mod Matches
+pub mod Matches
 mod Options

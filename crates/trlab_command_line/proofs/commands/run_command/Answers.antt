@@ -1,0 +1,15 @@
+use Rattle.std.proofs.Common.{rules, ◌≡◌, ◌∙◌, ◌||◌, ap₂, false, codes}
+use Rattle.std.proofs.lemmas.Result.{IfOk-weaker}
+use Rattle.clap.specs.Words.{app_of, new_app, with_rule}
+use Rattle.clap.specs.declared.builder.command.Command.TheViews.{out-Command}
+use Rattle.trlab_command_line.proofs.commands.run_command.Goals as goal
+
+pub returns-clause-app : goal.returns-clause-app
+returns-clause-app c =
+    let plain : app_of c.after_help.result ≡ new_app (codes "run") = search rules in
+    IfOk-weaker c.arg.result _ _ (λ command added. added.shape c.workers_option.ensures.local ∙ ap₂ with_rule plain c.workers_option.ensures.rule) c.arg.ensures
+
+pub returns-clause-local : goal.returns-clause-local
+returns-clause-local c =
+    let plain : (out-Command c.after_help.result).has_globals ≡ false = search rules in
+    IfOk-weaker c.arg.result _ _ (λ command added. added.globals ∙ ap₂ (λ a b. a || b) plain c.workers_option.ensures.local) c.arg.ensures

@@ -1,0 +1,70 @@
+//! The commands.
+
+ghost use Rattle.std.specs.Prelude.{◌≡◌, IfOk, false};
+ghost use Rattle.clap.specs.Words.{app_of};
+ghost use Rattle.clap.specs.declared.builder.command.Command.TheViews.{out-Command as fields_of};
+ghost use Rattle.trlab_command_line.specs.CommandLine.{check_command, command_line, program, run_command, sweep_command};
+
+use crate::counts::{runners_option, workers_option};
+use crate::help::{
+    ABOUT, AFTER, CHECK_ABOUT, CHECK_AFTER, RUN_ABOUT, RUN_AFTER, SWEEP_ABOUT, SWEEP_AFTER, VERSION,
+};
+use clap::Command;
+use std::alloc::{AllocError, Global};
+
+/// The command `check`.
+fn check_command<'a>(alloc: Global) -> Command<'a>
+    ensures app { app_of result ≡ check_command }
+    ensures local { (fields_of result).has_globals ≡ false }
+{
+    Command::new(alloc, "check")
+        .about(CHECK_ABOUT)
+        .after_help(CHECK_AFTER)
+}
+
+/// The command `run`.
+fn run_command<'a>(alloc: Global) -> Result<Command<'a>, AllocError>
+    ensures app { IfOk result (λ command. app_of command ≡ run_command) }
+    ensures local { IfOk result (λ command. (fields_of command).has_globals ≡ false) }
+{
+    Command::new(alloc, "run")
+        .about(RUN_ABOUT)
+        .after_help(RUN_AFTER)
+        .arg(workers_option(alloc))
+}
+
+/// The command `sweep`.
+fn sweep_command<'a>(alloc: Global) -> Result<Command<'a>, AllocError>
+    ensures app { IfOk result (λ command. app_of command ≡ sweep_command) }
+    ensures local { IfOk result (λ command. (fields_of command).has_globals ≡ false) }
+{
+    Command::new(alloc, "sweep")
+        .about(SWEEP_ABOUT)
+        .after_help(SWEEP_AFTER)
+        .arg(runners_option(alloc))?
+        .arg(workers_option(alloc))
+}
+
+/// The program, of which one command has to be named, without its commands.
+fn program<'a>(alloc: Global) -> Result<Command<'a>, AllocError>
+    ensures { IfOk result (λ command. app_of command ≡ program) }
+{
+    Command::new(alloc, "trlab")
+        .about(ABOUT)
+        .version(VERSION)
+        .after_help(AFTER)
+        .no_binary_name(true)
+        .subcommand_required(true)
+        .arg_required_else_help(true)
+        .bin_name("trlab")
+}
+
+/// The command line of `trlab`: the program with its commands.
+pub fn command_line<'a>(alloc: Global) -> Result<Command<'a>, AllocError>
+    ensures { IfOk result (λ command. app_of command ≡ command_line) }
+{
+    program(alloc)?
+        .subcommand(check_command(alloc))?
+        .subcommand(run_command(alloc)?)?
+        .subcommand(sweep_command(alloc)?)
+}
