@@ -7,5 +7,5 @@ pub mod PrintedLines
 pub mod Reread
 pub mod Said
 pub mod Named
-pub mod Pushed
 pub mod LineSaid
+pub mod Shapes

@@ -7,6 +7,10 @@ use Rattle.trlab_code.specs.declared.instruction.Instr.TheVariants.{Num, Get, Si
 use Rattle.trlab_asm.specs.Names.{register_text, input_text, mnemonic_text}
 use Rattle.trlab_asm.specs.declared.names.Mnemonic.{Mnemonic}
 use Rattle.trlab_asm.specs.declared.names.Mnemonic.TheVariants as name
+use Rattle.trlab_asm.specs.declared.printing.Operand.{Operand}
+use Rattle.trlab_asm.specs.declared.printing.Operand.TheVariants.{Register, Input, Number, Label, Beyond}
+use Rattle.trlab_asm.specs.declared.printing.Row.{Row}
+use Rattle.trlab_asm.specs.declared.printing.Row.TheVariants.{Bare, One, Two, Three}
 
 -- the label of a pc: `L` and its digits
 abbrev pub label_text : ℕ → List ℕ
@@ -16,6 +20,14 @@ label_text pc = 76 ∷ decimal pc
 abbrev pub target_text : ℕ → ℕ → List ℕ
 target_text count pc = if nat_lt pc count then label_text pc else 64 ∷ decimal pc
 
+-- an operand
+abbrev pub operand_text : Operand → List ℕ
+operand_text (Register register) = register_text register
+operand_text (Input input) = input_text input
+operand_text (Number n) = decimal n
+operand_text (Label pc) = label_text pc
+operand_text (Beyond pc) = 64 ∷ decimal pc
+
 infixr 20 ◌comma◌
 -- an operand, a comma and a space, and further operands
 abbrev pub ◌comma◌ : List ℕ → List ℕ → List ℕ
@@ -24,6 +36,13 @@ operand comma others = operand ++ (44 ∷ 32 ∷ others)
 -- a row: a name, a space, and operands
 abbrev pub row_text : Mnemonic → List ℕ → List ℕ
 row_text name operands = mnemonic_text name ++ (32 ∷ operands)
+
+-- a row of one name and its operands
+abbrev pub row_says : Row → List ℕ
+row_says (Bare name) = mnemonic_text name
+row_says (One name a) = row_text name (operand_text a)
+row_says (Two name a b) = row_text name (operand_text a comma operand_text b)
+row_says (Three name a b c) = row_text name (operand_text a comma operand_text b comma operand_text c)
 
 -- an instruction, in a program of so many
 abbrev pub instr_text : ℕ → Instr → List ℕ

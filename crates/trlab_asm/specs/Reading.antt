@@ -2,6 +2,7 @@
 use Rattle.std.specs.Prelude.{ℕ, ◌==◌, List, length, nat_lt, Option, None, Some, ok_or, Result, Ok, Err, if◌then◌else◌}
 use Rattle.trlab_code.specs.declared.instruction.Instr.{Instr}
 use Rattle.trlab_code.specs.declared.instruction.Instr.TheVariants.{Num, Get, Side, Draw, Copy, Add, Sub, Mul, Div, Min, Max, Not, And, Or, Jump, JumpLess, JumpAtMost, JumpTrue, JumpFalse, Go, Cross, Stay}
+use Rattle.trlab_code.specs.declared.instruction.Register.{Register}
 use Rattle.trlab_bounds.specs.declared.programs.TheConstants.{MOST_INSTRUCTIONS}
 use Rattle.trlab_lines.specs.Cutting.{without_comment, label_and_rest, without_indent, up_to_blank, only_word}
 use Rattle.trlab_asm.specs.Names.{mnemonic_named}
@@ -24,6 +25,35 @@ whole_draft instr = Ok (record { instr = instr; label = None })
 -- a jump to a target
 abbrev pub jump_draft : (ℕ → Instr) → Target → Result Draft Why
 jump_draft instr to = Ok (record { instr = instr to.pc; label = to.label })
+
+-- what a name makes of the operands of its shape; the last name of a shape stands for all others
+abbrev pub of_none : Mnemonic → Instr
+of_none name.Cross = Cross
+of_none other = Stay
+
+abbrev pub of_one : Mnemonic → Register → Instr
+of_one name.Side a = Side a
+of_one other a = Go a
+
+abbrev pub of_two : Mnemonic → Register → Register → Instr
+of_two name.Copy d a = Copy d a
+of_two other d a = Not d a
+
+abbrev pub of_three : Mnemonic → Register → Register → Register → Instr
+of_three name.Add d a b = Add d a b
+of_three name.Sub d a b = Sub d a b
+of_three name.Min d a b = Min d a b
+of_three name.Max d a b = Max d a b
+of_three name.And d a b = And d a b
+of_three other d a b = Or d a b
+
+abbrev pub of_one_target : Mnemonic → Register → ℕ → Instr
+of_one_target name.JumpTrue a t = JumpTrue a t
+of_one_target other a t = JumpFalse a t
+
+abbrev pub of_two_target : Mnemonic → Register → Register → ℕ → Instr
+of_two_target name.JumpLess a b t = JumpLess a b t
+of_two_target other a b t = JumpAtMost a b t
 
 -- the instruction of a name and its operands
 abbrev pub draft_of : Mnemonic → List ℕ → Result Draft Why

@@ -2,7 +2,9 @@
 
 ghost use Rattle.std.specs.Prelude.{◌≡◌, None, option_map};
 ghost use Rattle.trlab_code.specs.Program.{IsInRange};
-ghost use Rattle.trlab_asm.specs.Reading.{draft_of, Draft as ReadDraft};
+ghost use Rattle.trlab_asm.specs.Operands.{no_operand, register, two_registers, three_registers, register_target, two_registers_target};
+ghost use Rattle.trlab_asm.specs.Reading.{Draft as ReadDraft, whole_draft, jump_draft, draft_of, of_none, of_one, of_two, of_three, of_one_target, of_two_target};
+ghost use Rattle.trlab_asm.specs.Results.{◌>>=◌ as ◌followed◌};
 ghost use Rattle.trlab_asm.specs.declared.names.Mnemonic.TheVariants.{Draw, Div};
 
 use crate::fault::Why;
@@ -79,6 +81,78 @@ fn read_div(text: &[u8]) -> Result<Draft<'_>, Why>
     Ok(whole_draft(Instr::Div(d, a, n)))
 }
 
+/// An instruction without operands: `cross`, or else `stay`.
+fn read_none(name: Mnemonic, text: &[u8]) -> Result<Draft<'_>, Why>
+    ensures { result ≡ no_operand text.now followed λ none. whole_draft (of_none name) }
+{
+    no_operand(text)?;
+    Ok(whole_draft(match name {
+        Mnemonic::Cross => Instr::Cross,
+        _ => Instr::Stay,
+    }))
+}
+
+/// An instruction with one register: `side`, or else `go`.
+fn read_one(name: Mnemonic, text: &[u8]) -> Result<Draft<'_>, Why>
+    ensures { result ≡ register text.now followed λ a. whole_draft (of_one name a) }
+{
+    let a = register(text)?;
+    Ok(whole_draft(match name {
+        Mnemonic::Side => Instr::Side(a),
+        _ => Instr::Go(a),
+    }))
+}
+
+/// An instruction with two registers: `copy`, or else `not`.
+fn read_two(name: Mnemonic, text: &[u8]) -> Result<Draft<'_>, Why>
+    ensures { result ≡ two_registers text.now followed λ x. whole_draft (of_two name x.0 x.1) }
+{
+    let (d, a) = two_registers(text)?;
+    Ok(whole_draft(match name {
+        Mnemonic::Copy => Instr::Copy(d, a),
+        _ => Instr::Not(d, a),
+    }))
+}
+
+/// An instruction with three registers: one of five, or else `or`.
+fn read_three(name: Mnemonic, text: &[u8]) -> Result<Draft<'_>, Why>
+    ensures { result ≡ three_registers text.now followed λ x. whole_draft (of_three name x.0 x.1.0 x.1.1) }
+{
+    let (d, (a, b)) = three_registers(text)?;
+    Ok(whole_draft(match name {
+        Mnemonic::Add => Instr::Add(d, a, b),
+        Mnemonic::Sub => Instr::Sub(d, a, b),
+        Mnemonic::Min => Instr::Min(d, a, b),
+        Mnemonic::Max => Instr::Max(d, a, b),
+        Mnemonic::And => Instr::And(d, a, b),
+        _ => Instr::Or(d, a, b),
+    }))
+}
+
+/// A jump by one register: `jtrue`, or else `jfalse`.
+fn read_jump_by_one(name: Mnemonic, text: &[u8]) -> Result<Draft<'_>, Why>
+    ensures { result ≡ register_target text.now followed λ x. jump_draft (of_one_target name x.0) x.1 }
+{
+    let (a, to) = register_target(text)?;
+    let instr = match name {
+        Mnemonic::JumpTrue => Instr::JumpTrue(a, to.pc),
+        _ => Instr::JumpFalse(a, to.pc),
+    };
+    Ok(jump_draft(instr, to))
+}
+
+/// A jump by two registers: `jlt`, or else `jle`.
+fn read_jump_by_two(name: Mnemonic, text: &[u8]) -> Result<Draft<'_>, Why>
+    ensures { result ≡ two_registers_target text.now followed λ x. jump_draft (of_two_target name x.0 x.1.0) x.1.1 }
+{
+    let (a, (b, to)) = two_registers_target(text)?;
+    let instr = match name {
+        Mnemonic::JumpLess => Instr::JumpLess(a, b, to.pc),
+        _ => Instr::JumpAtMost(a, b, to.pc),
+    };
+    Ok(jump_draft(instr, to))
+}
+
 /// The instruction of a name and its operands.
 pub(crate) fn read_draft(name: Mnemonic, text: &[u8]) -> Result<Draft<'_>, Why>
     ensures { result ≡ draft_of name text.now }
@@ -86,39 +160,22 @@ pub(crate) fn read_draft(name: Mnemonic, text: &[u8]) -> Result<Draft<'_>, Why>
     match name {
         Mnemonic::Num => register_number(0, text).map(|(d, n)| whole_draft(Instr::Num(d, n))),
         Mnemonic::Get => register_input(text).map(|(d, k)| whole_draft(Instr::Get(d, k))),
-        Mnemonic::Side => register(text).map(|d| whole_draft(Instr::Side(d))),
         Mnemonic::Draw => read_draw(text),
-        Mnemonic::Copy => two_registers(text).map(|(d, a)| whole_draft(Instr::Copy(d, a))),
-        Mnemonic::Add => three_registers(text).map(|(d, (a, b))| whole_draft(Instr::Add(d, a, b))),
-        Mnemonic::Sub => three_registers(text).map(|(d, (a, b))| whole_draft(Instr::Sub(d, a, b))),
         Mnemonic::Mul => two_registers_number(0, text).map(|(d, (a, n))| whole_draft(Instr::Mul(
             d, a, n,
         ))),
         Mnemonic::Div => read_div(text),
-        Mnemonic::Min => three_registers(text).map(|(d, (a, b))| whole_draft(Instr::Min(d, a, b))),
-        Mnemonic::Max => three_registers(text).map(|(d, (a, b))| whole_draft(Instr::Max(d, a, b))),
-        Mnemonic::Not => two_registers(text).map(|(d, a)| whole_draft(Instr::Not(d, a))),
-        Mnemonic::And => three_registers(text).map(|(d, (a, b))| whole_draft(Instr::And(d, a, b))),
-        Mnemonic::Or => three_registers(text).map(|(d, (a, b))| whole_draft(Instr::Or(d, a, b))),
         Mnemonic::Jump => target(text).map(|to| jump_draft(Instr::Jump(to.pc), to)),
-        Mnemonic::JumpLess => two_registers_target(text).map(|(a, (b, to))| jump_draft(
-            Instr::JumpLess(a, b, to.pc),
-            to,
-        )),
-        Mnemonic::JumpAtMost => two_registers_target(text).map(|(a, (b, to))| jump_draft(
-            Instr::JumpAtMost(a, b, to.pc),
-            to,
-        )),
-        Mnemonic::JumpTrue => register_target(text).map(|(a, to)| jump_draft(
-            Instr::JumpTrue(a, to.pc),
-            to,
-        )),
-        Mnemonic::JumpFalse => register_target(text).map(|(a, to)| jump_draft(
-            Instr::JumpFalse(a, to.pc),
-            to,
-        )),
-        Mnemonic::Go => register(text).map(|a| whole_draft(Instr::Go(a))),
-        Mnemonic::Cross => no_operand(text).map(|_| whole_draft(Instr::Cross)),
-        Mnemonic::Stay => no_operand(text).map(|_| whole_draft(Instr::Stay)),
+        Mnemonic::JumpLess | Mnemonic::JumpAtMost => read_jump_by_two(name, text),
+        Mnemonic::JumpTrue | Mnemonic::JumpFalse => read_jump_by_one(name, text),
+        Mnemonic::Copy | Mnemonic::Not => read_two(name, text),
+        Mnemonic::Side | Mnemonic::Go => read_one(name, text),
+        Mnemonic::Cross | Mnemonic::Stay => read_none(name, text),
+        Mnemonic::Add
+        | Mnemonic::Sub
+        | Mnemonic::Min
+        | Mnemonic::Max
+        | Mnemonic::And
+        | Mnemonic::Or => read_three(name, text),
     }
 }

@@ -1,195 +1,158 @@
 //! Instructions as they are printed: a name, a space, and operands with a comma and a space between.
 
 ghost use Rattle.std.specs.Prelude.{◌≡◌, ◌++◌, decimal, OnOk};
-ghost use Rattle.trlab_code.specs.declared.instruction.Instr.TheVariants.{Get, Draw, Jump};
-ghost use Rattle.trlab_asm.specs.Names.{register_text};
 ghost use Rattle.trlab_code.specs.Laws.{HasWord};
-ghost use Rattle.trlab_asm.specs.Canonical.{target_text, ◌comma◌, row_text, instr_text, line_text};
+ghost use Rattle.trlab_asm.specs.Canonical.{operand_text, target_text, ◌comma◌, row_text, row_says, instr_text, line_text};
 
 use crate::names::{Mnemonic, input_text, mnemonic_text, register_text};
+use Operand::{Beyond, Input, Label, Number, Register};
+use Row::{Bare, One, Three, Two};
 use std::alloc::{AllocError, Global};
-use trlab_code::{Input, Instr, Register};
+use trlab_code::Instr;
 
-/// Decimal digits.
-fn push_number(alloc: Global, out: &mut Vec<u8>, n: u32) -> Result<(), AllocError>
-    ensures { OnOk result (out.new.items ≡ out.old.items ++ decimal n) }
-{
-    let text = format!(in alloc; "{n}")?;
-    out.extend_from_slice(text.as_bytes())
+/// An operand. A target is a label of the program, or a pc beyond it.
+#[derive(Clone, Copy)]
+enum Operand {
+    Register(trlab_code::Register),
+    Input(trlab_code::Input),
+    Number(u32),
+    Label(u32),
+    Beyond(u32),
+}
+
+/// A name and its operands.
+#[derive(Clone, Copy)]
+enum Row {
+    Bare(Mnemonic),
+    One(Mnemonic, Operand),
+    Two(Mnemonic, Operand, Operand),
+    Three(Mnemonic, Operand, Operand, Operand),
 }
 
 /// A target in a program of so many instructions.
-fn push_target(alloc: Global, out: &mut Vec<u8>, count: usize, pc: u32) -> Result<(), AllocError>
-    ensures { OnOk result (out.new.items ≡ out.old.items ++ target_text count pc) }
+fn target(count: usize, pc: u32) -> Operand
+    ensures { operand_text result ≡ target_text count pc }
 {
-    out.extend_from_slice(if (pc as usize) < count { b"L" } else { b"@" })?;
-    push_number(alloc, out, pc)
+    if (pc as usize) < count {
+        Label(pc)
+    } else {
+        Beyond(pc)
+    }
 }
 
-/// A name and a register.
-fn push_one(out: &mut Vec<u8>, name: Mnemonic, register: Register) -> Result<(), AllocError>
-    ensures { OnOk result (out.new.items ≡ out.old.items ++ row_text name (register_text register)) }
+/// A text and decimal digits.
+fn push_number(alloc: Global, out: &mut Vec<u8>, front: &str, n: u32) -> Result<(), AllocError>
+    ensures { OnOk result (out.new.items ≡ out.old.items ++ (front.now ++ decimal n)) }
+{
+    let text = format!(in alloc; "{front}{n}")?;
+    out.extend_from_slice(text.as_bytes())
+}
+
+/// A text and an operand.
+fn push_operand(
+    alloc: Global,
+    out: &mut Vec<u8>,
+    front: &[u8],
+    operand: Operand,
+) -> Result<(), AllocError>
+    ensures { OnOk result (out.new.items ≡ out.old.items ++ (front.now ++ operand_text operand)) }
+{
+    out.extend_from_slice(front)?;
+    match operand {
+        Register(register) => out.extend_from_slice(register_text(register)),
+        Input(input) => out.extend_from_slice(input_text(input)),
+        Number(n) => push_number(alloc, out, "", n),
+        Label(pc) => push_number(alloc, out, "L", pc),
+        Beyond(pc) => push_number(alloc, out, "@", pc),
+    }
+}
+
+/// A name and an operand.
+fn push_one(alloc: Global, out: &mut Vec<u8>, name: Mnemonic, a: Operand) -> Result<(), AllocError>
+    ensures { OnOk result (out.new.items ≡ out.old.items ++ row_text name (operand_text a)) }
 {
     out.extend_from_slice(mnemonic_text(name))?;
-    out.extend_from_slice(b" ")?;
-    out.extend_from_slice(register_text(register))
+    push_operand(alloc, out, b" ", a)
 }
 
-/// A name and two registers.
-fn push_two(out: &mut Vec<u8>, name: Mnemonic, d: Register, a: Register) -> Result<(), AllocError>
-    ensures { OnOk result (out.new.items ≡ out.old.items ++ row_text name (register_text d comma register_text a)) }
+/// A name and two operands.
+fn push_two(
+    alloc: Global,
+    out: &mut Vec<u8>,
+    name: Mnemonic,
+    a: Operand,
+    b: Operand,
+) -> Result<(), AllocError>
+    ensures { OnOk result (out.new.items ≡ out.old.items ++ row_text name (operand_text a comma operand_text b)) }
 {
-    push_one(out, name, d)?;
-    out.extend_from_slice(b", ")?;
-    out.extend_from_slice(register_text(a))
+    push_one(alloc, out, name, a)?;
+    push_operand(alloc, out, b", ", b)
 }
 
-/// A name and three registers.
+/// A name and three operands.
 fn push_three(
+    alloc: Global,
     out: &mut Vec<u8>,
     name: Mnemonic,
-    d: Register,
-    a: Register,
-    b: Register,
+    a: Operand,
+    b: Operand,
+    c: Operand,
 ) -> Result<(), AllocError>
     ensures { OnOk result (out.new.items
-        ≡ out.old.items ++ row_text name (register_text d comma register_text a comma register_text b)) }
+        ≡ out.old.items ++ row_text name (operand_text a comma operand_text b comma operand_text c)) }
 {
-    push_two(out, name, d, a)?;
-    out.extend_from_slice(b", ")?;
-    out.extend_from_slice(register_text(b))
+    push_two(alloc, out, name, a, b)?;
+    push_operand(alloc, out, b", ", c)
 }
 
-/// `get`, a register and an input.
-fn push_get(out: &mut Vec<u8>, d: Register, input: Input) -> Result<(), AllocError>
-    ensures { OnOk result (out.new.items ≡ out.old.items ++ instr_text 0 (Get d input)) }
-{
-    push_one(out, Mnemonic::Get, d)?;
-    out.extend_from_slice(b", ")?;
-    out.extend_from_slice(input_text(input))
-}
+/// The row of an instruction, in a program of so many.
+fn row_of(count: usize, instr: Instr) -> Row
+    ensures value { row_says result ≡ instr_text count instr }
 
-/// A name, a register and a number.
-fn push_one_number(
-    alloc: Global,
-    out: &mut Vec<u8>,
-    name: Mnemonic,
-    d: Register,
-    n: u32,
-) -> Result<(), AllocError>
-    ensures { OnOk result (out.new.items ≡ out.old.items ++ row_text name (register_text d comma decimal n)) }
-{
-    push_one(out, name, d)?;
-    out.extend_from_slice(b", ")?;
-    push_number(alloc, out, n)
-}
-
-/// A name, two registers and a number.
-fn push_two_number(
-    alloc: Global,
-    out: &mut Vec<u8>,
-    name: Mnemonic,
-    d: Register,
-    a: Register,
-    n: u32,
-) -> Result<(), AllocError>
-    ensures { OnOk result (out.new.items
-        ≡ out.old.items ++ row_text name (register_text d comma register_text a comma decimal n)) }
-{
-    push_two(out, name, d, a)?;
-    out.extend_from_slice(b", ")?;
-    push_number(alloc, out, n)
-}
-
-/// `draw`, a register, the number of a random word, and a chance.
-fn push_draw(alloc: Global, out: &mut Vec<u8>, d: Register, k: u8, t: u32) -> Result<(), AllocError>
-    ensures { OnOk result (out.new.items ≡ out.old.items ++ instr_text 0 (Draw d k t)) }
-{
-    push_one_number(alloc, out, Mnemonic::Draw, d, u32::from(k))?;
-    out.extend_from_slice(b", ")?;
-    push_number(alloc, out, t)
-}
-
-/// `jump` and a target.
-fn push_jump(alloc: Global, out: &mut Vec<u8>, count: usize, pc: u32) -> Result<(), AllocError>
-    ensures { OnOk result (out.new.items ≡ out.old.items ++ instr_text count (Jump pc)) }
-{
-    out.extend_from_slice(mnemonic_text(Mnemonic::Jump))?;
-    out.extend_from_slice(b" ")?;
-    push_target(alloc, out, count, pc)
-}
-
-/// A name, a register and a target.
-fn push_one_target(
-    alloc: Global,
-    out: &mut Vec<u8>,
-    count: usize,
-    name: Mnemonic,
-    a: Register,
-    pc: u32,
-) -> Result<(), AllocError>
-    ensures { OnOk result (out.new.items
-        ≡ out.old.items ++ row_text name (register_text a comma target_text count pc)) }
-{
-    push_one(out, name, a)?;
-    out.extend_from_slice(b", ")?;
-    push_target(alloc, out, count, pc)
-}
-
-/// A name, two registers and a target.
-fn push_two_target(
-    alloc: Global,
-    out: &mut Vec<u8>,
-    count: usize,
-    name: Mnemonic,
-    a: Register,
-    b: Register,
-    pc: u32,
-) -> Result<(), AllocError>
-    ensures { OnOk result (out.new.items
-        ≡ out.old.items ++ row_text name (register_text a comma register_text b comma target_text count pc)) }
-{
-    push_two(out, name, a, b)?;
-    out.extend_from_slice(b", ")?;
-    push_target(alloc, out, count, pc)
-}
-
-/// An instruction, in a program of so many.
-fn push_instr(
-    alloc: Global,
-    out: &mut Vec<u8>,
-    count: usize,
-    instr: Instr,
-) -> Result<(), AllocError>
-    ensures { OnOk result (out.new.items ≡ out.old.items ++ instr_text count instr) }
+    // As each number of this type has.
+    ensures word { HasWord instr }
 {
     match instr {
-        Instr::Num(d, n) => push_one_number(alloc, out, Mnemonic::Num, d, n),
-        Instr::Get(d, k) => push_get(out, d, k),
-        Instr::Side(d) => push_one(out, Mnemonic::Side, d),
-        Instr::Draw(d, k, t) => push_draw(alloc, out, d, k, t),
-        Instr::Copy(d, a) => push_two(out, Mnemonic::Copy, d, a),
-        Instr::Add(d, a, b) => push_three(out, Mnemonic::Add, d, a, b),
-        Instr::Sub(d, a, b) => push_three(out, Mnemonic::Sub, d, a, b),
-        Instr::Mul(d, a, n) => push_two_number(alloc, out, Mnemonic::Mul, d, a, n),
-        Instr::Div(d, a, n) => push_two_number(alloc, out, Mnemonic::Div, d, a, n),
-        Instr::Min(d, a, b) => push_three(out, Mnemonic::Min, d, a, b),
-        Instr::Max(d, a, b) => push_three(out, Mnemonic::Max, d, a, b),
-        Instr::Not(d, a) => push_two(out, Mnemonic::Not, d, a),
-        Instr::And(d, a, b) => push_three(out, Mnemonic::And, d, a, b),
-        Instr::Or(d, a, b) => push_three(out, Mnemonic::Or, d, a, b),
-        Instr::Jump(pc) => push_jump(alloc, out, count, pc),
+        Instr::Num(d, n) => Two(Mnemonic::Num, Register(d), Number(n)),
+        Instr::Get(d, k) => Two(Mnemonic::Get, Register(d), Input(k)),
+        Instr::Side(d) => One(Mnemonic::Side, Register(d)),
+        Instr::Draw(d, k, t) => Three(Mnemonic::Draw, Register(d), Number(u32::from(k)), Number(t)),
+        Instr::Copy(d, a) => Two(Mnemonic::Copy, Register(d), Register(a)),
+        Instr::Add(d, a, b) => Three(Mnemonic::Add, Register(d), Register(a), Register(b)),
+        Instr::Sub(d, a, b) => Three(Mnemonic::Sub, Register(d), Register(a), Register(b)),
+        Instr::Mul(d, a, n) => Three(Mnemonic::Mul, Register(d), Register(a), Number(n)),
+        Instr::Div(d, a, n) => Three(Mnemonic::Div, Register(d), Register(a), Number(n)),
+        Instr::Min(d, a, b) => Three(Mnemonic::Min, Register(d), Register(a), Register(b)),
+        Instr::Max(d, a, b) => Three(Mnemonic::Max, Register(d), Register(a), Register(b)),
+        Instr::Not(d, a) => Two(Mnemonic::Not, Register(d), Register(a)),
+        Instr::And(d, a, b) => Three(Mnemonic::And, Register(d), Register(a), Register(b)),
+        Instr::Or(d, a, b) => Three(Mnemonic::Or, Register(d), Register(a), Register(b)),
+        Instr::Jump(pc) => One(Mnemonic::Jump, target(count, pc)),
         Instr::JumpLess(a, b, pc) => {
-            push_two_target(alloc, out, count, Mnemonic::JumpLess, a, b, pc)
+            let to = target(count, pc);
+            Three(Mnemonic::JumpLess, Register(a), Register(b), to)
         }
         Instr::JumpAtMost(a, b, pc) => {
-            push_two_target(alloc, out, count, Mnemonic::JumpAtMost, a, b, pc)
+            let to = target(count, pc);
+            Three(Mnemonic::JumpAtMost, Register(a), Register(b), to)
         }
-        Instr::JumpTrue(a, pc) => push_one_target(alloc, out, count, Mnemonic::JumpTrue, a, pc),
-        Instr::JumpFalse(a, pc) => push_one_target(alloc, out, count, Mnemonic::JumpFalse, a, pc),
-        Instr::Go(a) => push_one(out, Mnemonic::Go, a),
-        Instr::Cross => out.extend_from_slice(mnemonic_text(Mnemonic::Cross)),
-        Instr::Stay => out.extend_from_slice(mnemonic_text(Mnemonic::Stay)),
+        Instr::JumpTrue(a, pc) => Two(Mnemonic::JumpTrue, Register(a), target(count, pc)),
+        Instr::JumpFalse(a, pc) => Two(Mnemonic::JumpFalse, Register(a), target(count, pc)),
+        Instr::Go(a) => One(Mnemonic::Go, Register(a)),
+        Instr::Cross => Bare(Mnemonic::Cross),
+        Instr::Stay => Bare(Mnemonic::Stay),
+    }
+}
+
+/// A row.
+fn push_row(alloc: Global, out: &mut Vec<u8>, row: Row) -> Result<(), AllocError>
+    ensures { OnOk result (out.new.items ≡ out.old.items ++ row_says row) }
+{
+    match row {
+        Bare(name) => out.extend_from_slice(mnemonic_text(name)),
+        One(name, a) => push_one(alloc, out, name, a),
+        Two(name, a, b) => push_two(alloc, out, name, a, b),
+        Three(name, a, b, c) => push_three(alloc, out, name, a, b, c),
     }
 }
 
@@ -208,9 +171,8 @@ pub(crate) fn push_line(
     ensures word { HasWord instr }
 {
     if marked {
-        out.extend_from_slice(b"L")?;
-        push_number(alloc, out, pc)?;
+        push_number(alloc, out, "L", pc)?;
         out.extend_from_slice(b": ")?;
     }
-    push_instr(alloc, out, count, instr)
+    push_row(alloc, out, row_of(count, instr))
 }

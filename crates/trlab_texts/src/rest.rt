@@ -90,14 +90,11 @@ impl<'a> Rest<'a> {
             (λ found. IsNextLine self.entry found.0.now found.1)
             (λ fault. (self.entry.left ≡ []) × (fault ≡ TextFault.At self.entry.number Cause.Line)) }
     {
-        let line = self.number();
-        match self.next() {
-            Some(found) => Ok(found),
-            None => Err(TextFault::At {
-                line,
-                cause: Cause::Line,
-            }),
-        }
+        let fault = TextFault::At {
+            line: self.number(),
+            cause: Cause::Line,
+        };
+        self.next().ok_or(fault)
     }
 
     /// What the next line says by a rule, and the rest behind it.

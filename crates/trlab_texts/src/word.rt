@@ -59,11 +59,9 @@ pub fn head_word(line: &[u8]) -> &[u8]
 pub fn two_words(text: &[u8]) -> Option<(&[u8], &[u8])>
     ensures { option_map (λ words. (words.0.now, words.1.now)) result ≡ two_words text.now }
 {
-    let (first, second) = cut(text, b' ')?;
-    if is_word(first) && is_word(second) {
-        Some((first, second))
-    } else {
-        None
+    match cut(text, b' ') {
+        Some((first, second)) if is_word(first) && is_word(second) => Some((first, second)),
+        _ => None,
     }
 }
 
@@ -96,14 +94,8 @@ pub fn number_from(low: u32, high: u32, word: &[u8]) -> Result<u32, Cause>
     ensures { result ≡ within low high (number_of word.now) }
 {
     match number(word) {
-        Some(n) => {
-            if u64::from(low) <= n && n <= u64::from(high) {
-                Ok(n as u32)
-            } else {
-                Err(Cause::Number)
-            }
-        }
-        None => Err(Cause::Number),
+        Some(n) if u64::from(low) <= n && n <= u64::from(high) => Ok(n as u32),
+        _ => Err(Cause::Number),
     }
 }
 
@@ -116,10 +108,7 @@ pub fn number_from(low: u32, high: u32, word: &[u8]) -> Result<u32, Cause>
 pub fn long_number(word: &[u8]) -> Result<u64, Cause>
     ensures { result ≡ within 0 LONGEST_NUMBER (number_of word.now) }
 {
-    match number(word) {
-        Some(n) => Ok(n),
-        None => Err(Cause::Number),
-    }
+    number(word).ok_or(Cause::Number)
 }
 
 /// The number from `low` to `high` that is the one word of a line behind its name.
