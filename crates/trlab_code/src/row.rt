@@ -226,6 +226,13 @@ fn candidate(row: Row) -> Instr
     }
 }
 
+/// Is this the row of an instruction?
+fn spells(row: Row, instr: Instr) -> bool
+    ensures { IsTrue result ↔ (row ≡ row_of instr) }
+{
+    row_of(instr) == row
+}
+
 /// The instruction of a row in spellings of a version, where the row has its fields in range and is 0 in
 /// what it does not use.
 pub(crate) fn instruction_of(row: Row, version: u8) -> Option<Instr>
@@ -235,7 +242,7 @@ pub(crate) fn instruction_of(row: Row, version: u8) -> Option<Instr>
         (row ≡ row_of instr) × IsInRange instr × IsOfVersion version instr) }
 {
     let instr = candidate(row);
-    if row_of(instr) == row && is_in_range(instr) && is_of_version(instr, version) {
+    if spells(row, instr) && is_in_range(instr) && is_of_version(instr, version) {
         Some(instr)
     } else {
         None

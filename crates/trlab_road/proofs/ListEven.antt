@@ -1,10 +1,10 @@
 -- Lists of evenly spread cars.
-use Rattle.std.proofs.Common.{◌≡◌, ◌≢◌, ℕ, ◌+◌, ◌*◌, ◌/◌, ◌<◌, ◌≤◌, Some, List, [], ◌∷◌, ◌++◌, length, set, sym, ◌∙◌, ap, subst, inl, inr, arith}
+use Rattle.std.proofs.Common.{◌≡◌, ◌≢◌, ℕ, zero, suc, ◌+◌, ◌*◌, ◌/◌, ◌<◌, ◌≤◌, Some, List, [], ◌∷◌, ◌++◌, Vec, Global, length, set, sym, ◌∙◌, ap, subst, inl, inr, arith}
 use Rattle.std.proofs.Math.Nat.{div-add-mod, mul-le-mul_left}
 use Rattle.std.proofs.lemmas.Bool.{cases_lt}
 use Rattle.trlab_road.specs.LaneCars.{LaneCar}
 use Rattle.trlab_road.specs.Spreading.{flat_cell, even_lane, even_place}
-use Rattle.trlab_road.specs.Stored.{cells_of, Rises, place_of}
+use Rattle.trlab_road.specs.Stored.{cells_of, Rises, place_of, list_at}
 use Rattle.trlab_road.proofs.ListPush.{below_push, cells_empty, cells_push, rises_push}
 use Rattle.trlab_road.proofs.EvenLanes.{EvenUpTo, even_none, even_skip, even_more, even_inside, flat_rises}
 
@@ -48,3 +48,22 @@ list_more lanes cells n l i cars car some room low e on is =
           (sym (cells_push cells cars car past (omega (arith, place, inside)) ∙ ap (λ (c : LaneCar). set (cells_of cells cars) c.place (Some (c.number, c.speed))) is))
           (even_more lanes cells n l i (cells_of cells cars) some room low e.even on);
     }
+
+-- what holds of each list yet, where one of them was written
+written_all : (P : ℕ → List LaneCar → Type 0) (lists : List (Vec LaneCar Global)) (l : ℕ) (v : Vec LaneCar Global) → l < length lists → P l v.items
+    → ((k : ℕ) → k < length lists → k ≢ l → P k (list_at lists k)) → (k : ℕ) → k < length lists → P k (list_at (set lists l v) k)
+written_all P [] l v inside here other k h = absurd (omega (arith, h))
+written_all P (w ∷ lists) zero v inside here other zero h = here
+written_all P (w ∷ lists) zero v inside here other (suc k) h = other (suc k) h (λ e. omega (arith, e))
+written_all P (w ∷ lists) (suc l) v inside here other zero h = other zero h (λ e. omega (arith, e))
+written_all P (w ∷ lists) (suc l) v inside here other (suc k) h =
+    written_all (λ j xs. P (suc j) xs) lists l v (omega (arith, inside)) here (λ j low apart. other (suc j) (omega (arith, low)) (λ e. apart (omega (arith, e)))) k (omega (arith, h))
+
+-- the next car stands at the end of the list of its lane
+pub lists_more : (lanes cells n i l : ℕ) (lists : List (Vec LaneCar Global)) (v : Vec LaneCar Global) (car : LaneCar) → 0 < lanes → n ≤ lanes * cells → i < n → even_lane lanes cells n i ≡ l → l < length lists
+    → ((k : ℕ) → k < length lists → EvenList lanes cells n k i (list_at lists k)) → car ≡ record { number = i; place = even_place lanes cells n i; speed = 0 } → v.items ≡ list_at lists l ++ car ∷ []
+    → (k : ℕ) → k < length lists → EvenList lanes cells n k (i + 1) (list_at (set lists l v) k)
+lists_more lanes cells n i l lists v car some room low on inside before is added =
+    written_all (λ k xs. EvenList lanes cells n k (i + 1) xs) lists l v inside
+    (rw added (list_more lanes cells n l i (list_at lists l) car some room low (before l inside) on is))
+    (λ k h other. list_skip lanes cells n k i (list_at lists k) (before k h) (λ e. other (sym e ∙ on)))

@@ -105,20 +105,19 @@ fn change_lane(
                 i += 1;
             } else {
                 let end = run_end(own, crosses, i, due);
-                let (_, rest) = own.cars.split_at(i);
-                let (run, _) = rest.split_at(end - i);
-                next.extend_from_slice(run)?;
+                next.extend_from_slice(&own.cars[i..end])?;
                 i = end;
             }
             standing = next_place(own.cars, i, cells);
         } else {
             // who comes finds the cell empty, or its car leaves
             let own_here = standing == due;
-            if own_here && !crosses[own.from + i] {
-                next.push(car_at(own.cars, i))?;
+            let car = if own_here && !crosses[own.from + i] {
+                car_at(own.cars, i)
             } else {
-                next.push(car_at(coming, j))?;
-            }
+                car_at(coming, j)
+            };
+            next.push(car)?;
             i += usize::from(own_here);
             j += 1;
             standing = next_place(own.cars, i, cells);

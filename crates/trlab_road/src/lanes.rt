@@ -1,6 +1,6 @@
 //! The lanes of a road, each the list of its cars by rising place.
 
-ghost use Rattle.std.specs.Prelude.{ℕ, ◌≡◌, ◌*◌, ◌<◌, ◌≤◌, ◌↔◌, IsTrue, IfOk, length, slice_index_or, sum_by};
+ghost use Rattle.std.specs.Prelude.{ℕ, ◌≡◌, ◌*◌, ◌<◌, ◌≤◌, ◌↔◌, IsTrue, IfOk, [], length, slice_index_or, sum_by};
 ghost use Rattle.trlab_bounds.specs.declared.roads.TheConstants.{GREATEST_LENGTH, MOST_LANES};
 ghost use Rattle.trlab_road.specs.Stored.{IsFoundAt, list_at, lists_of, no_car, car_on};
 
@@ -59,6 +59,18 @@ pub fn count_cars(lanes: &[Vec<LaneCar>]) -> u32
         count += lane.len() as u32;
     }
     count
+}
+
+/// So many lanes, with no car.
+pub fn empty_lanes(alloc: Global, count: usize) -> Result<Vec<Vec<LaneCar>>, AllocError>
+    ensures same_count { IfOk result (λ lanes. length lanes.items ≡ count) }
+    ensures empty { IfOk result (λ lanes. (l : ℕ) → list_at lanes.items l ≡ []) }
+{
+    let mut lanes = Vec::new(alloc);
+    for _ in 0..count {
+        lanes.push(Vec::new(alloc))?;
+    }
+    Ok(lanes)
 }
 
 /// The same lanes once more.

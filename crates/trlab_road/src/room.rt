@@ -3,6 +3,7 @@
 ghost use Rattle.std.specs.Prelude.{◌≡◌, length, IfOk};
 
 use crate::lane_car::LaneCar;
+use crate::lanes::empty_lanes;
 use std::alloc::{AllocError, Global};
 use std::mem;
 
@@ -34,7 +35,7 @@ impl Room {
         if lists.len() == 2 {
             return Ok(lists);
         }
-        Ok(vec![in alloc; Vec::new(alloc), Vec::new(alloc)]?)
+        empty_lanes(alloc, 2)
     }
 
     /// Keeps lists that are no longer needed.

@@ -1,12 +1,13 @@
 //! Cars evenly spread: the cells of all lanes in a row, place by place, are shared out among the cars.
 
-ghost use Rattle.std.specs.Prelude.{◌≡◌, ◌*◌, ◌<◌, ◌≤◌, ℕ, length, IfOk, MatchResult};
+ghost use Rattle.std.specs.Prelude.{◌≡◌, ◌*◌, ◌/◌, ◌<◌, ◌≤◌, ℕ, length, IfOk, MatchResult};
 ghost use Rattle.trlab_bounds.specs.declared.roads.TheConstants.{GREATEST_LENGTH, MOST_LANES};
 ghost use Rattle.trlab_road.specs.Stored.{AreSorted, cells_of, list_at};
 ghost use Rattle.trlab_road.specs.Spreading.{CanSpread, IsEvenFault, IsEvenLane};
 
 use crate::fault::RoadFault;
 use crate::lane_car::LaneCar;
+use crate::lanes::empty_lanes;
 use std::alloc::{AllocError, Global};
 use trlab_bounds::roads::{GREATEST_LENGTH, GREATEST_LIMIT, MOST_LANES};
 
@@ -31,6 +32,16 @@ pub fn check_even(lanes: u32, cells: u32, limit: u32, count: u32) -> Result<(), 
     Ok(())
 }
 
+/// The flat cell of a car, where so many cars are spread over so many cells.
+fn flat_cell(cells: usize, count: usize, number: usize) -> usize
+    requires few { cells ≤ MOST_LANES * GREATEST_LENGTH }
+    requires room { count ≤ cells }
+    requires below { number < count }
+    ensures { result ≡ number * cells / count }
+{
+    number * cells / count
+}
+
 /// The lanes over which cars are evenly spread, all with speed 0.
 pub fn even_lanes(
     alloc: Global,
@@ -47,19 +58,10 @@ pub fn even_lanes(
     ensures each_lane { IfOk result (λ next. (l : ℕ) → l < lanes
         → IsEvenLane lanes cells count l (cells_of cells (list_at next.items l))) }
 {
-    let mut first = Vec::new(alloc);
-    let mut second = Vec::new(alloc);
+    let mut next = empty_lanes(alloc, lanes)?;
     for number in 0..count {
-        let flat = number * (lanes * cells) / count;
-        let car = LaneCar::new(number as u32, (flat / lanes) as u32, 0);
-        if flat % lanes == 0 {
-            first.push(car)?;
-        } else {
-            second.push(car)?;
-        }
+        let flat = flat_cell(lanes * cells, count, number);
+        next[flat % lanes].push(LaneCar::new(number as u32, (flat / lanes) as u32, 0))?;
     }
-    if lanes == 1 {
-        return Ok(vec![in alloc; first]?);
-    }
-    Ok(vec![in alloc; first, second]?)
+    Ok(next)
 }

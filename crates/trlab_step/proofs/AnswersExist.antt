@@ -1,5 +1,6 @@
 -- Accepted programs answer to each car of a legal road.
-use Rattle.std.proofs.Common.{◌≡◌, ℕ, zero, suc, ◌-◌, ◌<◌, ◌≤◌, Bool, true, false, cond, Some, None, length, refl, subst, arith}
+use Rattle.std.proofs.Common.{◌≡◌, ℕ, zero, suc, ◌-◌, ◌<◌, ◌≤◌, Bool, Option, true, false, cond, Some, None, length, refl, subst, arith}
+use Rattle.trlab_bounds.specs.declared.roads.TheConstants.{GREATEST_LENGTH}
 use Rattle.std.specs.Prelude.{is_none}
 use Rattle.trlab_words.proofs.RandomWords.{length-random_words}
 use Rattle.trlab_code.specs.declared.kind.Kind.TheVariants.{Motion, Change}
@@ -36,13 +37,26 @@ or_none : (b : Bool) (n most : ℕ) → n ≤ most → cond b n 0 ≤ most
 or_none true n most h = h
 or_none false n most h = omega arith
 
+short_run : (run n cells : ℕ) → run ≤ n - 1 → n ≡ cells → cells ≤ GREATEST_LENGTH → run ≤ 99999
+short_run run n cells most size high = omega (arith, most, size, high)
+
+not_below : (n : ℕ) → 0 ≤ n
+not_below n = omega arith
+
+lane_beside : (l lanes : ℕ) → lanes ≡ 2 → other_lane l < lanes
+lane_beside l lanes two = omega (arith, two)
+
+lane_low : (l lanes : ℕ) → l < lanes → lanes ≡ 2 → l ≤ 1
+lane_low l lanes on two = omega (arith, on, two)
+
+-- an empty cell holds no car
+not_some : {A : Type 0} {a : A} → ◌≡◌ {A = Option A} None (Some a) → ⊥
+not_some h = cc
+
 -- a lane of a legal road, and so what is seen on it, is short
 pub seen_within : (road : Cells) (l : ℕ) (way : ℕ → ℕ) → IsLegal road → l < length road.lanes → clear_cells (lane_of road l) way ≤ 99999
 seen_within road l way legal on =
-    let size = legal.shape.equal l on in
-    let most = clear_within (lane_of road l) way in
-    let high = legal.shape.cells.few_cells in
-    omega (arith, size, most, high)
+    short_run (clear_cells (lane_of road l) way) (length (lane_of road l)) (length (lane_of road 0)) (clear_within (lane_of road l) way) (legal.shape.equal l on) legal.shape.cells.few_cells
 
 -- what the motion program of a car of a legal road sees is in range
 pub motion_view_is_view : (road : Cells) (car : Car) → IsLegal road → IsAt road car → IsView (motion_view_of road car)
@@ -51,9 +65,9 @@ motion_view_is_view road car legal here = record {
   some_limit = legal.shape.limit.some_limit;
   limit = legal.shape.limit.low_limit;
   gap = seen_within road car.lane (ahead (length (lane_of road car.lane)) car.place) legal (on_lane road car.lane car.place (car.number, car.speed) here);
-  sidegap = omega arith;
-  sideback = omega arith;
-  lane = omega arith;
+  sidegap = not_below 99999;
+  sideback = not_below 99999;
+  lane = not_below 1;
   headspeed = headspeed_within road car.lane car.place legal;
 }
 
@@ -63,7 +77,7 @@ change_view_is_view road car legal two here =
     let l = car.lane in
     let x = car.place in
     let on = on_lane road l x (car.number, car.speed) here in
-    let beside : other_lane l < length road.lanes = omega (arith, two) in
+    let beside = lane_beside l (length road.lanes) two in
     let other = lane_of road (other_lane l) in
     let empty = side other x in
     record {
@@ -73,7 +87,7 @@ change_view_is_view road car legal two here =
       gap = seen_within road l (ahead (length (lane_of road l)) x) legal on;
       sidegap = or_none empty (clear_cells other (ahead (length other) x)) 99999 (seen_within road (other_lane l) (ahead (length other) x) legal beside);
       sideback = or_none empty (clear_cells other (behind (length other) x)) 99999 (seen_within road (other_lane l) (behind (length other) x) legal beside);
-      lane = omega (arith, on, two);
+      lane = lane_low l (length road.lanes) on two;
       headspeed = headspeed_within road l x legal;
     }
 
@@ -87,7 +101,7 @@ record AnswersCell (motion : CheckedProgram) (dice : Dice) (road : Cells) (l x :
   within_limit : (number speed : ℕ) → c ≡ Some (number, speed) → v ≤ road.limit
 
 answer_of : (motion : CheckedProgram) (dice : Dice) (road : Cells) → IsChecked Motion motion → IsLegal road → (l x : ℕ) (c : Cell) → cell road l x ≡ c → (v : ℕ) × AnswersCell motion dice road l x c v
-answer_of motion dice road checked legal l x None empty = (0, record { answers = λ number speed h. absurd cc; within_gap = λ number speed h. absurd cc; within_limit = λ number speed h. absurd cc })
+answer_of motion dice road checked legal l x None empty = (0, record { answers = λ number speed h. absurd (not_some h); within_gap = λ number speed h. absurd (not_some h); within_limit = λ number speed h. absurd (not_some h) })
 answer_of motion dice road checked legal l x (Some here) is =
     let car = car_in l x here.0 here.1 in
     let ends = checked_motion_moves motion (motion_view_of road car) (words_of dice here.0) checked (motion_view_is_view road car legal is) (length-random_words dice.key dice.road here.0 dice.step) in (
@@ -121,7 +135,7 @@ record ChoosesCell (change : CheckedProgram) (dice : Dice) (road : Cells) (l x :
   side_empty : (number speed : ℕ) → c ≡ Some (number, speed) → crosses ≡ true → cell road (other_lane l) x ≡ None
 
 crossing_of : (change : CheckedProgram) (dice : Dice) (road : Cells) → IsChecked Change change → IsLegal road → length road.lanes ≡ 2 → (l x : ℕ) (c : Cell) → cell road l x ≡ c → (crosses : Bool) × ChoosesCell change dice road l x c crosses
-crossing_of change dice road checked legal two l x None empty = (false, record { answers = λ number speed h. absurd cc; side_empty = λ number speed h. absurd cc })
+crossing_of change dice road checked legal two l x None empty = (false, record { answers = λ number speed h. absurd (not_some h); side_empty = λ number speed h. absurd (not_some h) })
 crossing_of change dice road checked legal two l x (Some here) is =
     let car = car_in l x here.0 here.1 in
     let ends = checked_change_answers change (change_view_of road car) (words_of dice here.0) checked (change_view_is_view road car legal two is) (length-random_words dice.key dice.road here.0 dice.step) in (

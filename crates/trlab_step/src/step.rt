@@ -1,6 +1,6 @@
 //! One step of a road under a rule: the lane change, where the rule has one, and then the motion.
 
-ghost use Rattle.std.specs.Prelude.{◌≡◌, Some, IfOk, OnOk, OnErr, IsSome, length};
+ghost use Rattle.std.specs.Prelude.{◌≡◌, ◌↔◌, Some, IfOk, OnOk, OnErr, IsSome, IsTrue, length};
 ghost use Rattle.trlab_road.specs.LaneChange.{CleanLaneChange};
 ghost use Rattle.trlab_road.specs.Legal.{IsLegal};
 ghost use Rattle.trlab_road.specs.Motion.{CleanMotion};
@@ -19,6 +19,14 @@ use trlab_road::Road;
 use trlab_rules::Rule;
 use trlab_verify::{Change, Motion};
 use trlab_words::Key;
+
+/// Has a road one lane, and the rule a change program?
+fn lanes_mismatch(road: &Road, rule: &Rule) -> bool
+    ensures value { IsTrue result ↔ (IsSome rule.now.change × (length road.now.lanes ≡ 1)) }
+    ensures legal { IsLegal road.now }
+{
+    road.lanes() == 1 && rule.change().is_some()
+}
 
 /// The next road under a rule, and what was counted in the step.
 ///
@@ -40,7 +48,7 @@ pub fn step_road_by<A: Asker>(
     requires { A.is_ready asker.now }
     ensures { TellsNext rule.now dice.now road.now result }
 {
-    if rule.change().is_some() && road.lanes() == 1 {
+    if lanes_mismatch(road, rule) {
         return Err(StepFault::LanesMismatch);
     }
     let mut next = road.copy(alloc)?;

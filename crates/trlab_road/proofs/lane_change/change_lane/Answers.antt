@@ -1,11 +1,11 @@
-use Rattle.std.proofs.Common.{◌≡◌, ◌-◌, ◌≤◌, take, drop, ◌++◌, ◌≢◌, nat_eq, ◌+◌, ◌<◌, ◌∙◌, ℕ, Bool, true, false, None, refl, sym, cond, min, subst, length, arith}
+use Rattle.std.proofs.Common.{◌≡◌, ◌-◌, ◌≤◌, take, drop, [], ◌∷◌, ◌++◌, ◌≢◌, nat_eq, ◌+◌, ◌<◌, ◌∙◌, ℕ, Bool, true, false, None, refl, sym, cond, min, subst, length, arith}
 use Rattle.std.proofs.lemmas.Bool.{eqb-true, eqb-false}
 use Rattle.trlab_road.specs.LaneChange.{cell_after_change}
 use Rattle.trlab_road.specs.Cells.{Cell}
 use Rattle.trlab_road.specs.Stored.{cells_of, cell_at, lane_crosses_at, place_of, IsFirstFrom}
 use Rattle.trlab_road.proofs.ListLaneChange.{Merged, merged_none, merged_next, merged_skip, merged_push, merged_all, crosses_here, sought_here, sought_none, sought_past, sought_next, due_low, own_low, coming_low, due_none, due_past, due_within, stays, first_at, merged_run}
 use Rattle.trlab_road.proofs.Lists.{rises_high}
-use Rattle.trlab_road.proofs.lane_change.change_lane.Goals.{then-crosses-own, else-crosses-own+in_ok-extend_from_slice, then-own_here+then-not-crosses-own+in_ok-push, else-own_here+in_ok-push-2, else-own_here-via-then-own_here+else-not-crosses-own, else-own_here-via-else-own_here}
+use Rattle.trlab_road.proofs.lane_change.change_lane.Goals.{then-crosses-own, else-crosses-own+in_ok-extend_from_slice, then-own_here+then-not-crosses-own, else-own_here, else-own_here-via-then-own_here+else-not-crosses-own, else-own_here-via-else-own_here}
 use Rattle.trlab_road.proofs.lane_change.change_lane.Goals as goal
 
 pub loop-standing-init : goal.loop-standing-init
@@ -86,7 +86,7 @@ loop-standing-preserved-then-standing-due c =
           (λ k a b. w.run_end-end.ensures.before k a (omega (arith, b, index))) stay in (
             run.0,
             (
-              rw (w.next-is, w.i-is, w.in_ok-extend_from_slice.ensures.items, w.split_at-else-crosses-own.ensures.front, w.split_at.ensures.back)
+              rw (w.next-is, w.i-is, w.in_ok-extend_from_slice.ensures.items)
                   (subst (λ e. Merged n own beside oc bc (items ++ take (end - i) (drop i own)) e j run.0) index run.1.0),
               run.1.1,
             ),
@@ -132,19 +132,19 @@ loop-standing-preserved c =
     let apart : standing ≢ x → i < length own → place_of own i ≢ x = λ other on e. other (own_due.here on ∙ e) in
     let s : IsFirstFrom own (x + 1) (i + c.from-i.result) =
     rw c.from-i.ensures (sought_next n own x i (nat_eq standing x) r m.own_at (λ e. own_low (eqb-true standing x e)) (λ e. own_there (eqb-true standing x e)) (λ f. apart (eqb-false standing x f))) in
-    let step : Merged n own beside oc bc c.if-own_here.next.items (i + c.from-i.result) (j + 1) (x + 1) =
+    let step : Merged n own beside oc bc (items ++ c.if-own_here.car ∷ []) (i + c.from-i.result) (j + 1) (x + 1) =
     elim c.if-own_here.branch [
-      | then-own_here+then-not-crosses-own+in_ok-push w ↦
+      | then-own_here+then-not-crosses-own w ↦
           let same : standing ≡ x = w.if-own_here.true in
           let own_here = sought_here n own x i r m.own_at (own_low same) (own_there same) in
-          rw (w.next-is, w.in_ok-push.ensures.items, w.car_at.ensures)
+          rw (w.car-is, w.car_at-car.ensures)
           (merged_push n own beside oc bc r q items i j x m _ _ (j + 1) s t inside (own_there same) (stays (oc x) (cell_at own x) (cell_at beside x) _ own_here (sym answer ∙ w.if-not-crosses-own.true)))
-      | else-own_here+in_ok-push-2 w ↦
+      | else-own_here w ↦
           let gone : cond (oc x) None (cell_at own x) ≡ None = elim w.else-own_here.branch [
             | else-own_here-via-then-own_here+else-not-crosses-own w' ↦ left (oc x) (cell_at own x) (sym answer ∙ w'.if-not-crosses-own.false)
             | else-own_here-via-else-own_here w' ↦ empty (oc x) (cell_at own x) (sought_none n own x i r m.own_at (apart w'.if-own_here.false))
           ] in
-          rw (w.next-is, w.in_ok-push-2.ensures.items, w.car_at-else-own_here.ensures)
+          rw (w.car-is, w.car_at-car-else-own_here.ensures)
           (merged_push n own beside oc bc r q items i j x m _ _ (j + 1) s t inside there (sym here ∙ comes (oc x) (cell_at own x) (cell_at beside x) gone))
     ] in
     let further = c.next_place-standing-else-standing-due.ensures in
@@ -152,7 +152,7 @@ loop-standing-preserved c =
     record {
       own_due = record { here = further.here; past = further.past };
       coming_due = record { here = due.here; past = due.past };
-      merged = merged_next n own beside oc bc r q _ (i + c.from-i.result) (j + 1) (x + 1) _ _ _ step (omega (arith, inside)) further.here further.past due.here due.past refl;
+      merged = rw c.in_ok-push.ensures.items (merged_next n own beside oc bc r q _ (i + c.from-i.result) (j + 1) (x + 1) _ _ _ step (omega (arith, inside)) further.here further.past due.here due.past refl);
     }
 
 pub returns-clause-crosses : goal.returns-clause-crosses
@@ -176,30 +176,24 @@ run_end-end-requires-clause-before c =
     let later = c.if-standing-due.true in
     omega (arith, here, later)
 
-pub split_at-requires : goal.split_at-requires
-split_at-requires c =
-    let end = c.run_end-end.ensures.within.0 in
-    let within = c.run_end-end.ensures.within.1 in
-    omega (arith, end, within)
+pub slice_bounds-extend_from_slice-count : goal.slice_bounds-extend_from_slice-count
+slice_bounds-extend_from_slice-count c = let after = c.run_end-end.ensures.within.0 in let within = c.run_end-end.ensures.within.1 in omega (arith, after, within)
 
-pub overflow_sub-end : goal.overflow_sub-end
-overflow_sub-end c = let end = c.run_end-end.ensures.within.0 in omega (arith, end)
+pub slice_bounds-extend_from_slice-start : goal.slice_bounds-extend_from_slice-start
+slice_bounds-extend_from_slice-start c = let after = c.run_end-end.ensures.within.0 in let within = c.run_end-end.ensures.within.1 in omega (arith, after, within)
 
-pub split_at-requires-else-crosses-own : goal.split_at-requires-else-crosses-own
-split_at-requires-else-crosses-own c =
-    let within = c.run_end-end.ensures.within.1 in
-    let back = c.split_at.ensures.back_len in
-    omega (arith, within, back)
+pub slice_bounds-extend_from_slice-end : goal.slice_bounds-extend_from_slice-end
+slice_bounds-extend_from_slice-end c = let after = c.run_end-end.ensures.within.0 in let within = c.run_end-end.ensures.within.1 in omega (arith, after, within)
 
-pub car_at-requires : goal.car_at-requires
-car_at-requires c =
+pub car_at-car-requires : goal.car_at-car-requires
+car_at-car-requires c =
     let test = c.loop-standing-test.true in
     let is = c.min.ensures in
     let same = c.if-own_here.true in
     due_low _ _ _ _ c.loop-standing.invariant.own_due (omega (arith, test, is, same))
 
-pub car_at-requires-else-own_here : goal.car_at-requires-else-own_here
-car_at-requires-else-own_here c = coming_low _ _ _ _ _ _ c.loop-standing.invariant.coming_due c.min.ensures c.loop-standing-test.true c.if-standing-due.false
+pub car_at-car-requires-else-own_here : goal.car_at-car-requires-else-own_here
+car_at-car-requires-else-own_here c = coming_low _ _ _ _ _ _ c.loop-standing.invariant.coming_due c.min.ensures c.loop-standing-test.true c.if-standing-due.false
 
 pub loop-standing-smaller-then-standing-due : goal.loop-standing-smaller-then-standing-due
 loop-standing-smaller-then-standing-due c =

@@ -1,9 +1,11 @@
+use Rattle.std.proofs.Common.{ℕ, ◌≡◌, ◌<◌, length}
+use Rattle.trlab_road.specs.Stored.{list_at}
 use Rattle.trlab_road.proofs.ListEven.{EvenList}
 use Rattle.trlab_road.proofs.spreading.even_lanes.Given as goal
 
--- the cars so far stand, on the first lane and on the second
+-- the cars so far stand, on each lane
 abbrev pub invariant-loop-number : goal.invariant-loop-number
 invariant-loop-number l = record {
-  first : EvenList l.lanes l.cells l.count 0 l.number l.first.items;
-  second : EvenList l.lanes l.cells l.count 1 l.number l.second.items;
+  same_lanes : length l.next.items ≡ l.lanes;
+  each_lane : (k : ℕ) → k < length l.next.items → EvenList l.lanes l.cells l.count k l.number (list_at l.next.items k);
 }
