@@ -226,7 +226,7 @@ fn candidate(row: Row) -> Instr
     }
 }
 
-/// Is this the row of an instruction?
+/// Whether this is the row of an instruction.
 fn spells(row: Row, instr: Instr) -> bool
     ensures { IsTrue result ↔ (row ≡ row_of instr) }
 {

@@ -20,7 +20,7 @@ use trlab_rules::Rule;
 use trlab_verify::{Change, Motion};
 use trlab_words::Key;
 
-/// Has a road one lane, and the rule a change program?
+/// Whether a road has one lane, and the rule a change program.
 fn lanes_mismatch(road: &Road, rule: &Rule) -> bool
     ensures value { IsTrue result ↔ (IsSome rule.now.change × (length road.now.lanes ≡ 1)) }
     ensures legal { IsLegal road.now }
