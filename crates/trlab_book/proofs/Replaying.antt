@@ -84,11 +84,13 @@ back_is_event s lease free =
         let refusal = refused StrangerLease job in
         let done : Outcome = record { reply = Done; job = record job { done = lease.step; out = None } } in
         cond_both (is_own lease job) done refusal (λ (o : Outcome). is_event o.reply ≡ true) (λ _. refl) (λ _. refl)
+
     by_job : Option JobState → Served
     by_job found = elim found [
       | None ↦ record { reply = Refused NoSuchJob; jobs = s.jobs }
       | Some job ↦ record { reply = (giving_back lease job).reply; jobs = slice_set s.jobs lease.job (giving_back lease job).job }
     ]
+
     of_job : (found : Option JobState) → is_event (by_job found).reply ≡ true
     of_job None = refl
     of_job (Some job) = taken job
