@@ -1,13 +1,22 @@
 -- One event more is one call more to replay.
-use Rattle.std.proofs.Common.{◌≡◌, ◌+◌, List, [], ◌∷◌, ◌++◌, false, map, refl, sym, ap, ◌∙◌, arith, length-append}
-use Rattle.std.proofs.lemmas.Bool.{cond-false}
+use Rattle.std.proofs.Common.{◌≡◌, ◌+◌, ◌↔◌, IsTrue, Bool, List, [], ◌∷◌, ◌++◌, true, false, map, refl, sym, ap, subst, ◌∙◌, arith, length-append, MatchBool, Option, Some, None, slice_get, slice_set}
+use Rattle.std.proofs.lemmas.Bool.{cond-false, cond_both, false≢true}
 use Rattle.std.proofs.lemmas.List.{map-append}
 use Rattle.std.proofs.Math.Logic.{∥∥₁_map}
 use Rattle.trlab_leases.specs.declared.event.Call.{Call}
 use Rattle.trlab_leases.specs.declared.event.Event.{Event}
+use Rattle.trlab_leases.specs.declared.event.Call.TheVariants.{GiveBack}
+use Rattle.trlab_leases.specs.declared.event.Offered.{Offered}
 use Rattle.trlab_leases.specs.declared.event.Reply.{Reply}
-use Rattle.trlab_leases.specs.Machine.{State, after, is_full, next_after, reply_of, served, start}
+use Rattle.trlab_leases.specs.declared.event.Reply.TheVariants.{Done, Refused}
+use Rattle.trlab_leases.specs.declared.fault.BookFault.TheVariants.{HistoryFull, NoSuchJob, StrangerLease}
+use Rattle.trlab_leases.specs.Answers.{is_event}
+use Rattle.trlab_leases.specs.Comparison.{IsSame, offered}
+use Rattle.trlab_leases.specs.Leases.{LeaseState}
+use Rattle.trlab_leases.specs.Machine.{JobState, Outcome, Served, State, after, giving_back, is_full, is_own, next_after, refused, reply_of, served, start}
 use Rattle.trlab_leases.specs.Replay.{Replays, call_of, event, replies_from, state_from, told_by}
+use Rattle.trlab_book.specs.declared.kept.Kept.{Kept}
+use Rattle.trlab_book.specs.Events.{Appends, IsUnchanged, Makes, TellsFull}
 
 replies_more : (s : State) (cs : List Call) (c : Call)
     → replies_from s (cs ++ c ∷ []) ≡ replies_from s cs ++ reply_of (state_from s cs) c ∷ []
@@ -48,3 +57,65 @@ pub replays_on : (history items : List Event) (s t : State) (c : Call) (told : R
     → told ≡ reply_of s c → t ≡ after s c → ∥ Replays items t ∥₁
 replays_on history items s t c told replays room items_are answered state_is =
     rw (items_are, answered, state_is) (∥∥₁_map replays (λ r. replays_more history s c r room))
+
+-- a call with an event's reply, noted behind the history
+makes : (old ready new : Kept) (call noted : Call) (told said : Reply) → IsUnchanged old ready
+    → new.history.items ≡ ready.history.items ++ event noted told ∷ [] → noted ≡ call → told ≡ said → is_event said ≡ true
+    → said ≡ reply_of ready.book call → new.book ≡ after ready.book call → Makes old call said new
+makes old ready new call noted told said same pushed noted_is told_is is_one answered state_is =
+    let here = ready.history.items in
+    let there = old.history.items in
+    subst (λ b. MatchBool b (Appends old call said new) (IsUnchanged old new)) (sym is_one) (record {
+      history = pushed ∙ ap (λ c. here ++ event c told ∷ []) noted_is ∙ ap (λ r. here ++ event call r ∷ []) (told_is ∙ answered)
+          ∙ ap (λ b. here ++ event call (reply_of b call) ∷ []) same.book
+          ∙ ap (λ xs. xs ++ event call (reply_of old.book call) ∷ []) same.history;
+      book = state_is ∙ ap (λ b. after b call) same.book;
+      answered = answered ∙ ap (λ b. reply_of b call) same.book;
+    })
+
+-- the reply to a lease that is given back is an event's, where the book is not full
+pub back_is_event : (s : State) (lease : Offered) → is_full s ≡ false → is_event (reply_of s (GiveBack lease)) ≡ true
+back_is_event s lease free =
+    ap is_event (cond-false (is_full s) (Refused HistoryFull) (served s (GiveBack lease)).reply free)
+    ∙ of_job (slice_get s.jobs lease.job)
+  where
+    taken : (job : JobState) → is_event (giving_back lease job).reply ≡ true
+    taken job =
+        let refusal = refused StrangerLease job in
+        let done : Outcome = record { reply = Done; job = record job { done = lease.step; out = None } } in
+        cond_both (is_own lease job) done refusal (λ (o : Outcome). is_event o.reply ≡ true) (λ _. refl) (λ _. refl)
+
+    by_job : Option JobState → Served
+    by_job found = elim found [
+      | None ↦ record { reply = Refused NoSuchJob; jobs = s.jobs }
+      | Some job ↦ record { reply = (giving_back lease job).reply; jobs = slice_set s.jobs lease.job (giving_back lease job).job }
+    ]
+
+    of_job : (found : Option JobState) → is_event (by_job found).reply ≡ true
+    of_job None = refl
+    of_job (Some job) = taken job
+
+-- an event's reply does not say that the history is full
+pub tells_event : (old : Kept) (said : Reply) → is_full old.book ≡ false → is_event said ≡ true → TellsFull old said
+tells_event old said free is_one =
+    (λ e. absurd (false≢true (sym (ap is_event e) ∙ is_one)), λ full. absurd (false≢true (sym free ∙ full)))
+
+-- two answers to one question are the same
+one_answer : (a b : Bool) (P : Type 0) → (IsTrue a ↔ P) → (IsTrue b ↔ P) → a ≡ b
+one_answer true true P x y = refl
+one_answer false false P x y = refl
+one_answer true false P x y = absurd (false≢true (y.1 (x.0 refl)))
+one_answer false true P x y = absurd (false≢true (x.1 (y.0 refl)))
+
+-- a lease that is given back, whichever way it is told whether it runs its job's road
+pub makes_back : (old ready new : Kept) (lease : LeaseState) (same other : Bool) (noted : Offered) (told said : Reply) → IsUnchanged old ready → is_full ready.book ≡ false
+    → IsTrue same ↔ IsSame ready.book.jobs lease → IsTrue other ↔ IsSame old.book.jobs lease
+    → new.history.items ≡ ready.history.items ++ event (GiveBack noted) told ∷ [] → noted ≡ offered lease same → told ≡ said
+    → said ≡ reply_of ready.book (GiveBack (offered lease same)) → new.book ≡ after ready.book (GiveBack (offered lease same))
+    → Makes old (GiveBack (offered lease other)) said new
+makes_back old ready new lease same other noted told said unchanged free is is_other pushed noted_is told_is answered state_is =
+    let mine = subst (λ (b : State). IsTrue other ↔ IsSame b.jobs lease) (sym unchanged.book) is_other in
+    let one = one_answer same other (IsSame ready.book.jobs lease) is mine in
+    subst (λ (s : Bool). Makes old (GiveBack (offered lease s)) said new) one
+    (makes old ready new (GiveBack (offered lease same)) (GiveBack noted) told said unchanged pushed (ap GiveBack noted_is) told_is
+    (ap is_event answered ∙ back_is_event ready.book (offered lease same) free) answered state_is)

@@ -3,6 +3,7 @@ use Rattle.std.proofs.Common.{◌≡◌, ℕ, ◌+◌, ◌<◌, ◌≤◌, ◌==
 use Rattle.std.proofs.lemmas.Option.{slice_get-get_or, get_or_from_slice_get}
 use Rattle.std.proofs.lemmas.List.{set-get_or}
 use Rattle.std.proofs.lemmas.Bool.{and_parts, cond-false, eqb-true, ltb-false}
+use Rattle.std.specs.Prelude.{if◌then◌else◌}
 use Rattle.std.specs.List.{position}
 use Rattle.trlab_road.specs.Cells.{Cells}
 use Rattle.trlab_step.specs.declared.tally.StepTally.{StepTally}
@@ -14,13 +15,13 @@ use Rattle.trlab_leases.specs.Jobs.{run_of, start_of}
 use Rattle.trlab_leases.specs.Sheets.{AreInForce}
 use Rattle.trlab_leases.specs.Leases.{LeaseState}
 use Rattle.trlab_leases.specs.declared.fault.BookFault.{BookFault}
-use Rattle.trlab_leases.specs.declared.fault.BookFault.TheVariants.{HistoryFull, NoSuchJob}
+use Rattle.trlab_leases.specs.declared.fault.BookFault.TheVariants.{HistoryFull, NoSuchJob, StrangerLease}
 use Rattle.trlab_leases.specs.declared.event.Reply.{Reply}
-use Rattle.trlab_leases.specs.declared.event.Reply.TheVariants.{Leased, Refused, Seen}
+use Rattle.trlab_leases.specs.declared.event.Reply.TheVariants.{Done, Leased, Refused, Seen}
 use Rattle.trlab_leases.specs.declared.order.Order.{Order}
 use Rattle.trlab_step.specs.Run.{IsRoadAt, Sheet, in_force}
 use Rattle.trlab_leases.specs.Comparison.{IsFresh, IsLent, IsOwnRun, IsRuleAt, IsSame, IsSeen, IsSnapshotOf, LeaseCall}
-use Rattle.trlab_leases.specs.Machine.{JobState, Outcome, Served, State, after, is_free, is_full, is_out, is_own, leasing, next_after, on_free, on_job, reading, reply_of, served}
+use Rattle.trlab_leases.specs.Machine.{JobState, Outcome, Served, State, after, is_free, is_full, is_out, is_own, giving_back, leasing, next_after, on_free, on_job, reading, refused, reply_of, served}
 
 -- a job that is there
 pub found : (jobs : List JobState) (i : ℕ) (j : JobState) → i < length jobs → j ≡ slice_index_or jobs i j → slice_get jobs i ≡ Some j
@@ -170,3 +171,11 @@ pub runs_not : (job now : JobState) (lease : LeaseState) (road : Cells) (sum : S
     → (lease.base.road ≡ road → ⊥) → IsOwnRun now lease → ⊥
 runs_not job now lease road sum view run other own =
     other (road_at_is_one (start_of now.seed) now.sheet now.done lease.base.road road own.base (sum, run.comes))
+
+-- a lease that is given back is refused where it is not the one that is out, and taken where it is
+pub back_refused : (lease : Offered) (job : JobState) → is_own lease job ≡ false → giving_back lease job ≡ refused StrangerLease job
+back_refused lease job other = ap (λ own. if own then record { reply = Done; job = record job { done = lease.step; out = None } } else refused StrangerLease job) other
+
+pub back_taken : (lease : Offered) (job : JobState) → is_own lease job ≡ true → Done ≡ (giving_back lease job).reply
+back_taken lease job own =
+    sym (ap (λ own. (if own then record { reply = Done; job = record job { done = lease.step; out = None } } else refused StrangerLease job).reply) own)

@@ -104,7 +104,7 @@ go_on_at seed sheet step sum xs i ran last h e way =
     (subst (λ (v : List Ran). WayOn seed sheet step sum v last) (drop_more xs i ran h ∙ ap (λ r. r ∷ drop (i + 1) xs) (sym e)) way)
 
 -- a lease that runs one step more stays one
-pub lease_goes_on : (lease : LeaseState) (rule : Programs) (tally : StepTally) (next : Cells) (dice : Dice) → dice.key ≡ lease.key.0 → dice.road ≡ lease.road_number → dice.step ≡ lease.step
+lease_goes_on : (lease : LeaseState) (rule : Programs) (tally : StepTally) (next : Cells) (dice : Dice) → dice.key ≡ lease.key.0 → dice.road ≡ lease.road_number → dice.step ≡ lease.step
     → IsNext rule dice lease.road next tally → IsLease lease → IsLease (one_more lease rule tally next)
 lease_goes_on lease rule tally next dice a b d is on =
     let ran : Ran = record { rule = rule; tally = tally } in
@@ -131,3 +131,20 @@ has_run lease old order rule tally next dice applied view fits copied a b d is p
       grown = ap (λ (xs : List Ran). (record lease { step = lease.step + 1; road = next; applied = xs }))
           (pushed ∙ ap (λ (r : Programs). lease.applied ++ record { rule = r; tally = tally } ∷ []) copied);
     }) fits
+
+-- a lease of which neither the road nor the steps that it has run change, as seen from inside
+pub still : (lease now : LeaseState) (road : Cells) (applied : List Ran) → road ≡ lease.road → applied ≡ lease.applied → lease ≡ now → record lease { road = road; applied = applied } ≡ now
+still lease now road applied r a view =
+    ap (λ (c : Cells). (record lease { road = c; applied = applied })) r ∙ ap (λ (xs : List Ran). (record lease { applied = xs })) a ∙ view
+
+pub still_lease : (lease : LeaseState) (road : Cells) (applied : List Ran) → road ≡ lease.road → applied ≡ lease.applied → IsLease lease → IsLease (record lease { road = road; applied = applied })
+still_lease lease road applied r a is =
+    subst (λ (l : LeaseState). IsLease l) (sym (still lease lease road applied r a refl)) is
+
+-- a lease that runs one step more stays one, with the steps that it has run
+pub lease_grows : (lease : LeaseState) (rule : Programs) (tally : StepTally) (next : Cells) (dice : Dice) (applied : List Ran) → dice.key ≡ lease.key.0 → dice.road ≡ lease.road_number → dice.step ≡ lease.step
+    → IsNext rule dice lease.road next tally → applied ≡ lease.applied ++ record { rule = rule; tally = tally } ∷ [] → IsLease lease
+    → IsLease (record lease { step = lease.step + 1; road = next; applied = applied })
+lease_grows lease rule tally next dice applied a b d is pushed on =
+    subst (λ (xs : List Ran). IsLease (record lease { step = lease.step + 1; road = next; applied = xs })) (sym pushed)
+    (lease_goes_on lease rule tally next dice a b d is on)

@@ -54,17 +54,11 @@ impl Lease {
         if !self.fits(order) {
             return Err(LeaseFault::WrongOrder);
         }
-        let Ok(()) = self.applied.reserve(1) else {
-            return Err(LeaseFault::Memory);
-        };
-        let Ok(rule) = order.rule.copy(alloc) else {
-            return Err(LeaseFault::Memory);
-        };
+        self.applied.reserve(1)?;
+        let rule = order.rule.copy(alloc)?;
         let dice = Dice::new(&self.key, self.road_number, self.step);
         let (road, room) = (&mut self.road, &mut self.room);
-        let Ok(tally) = take_step(asker, alloc, road, room, &rule, &dice, &mut Nobody) else {
-            return Err(LeaseFault::Memory);
-        };
+        let tally = take_step(asker, alloc, road, room, &rule, &dice, &mut Nobody)?;
         self.applied.push_reserved(Ran { rule, tally });
         self.step += 1;
         Ok(())

@@ -91,10 +91,9 @@ pub(crate) fn revoke_in(jobs: &mut Vec<Job>, index: u32) -> Result<(), BookFault
     ensures jobs { jobs.new.items ≡ (on_job jobs.old.items index revoking).jobs }
     ensures len { length jobs.new.items ≡ length jobs.old.items }
 {
-    if index as usize >= jobs.len() {
+    let Some(found) = jobs.get_mut(index as usize) else {
         return Err(BookFault::NoSuchJob);
-    }
-    let found = &mut jobs[index as usize];
+    };
     found.revoke()
 }
 
@@ -104,10 +103,9 @@ pub(crate) fn cancel_in(jobs: &mut Vec<Job>, index: u32) -> Result<(), BookFault
     ensures jobs { jobs.new.items ≡ (on_job jobs.old.items index cancelling).jobs }
     ensures len { length jobs.new.items ≡ length jobs.old.items }
 {
-    if index as usize >= jobs.len() {
+    let Some(found) = jobs.get_mut(index as usize) else {
         return Err(BookFault::NoSuchJob);
-    }
-    let found = &mut jobs[index as usize];
+    };
     found.cancel()
 }
 

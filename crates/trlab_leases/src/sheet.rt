@@ -125,10 +125,10 @@ impl Sheet {
 fn copy_entries(alloc: Global, entries: &[(u32, Rule)]) -> Result<Vec<(u32, Rule)>, AllocError>
     ensures { IfOk result (λ copies. copies.items ≡ entries.now) }
 {
-    let mut copies = Vec::new(alloc);
+    let mut copies = Vec::with_capacity(alloc, entries.len())?;
     for entry in entries {
         let rule = entry.1.copy(alloc)?;
-        copies.push((entry.0, rule))?;
+        copies.push_reserved((entry.0, rule));
     }
     Ok(copies)
 }

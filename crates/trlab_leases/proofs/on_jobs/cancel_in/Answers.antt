@@ -6,9 +6,9 @@ use Rattle.trlab_leases.proofs.on_jobs.cancel_in.Goals as goal
 
 pub returns-clause-reply : goal.returns-clause-reply
 returns-clause-reply c =
-    c.cancel.ensures.reply ∙ reply_found c.args.jobs.now.items c.args.index c.index_mut-found.result.now cancelling (search (rules, c.if-index-len.false, c.len.ensures)) c.index_mut-found.ensures.value
+    c.cancel.ensures.reply ∙ reply_found c.args.jobs.now.items c.args.index c.in-Some.found.now cancelling (search (rules, c.in-Some.ensures.variant)) c.in-Some.ensures.value
 
 pub returns-clause-jobs : goal.returns-clause-jobs
 returns-clause-jobs c =
     let put : JobState → List JobState = λ k. slice_set c.args.jobs.now.items c.args.index k in
-    ap put c.cancel.ensures.job ∙ jobs_found c.args.jobs.now.items c.args.index c.index_mut-found.result.now cancelling (search (rules, c.if-index-len.false, c.len.ensures)) c.index_mut-found.ensures.value
+    ap put c.cancel.ensures.job ∙ jobs_found c.args.jobs.now.items c.args.index c.in-Some.found.now cancelling (search (rules, c.in-Some.ensures.variant)) c.in-Some.ensures.value

@@ -1,8 +1,10 @@
-use Rattle.std.proofs.Common.{[], ◌∷◌, ◌++◌, ap, ◌∙◌}
+use Rattle.std.proofs.Common.{[], ◌∷◌, ◌++◌, ap, sym, ◌∙◌}
+use Rattle.trlab_leases.specs.Answers.{back_reply, is_event}
 use Rattle.trlab_leases.specs.Comparison.{offered}
+use Rattle.trlab_leases.specs.Machine.{is_full}
 use Rattle.trlab_leases.specs.declared.event.Call.TheVariants.{GiveBack}
 use Rattle.trlab_leases.specs.Replay.{event}
-use Rattle.trlab_book.proofs.Replaying.{replays_on}
+use Rattle.trlab_book.proofs.Replaying.{back_is_event, makes_back, replays_on, tells_event}
 use Rattle.trlab_book.proofs.kept.Kept.give_back.Goals as goal
 
 pub invariant_of-self : goal.invariant_of-self
@@ -17,3 +19,19 @@ invariant_of-self c =
       replays = replays_on ready.history.items c.push_reserved.new.self.items ready.book c.give_back_as-answer.new.self noted
           told_reply ready.replays c.in_default.ensures.free items told c.give_back_as-answer.ensures.state;
     }
+
+pub returns-clause-made : goal.returns-clause-made
+returns-clause-made c = λ same is.
+    makes_back c.args.self.now c.make_room.new.self _ c.args.lease c.is_same-same.result same c.parts_of_lease.result c.reply_to_back-reply.result (back_reply c.give_back_as-answer.result)
+    c.make_room.ensures.same c.in_default.ensures.free c.is_same-same.ensures is c.push_reserved.ensures.items c.parts_of_lease.ensures c.reply_to_back-reply.ensures
+    c.give_back_as-answer.ensures.reply c.give_back_as-answer.ensures.state
+
+pub returns-clause-err : goal.returns-clause-err
+returns-clause-err c = c.give_back_as-answer.ensures.handed
+
+pub returns-clause-full : goal.returns-clause-full
+returns-clause-full c =
+    let ready = c.make_room.new.self in
+    let free = c.in_default.ensures.free in
+    tells_event c.args.self.now _ (sym (ap is_full c.make_room.ensures.same.book) ∙ free)
+    (ap is_event c.give_back_as-answer.ensures.reply ∙ back_is_event ready.book (offered c.args.lease c.is_same-same.result) free)

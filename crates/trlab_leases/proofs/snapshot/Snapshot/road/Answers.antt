@@ -1,4 +1,9 @@
+use Rattle.std.proofs.Common.{ap}
+use Rattle.trlab_run.specs.Progress.{Progress}
 use Rattle.trlab_leases.proofs.snapshot.Snapshot.road.Goals as goal
 
 pub returns-clause-run : goal.returns-clause-run
 returns-clause-run c = rw (← c.self.view_is) (c.self.inside.tally, c.self.invariant.comes)
+
+pub returns-clause-value : goal.returns-clause-value
+returns-clause-value c = ap (λ (seen : Progress). seen.road) c.self.view_is

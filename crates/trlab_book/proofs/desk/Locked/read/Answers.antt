@@ -1,0 +1,17 @@
+use Rattle.std.proofs.Common.{subst}
+use Rattle.trlab_leases.specs.declared.event.Reply.{Reply}
+use Rattle.trlab_leases.specs.declared.event.Call.TheVariants.{Read}
+use Rattle.trlab_leases.specs.Answers.{seen_reply}
+use Rattle.trlab_book.specs.Desks.{Counts}
+use Rattle.trlab_book.proofs.Counting.{counted}
+use Rattle.trlab_book.proofs.desk.Locked.read.Goals as goal
+
+pub invariant_of-self : goal.invariant_of-self
+invariant_of-self g c = record {
+  counted = counted c.args.self.now.kept c.read-answer.new.self (Read c.args.job) (seen_reply c.read-answer.result) c.reply_to_read.result c.args.self.now.events.total c.count_event.new.events.total
+      c.read-answer.ensures.made c.reply_to_read.ensures c.args.self.now.counted c.count_event.ensures.total;
+}
+
+pub returns : goal.returns
+returns g c =
+    subst (λ (told : Reply). Counts c.args.desk.now told c.count_event.new.desk) c.reply_to_read.ensures c.count_event.ensures.counted
