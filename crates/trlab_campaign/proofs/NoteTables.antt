@@ -1,7 +1,7 @@
 -- The lines of the notes that the verifier hands out.
 use Rattle.std.proofs.Common.{◌≡◌, ℕ, ◌+◌, ◌<◌, List, length, flat_map, drop, get_or, refl, sym, ◌∙◌, ap, arith, ◌++◌, ◌∷◌, [], append_assoc}
 use Rattle.std.proofs.lemmas.List.{get_or-map, length-map}
-use Rattle.std.specs.Prelude.{Result, Ok, Err, OnOk, Some, slice_index_or, codes, decimal}
+use Rattle.std.specs.Prelude.{Result, Ok, Err, OnOk, is_ok, if◌then◌else◌, Some, slice_index_or, codes, decimal}
 use Rattle.std.specs.List.{range_with_len}
 use Rattle.trlab_code.specs.declared.kind.Kind.{Kind}
 use Rattle.trlab_code.specs.declared.instruction.Register.{Register}
@@ -38,9 +38,11 @@ table_lines program forms are =
     agree ∙ ap (λ n. flat_map (λ pc. maybe_note_line pc (note_at program.kind program.instrs pc)) (range_with_len 0 n)) count
 
 -- the parts of a note's line were put behind a text
-pub note_put : (pc : ℕ) (registers side head old a b c new : List ℕ) → head ≡ codes "note " ++ decimal pc → a ≡ old ++ head → b ≡ a ++ registers
-    → c ≡ b ++ side → new ≡ c ++ (10 ∷ []) → new ≡ old ++ (codes "note " ++ (decimal pc ++ (registers ++ (side ++ (10 ∷ [])))))
-note_put pc registers side head old a b c new h p q r s = rw (s, r, q, p, h) (simp append_assoc)
+pub note_put : {E : Type 0} (r : Result (Unit {0}) E) (pc : ℕ) (registers side head old a b new : List ℕ) → head ≡ codes "note " ++ decimal pc → a ≡ old ++ head
+    → b ≡ a ++ registers → new ≡ (if is_ok r then b ++ (side ++ (10 ∷ [])) else b)
+    → OnOk r (new ≡ old ++ (codes "note " ++ (decimal pc ++ (registers ++ (side ++ (10 ∷ []))))))
+note_put (Ok x) pc registers side head old a b new h p q s = rw (s, q, p, h) (simp append_assoc)
+note_put (Err e) pc registers side head old a b new h p q s = tt
 
 -- the lines of such a table were put behind a text
 pub notes_put : {E : Type 0} (r : Result (Unit {0}) E) (program : Program) (forms : List Form) (old new : List ℕ) → AreVerdictNotes program.kind program (table_of program.kind forms)

@@ -1,6 +1,6 @@
 //! The lines of the notes of an accepted program.
 
-ghost use Rattle.std.specs.Prelude.{◌≡◌, ◌++◌, flat_map, length, OnOk};
+ghost use Rattle.std.specs.Prelude.{◌≡◌, [], ◌∷◌, ◌++◌, flat_map, length, OnOk};
 ghost use Rattle.std.specs.List.{range_with_len};
 ghost use Rattle.trlab_code.specs.declared.kind.Kind.{Kind};
 ghost use Rattle.trlab_notes.specs.Notes.{with_side};
@@ -60,11 +60,11 @@ fn push_registers(alloc: Global, out: &mut Vec<u8>, note: &Note) -> Result<(), A
     Ok(())
 }
 
-/// The word of a note by which the side cell is known to be empty.
-fn side_text(side: bool) -> &'static [u8]
-    ensures { result.now ≡ side_text side }
+/// The end of a note's line: the word by which the side cell is known to be empty, and the LF.
+fn line_end(side: bool) -> &'static [u8]
+    ensures { result.now ≡ side_text side ++ (10 ∷ []) }
 {
-    if side { b" side" } else { b"" }
+    if side { b" side\n" } else { b"\n" }
 }
 
 /// Adds the line of the note before the instruction at `pc`.
@@ -75,9 +75,7 @@ fn push_note(alloc: Global, out: &mut Vec<u8>, pc: usize, note: &Note) -> Result
     let head = format!(in alloc; "note {pc}")?;
     out.extend_from_slice(head.as_bytes())?;
     push_registers(alloc, out, note)?;
-    out.extend_from_slice(side_text(note.side))?;
-    out.push(b'\n')?;
-    Ok(())
+    out.extend_from_slice(line_end(note.side))
 }
 
 /// Adds the lines of notes, the first being that of the first instruction.

@@ -19,9 +19,8 @@ fn accepted_text(alloc: Global, budget: u32, code: &Code) -> Result<Vec<u8>, All
     ensures { IfOk result (λ text. text.items ≡ accepted_text budget code.now) }
 {
     let line = format!(in alloc; "accepted budget {budget}\n")?;
+    let mut text = line.into_bytes();
     let program = disassemble(alloc, code)?;
-    let mut text = Vec::new(alloc);
-    text.extend_from_slice(line.as_bytes())?;
     text.extend_from_slice(&program)?;
     Ok(text)
 }

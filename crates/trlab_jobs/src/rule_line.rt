@@ -1,7 +1,7 @@
 //! Lines that state rules: words come before numbers, and these are read from left to right.
 
 ghost use Rattle.std.specs.Prelude.{◌≡◌, ◌<◌, ◌≤◌, IfOk, OnOk, option_map};
-ghost use Rattle.trlab_jobs.specs.RuleLines.{rule_words, chance_of, rule_numbers, rule_line, later_words, step_of, admit, later_line, stored_words, stored_later};
+ghost use Rattle.trlab_jobs.specs.RuleLines.{rule_words, chance_of, rule_numbers, rule_line, later_words, admit, later_line, stored_words, stored_later};
 
 use trlab_lines::cut;
 use trlab_texts::Cause;
@@ -26,7 +26,10 @@ fn rule_words(line: &[u8]) -> Option<RuleLine<&[u8]>>
     ensures { option_map stored_words result ≡ rule_words line.now }
 {
     if let Some(words) = behind(b"rule nasch ", line) {
-        return as_word(words).map(|brake| RuleLine::Nasch { brake });
+        return match as_word(words) {
+            Some(brake) => Some(RuleLine::Nasch { brake }),
+            None => None,
+        };
     }
     if let Some(words) = behind(b"rule vdr ", line) {
         return match two_words(words) {
@@ -97,15 +100,7 @@ fn later_words(line: &[u8]) -> Option<(&[u8], RuleLine<&[u8]>)>
     if !is_word(step) {
         return None;
     }
-    let rule = rule_words(rule)?;
-    Some((step, rule))
-}
-
-/// The step that a word writes; of its range no more is asked than of any number.
-fn step_of(word: &[u8]) -> Result<u64, Cause>
-    ensures { result ≡ step_of word.now }
-{
-    long_number(word)
+    Some((step, rule_words(rule)?))
 }
 
 /// A step where there is room for one more, and which is not before `least` and below `steps`.
@@ -140,7 +135,7 @@ pub fn later_line(
     let Some((step, rule)) = later_words(line) else {
         return Err(Cause::Line);
     };
-    let step = step_of(step)?;
+    let step = long_number(step)?;
     let rule = rule_numbers(rule)?;
     let from = admit(room, steps, least, step)?;
     Ok((from, rule))

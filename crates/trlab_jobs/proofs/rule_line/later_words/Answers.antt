@@ -13,12 +13,12 @@ pub returns-then-not-is_word : goal.returns-then-not-is_word
 returns-then-not-is_word c =
     no_step c.args.line.now c.in_ok-behind.field-0.now c.in_ok-step.step.now c.in_ok-step.rule.now c.in_ok-behind.ensures c.in_ok-step.ensures c.if-not-is_word.ensures
 
-pub returns-in_err-rule : goal.returns-in_err-rule
-returns-in_err-rule c =
-    rw c.from_residual-in_err-rule.ensures
-    (step_said c.args.line.now c.in_ok-behind.field-0.now c.in_ok-step.step.now c.in_ok-step.rule.now None c.in_ok-behind.ensures c.in_ok-step.ensures c.if-not-is_word.ensures c.in_err-rule.ensures)
+pub returns-in_err-rule_words : goal.returns-in_err-rule_words
+returns-in_err-rule_words c =
+    rw c.from_residual-in_err-rule_words.ensures
+    (step_said c.args.line.now c.in_ok-behind.field-0.now c.in_ok-step.step.now c.in_ok-step.rule.now None c.in_ok-behind.ensures c.in_ok-step.ensures c.if-not-is_word.ensures c.in_err-rule_words.ensures)
 
 pub returns : goal.returns
 returns c =
-    step_said c.args.line.now c.in_ok-behind.field-0.now c.in_ok-step.step.now c.in_ok-step.rule.now (Some (stored_words c.in_ok-rule.rule)) c.in_ok-behind.ensures c.in_ok-step.ensures c.if-not-is_word.ensures
-    c.in_ok-rule.ensures
+    step_said c.args.line.now c.in_ok-behind.field-0.now c.in_ok-step.step.now c.in_ok-step.rule.now (Some (stored_words c.in_ok-rule_words.field-0)) c.in_ok-behind.ensures c.in_ok-step.ensures c.if-not-is_word.ensures
+    c.in_ok-rule_words.ensures

@@ -2,7 +2,7 @@ use Rattle.std.proofs.Common.{◌≡◌, ◌∙◌, ℕ, Bool, List, Option, Non
 use Rattle.std.specs.Prelude.{codes, option_map, if◌then◌else◌}
 use Rattle.trlab_lines.specs.Cutting.{behind}
 use Rattle.trlab_jobs.specs.declared.rule_line.RuleLine.{RuleLine}
-use Rattle.trlab_jobs.specs.declared.rule_line.RuleLine.TheVariants.{Vdr, Rickert, Own}
+use Rattle.trlab_jobs.specs.declared.rule_line.RuleLine.TheVariants.{Nasch, Vdr, Rickert, Own}
 use Rattle.trlab_jobs.specs.RuleLines.{own_words, rickert_words, vdr_words, nasch_words, rule_words}
 use Rattle.trlab_jobs.proofs.rule_line.rule_words.Goals as goal
 
@@ -27,22 +27,28 @@ by_rickert text words nasch vdr e = ap (λ w. rickert_words w (own_words text)) 
 abbrev own_if : Bool → Option (RuleLine (List ℕ))
 own_if own = if own then Some Own else None
 
+pub returns-in-Some-as_word : goal.returns-in-Some-as_word
+returns-in-Some-as_word c = ap (option_map (λ (brake : List ℕ). Nasch brake)) c.in-Some-as_word.ensures ∙ by_nasch c.args.line.now _ c.in-Some.ensures
+
+pub returns-in-None : goal.returns-in-None
+returns-in-None c = ap (option_map (λ (brake : List ℕ). Nasch brake)) c.in-None.ensures ∙ by_nasch c.args.line.now _ c.in-Some.ensures
+
 pub returns-in-Some-two_words : goal.returns-in-Some-two_words
 returns-in-Some-two_words c =
     ap (option_map (λ (two : List ℕ × List ℕ). Vdr two.0 two.1)) c.in-Some-two_words.ensures ∙ by_vdr c.args.line.now _ c.in_default.ensures c.in-Some-behind.ensures
 
-pub returns-in-None : goal.returns-in-None
-returns-in-None c =
-    ap (option_map (λ (two : List ℕ × List ℕ). Vdr two.0 two.1)) c.in-None.ensures ∙ by_vdr c.args.line.now _ c.in_default.ensures c.in-Some-behind.ensures
+pub returns-in-None-two_words : goal.returns-in-None-two_words
+returns-in-None-two_words c =
+    ap (option_map (λ (two : List ℕ × List ℕ). Vdr two.0 two.1)) c.in-None-two_words.ensures ∙ by_vdr c.args.line.now _ c.in_default.ensures c.in-Some-behind.ensures
 
 pub returns-in-Some-two_words-2 : goal.returns-in-Some-two_words-2
 returns-in-Some-two_words-2 c =
     ap (option_map (λ (two : List ℕ × List ℕ). Rickert two.0 two.1)) c.in-Some-two_words-2.ensures
     ∙ by_rickert c.args.line.now _ c.in_default.ensures c.in_default-behind.ensures c.in-Some-behind-2.ensures
 
-pub returns-in-None-two_words : goal.returns-in-None-two_words
-returns-in-None-two_words c =
-    ap (option_map (λ (two : List ℕ × List ℕ). Rickert two.0 two.1)) c.in-None-two_words.ensures
+pub returns-in-None-two_words-2 : goal.returns-in-None-two_words-2
+returns-in-None-two_words-2 c =
+    ap (option_map (λ (two : List ℕ × List ℕ). Rickert two.0 two.1)) c.in-None-two_words-2.ensures
     ∙ by_rickert c.args.line.now _ c.in_default.ensures c.in_default-behind.ensures c.in-Some-behind-2.ensures
 
 pub returns-then-eq : goal.returns-then-eq
