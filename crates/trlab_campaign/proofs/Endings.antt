@@ -14,12 +14,9 @@ use Rattle.trlab_campaign.specs.CheckOutput.{VerdictOutput, IsCheckOutput}
 use Rattle.trlab_jobs.specs.Sweep.{Sweep, SweepText}
 use Rattle.trlab_campaign.specs.SweepOutput.{SweepOutput, IsSweepOutput}
 use Rattle.trlab_campaign.specs.Ending.{EndsSo, OutputEnds, WrotePictures, WroteSome, JobEnds}
-use Rattle.trlab_campaign.proofs.KnownBytes.{appends_kept, front_kept, keeps_same}
+use Rattle.trlab_campaign.proofs.KnownBytes.{front_kept, keeps_same}
 
 -- all pictures were written, and the last call kept the bytes
-pub all_kept : (job : Job) (old a b : Option (List ℕ)) → WrotePictures job old a → Keeps a b → WrotePictures job old b
-all_kept job old a b wrote keeps = (wrote.0, wrote.1, wrote.2, appends_kept old a b wrote.0 wrote.3 keeps)
-
 pub pictures_kept : (job : Job) (old a b : Option (List ℕ)) → WrotePictures job old a → Keeps a b → WroteSome job old b
 pictures_kept job old a b wrote keeps = (wrote.0, wrote.1, wrote.2, front_kept old a b wrote.0 wrote.3 keeps)
 
