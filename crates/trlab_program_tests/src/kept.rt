@@ -24,7 +24,8 @@ fn is_handed_back(
 ) -> Option<bool> {
     let (code, as_motion) = verify_motion(alloc, program(alloc, Kind::Change, text)?).err()?;
     let (code, as_change) = verify_change(alloc, code).err()?;
-    Some(as_motion == first && as_change == then && spells(alloc, &code, text)?)
+    let is_spelt = spells(alloc, &code, text)?;
+    Some(as_motion == first && as_change == then && is_spelt)
 }
 
 #[test]
@@ -37,16 +38,6 @@ fn hands_back_the_code(rt: HostRuntime) {
     );
 }
 
-/// Whether an accepted program keeps its code and this budget.
-fn keeps<K: ProgramKind>(
-    alloc: Global,
-    accepted: &AcceptedProgram<K>,
-    text: &[u8],
-    budget: u32,
-) -> Option<bool> {
-    Some(accepted.budget() == budget && spells(alloc, accepted.code(), text)?)
-}
-
 /// Whether an accepted program has the same budget as its copy, and equals it but not another one.
 fn copies<K: ProgramKind>(
     alloc: Global,
@@ -54,30 +45,38 @@ fn copies<K: ProgramKind>(
     other: &AcceptedProgram<K>,
 ) -> Option<bool> {
     let copy = accepted.copy(alloc).ok()?;
-    Some(copy.budget() == accepted.budget() && copy.equals(accepted) && !copy.equals(other))
+    let (is_same, is_other) = (copy.equals(accepted), copy.equals(other));
+    Some(copy.budget() == accepted.budget() && is_same && !is_other)
 }
 
-/// Whether a motion program is kept and copied, beside another one.
-fn keeps_motion(alloc: Global, text: &[u8], budget: u32, other: &[u8]) -> Option<bool> {
-    let (motion, other) = (motion(alloc, text)?, motion(alloc, other)?);
-    Some(keeps(alloc, &motion, text, budget)? && copies(alloc, &motion, &other)?)
+/// Whether an accepted program of this text keeps its code and this budget, and is copied, beside
+/// another one.
+fn keeps<K: ProgramKind>(
+    alloc: Global,
+    accepted: Option<AcceptedProgram<K>>,
+    text: &[u8],
+    budget: u32,
+    other: Option<AcceptedProgram<K>>,
+) -> Option<bool> {
+    let (accepted, other) = (accepted?, other?);
+    let is_spelt = spells(alloc, accepted.code(), text)?;
+    let is_copied = copies(alloc, &accepted, &other)?;
+    Some(accepted.budget() == budget && is_spelt && is_copied)
 }
 
 #[test]
 fn keeps_motions(rt: HostRuntime) {
-    assert_eq!(rt;
-        keeps_motion(rt.alloc(), STANDING, 2, b"num r1, 0\ngo r1\n"),
-        Some(true)
+    let alloc = rt.alloc();
+    let (standing, other) = (
+        motion(alloc, STANDING),
+        motion(alloc, b"num r1, 0\ngo r1\n"),
     );
-}
-
-/// Whether a change program is kept and copied, beside another one.
-fn keeps_change(alloc: Global, text: &[u8], budget: u32, other: &[u8]) -> Option<bool> {
-    let (change, other) = (change(alloc, text)?, change(alloc, other)?);
-    Some(keeps(alloc, &change, text, budget)? && copies(alloc, &change, &other)?)
+    assert_eq!(rt; keeps(alloc, standing, STANDING, 2, other), Some(true));
 }
 
 #[test]
 fn keeps_changes(rt: HostRuntime) {
-    assert_eq!(rt; keeps_change(rt.alloc(), STAYING, 2, b"stay\n"), Some(true));
+    let alloc = rt.alloc();
+    let (staying, other) = (change(alloc, STAYING), change(alloc, b"stay\n"));
+    assert_eq!(rt; keeps(alloc, staying, STAYING, 2, other), Some(true));
 }

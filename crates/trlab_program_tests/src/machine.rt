@@ -42,6 +42,7 @@ fn chosen(alloc: Global, side: bool) -> Option<(bool, u32)> {
 
 #[test]
 fn crosses_where_the_side_cell_is_empty(rt: HostRuntime) {
-    assert_eq!(rt; chosen(rt.alloc(), false), Some((false, 5)));
-    assert_eq!(rt; chosen(rt.alloc(), true), Some((true, 5)));
+    for side in [false, true] {
+        assert_eq!(rt; chosen(rt.alloc(), side), Some((side, 5)));
+    }
 }

@@ -1,7 +1,7 @@
 //! The standard rules, and each public function once.
 
 use std::alloc::Global;
-use trlab_rules::{Rule, nasch, rickert, vdr};
+use trlab_rules::{Rule, nasch, rickert, slowed_1992, vdr};
 use trlab_verify::Change;
 use trlab_words::Chance;
 
@@ -29,9 +29,20 @@ fn budgets(rule: Option<Rule>) -> Option<(u32, Option<u32>)> {
 
 #[test]
 fn gives_the_published_rules(rt: HostRuntime) {
-    assert_eq!(rt; budgets(of_1992(rt.alloc(), 1)), Some((12, None)));
-    assert_eq!(rt; budgets(of_1998(rt.alloc(), 1, 2)), Some((14, None)));
-    assert_eq!(rt; budgets(of_1996(rt.alloc(), 1, 2)), Some((12, Some(15))));
+    let alloc = rt.alloc();
+    let found = (
+        budgets(of_1992(alloc, 1)),
+        budgets(of_1998(alloc, 1, 2)),
+        budgets(of_1996(alloc, 1, 2)),
+    );
+    let wanted = (Some((12, None)), Some((14, None)), Some((12, Some(15))));
+    assert_eq!(rt; found, wanted);
+    let slowed = (
+        slowed_1992(3, 5, 2),
+        slowed_1992(5, 5, 9),
+        slowed_1992(0, 5, 0),
+    );
+    assert_eq!(rt; slowed, (2, 5, 0));
 }
 
 /// Whether a change program, where there is one, equals its copy.
@@ -45,21 +56,22 @@ fn change_equals_copy(alloc: Global, change: Option<&Change>) -> Option<bool> {
 /// Whether a rule and its programs equal their copies, and the copy of the rule the rule.
 fn equals_its_copy(alloc: Global, rule: Option<Rule>) -> Option<bool> {
     let rule = rule?;
+    let motion = rule.motion().copy(alloc).ok()?.equals(rule.motion());
+    let change = change_equals_copy(alloc, rule.change())?;
     let copy = rule.copy(alloc).ok()?;
-    let motion = rule.motion().copy(alloc).ok()?;
-    let is_same = copy.equals(&rule) && rule.equals(&copy) && motion.equals(rule.motion());
-    Some(is_same && change_equals_copy(alloc, rule.change())?)
+    let (there, back) = (copy.equals(&rule), rule.equals(&copy));
+    Some(motion && change && there && back)
 }
 
 #[test]
 fn copies_are_equal(rt: HostRuntime) {
     let alloc = rt.alloc();
-    assert_eq!(rt; equals_its_copy(alloc, of_1992(alloc, 1)), Some(true));
-    assert_eq!(rt; equals_its_copy(alloc, of_1998(alloc, 1, 2)), Some(true));
-    assert_eq!(rt;
+    let found = (
+        equals_its_copy(alloc, of_1992(alloc, 1)),
+        equals_its_copy(alloc, of_1998(alloc, 1, 2)),
         equals_its_copy(alloc, of_1996(alloc, 0, 2147483648)),
-        Some(true)
     );
+    assert_eq!(rt; found, (Some(true), Some(true), Some(true)));
 }
 
 /// Whether there are both rules, and they are not equal.
@@ -74,17 +86,23 @@ fn differ(first: Option<Rule>, second: Option<Rule>) -> bool {
 fn rules_of_other_chances_are_not_equal(rt: HostRuntime) {
     let alloc = rt.alloc();
     let q = 1073741824;
-    assert!(rt; differ(of_1992(alloc, 0), of_1992(alloc, q)));
-    assert!(rt; differ(of_1998(alloc, 0, q), of_1998(alloc, q, 0)));
-    assert!(rt; differ(of_1996(alloc, 0, q), of_1996(alloc, 0, 0)));
-    assert!(rt; differ(of_1996(alloc, 0, 0), of_1996(alloc, q, 0)));
+    let found = (
+        differ(of_1992(alloc, 0), of_1992(alloc, q)),
+        differ(of_1998(alloc, 0, q), of_1998(alloc, q, 0)),
+        differ(of_1996(alloc, 0, q), of_1996(alloc, 0, 0)),
+        differ(of_1996(alloc, 0, 0), of_1996(alloc, q, 0)),
+    );
+    assert_eq!(rt; found, (true, true, true, true));
 }
 
 #[test]
 fn other_rules_are_not_equal(rt: HostRuntime) {
     let alloc = rt.alloc();
     let p = 1073741824;
-    assert!(rt; differ(of_1992(alloc, p), of_1998(alloc, p, p)));
-    assert!(rt; differ(of_1992(alloc, p), of_1996(alloc, p, p)));
-    assert!(rt; differ(of_1996(alloc, p, p), of_1992(alloc, p)));
+    let found = (
+        differ(of_1992(alloc, p), of_1998(alloc, p, p)),
+        differ(of_1992(alloc, p), of_1996(alloc, p, p)),
+        differ(of_1996(alloc, p, p), of_1992(alloc, p)),
+    );
+    assert_eq!(rt; found, (true, true, true));
 }

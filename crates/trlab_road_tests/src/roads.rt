@@ -24,9 +24,9 @@ fn are_equal(
 fn roads_of_other_limits_or_places_differ(rt: HostRuntime) -> Result<(), RoadFault> {
     let lanes = [b"2..1".as_slice(), b".3..".as_slice()];
     let others = [b"2..1".as_slice(), b"..3.".as_slice()];
-    assert!(rt; are_equal(rt.alloc(), 5, &lanes, &lanes)?);
-    assert!(rt; !are_equal(rt.alloc(), 6, &lanes, &lanes)?);
-    assert!(rt; !are_equal(rt.alloc(), 5, &lanes, &others)?);
+    for (limit, others, wanted) in [(5, &lanes, true), (6, &lanes, false), (5, &others, false)] {
+        assert!(rt; are_equal(rt.alloc(), limit, &lanes, others)? == wanted);
+    }
     Ok(())
 }
 

@@ -10,8 +10,8 @@ use trlab_words::{Chance, Key};
 
 /// The run of the cars of one lane, which never brake by chance. Steps count from `warm` on.
 fn run_of(alloc: Global, picture: &[u8], warm: u32) -> Option<Run> {
-    let road = Road::parse(alloc, 5, &[picture]).ok()?;
     let rule = nasch(alloc, Chance::new(0)?).ok()?;
+    let road = Road::parse(alloc, 5, &[picture]).ok()?;
     let sheet = Sheet::new(rule, Vec::new(alloc));
     Some(Run::new(alloc, Key([0; 32]), 0, warm, road, sheet))
 }
@@ -69,21 +69,22 @@ fn a_run_comes_to_each_road(rt: HostRuntime) {
     }
 }
 
-/// Whether two runs have come to the same road.
-fn are_level(first: &Run, second: &Run) -> bool {
-    first.road().equals(second.road())
+/// The road of two cars that went half round a ring so often.
+fn round_ring(alloc: Global, steps: u32) -> Option<Road> {
+    let run = run_behind(alloc, b"1.1.", 0, steps)?;
+    run.road().copy(alloc).ok()
 }
 
-/// Whether the road of two cars that went half round a ring so often is that of the start.
+/// Whether that road is the one of the start.
 fn is_as_before(alloc: Global, steps: u32) -> Option<bool> {
-    let start = run_behind(alloc, b"1.1.", 0, 0)?;
-    Some(are_level(&start, &run_behind(alloc, b"1.1.", 0, steps)?))
+    let start = round_ring(alloc, 0)?;
+    Some(round_ring(alloc, steps)?.equals(&start))
 }
 
 // Behind two steps each car is at the place of the other, and the picture is that of the start.
 #[test]
 fn roads_with_other_cars_at_the_same_places_differ(rt: HostRuntime) {
-    assert_eq!(rt; is_as_before(rt.alloc(), 0), Some(true));
-    assert_eq!(rt; is_as_before(rt.alloc(), 2), Some(false));
-    assert_eq!(rt; is_as_before(rt.alloc(), 4), Some(true));
+    for (steps, wanted) in [(0, true), (2, false), (4, true)] {
+        assert_eq!(rt; is_as_before(rt.alloc(), steps), Some(wanted));
+    }
 }

@@ -24,13 +24,14 @@ fn two_share_three(alloc: Global) -> Result<bool, AllocError> {
     let mut second = tickets.split(&mut first);
     let begins = tickets.draw(&mut second) == Some(0);
     let goes_on = drawn(alloc, &tickets, &mut first)?.as_slice() == [1, 2].as_slice();
-    let ends = tickets.draw(&mut second).is_none() && tickets.draw(&mut second).is_none();
+    let left = tickets.draw(&mut second).or(tickets.draw(&mut second));
     let Err((tickets, first)) = tickets.finish(first) else {
         return Ok(false);
     };
     let all = tickets.gather(first, second);
     let passes = all.passes();
-    Ok(begins && goes_on && ends && passes == 2 && tickets.finish(all).is_ok())
+    let ends = tickets.finish(all).is_ok();
+    Ok(begins && goes_on && left.is_none() && passes == 2 && ends)
 }
 
 #[test]
@@ -42,7 +43,8 @@ fn two_drawers_draw_each_ticket_once(rt: HostRuntime) {
 fn is_done_at_once(alloc: Global) -> Result<bool, AllocError> {
     let (tickets, mut drawer) = Tickets::start(alloc, 0, 1)?;
     let none = tickets.draw(&mut drawer).is_none();
-    Ok(none && tickets.finish(drawer).is_ok())
+    let ends = tickets.finish(drawer).is_ok();
+    Ok(none && ends)
 }
 
 #[test]
@@ -52,10 +54,12 @@ fn no_tickets_are_drawn_at_once(rt: HostRuntime) {
 
 #[test]
 fn cars_are_cut_into_segments(rt: HostRuntime) {
-    assert_eq!(rt; segment_count(3, 16), 3);
-    assert_eq!(rt; segment_count(10, 1), 4);
-    assert_eq!(rt; Segment::of(10, 4, 1), Segment { from: 2, to: 5 });
-    assert_eq!(rt; Segment::of(10, 4, 3), Segment { from: 7, to: 10 });
+    assert_eq!(rt; (segment_count(3, 16), segment_count(10, 1)), (3, 4));
+    let (second, last) = (Segment { from: 2, to: 5 }, Segment { from: 7, to: 10 });
+    assert_eq!(rt;
+        (Segment::of(10, 4, 1), Segment::of(10, 4, 3)),
+        (second, last)
+    );
 }
 
 /// Goes through a gate.

@@ -45,10 +45,14 @@ fn fault(alloc: Global, rule: Option<Rule>) -> Option<StepFault> {
 
 #[test]
 fn a_change_program_wants_two_lanes(rt: HostRuntime) {
+    let alloc = rt.alloc();
+    let faults = (
+        fault(alloc, crossing(alloc)),
+        fault(alloc, standing(alloc)),
+        fault(alloc, steady(alloc)),
+    );
     let wanted = Some(StepFault::LanesMismatch);
-    assert_eq!(rt; fault(rt.alloc(), crossing(rt.alloc())), wanted);
-    assert_eq!(rt; fault(rt.alloc(), standing(rt.alloc())), wanted);
-    assert_eq!(rt; fault(rt.alloc(), steady(rt.alloc())), None);
+    assert_eq!(rt; faults, (wanted, wanted, None));
 }
 
 /// The road to which a road comes under a rule, so many steps on.

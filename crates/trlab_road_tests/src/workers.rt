@@ -61,6 +61,20 @@ fn has_pictures(alloc: Global, road: &Road, pictures: &[&[u8]]) -> Option<bool> 
     Some(is_same)
 }
 
+/// The tally of a step by workers, if it leads to a road with these pictures.
+fn tally_to(
+    rt: &(impl AllocGlobal + Threads + Sync),
+    road: &Road,
+    rule: &Rule,
+    others: u32,
+    pictures: &[&[u8]],
+) -> Option<StepTally>
+    requires { others < 16 }
+{
+    let (next, tally) = step_by(rt, road, rule, others).ok()?;
+    has_pictures(rt.alloc(), &next, pictures)?.then_some(tally)
+}
+
 /// Whether two and 16 workers bring the cars of lanes to other lanes.
 fn lead_on(
     rt: &(impl AllocGlobal + Threads + Sync),
@@ -70,10 +84,8 @@ fn lead_on(
     wanted: &[&[u8]],
 ) -> Option<bool> {
     let road = Road::parse(rt.alloc(), limit, lanes).ok()?;
-    let (by_two, tally) = step_by(rt, &road, rule, 1).ok()?;
-    let (by_all, other) = step_by(rt, &road, rule, 15).ok()?;
-    let is_right = has_pictures(rt.alloc(), &by_two, wanted)?;
-    Some(is_right && has_pictures(rt.alloc(), &by_all, wanted)? && tally == other)
+    let by_two = tally_to(rt, &road, rule, 1, wanted)?;
+    Some(tally_to(rt, &road, rule, 15, wanted)? == by_two)
 }
 
 /// Whether workers bring the cars of a lane from each picture to the one behind it.

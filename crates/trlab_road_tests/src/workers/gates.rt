@@ -77,9 +77,13 @@ fn begun_by_sixteen(rt: &(impl AllocGlobal + Threads + Sync), cars: u32) -> Opti
 
 #[test]
 fn sixteen_workers_begin_each_segment_once(rt: HostRuntime) {
-    assert_eq!(rt; begun_by_sixteen(&rt, 0), Some((0, 0)));
-    assert_eq!(rt; begun_by_sixteen(&rt, 1), Some((2, 0b1_0000_0001)));
-    assert_eq!(rt; begun_by_sixteen(&rt, 3), Some((6, 0b111_0000_0111)));
+    for (cars, begun) in [
+        (0, (0, 0)),
+        (1, (2, 0b1_0000_0001)),
+        (3, (6, 0b111_0000_0111)),
+    ] {
+        assert_eq!(rt; begun_by_sixteen(&rt, cars), Some(begun));
+    }
 }
 
 /// How many turns a worker is held at most.
