@@ -10,8 +10,8 @@ use trlab_words::{Chance, Key};
 
 /// The run of the cars of one lane, which never brake by chance. Steps count from `warm` on.
 fn run_of(alloc: Global, picture: &[u8], warm: u32) -> Option<Run> {
-    let rule = nasch(alloc, Chance::new(0)?).ok()?;
     let road = Road::parse(alloc, 5, &[picture]).ok()?;
+    let rule = nasch(alloc, Chance::new(0)?).ok()?;
     let sheet = Sheet::new(rule, Vec::new(alloc));
     Some(Run::new(alloc, Key([0; 32]), 0, warm, road, sheet))
 }

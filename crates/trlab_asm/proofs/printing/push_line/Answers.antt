@@ -15,8 +15,8 @@ returns-clause-line c =
     let row : OnOk c.push_row.result (c.push_row.new.out.items ≡ c.if-marked.out.items ++ instr_text c.args.count c.args.instr) = rw (← c.row_of.ensures.value) c.push_row.ensures in
     elim c.if-marked.branch [
       | then-marked+in_ok-push_number+in_ok-extend_from_slice w ↦
-        rw w.if-marked.true
-        (labelled c.push_row.result _ c.if-marked.out.items w.push_number.new.out.items c.args.out.now.items (label_text c.args.pc) (instr_text c.args.count c.args.instr)
-        (rw w.out-is w.in_ok-extend_from_slice.ensures.items) w.in_ok-push_number.ensures row)
+          rw w.if-marked.true
+          (labelled c.push_row.result _ c.if-marked.out.items w.push_number.new.out.items c.args.out.now.items (label_text c.args.pc) (instr_text c.args.count c.args.instr)
+          (rw w.out-is w.in_ok-extend_from_slice.ensures.items) w.in_ok-push_number.ensures row)
       | else-marked w ↦ rw w.if-marked.false (rw w.out-is at row)
     ]
