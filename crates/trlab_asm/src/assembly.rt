@@ -140,8 +140,10 @@ fn numbers_of(alloc: Global, reads: &[LineDraft<'_>]) -> Result<Vec<usize>, Allo
 ///
 /// The first fault of the text, where it is not a jump's label that is nowhere; or want of memory.
 pub fn instruction_lines(alloc: Global, text: &[u8]) -> Result<Vec<usize>, AsmFault>
-    ensures { IfOk result (λ numbers. (parts : Found)
-        × (first_pass nothing 1 (lines_of text.now) ≡ Ok parts) × (numbers.items ≡ line_numbers parts)) }
+    ensures { MatchResult result
+        (λ numbers. (parts : Found)
+        × (first_pass nothing 1 (lines_of text.now) ≡ Ok parts) × (numbers.items ≡ line_numbers parts))
+        (λ fault. (first_pass nothing 1 (lines_of text.now) ≡ Err fault) ⊎ IsOutOfMemory fault) }
 {
     let parts = read_parts(alloc, text)?;
     numbers_of(alloc, parts.reads()).map_err(AsmFault::from)
