@@ -1,9 +1,10 @@
 //! Runners that share a book.
 
-ghost use Rattle.std.specs.Prelude.{◌≡◌, ◌<◌, ◌≤◌, MatchResult};
+ghost use Rattle.std.specs.Prelude.{◌≡◌, ◌<◌, ◌≤◌, ◌↔◌, ◌⊎◌, Err, IsOk, MatchResult};
 ghost use Rattle.std.specs.Thread.{IsSend, IsSync};
 ghost use Rattle.trlab_bounds.specs.declared.runs.TheConstants.{MOST_WORKERS};
 ghost use Rattle.trlab_book.specs.Desks.{parts_of};
+ghost use Rattle.trlab_book.specs.declared.fault.RunFault.TheVariants.{HistoryFull};
 ghost use Rattle.trlab_book.specs.declared.limits.TheConstants.{ALL_PARTS, MOST_RUNNERS};
 
 use crate::desk::{Desk, SharedBook};
@@ -86,7 +87,10 @@ fn run_all<L: Ledger + Send + Sync, R: Threads + Wait + Sync, G: Gate + Sync>(
 }
 
 /// The fault of two runners that is told: `HistoryFull` before `Memory`.
-fn first_fault(one: Result<(), RunFault>, other: Result<(), RunFault>) -> Result<(), RunFault> {
+fn first_fault(one: Result<(), RunFault>, other: Result<(), RunFault>) -> Result<(), RunFault>
+    ensures fine { IsOk result ↔ (IsOk one × IsOk other) }
+    ensures full { (result ≡ Err HistoryFull) ↔ ((one ≡ Err HistoryFull) ⊎ (other ≡ Err HistoryFull)) }
+{
     match (one, other) {
         (Err(RunFault::HistoryFull), _) | (_, Err(RunFault::HistoryFull)) => {
             Err(RunFault::HistoryFull)

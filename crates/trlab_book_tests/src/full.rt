@@ -1,6 +1,6 @@
 //! Full books: a sheet that has had all its rules, and a history that has had all its events.
 
-ghost use Rattle.std.specs.Prelude.{◌≡◌};
+ghost use Rattle.std.specs.Prelude.{◌≡◌, ◌<◌, ◌≤◌};
 
 use crate::table::Table;
 use std::alloc::Global;
@@ -45,14 +45,19 @@ fn is_full<L: Ledger, R: Wait>(rt: &R, alloc: Global, table: &mut Table<L>) -> b
     true
 }
 
-/// Lets a runner take the jobs of a table, and says whether it ended since the history was full.
+/// Lets so many runners take the jobs of a table, and says whether they ended since the history was full.
 fn run<L: Ledger + Send + Sync, R: Threads + Wait + Sync>(
     rt: &R,
     alloc: Global,
     table: Table<L>,
+    runners: u32,
 ) -> (Table<L>, bool)
-    requires { L.parts ≡ 1024 }
+    requires ledger { L.parts ≡ 1024 }
+    requires runners { (0 < runners) × (runners ≤ 16) }
 {
+    if table.desk.parts() < runners {
+        return (table, false);
+    }
     let Table {
         book,
         desk,
@@ -61,7 +66,7 @@ fn run<L: Ledger + Send + Sync, R: Threads + Wait + Sync>(
         picture,
         byte,
     } = table;
-    let (desk, ended) = match run_jobs(rt, alloc, &book, desk, 1, 1, &OpenGate) {
+    let (desk, ended) = match run_jobs(rt, alloc, &book, desk, runners, 1, &OpenGate) {
         Ok(desk) => (desk, false),
         Err((desk, fault)) => (desk, fault == RunFault::HistoryFull),
     };
@@ -77,7 +82,7 @@ fn run<L: Ledger + Send + Sync, R: Threads + Wait + Sync>(
 }
 
 /// The length of the history of a book in which a runner has come to the last event, by the first order of
-/// a lease, and each call behind that is refused.
+/// a lease, and each call behind that is refused, those of three runners too.
 fn full_history<L: Ledger + Send + Sync, R: Threads + Wait + Sync>(
     rt: &R,
     alloc: Global,
@@ -93,10 +98,11 @@ fn full_history<L: Ledger + Send + Sync, R: Threads + Wait + Sync>(
         (Made::Submit(4), Reply::Number(1)),
     ];
     let fills = table.make_all(rt, alloc, &calls) && hears(rt, alloc, &mut table, 999995);
-    let (mut table, ended) = run(rt, alloc, table);
+    let (table, ended) = run(rt, alloc, table, 1);
+    let (mut table, told) = run(rt, alloc, table, 3);
     let full = is_full(rt, alloc, &mut table);
     let (history, _) = table.close()?;
-    (fills && ended && full).then_some(history.len())
+    (fills && ended && told && full).then_some(history.len())
 }
 
 #[test]

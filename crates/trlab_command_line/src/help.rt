@@ -38,6 +38,8 @@ pub const CHECK_AFTER: &str = "\
 Standard input:
   A line `motion` or `change`, the kind of the program, and then the program,
   an instruction a line; or one line `code X`, X its bytes in hexadecimal.
+  Where the first line begins with `notes `, as in `notes motion`, the notes
+  of an accepted program are written too.
 
 Standard output:
   `accepted budget B`, B the most instructions that a call can take, and then
@@ -56,13 +58,13 @@ pub const RUN_ABOUT: &str = "Drives the cars of a job and shows the road at each
 pub const RUN_AFTER: &str = "\
 Standard input:
   A job text: the road and its cars, the program that drives them, the key of
-  the random numbers and how many steps to go.
+  the random words and how many steps to go.
 
 Standard output:
   For each step a line `step s` and the picture of each lane: `.` is an empty
-  cell, a digit a car and its speed. Or `fault line N cause K`, where the text
-  has a fault: `trlab explain run` says it in words, and docs/TEXTS.md explains
-  job texts and the causes.
+  cell, a digit a car and its speed, and a small letter too: `a` is 10, `z` 35.
+  Or `fault line N cause K`, where the text has a fault: `trlab explain run`
+  says it in words, and docs/TEXTS.md explains job texts and the causes.
 
 Example:
   trlab run < examples/two_cars.job";
@@ -75,7 +77,7 @@ pub const SWEEP_ABOUT: &str =
 pub const SWEEP_AFTER: &str = "\
 Standard input:
   A sweep text: what all its roads have in common, the program that drives
-  their cars, the key of the random numbers, how many steps to go before the
+  their cars, the key of the random words, how many steps to go before the
   cars are counted and how many while they are, and a line for each road that
   says how many cars it has. They start evenly spread, with speed 0.
 

@@ -166,6 +166,7 @@ impl Book {
     ///
     /// Those of `order`.
     pub fn order_as(&mut self, alloc: Global, lease: &Lease, same: bool) -> Result<Order, BookFault>
+        requires { IsTrue same ↔ IsSame self.old.jobs lease.now }
         ensures reply { RepliesAs (is_memory result) (order_reply result) self.old
             (OrderCall (offered lease.now same)) }
         ensures state { LeadsAs (is_memory result) self.old (OrderCall (offered lease.now same)) self.new }
@@ -204,7 +205,7 @@ impl Book {
     ///
     /// Those of `give_back`.
     pub fn give_back_as(&mut self, lease: Lease, same: bool) -> Result<(), (Lease, BookFault)>
-        requires { IsTrue same → IsSame self.old.jobs lease }
+        requires { IsTrue same ↔ IsSame self.old.jobs lease }
         ensures reply { back_reply result ≡ reply_of self.old (GiveBack (offered lease same)) }
         ensures state { self.new ≡ after self.old (GiveBack (offered lease same)) }
         ensures handed { IfErr result (λ handed. handed.0 ≡ lease) }

@@ -38,10 +38,11 @@ impl Sheet {
         Ok(Sheet { entries })
     }
 
-    /// How many entries there are, from 1 to 1024.
+    /// How many entries there are, from 1 to 1024: the first is in force from step 0 on, and their steps rise.
     pub fn len(&self) -> usize
         ensures value { result ≡ length self.now }
         ensures few { result ≤ 1024 }
+        ensures rules { IsSheet self.now }
     {
         self.entries.len()
     }

@@ -194,3 +194,22 @@ fn half_a_desk_does_not_close_the_book(rt: HostRuntime) {
     let closed = half_a_desk::<Brand, HostRuntime>(&rt, rt.alloc(), Blank::new(1024));
     assert_eq!(rt; closed, Some((1023, 1, 1)));
 }
+
+/// The parts of a desk without a call, and how many events the history has when another desk, which has
+/// made all calls, closes the book.
+fn a_quiet_desk<L: Ledger, R: Wait>(rt: &R, alloc: Global, blank: Blank) -> Option<(u32, usize)>
+    requires name { blank.name ≡ L.name }
+    requires parts { (blank.parts ≡ L.parts) × (blank.parts ≡ 1024) }
+{
+    let (book, mut mine) = SharedBook::<L>::start(alloc, blank);
+    let quiet = mine.split();
+    let _ = book.revoke(rt, &mut mine, 0);
+    let (_, history) = book.close(mine).ok()?;
+    Some((quiet.parts(), history.len()))
+}
+
+#[test]
+fn a_desk_of_all_calls_closes_the_book(rt: HostRuntime) {
+    let closed = a_quiet_desk::<Brand, HostRuntime>(&rt, rt.alloc(), Blank::new(1024));
+    assert_eq!(rt; closed, Some((1, 1)));
+}
