@@ -8,7 +8,6 @@ ghost use Rattle.trlab_campaign.specs.declared.device.whole.ReadFault.TheVariant
 
 use crate::device::{DeviceError, Sink, Source};
 use std::alloc::Global;
-use std::fmt::Debug;
 use thiserror::Error;
 use trlab_bounds::texts::TEXT_LIMIT;
 
