@@ -16,6 +16,8 @@ mends_line mend.Endless = true
 mends_line (mend.EndBeside line) = true
 mends_line mend.Late = true
 mends_line (mend.Name name) = true
+mends_line (mend.Above name) = true
+mends_line mend.Heading = true
 mends_line _ = false
 
 -- a repair of a number
@@ -24,6 +26,7 @@ mends_number (mend.Plain oddity) = true
 mends_number (mend.Parts parts) = true
 mends_number mend.Sign = true
 mends_number mend.Zero = true
+mends_number mend.Whole = true
 mends_number _ = false
 
 -- a repair of a key
@@ -43,6 +46,7 @@ mends_hex _ = false
 -- a repair of a road of one lane
 abbrev pub mends_lanes : Repair → Bool
 mends_lanes mend.SecondLane = true
+mends_lanes mend.TwoLanes = true
 mends_lanes _ = false
 
 -- a repair of the name of an instruction, or of a label
@@ -51,6 +55,8 @@ mends_word (mend.Plain oddity) = true
 mends_word (mend.Name name) = true
 mends_word mend.End = true
 mends_word mend.NoEnd = true
+mends_word (mend.Above name) = true
+mends_word mend.Comment = true
 mends_word _ = false
 
 -- a repair of operands
@@ -60,6 +66,9 @@ mends_operand (mend.Name name) = true
 mends_operand (mend.Parts parts) = true
 mends_operand mend.Comma = true
 mends_operand mend.Register = true
+mends_operand mend.Destination = true
+mends_operand mend.Whole = true
+mends_operand mend.Comment = true
 mends_operand _ = false
 
 -- a repair of a jump to a label that there is not

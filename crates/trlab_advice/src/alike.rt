@@ -1,7 +1,7 @@
 //! Names that are spelled nearly alike.
 
 use std::alloc::{AllocError, Global};
-use strsim::generic_levenshtein;
+use strsim::generic_damerau_levenshtein;
 
 /// The longest word whose nearest name is looked for: names are shorter.
 const LONGEST_WORD: usize = 32;
@@ -14,7 +14,8 @@ pub fn most_edits(word: &[u8]) -> usize {
     MOST_EDITS.min(word.len().saturating_sub(1))
 }
 
-/// How many edits lead from a word to another, if no more than so many.
+/// How many edits lead from a word to another, if no more than so many: two neighbours that change places
+/// are one edit.
 ///
 /// # Errors
 ///
@@ -28,7 +29,7 @@ pub fn edits_within(
     if word.len() > LONGEST_WORD || word.len().abs_diff(other.len()) > most {
         return Ok(None);
     }
-    let edits = generic_levenshtein(alloc, word, other)?;
+    let edits = generic_damerau_levenshtein(alloc, word, other)?;
     Ok(if edits <= most { Some(edits) } else { None })
 }
 

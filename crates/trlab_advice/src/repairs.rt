@@ -8,7 +8,7 @@ mod number;
 mod program;
 
 ghost use Rattle.std.specs.Prelude.{◌≡◌, IfOk, IfSome, true};
-ghost use Rattle.trlab_advice.specs.Repairs.{mends};
+ghost use Rattle.trlab_advice.specs.Repairs.{mends, mends_lanes};
 
 use crate::line::line_at;
 use crate::odd::Oddity;
@@ -58,6 +58,12 @@ pub enum Repair {
     NoDigit(usize),
     /// The road wants a second lane.
     SecondLane,
+    /// The roads of a sweep want two lanes.
+    TwoLanes,
+    /// The line with this name is missing above this one.
+    Above(&'static [u8]),
+    /// The line by which a check text begins is missing above this one.
+    Heading,
     /// The line `end` has something beside it.
     End,
     /// In a check text no line `end` is wanted.
@@ -66,6 +72,22 @@ pub enum Repair {
     Comma,
     /// A number stands where a register has to be.
     Register,
+    /// A number stands where the register has to be that the result goes to.
+    Destination,
+    /// Numbers have no point.
+    Whole,
+    /// A comment begins as in another language.
+    Comment,
+}
+
+/// What mends a road of one lane under a rule that wants two.
+fn lanes_repair(subject: Subject) -> Repair
+    ensures { mends_lanes result ≡ true }
+{
+    match subject {
+        Subject::Sweep => Repair::TwoLanes,
+        Subject::Job | Subject::Check => Repair::SecondLane,
+    }
 }
 
 /// What most likely mends a fault of a line.
@@ -84,7 +106,7 @@ fn repair_of(
         Cause::Number => Ok(number_repair(line)),
         Cause::Key => Ok(key_repair(line)),
         Cause::Hex => Ok(hex_repair(line)),
-        Cause::OneLane => Ok(Some(Repair::SecondLane)),
+        Cause::OneLane => Ok(Some(lanes_repair(subject))),
         Cause::Program(Why::Word) => word_repair(alloc, subject, line),
         Cause::Program(Why::Operand) => operand_repair(alloc, line),
         Cause::Program(Why::NoLabel) => label_repair(alloc, text, line, number),

@@ -41,13 +41,20 @@ fn words_of(repair: Repair) -> &'static str {
         Repair::Sign => "numbers have no sign.",
         Repair::Zero => "numbers have no needless 0 in front.",
         Repair::SecondLane => "add a second `lane` line, or take a rule without a lane change.",
+        Repair::TwoLanes => "write `lanes 2`, or take a rule without a lane change.",
+        Repair::Heading => "a line `motion` or `change` is missing above this one.",
         Repair::End => "the last line of a program is `end`, with nothing beside it.",
         Repair::NoEnd =>
             "a check text has no line `end`: the program goes on to the end of the text.",
         Repair::Comma => "put a comma between two operands.",
         Repair::Register =>
             "put the number into a register by `num` first: r0 to r7 must stand here.",
+        Repair::Destination =>
+            "the first operand is the register, r0 to r7, that the result goes to.",
+        Repair::Whole => "numbers are whole, and have no point.",
+        Repair::Comment => "a comment begins with `;`.",
         Repair::Name(_)
+        | Repair::Above(_)
         | Repair::Label(_)
         | Repair::EndBeside(_)
         | Repair::Parts(_)
@@ -102,6 +109,15 @@ fn shown_words(repair: Repair) -> Option<(&'static str, u32)> {
     }
 }
 
+/// The words of a repair that names something: those in front of the name, the name, and those behind.
+fn named_words(repair: Repair) -> Option<(&'static str, &'static [u8], &'static str)> {
+    match repair {
+        Repair::Name(name) => Some(("perhaps `", name, "` is meant.")),
+        Repair::Above(name) => Some(("the line `", name, "` is missing above this one.")),
+        _ => None,
+    }
+}
+
 /// Adds a repair of a text.
 ///
 /// # Errors
@@ -109,10 +125,10 @@ fn shown_words(repair: Repair) -> Option<(&'static str, u32)> {
 /// Want of memory.
 pub fn push_mend(page: &mut Page, text: &[u8], repair: Repair) -> Result<(), AllocError> {
     page.say("Repair: ")?;
-    if let Repair::Name(name) = repair {
-        page.say("perhaps `")?;
+    if let Some((front, name, behind)) = named_words(repair) {
+        page.say(front)?;
         page.show_all(name)?;
-        return page.line("` is meant.");
+        return page.line(behind);
     }
     if let Some((words, line)) = shown_words(repair) {
         return push_about(page, words, text, line);

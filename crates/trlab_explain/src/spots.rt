@@ -4,7 +4,8 @@ use trlab_advice::{Spot, Subject};
 
 /// What has to stand in a check text.
 pub const EXPECTED_OF_CHECK: &str =
-    "Expected: `motion` or `change` and on the next lines a program; or `code X` alone.";
+    "Expected: `motion`, `change`, `notes motion` or `notes change`, and on the next lines a program; \
+     or `code X` or `notes code X` alone.";
 
 /// What has to stand at a place of a job or sweep text.
 pub fn expected_at(subject: Subject, spot: Spot) -> &'static str {

@@ -3,12 +3,15 @@
 ghost use Rattle.std.specs.Prelude.{◌≡◌, IfOk, IfSome, true};
 ghost use Rattle.trlab_advice.specs.Repairs.{mends_line};
 
+use crate::line::line_at;
 use crate::odd::{Oddity, oddity_of};
 use crate::repairs::Repair;
 use crate::repairs::name::name_repair;
+use crate::repairs::program::name_and_operands;
 use crate::spot::{Spot, spot_at};
 use crate::subject::{Subject, subject_of};
 use std::alloc::{AllocError, Global};
+use trlab_asm::mnemonic_named;
 use trlab_texts::word::head_word;
 
 /// The names of the lines of a job text: first those that stand there in this order.
@@ -95,6 +98,32 @@ fn named(alloc: Global, subject: Subject, name: &[u8]) -> Result<Option<Repair>,
     }
 }
 
+/// Whether a job or sweep text has roads of two lanes: in both the fifth line says it.
+fn has_two_lanes(text: &[u8]) -> bool {
+    line_at(text, 5).is_some_and(|line| {
+        line == b"lanes 2".as_slice() || head_word(line) == b"lane".as_slice()
+    })
+}
+
+/// What mends an instruction that stands where another line must: where a program may begin, the first
+/// line of the program is missing.
+fn heading_repair(subject: Subject, text: &[u8], number: u32) -> Option<Repair>
+    ensures { IfSome result (λ r. mends_line r ≡ true) }
+{
+    if subject == Subject::Check {
+        return if number == 1 {
+            Some(Repair::Heading)
+        } else {
+            None
+        };
+    }
+    match spot_at(subject, text, number) {
+        Spot::Motion => Some(Repair::Above(b"motion")),
+        Spot::ChangeOrMore if has_two_lanes(text) => Some(Repair::Above(b"change")),
+        _ => None,
+    }
+}
+
 /// What most likely mends a line that is not the one that must stand at its number.
 pub fn line_repair(
     alloc: Global,
@@ -105,6 +134,9 @@ pub fn line_repair(
 ) -> Result<Option<Repair>, AllocError>
     ensures { IfOk result (λ repair. IfSome repair (λ r. mends_line r ≡ true)) }
 {
+    if mnemonic_named(name_and_operands(line).0).is_some() {
+        return Ok(heading_repair(subject, text, number));
+    }
     match oddity_of(line) {
         Some(Oddity::Comment) | None => {}
         Some(oddity) => return Ok(Some(Repair::Plain(oddity))),

@@ -1,7 +1,7 @@
 //! Repairs of numbers, keys and hexadecimal digits.
 
 ghost use Rattle.std.specs.Prelude.{◌≡◌, IfSome, true};
-ghost use Rattle.trlab_advice.specs.Repairs.{mends_hex, mends_key, mends_number};
+ghost use Rattle.trlab_advice.specs.Repairs.{mends_hex, mends_key, mends_number, mends_operand};
 
 use crate::odd::{Oddity, has_windows_end};
 use crate::repairs::Repair;
@@ -25,7 +25,7 @@ fn parts_behind_point(digits: &[u8]) -> Option<u32> {
 }
 
 /// The parts of 2^31 that a word means which is a fraction from 0 to 1, as `0.25` or `.25`.
-pub fn parts_of(word: &[u8]) -> Option<u32> {
+fn parts_of(word: &[u8]) -> Option<u32> {
     let (whole, digits) = cut(word, b'.')?;
     if !whole.is_empty() && whole != b"0".as_slice() {
         return None;
@@ -33,12 +33,34 @@ pub fn parts_of(word: &[u8]) -> Option<u32> {
     parts_behind_point(digits)
 }
 
+/// Whether a word is a number with a point, as `1.5` or `.5`.
+pub fn has_point(word: &[u8]) -> bool {
+    match cut(word, b'.') {
+        Some((whole, digits)) => (whole.is_empty() || is_numeral(whole)) && is_numeral(digits),
+        None => false,
+    }
+}
+
+/// What mends a number with a point: a chance is written in parts, and other numbers are whole.
+pub fn point_repair(word: &[u8], is_chance: bool) -> Option<Repair>
+    ensures number { IfSome result (λ r. mends_number r ≡ true) }
+    ensures operand { IfSome result (λ r. mends_operand r ≡ true) }
+{
+    if is_chance {
+        parts_of(word).map(Repair::Parts)
+    } else if has_point(word) {
+        Some(Repair::Whole)
+    } else {
+        None
+    }
+}
+
 /// What mends a word that is to be a number.
-fn number_word(word: &[u8]) -> Option<Repair>
+fn number_word(word: &[u8], is_chance: bool) -> Option<Repair>
     ensures { IfSome result (λ r. mends_number r ≡ true) }
 {
-    if let Some(parts) = parts_of(word) {
-        Some(Repair::Parts(parts))
+    if let Some(repair) = point_repair(word, is_chance) {
+        Some(repair)
     } else if matches!(word.first(), Some(b'-' | b'+')) {
         Some(Repair::Sign)
     } else if word.len() > 1 && word[0] == b'0' && is_numeral(word) {
@@ -48,6 +70,9 @@ fn number_word(word: &[u8]) -> Option<Repair>
     }
 }
 
+/// The names of the rules behind which chances stand.
+const RULES: [&[u8]; 3] = [b"nasch", b"vdr", b"rickert"];
+
 /// What most likely mends a line in which a number is wrong: the first word that is odd as a number.
 pub fn number_repair(line: &[u8]) -> Option<Repair>
     ensures { IfSome result (λ r. mends_number r ≡ true) }
@@ -56,10 +81,13 @@ pub fn number_repair(line: &[u8]) -> Option<Repair>
         return Some(Repair::Plain(Oddity::CarriageReturn));
     }
     let mut left = line;
+    let mut is_chance = false;
     for _ in 0..8 {
-        if let Some(repair) = number_word(head_word(left)) {
+        let word = head_word(left);
+        if let Some(repair) = number_word(word, is_chance) {
             return Some(repair);
         }
+        is_chance = is_chance || RULES.contains(&word);
         match cut(left, b' ') {
             Some((_, rest)) => left = rest,
             None => break,

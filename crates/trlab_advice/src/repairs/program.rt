@@ -7,7 +7,7 @@ ghost use Rattle.trlab_advice.specs.Repairs.{mends_operand, mends_word};
 use crate::odd::{Oddity, has_windows_end};
 use crate::repairs::Repair;
 use crate::repairs::name::name_repair;
-use crate::repairs::number::parts_of;
+use crate::repairs::number::{has_point, point_repair};
 use crate::subject::Subject;
 use std::alloc::{AllocError, Global};
 use trlab_asm::{
@@ -36,6 +36,54 @@ pub fn is_program_head(line: &[u8]) -> bool {
     PROGRAM_HEADS.contains(&head_word(line))
 }
 
+/// The names of the lines that stand alone in the program of a job or sweep text.
+const LONE_NAMES: [&[u8]; 3] = [b"end", b"cross", b"stay"];
+
+/// The names of the lines that may follow the program of a job or sweep text.
+const NEXT_NAMES: [&[u8]; 7] = [
+    b"steps", b"at", b"change", b"warm", b"measure", b"motion", b"code",
+];
+
+/// Whether a line of a program has a comment that begins as in other languages, with `#` or `//`.
+fn has_other_comment(line: &[u8]) -> bool {
+    let line = without_comment(line);
+    line.contains(&b'#') || cut(line, b'/').is_some_and(|(_, rest)| rest.first() == Some(&b'/'))
+}
+
+/// What mends a line of a program that has a carriage return, or a comment of another language.
+fn odd_line_repair(line: &[u8]) -> Option<Repair>
+    ensures word { IfSome result (λ r. mends_word r ≡ true) }
+    ensures operand { IfSome result (λ r. mends_operand r ≡ true) }
+{
+    if has_windows_end(line) {
+        Some(Repair::Plain(Oddity::CarriageReturn))
+    } else if has_other_comment(line) {
+        Some(Repair::Comment)
+    } else {
+        None
+    }
+}
+
+/// What most likely mends a word that is no instruction, in the program of a job or sweep text, which a
+/// line `end` ends.
+fn ended_word_repair(
+    alloc: Global,
+    name: &[u8],
+    operands: &[u8],
+) -> Result<Option<Repair>, AllocError>
+    ensures { IfOk result (λ repair. IfSome repair (λ r. mends_word r ≡ true)) }
+{
+    if name == b"end".as_slice() {
+        Ok(Some(Repair::End))
+    } else if NEXT_NAMES.contains(&name) {
+        Ok(Some(Repair::Above(b"end")))
+    } else if without_indent(operands).is_empty() {
+        name_repair(alloc, name, &LONE_NAMES)
+    } else {
+        Ok(None)
+    }
+}
+
 /// What most likely mends a line whose first word is no instruction.
 pub fn word_repair(
     alloc: Global,
@@ -44,15 +92,16 @@ pub fn word_repair(
 ) -> Result<Option<Repair>, AllocError>
     ensures { IfOk result (λ repair. IfSome repair (λ r. mends_word r ≡ true)) }
 {
-    if has_windows_end(line) {
-        return Ok(Some(Repair::Plain(Oddity::CarriageReturn)));
+    if let Some(repair) = odd_line_repair(line) {
+        return Ok(Some(repair));
     }
-    let (name, _) = name_and_operands(line);
-    if name == b"end".as_slice() {
-        return Ok(Some(match subject {
-            Subject::Job | Subject::Sweep => Repair::End,
-            Subject::Check => Repair::NoEnd,
-        }));
+    let (name, operands) = name_and_operands(line);
+    if subject != Subject::Check {
+        if let Some(repair) = ended_word_repair(alloc, name, operands)? {
+            return Ok(Some(repair));
+        }
+    } else if name == b"end".as_slice() {
+        return Ok(Some(Repair::NoEnd));
     }
     name_repair(alloc, name, &MNEMONICS.map(|name| mnemonic_text(name)))
 }
@@ -68,15 +117,40 @@ fn is_register_place(name: Mnemonic, place: u32) -> bool {
     }
 }
 
-/// What mends a word that stands where a register has to be: a number is put into one before, a name that
-/// is spelled nearly as a register is that register. A register with a number too large is none of them.
-fn register_repair(alloc: Global, word: &[u8]) -> Result<Option<Repair>, AllocError>
+/// Whether an operand of an instruction, counted from 0, is the register that its result goes to.
+fn is_result_place(name: Mnemonic, place: u32) -> bool {
+    let has_none = matches!(
+        name,
+        Mnemonic::Jump
+            | Mnemonic::JumpLess
+            | Mnemonic::JumpAtMost
+            | Mnemonic::JumpTrue
+            | Mnemonic::JumpFalse
+            | Mnemonic::Go
+            | Mnemonic::Cross
+            | Mnemonic::Stay
+    );
+    place == 0 && !has_none
+}
+
+/// What mends a word that stands where a register has to be: a number is put into one before, unless the
+/// result goes there; a name that is spelled nearly as a register is that register. A register with a number
+/// too large is none of them, nor is a number with a point.
+fn register_repair(
+    alloc: Global,
+    word: &[u8],
+    is_result: bool,
+) -> Result<Option<Repair>, AllocError>
     ensures { IfOk result (λ repair. IfSome repair (λ r. mends_operand r ≡ true)) }
 {
     if is_numeral(word) {
-        return Ok(Some(Repair::Register));
+        return Ok(Some(if is_result {
+            Repair::Destination
+        } else {
+            Repair::Register
+        }));
     }
-    if behind(b"r", word).is_some_and(|number| is_numeral(number)) {
+    if has_point(word) || behind(b"r", word).is_some_and(|number| is_numeral(number)) {
         return Ok(None);
     }
     name_repair(
@@ -95,11 +169,11 @@ fn operand_word(
 ) -> Result<Option<Repair>, AllocError>
     ensures { IfOk result (λ repair. IfSome repair (λ r. mends_operand r ≡ true)) }
 {
-    if let Some(parts) = parts_of(word) {
-        return Ok(Some(Repair::Parts(parts)));
-    }
     if is_register_place(name, place) {
-        return register_repair(alloc, word);
+        return register_repair(alloc, word, is_result_place(name, place));
+    }
+    if let Some(repair) = point_repair(word, name == Mnemonic::Draw && place == 2) {
+        return Ok(Some(repair));
     }
     if name == Mnemonic::Get && word.len() > 2 {
         return name_repair(alloc, word, &INPUTS.map(|input| input_text(input)));
@@ -111,8 +185,8 @@ fn operand_word(
 pub fn operand_repair(alloc: Global, line: &[u8]) -> Result<Option<Repair>, AllocError>
     ensures { IfOk result (λ repair. IfSome repair (λ r. mends_operand r ≡ true)) }
 {
-    if has_windows_end(line) {
-        return Ok(Some(Repair::Plain(Oddity::CarriageReturn)));
+    if let Some(repair) = odd_line_repair(line) {
+        return Ok(Some(repair));
     }
     let (name, operands) = name_and_operands(line);
     let Some(name) = mnemonic_named(name) else {
