@@ -5,11 +5,14 @@ use trlab_code::CodeFault;
 use trlab_road::RoadFault;
 use trlab_texts::Cause;
 
+/// What to look at in a number.
+const OF_NUMBERS: &str = "whether the number is in its range, and is 1 to 10 decimal digits.";
+
 /// What to look at in a text with this fault, where no repair is likely.
 pub fn look_at(cause: Cause) -> Option<&'static str> {
     match cause {
         Cause::Line => Some("the first word of the line, and how many words stand behind it."),
-        Cause::Number => Some("the range: numbers are decimal digits, 10 at most."),
+        Cause::Number => Some(OF_NUMBERS),
         Cause::Order => Some("the `at` line above this one, and the line `steps`."),
         Cause::TooMany => Some("what the text repeats: split it into several texts."),
         Cause::Work => Some("how many points there are: measure fewer, or for fewer steps."),
@@ -29,7 +32,7 @@ fn look_at_lines(why: Why) -> Option<&'static str> {
             "the first word of the line; a label is at most 32 letters, digits and `_`, then `:`.",
         ),
         Why::Operand => Some("how many operands there are, with a comma between two."),
-        Why::Number => Some("the range: numbers are decimal digits, 10 at most."),
+        Why::Number => Some(OF_NUMBERS),
         Why::LabelTwice => Some("the line above that has the same label: rename one of the two."),
         Why::NoLabel => Some("how the label is spelled where it stands, before `:`."),
         Why::TooLong => Some("what the program repeats: it has room for 128 instructions."),

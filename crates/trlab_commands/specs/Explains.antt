@@ -43,7 +43,7 @@ page_on _ _ = Nothing
 
 -- what a name and a number behind `explain` ask for
 abbrev pub number_page : List ℕ → List ℕ → Explaining
-number_page name word = page_on (topic_named name) (within 1 99 (number_of word))
+number_page name word = page_on (topic_named name) (within 0 4294967295 (number_of word))
 
 -- what the words behind `explain` ask for
 abbrev pub behind_explain : List (List ℕ) → Explaining

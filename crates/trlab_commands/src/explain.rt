@@ -62,7 +62,7 @@ fn topic_named(name: &[u8]) -> Option<Topic>
 fn number_page(name: &[u8], word: &[u8]) -> Explaining
     ensures { result ≡ number_page name.now word.now }
 {
-    match (topic_named(name), number_from(1, 99, word)) {
+    match (topic_named(name), number_from(0, u32::MAX, word)) {
         (Some(topic), Ok(number)) => Explaining::Number(topic, number),
         _ => Explaining::Nothing,
     }

@@ -53,6 +53,17 @@ fn least_at(note: &Note, place: usize) -> u32 {
     }
 }
 
+/// The level of a number of at most `high` to one of at least `low`, as these ranges alone tell it.
+fn range_level(high: u32, low: u32) -> u8 {
+    if high < low {
+        2
+    } else if high == low {
+        1
+    } else {
+        0
+    }
+}
+
 /// Adds which places a number of a register is at most or below, beyond what their ranges say.
 pub fn push_orders(page: &mut Page, note: &Note, register: Register) -> Result<(), AllocError> {
     let own = register.number();
@@ -61,7 +72,7 @@ pub fn push_orders(page: &mut Page, note: &Note, register: Register) -> Result<(
     };
     for place in 0..PLACES {
         let level = note.levels[own][place];
-        if level == 0 || place == own || high <= least_at(note, place) {
+        if place == own || level <= range_level(high, least_at(note, place)) {
             continue;
         }
         page.say(if level == 1 { ", at most " } else { ", below " })?;
