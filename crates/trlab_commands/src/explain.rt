@@ -68,6 +68,23 @@ fn number_page(name: &[u8], word: &[u8]) -> Explaining
     }
 }
 
+/// Is the word behind a topic a number?
+fn is_number(word: &String) -> bool {
+    number_from(0, u32::MAX, word.as_bytes()).is_ok()
+}
+
+/// The first word behind `explain` that it does not take, where the words are refused; nothing where
+/// a number is missing.
+pub fn word_not_taken(words: &[String]) -> Option<&String> {
+    let name = words.get(1)?.as_bytes();
+    let place = match (explain_word(name), topic_named(name)) {
+        (Explaining::Nothing, None) => 1,
+        (Explaining::Nothing, Some(_)) if words.get(2).is_some_and(is_number) => 3,
+        _ => 2,
+    };
+    words.get(place)
+}
+
 /// What the words after the program's name ask for, where the first is `explain`.
 pub fn explain_words(words: &[String]) -> Option<Explaining>
     ensures { result ≡ explain_words (map string_bytes words.now) }

@@ -15,7 +15,7 @@ use std::{env, io};
 use trlab_campaign::{End, Sink, Source, Watched};
 use trlab_commands::{
     EXPLAIN_HELP, Explaining, REFUSED_WORDS, carry_out, explain_number, explain_text,
-    explain_words, read_words, status_of_end, status_of_print,
+    explain_words, read_words, status_of_end, status_of_print, word_not_taken,
 };
 
 fn main(rt: HostRuntime) -> ExitCode {
@@ -24,7 +24,7 @@ fn main(rt: HostRuntime) -> ExitCode {
             let mut reader = Watched::new(rt.stdin());
             let mut writer = Watched::new(rt.stdout());
             match explain_words(&words) {
-                Some(wanted) => explain(&rt, wanted, &mut reader, &mut writer),
+                Some(wanted) => explain(&rt, &words, wanted, &mut reader, &mut writer),
                 None => act(&rt, &words, &mut reader, &mut writer),
             }
         }
@@ -53,9 +53,10 @@ fn act<R: AllocGlobal + Threads + Wait + Sync + Print + Eprint, S: Source, K: Si
     }
 }
 
-/// Explains what is wanted, and answers the exit status.
+/// Explains what is wanted by the words, and answers the exit status.
 fn explain<R: AllocGlobal + Print + Eprint, S: Source, K: Sink>(
     rt: &R,
+    words: &[String],
     wanted: Explaining,
     reader: &mut S,
     writer: &mut K,
@@ -73,7 +74,14 @@ fn explain<R: AllocGlobal + Print + Eprint, S: Source, K: Sink>(
             Err(_) => status_of_end(End::DeviceFault),
         },
         Explaining::Nothing => {
-            let _ = eprintln!(rt; "error: `explain` takes no such words\n\n{EXPLAIN_HELP}");
+            let _ = match word_not_taken(words) {
+                Some(word) => eprintln!(rt;
+                    "error: `explain` takes no {word:?} here\n\n{EXPLAIN_HELP}"
+                ),
+                None => eprintln!(rt;
+                    "error: `cause` and `reason` want a number behind them\n\n{EXPLAIN_HELP}"
+                ),
+            };
             REFUSED_WORDS
         }
     }
