@@ -1,6 +1,6 @@
 -- What is told of a text, whatever words are chosen: where it is refused, how that begins.
-use Rattle.std.specs.Prelude.{◌≡◌, ℕ, true, false, All, List, [], ◌∷◌, ◌++◌, codes, decimal, Option, None, Some, Result, Ok, Err}
-use Rattle.trlab_prose.specs.Plain.{IsPlain, quoted}
+use Rattle.std.specs.Prelude.{◌≡◌, ℕ, true, false, All, List, ◌++◌, codes, decimal, Option, None, Some, Result, Ok, Err}
+use Rattle.trlab_prose.specs.Plain.{IsPlain}
 use Rattle.trlab_lines.specs.Lines.{lines_of}
 use Rattle.trlab_verify.specs.Verdict.{IsAccepted, IsRefused}
 use Rattle.trlab_texts.specs.Reading.{Fault}

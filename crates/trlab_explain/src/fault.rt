@@ -1,32 +1,32 @@
 //! The explanation of a fault.
 
 ghost use Rattle.std.specs.Prelude.{IfOk};
-ghost use Rattle.trlab_explain.specs.Explanations.{BeginsWith, fault_head};
+ghost use Rattle.trlab_explain.specs.Explanations.{TellsFault};
 
-use crate::head::push_fault_head;
+use crate::head::{push_below, push_fault_head};
 use std::alloc::{AllocError, Global};
 use trlab_advice::Subject;
 use trlab_prose::Page;
 use trlab_texts::Cause;
 use trlab_wording::fault_words;
 
-/// The page on the first fault of a text.
+/// That a text is refused for its first fault, and the page on it.
 ///
 /// # Errors
 ///
 /// Want of memory.
-pub fn fault_page(
+pub fn explain_fault(
     alloc: Global,
     subject: Subject,
     text: &[u8],
     line: u32,
     cause: Cause,
-) -> Result<Page, AllocError>
-    ensures { IfOk result (BeginsWith (fault_head text.now (record { line = line; cause = cause }))) }
+) -> Result<(bool, Page), AllocError>
+    ensures { IfOk result (λ told.
+        TellsFault text.now (record { line = line; cause = cause }) told.0 told.1) }
 {
-    let body = fault_words(alloc, subject, text, line, cause)?;
     let mut page = Page::new(alloc);
     push_fault_head(&mut page, text, line, cause)?;
-    page.add(&body)?;
-    Ok(page)
+    push_below(&mut page, fault_words(alloc, subject, text, line, cause))?;
+    Ok((true, page))
 }

@@ -4,7 +4,7 @@
 ghost use Rattle.std.specs.Prelude.{◌≡◌, ◌++◌, OnOk};
 ghost use Rattle.trlab_campaign.specs.Refusal.{fault_line};
 ghost use Rattle.trlab_campaign.specs.CheckOutput.{refused_line};
-ghost use Rattle.trlab_explain.specs.Explanations.{fault_head};
+ghost use Rattle.trlab_explain.specs.Explanations.{BeginsWith, fault_head};
 
 use std::alloc::AllocError;
 use trlab_advice::line_at;
@@ -46,4 +46,11 @@ pub fn push_fault_head(
 {
     push_fault_line(page, line, cause)?;
     push_quote(page, line, line_at(text, line))
+}
+
+/// Adds what is told below a head, as its page was written.
+pub fn push_below(page: &mut Page, body: Result<Page, AllocError>) -> Result<(), AllocError>
+    ensures { OnOk result (BeginsWith page.old page.new) }
+{
+    page.add(&body?)
 }

@@ -4,7 +4,8 @@ ghost use Rattle.std.specs.Prelude.{IfOk};
 ghost use Rattle.trlab_explain.specs.Explanations.{TellsAs};
 ghost use Rattle.trlab_advice.specs.declared.subject.Subject.TheVariants.{Job as OfJob};
 
-use crate::fault::fault_page;
+use crate::fault::explain_fault;
+use crate::good::explain_good;
 use std::alloc::{AllocError, Global};
 use trlab_advice::Subject;
 use trlab_jobs::read_job;
@@ -21,9 +22,9 @@ pub fn explain_job(alloc: Global, text: &[u8]) -> Result<(bool, Page), AllocErro
     ensures { IfOk result (λ told. TellsAs OfJob text.now told.0 told.1) }
 {
     match read_job(alloc, text) {
-        Ok(job) => Ok((false, job_page(alloc, text, &job)?)),
+        Ok(job) => explain_good(job_page(alloc, text, &job)),
         Err(TextFault::At { line, cause }) => {
-            Ok((true, fault_page(alloc, Subject::Job, text, line, cause)?))
+            explain_fault(alloc, Subject::Job, text, line, cause)
         }
         Err(TextFault::Memory) => Err(AllocError),
     }

@@ -5,6 +5,7 @@
 mod check;
 mod explain;
 mod fault;
+mod good;
 mod head;
 mod job;
 pub mod laws;

@@ -4,7 +4,8 @@ ghost use Rattle.std.specs.Prelude.{IfOk};
 ghost use Rattle.trlab_explain.specs.Explanations.{TellsAs};
 ghost use Rattle.trlab_advice.specs.declared.subject.Subject.TheVariants.{Sweep as OfSweep};
 
-use crate::fault::fault_page;
+use crate::fault::explain_fault;
+use crate::good::explain_good;
 use std::alloc::{AllocError, Global};
 use trlab_advice::Subject;
 use trlab_jobs::read_sweep;
@@ -21,9 +22,9 @@ pub fn explain_sweep(alloc: Global, text: &[u8]) -> Result<(bool, Page), AllocEr
     ensures { IfOk result (λ told. TellsAs OfSweep text.now told.0 told.1) }
 {
     match read_sweep(alloc, text) {
-        Ok(sweep) => Ok((false, sweep_page(alloc, text, &sweep)?)),
+        Ok(sweep) => explain_good(sweep_page(alloc, text, &sweep)),
         Err(TextFault::At { line, cause }) => {
-            Ok((true, fault_page(alloc, Subject::Sweep, text, line, cause)?))
+            explain_fault(alloc, Subject::Sweep, text, line, cause)
         }
         Err(TextFault::Memory) => Err(AllocError),
     }

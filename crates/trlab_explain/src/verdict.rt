@@ -7,7 +7,8 @@ ghost use Rattle.trlab_jobs.specs.Check.{Check as Request};
 ghost use Rattle.trlab_explain.specs.Explanations.{BeginsWith, TellsProgram};
 ghost use Rattle.trlab_campaign.specs.CheckOutput.{refused_line};
 
-use crate::head::push_refused_line;
+use crate::good::explain_good;
+use crate::head::{push_below, push_refused_line};
 use std::alloc::{AllocError, Global};
 use trlab_code::{Code, Kind};
 use trlab_jobs::Check;
@@ -27,8 +28,7 @@ fn refused_page(
 {
     let mut page = Page::new(alloc);
     push_refused_line(&mut page, at, reason)?;
-    let body = refused_words(alloc, text, code, at, reason)?;
-    page.add(&body)?;
+    push_below(&mut page, refused_words(alloc, text, code, at, reason))?;
     Ok(page)
 }
 
@@ -55,10 +55,7 @@ fn explain_motion(alloc: Global, text: &[u8], code: Code) -> Result<(bool, Page)
         → IfOk result (λ told. TellsProgram check told.0 told.1) }
 {
     match verify_motion(alloc, code) {
-        Ok(motion) => {
-            let page = accepted_page(alloc, text, motion.code(), motion.budget())?;
-            Ok((false, page))
-        }
+        Ok(motion) => explain_good(accepted_page(alloc, text, motion.code(), motion.budget())),
         Err((code, fault)) => explain_refusal(alloc, text, &code, fault),
     }
 }
@@ -70,10 +67,7 @@ fn explain_change(alloc: Global, text: &[u8], code: Code) -> Result<(bool, Page)
         → IfOk result (λ told. TellsProgram check told.0 told.1) }
 {
     match verify_change(alloc, code) {
-        Ok(change) => {
-            let page = accepted_page(alloc, text, change.code(), change.budget())?;
-            Ok((false, page))
-        }
+        Ok(change) => explain_good(accepted_page(alloc, text, change.code(), change.budget())),
         Err((code, fault)) => explain_refusal(alloc, text, &code, fault),
     }
 }
