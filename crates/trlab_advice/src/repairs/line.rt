@@ -42,8 +42,14 @@ fn rank_of_name(subject: Subject, name: &[u8]) -> Option<u32> {
     } else {
         &JOB_NAMES[..JOB_RANKS]
     };
-    let rank = names.iter().position(|line| *line == name)?;
-    Some(rank as u32)
+    let mut rank = 0u32;
+    for line in names {
+        if *line == name {
+            return Some(rank);
+        }
+        rank = rank.saturating_add(1);
+    }
+    None
 }
 
 /// How far down a text a place is.
