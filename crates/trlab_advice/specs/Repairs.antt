@@ -6,19 +6,23 @@ use Rattle.trlab_texts.specs.declared.fault.Cause.TheVariants.{Line, Number, Key
 use Rattle.trlab_advice.specs.declared.repairs.Repair.{Repair}
 use Rattle.trlab_advice.specs.declared.repairs.Repair.TheVariants as mend
 
+-- a repair where a line is missing
+abbrev pub mends_missing : Repair → Bool
+mends_missing mend.Missing = true
+mends_missing mend.Ended = true
+mends_missing mend.Endless = true
+mends_missing (mend.EndBeside line) = true
+mends_missing (mend.Above name) = true
+mends_missing mend.Heading = true
+mends_missing _ = false
+
 -- a repair of a line that is not the one that must stand there
 abbrev pub mends_line : Repair → Bool
 mends_line (mend.Plain oddity) = true
 mends_line (mend.Other subject) = true
-mends_line mend.Missing = true
-mends_line mend.Ended = true
-mends_line mend.Endless = true
-mends_line (mend.EndBeside line) = true
 mends_line mend.Late = true
 mends_line (mend.Name name) = true
-mends_line (mend.Above name) = true
-mends_line mend.Heading = true
-mends_line _ = false
+mends_line repair = mends_missing repair
 
 -- a repair of a number
 abbrev pub mends_number : Repair → Bool

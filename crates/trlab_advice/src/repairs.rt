@@ -24,7 +24,7 @@ use trlab_asm::Why;
 use trlab_texts::Cause;
 
 /// What most likely mends a fault.
-#[derive(Clone, Copy, PartialEq, Eq)]
+#[derive(Clone, Copy)]
 pub enum Repair {
     /// What is odd about the line has to go.
     Plain(Oddity),

@@ -3,8 +3,8 @@ use Rattle.std.specs.Prelude.{ℕ, ◌||◌, List, [], ◌∷◌, Option, None, 
 use Rattle.std.specs.Str.{bytes_eq}
 use Rattle.trlab_advice.specs.declared.subject.Subject.{Subject}
 use Rattle.trlab_advice.specs.declared.subject.Subject.TheVariants.{Job, Sweep, Check}
-use Rattle.trlab_explain.specs.declared.topics.Topic.{Topic}
-use Rattle.trlab_explain.specs.declared.topics.Topic.TheVariants.{Cause, Reason}
+use Rattle.trlab_wording.specs.declared.topics.Topic.{Topic}
+use Rattle.trlab_wording.specs.declared.topics.Topic.TheVariants.{Cause, Reason}
 use Rattle.trlab_texts.specs.declared.fault.Cause.{Cause as OfText}
 use Rattle.trlab_texts.specs.Words.{number_of, within}
 use Rattle.trlab_commands.specs.declared.explain.Explaining.{Explaining}

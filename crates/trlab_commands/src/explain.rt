@@ -3,8 +3,9 @@
 ghost use Rattle.std.specs.Prelude.{◌≡◌, map, string_bytes};
 ghost use Rattle.trlab_commands.specs.Explains.{explain_word, explain_words, number_page, subject_named, topic_named};
 
-use trlab_explain::{Subject, Topic};
+use trlab_advice::Subject;
 use trlab_texts::word::number_from;
+use trlab_wording::Topic;
 
 /// What the words of `explain` ask for.
 #[derive(Clone, Copy, Debug, PartialEq, Eq)]

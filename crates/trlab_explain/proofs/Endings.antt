@@ -17,7 +17,7 @@ use Rattle.trlab_advice.specs.Subjects.{subject_of}
 use Rattle.trlab_advice.specs.declared.subject.Subject.{Subject}
 use Rattle.trlab_advice.specs.declared.subject.Subject.TheVariants.{Job, Sweep, Check}
 use Rattle.trlab_explain.specs.Explanations.{BeginsWith, Explains, ExplainsAs, TellsNumber, TellsAs, topic_front}
-use Rattle.trlab_explain.specs.declared.topics.Topic.{Topic}
+use Rattle.trlab_wording.specs.declared.topics.Topic.{Topic}
 
 -- two parts were put behind a text, the second unless memory ran out
 pub parts_put : {A E : Type 0} (r : Result A E) (old mid new first last : List ℕ) → mid ≡ old ++ first → OnOk r (new ≡ mid ++ last) → OnOk r (new ≡ old ++ (first ++ last))

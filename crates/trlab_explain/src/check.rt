@@ -4,7 +4,7 @@ ghost use Rattle.std.specs.Prelude.{IfOk};
 ghost use Rattle.trlab_explain.specs.Explanations.{TellsAs};
 ghost use Rattle.trlab_advice.specs.declared.subject.Subject.TheVariants.{Check as OfCheck};
 
-use crate::fault::fault_page;
+use crate::fault::explain_fault;
 use crate::verdict::explain_program;
 use std::alloc::{AllocError, Global};
 use trlab_advice::Subject;
@@ -23,7 +23,7 @@ pub fn explain_check(alloc: Global, text: &[u8]) -> Result<(bool, Page), AllocEr
     match read_check(alloc, text) {
         Ok(check) => explain_program(alloc, text, check),
         Err(TextFault::At { line, cause }) => {
-            Ok((true, fault_page(alloc, Subject::Check, text, line, cause)?))
+            explain_fault(alloc, Subject::Check, text, line, cause)
         }
         Err(TextFault::Memory) => Err(AllocError),
     }

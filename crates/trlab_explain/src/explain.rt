@@ -11,7 +11,7 @@ ghost use Rattle.trlab_prose.specs.Plain.{IsPlain};
 ghost use Rattle.trlab_explain.specs.Explanations.{BeginsWith, Explains, TellsAs};
 
 use crate::check::explain_check;
-use crate::fault::fault_page;
+use crate::fault::explain_fault;
 use crate::job::explain_job;
 use crate::sweep::explain_sweep;
 use std::alloc::{AllocError, AllocGlobal, Global};
@@ -35,8 +35,7 @@ fn too_big_page(alloc: Global) -> Result<(bool, Page), AllocError>
     ensures refused { IfOk result (λ told. told.0 ≡ true) }
     ensures begins { IfOk result (λ told. BeginsWith too_big_line told.1) }
 {
-    let page = fault_page(alloc, Subject::Check, b"", 0, Cause::TooBig)?;
-    Ok((true, page))
+    explain_fault(alloc, Subject::Check, b"", 0, Cause::TooBig)
 }
 
 /// Writes a page, which tells a refusal or none, and hands it on.

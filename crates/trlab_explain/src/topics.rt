@@ -6,24 +6,10 @@ ghost use Rattle.trlab_campaign.specs.declared.end.End.TheVariants.{DeviceFault}
 ghost use Rattle.trlab_explain.specs.Explanations.{BeginsWith, TellsNumber, topic_front};
 
 use crate::explain::write_told;
-use crate::fault::push_hint;
-use crate::lines::push_both;
-use crate::numbered::{MOST_REASON, cause_numbered};
 use std::alloc::{AllocError, AllocGlobal, Global};
-use trlab_advice::{meaning_of_cause, meaning_of_reason, repair_of_reason};
 use trlab_campaign::{End, Sink};
-use trlab_code::Kind;
 use trlab_prose::Page;
-use trlab_texts::Cause;
-
-/// What has a number that a refusal tells.
-#[derive(Clone, Copy, Debug, PartialEq, Eq)]
-pub enum Topic {
-    /// The cause of a line `fault line N cause K`.
-    Cause,
-    /// The reason of a line `refused at N reason R`.
-    Reason,
-}
+use trlab_wording::{Topic, number_words};
 
 /// Adds how the page on a number begins.
 fn push_topic(page: &mut Page, topic: Topic, number: u32) -> Result<(), AllocError>
@@ -37,62 +23,11 @@ fn push_topic(page: &mut Page, topic: Topic, number: u32) -> Result<(), AllocErr
     page.say(": ")
 }
 
-/// Adds the usual repairs of a reason.
-fn push_repairs(page: &mut Page, reason: u32) -> Result<(), AllocError> {
-    let motion = repair_of_reason(reason, Kind::Motion);
-    let change = repair_of_reason(reason, Kind::Change);
-    if motion == change {
-        return push_both(page, "Repair: ", motion);
-    }
-    push_both(page, "Repair of a motion program: ", motion)?;
-    push_both(page, "Repair of a change program: ", change)
-}
-
-/// Adds what is told of a cause behind its number.
-fn push_cause(page: &mut Page, cause: Cause) -> Result<(), AllocError> {
-    page.line(meaning_of_cause(cause))?;
-    if let Cause::Verdict(reason) = cause {
-        push_both(
-            page,
-            "It is refused for this reason: ",
-            meaning_of_reason(reason),
-        )?;
-        push_repairs(page, reason)?;
-    }
-    push_hint(page, cause)?;
-    page.line(
-        "`trlab explain < FILE` tells it of a text that has it; docs/TEXTS.md has all causes.",
-    )
-}
-
-/// Adds what is told of a reason behind its number.
-fn push_reason(page: &mut Page, reason: u32) -> Result<(), AllocError> {
-    page.line(meaning_of_reason(reason))?;
-    push_repairs(page, reason)?;
-    page.line(
-        "`trlab explain < FILE` tells it of a program that has it; docs/PROGRAMS.md has all reasons.",
-    )
-}
-
-/// Adds what is told of a number behind it, and answers whether there is no such number.
-fn push_number(page: &mut Page, topic: Topic, number: u32) -> Result<bool, AllocError> {
-    match (topic, cause_numbered(number)) {
-        (Topic::Cause, Some(cause)) => push_cause(page, cause)?,
-        (Topic::Reason, _) if 1 <= number && number <= MOST_REASON => push_reason(page, number)?,
-        _ => {
-            page.line("there is none of this number.")?;
-            return Ok(true);
-        }
-    }
-    Ok(false)
-}
-
 /// The page on a number, and whether there is no such number.
 fn number_page(alloc: Global, topic: Topic, number: u32) -> Result<(bool, Page), AllocError>
     ensures { IfOk result (λ told. BeginsWith (topic_front topic number) told.1) }
 {
-    let mut body = Page::new(alloc);
-    let is_none = push_number(&mut body, topic, number)?;
+    let (is_none, body) = number_words(alloc, topic, number)?;
     let mut page = Page::new(alloc);
     push_topic(&mut page, topic, number)?;
     page.add(&body)?;

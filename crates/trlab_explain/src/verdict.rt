@@ -7,64 +7,14 @@ ghost use Rattle.trlab_jobs.specs.Check.{Check as Request};
 ghost use Rattle.trlab_explain.specs.Explanations.{BeginsWith, TellsProgram};
 ghost use Rattle.trlab_campaign.specs.CheckOutput.{refused_line};
 
-use crate::head::push_refused_line;
+use crate::good::explain_good;
+use crate::head::{push_below, push_refused_line};
 use std::alloc::{AllocError, Global};
-use trlab_advice::line_at;
 use trlab_code::{Code, Kind};
-use trlab_findings::{InstrLines, Placed, Refused, behind_line, push_accepted, push_refusal};
 use trlab_jobs::Check;
 use trlab_prose::Page;
-use trlab_texts::word::behind;
 use trlab_verify::{VerifyFault, verify_change, verify_motion};
-
-/// Where the instructions of the program of a check text stand.
-fn instr_lines_of(alloc: Global, text: &[u8]) -> Result<InstrLines, AllocError> {
-    match line_at(text, 1) {
-        Some(line) if behind(b"code ", line).is_some() => Ok(InstrLines::of_bytes(alloc)),
-        Some(line) if behind(b"notes code ", line).is_some() => Ok(InstrLines::of_bytes(alloc)),
-        _ => InstrLines::of_lines(alloc, 1, behind_line(text, 1)),
-    }
-}
-
-/// The page on a program that is accepted.
-fn accepted_page(alloc: Global, text: &[u8], code: &Code, budget: u32) -> Result<Page, AllocError> {
-    let mut page = Page::new(alloc);
-    let lines = instr_lines_of(alloc, text)?;
-    let program = Placed {
-        text,
-        code,
-        lines: &lines,
-    };
-    push_accepted(alloc, &mut page, program, budget)?;
-    Ok(page)
-}
-
-/// What is told of a refused program behind its head.
-fn refused_body(
-    alloc: Global,
-    text: &[u8],
-    code: &Code,
-    at: u32,
-    reason: u32,
-) -> Result<Page, AllocError> {
-    let mut page = Page::new(alloc);
-    let lines = instr_lines_of(alloc, text)?;
-    let program = Placed {
-        text,
-        code,
-        lines: &lines,
-    };
-    push_refusal(
-        alloc,
-        &mut page,
-        &Refused {
-            program,
-            at,
-            reason,
-        },
-    )?;
-    Ok(page)
-}
+use trlab_wording::{accepted_page, refused_words};
 
 /// The page on a program that is refused.
 fn refused_page(
@@ -78,8 +28,7 @@ fn refused_page(
 {
     let mut page = Page::new(alloc);
     push_refused_line(&mut page, at, reason)?;
-    let body = refused_body(alloc, text, code, at, reason)?;
-    page.add(&body)?;
+    push_below(&mut page, refused_words(alloc, text, code, at, reason))?;
     Ok(page)
 }
 
@@ -106,10 +55,7 @@ fn explain_motion(alloc: Global, text: &[u8], code: Code) -> Result<(bool, Page)
         → IfOk result (λ told. TellsProgram check told.0 told.1) }
 {
     match verify_motion(alloc, code) {
-        Ok(motion) => {
-            let page = accepted_page(alloc, text, motion.code(), motion.budget())?;
-            Ok((false, page))
-        }
+        Ok(motion) => explain_good(accepted_page(alloc, text, motion.code(), motion.budget())),
         Err((code, fault)) => explain_refusal(alloc, text, &code, fault),
     }
 }
@@ -121,10 +67,7 @@ fn explain_change(alloc: Global, text: &[u8], code: Code) -> Result<(bool, Page)
         → IfOk result (λ told. TellsProgram check told.0 told.1) }
 {
     match verify_change(alloc, code) {
-        Ok(change) => {
-            let page = accepted_page(alloc, text, change.code(), change.budget())?;
-            Ok((false, page))
-        }
+        Ok(change) => explain_good(accepted_page(alloc, text, change.code(), change.budget())),
         Err((code, fault)) => explain_refusal(alloc, text, &code, fault),
     }
 }

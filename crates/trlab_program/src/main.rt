@@ -14,9 +14,10 @@ use std::thread::Threads;
 use std::{env, io};
 use trlab_campaign::{End, Sink, Source, Watched};
 use trlab_commands::{
-    EXPLAIN_HELP, Explaining, REFUSED_WORDS, carry_out, explain_number, explain_text,
-    explain_words, read_words, status_of_end, status_of_print, word_not_taken,
+    EXPLAIN_HELP, Explaining, REFUSED_WORDS, carry_out, explain_words, read_words, status_of_end,
+    status_of_print, word_not_taken,
 };
+use trlab_explain::{explain_number, explain_text};
 
 fn main(rt: HostRuntime) -> ExitCode {
     let status = match given_words(&rt) {

@@ -42,8 +42,14 @@ fn rank_of_name(subject: Subject, name: &[u8]) -> Option<u32> {
     } else {
         &JOB_NAMES[..JOB_RANKS]
     };
-    let rank = names.iter().position(|line| *line == name)?;
-    Some(rank as u32)
+    let mut rank = 0u32;
+    for line in names {
+        if *line == name {
+            return Some(rank);
+        }
+        rank = rank.saturating_add(1);
+    }
+    None
 }
 
 /// How far down a text a place is.
@@ -100,9 +106,10 @@ fn named(alloc: Global, subject: Subject, name: &[u8]) -> Result<Option<Repair>,
 
 /// Whether a job or sweep text has roads of two lanes: in both the fifth line says it.
 fn has_two_lanes(text: &[u8]) -> bool {
-    line_at(text, 5).is_some_and(|line| {
-        line == b"lanes 2".as_slice() || head_word(line) == b"lane".as_slice()
-    })
+    match line_at(text, 5) {
+        Some(line) => line == b"lanes 2".as_slice() || head_word(line) == b"lane".as_slice(),
+        None => false,
+    }
 }
 
 /// What mends an instruction that stands where another line must: where a program may begin, the first

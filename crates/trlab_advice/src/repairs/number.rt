@@ -98,8 +98,14 @@ pub fn number_repair(line: &[u8]) -> Option<Repair>
 
 /// The place of the first character that is no hexadecimal digit, counted from 1.
 fn first_no_digit(word: &[u8]) -> Option<usize> {
-    let place = word.iter().position(|byte| !byte.is_ascii_hexdigit())?;
-    Some(place.saturating_add(1))
+    let mut place = 0usize;
+    for byte in word {
+        place = place.saturating_add(1);
+        if !byte.is_ascii_hexdigit() {
+            return Some(place);
+        }
+    }
+    None
 }
 
 /// What most likely mends the line of a key.

@@ -47,7 +47,8 @@ const NEXT_NAMES: [&[u8]; 7] = [
 /// Whether a line of a program has a comment that begins as in other languages, with `#` or `//`.
 fn has_other_comment(line: &[u8]) -> bool {
     let line = without_comment(line);
-    line.contains(&b'#') || cut(line, b'/').is_some_and(|(_, rest)| rest.first() == Some(&b'/'))
+    line.contains(&b'#')
+        || matches!(cut(line, b'/'), Some((_, rest)) if rest.first() == Some(&b'/'))
 }
 
 /// What mends a line of a program that has a carriage return, or a comment of another language.
@@ -150,7 +151,7 @@ fn register_repair(
             Repair::Register
         }));
     }
-    if has_point(word) || behind(b"r", word).is_some_and(|number| is_numeral(number)) {
+    if has_point(word) || matches!(behind(b"r", word), Some(number) if is_numeral(number)) {
         return Ok(None);
     }
     name_repair(

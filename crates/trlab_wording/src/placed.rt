@@ -1,6 +1,7 @@
 //! Programs and where they stand in a text.
 
 use crate::instr_lines::InstrLines;
+use crate::lines::push_quote;
 use std::alloc::{AllocError, Global};
 use trlab_advice::line_at;
 use trlab_asm::disassemble;
@@ -18,10 +19,10 @@ pub struct Placed<'a> {
     pub lines: &'a InstrLines,
 }
 
-/// Adds a line of a listing, quoted, with what it is and its number.
-fn push_line(page: &mut Page, what: &str, number: u32, line: &[u8]) -> Result<(), AllocError> {
-    page.say(what)?;
-    page.number(u64::from(number))?;
+/// Adds a line of a listing, quoted, with the number of its instruction.
+fn push_listed(page: &mut Page, pc: u32, line: &[u8]) -> Result<(), AllocError> {
+    page.say("instruction ")?;
+    page.number(u64::from(pc))?;
     page.say(": ")?;
     page.quote(line)?;
     page.end_line()
@@ -35,14 +36,11 @@ pub fn push_instruction(
     pc: u32,
 ) -> Result<(), AllocError> {
     match program.lines.line_of(pc as usize) {
-        Some(number) => {
-            let line = line_at(program.text, number).unwrap_or(b"");
-            push_line(page, "line ", number, line)
-        }
+        Some(number) => push_quote(page, number, line_at(program.text, number)),
         None => {
             let listing = disassemble(alloc, program.code)?;
             let line = line_at(&listing, pc.saturating_add(1)).unwrap_or(b"");
-            push_line(page, "instruction ", pc, line)
+            push_listed(page, pc, line)
         }
     }
 }

@@ -1,7 +1,6 @@
 //! Repairs, in words.
 
-use crate::head::push_quote;
-use crate::lines::push_count;
+use crate::lines::{push_count, push_pieces, push_quote};
 use std::alloc::AllocError;
 use trlab_advice::{Oddity, Repair, Subject, line_at};
 use trlab_prose::Page;
@@ -64,58 +63,13 @@ fn words_of(repair: Repair) -> &'static str {
     }
 }
 
+/// What is told of an `end` that has something beside it.
+const END_BESIDE: &str = "a program ends with a line `end`, with nothing beside it; this is none:";
+
 /// Adds words, and the line of a text that they are about.
 fn push_about(page: &mut Page, words: &str, text: &[u8], number: u32) -> Result<(), AllocError> {
     page.line(words)?;
     push_quote(page, number, line_at(text, number))
-}
-
-/// The words of a repair that has a number of its own: those in front of it, the number, and those behind.
-fn counted_words(repair: Repair) -> Option<(&'static str, u64, &'static str)> {
-    match repair {
-        Repair::Parts(parts) => Some((
-            "a chance is written as ",
-            u64::from(parts),
-            ", in parts of 2147483648.",
-        )),
-        Repair::KeyLength(count) => Some((
-            "this key has ",
-            count as u64,
-            " characters: it wants 64.",
-        )),
-        Repair::OddDigits(count) => Some((
-            "these are ",
-            count as u64,
-            " digits, and each byte wants two.",
-        )),
-        Repair::NoDigit(place) => Some((
-            "the character at place ",
-            place as u64,
-            " is no hexadecimal digit.",
-        )),
-        _ => None,
-    }
-}
-
-/// The words of a repair that another line of the text shows, and the number of that line.
-fn shown_words(repair: Repair) -> Option<(&'static str, u32)> {
-    match repair {
-        Repair::Label(line) => Some(("perhaps the label of this line is meant:", line)),
-        Repair::EndBeside(line) => Some((
-            "a program ends with a line `end`, with nothing beside it; this is none:",
-            line,
-        )),
-        _ => None,
-    }
-}
-
-/// The words of a repair that names something: those in front of the name, the name, and those behind.
-fn named_words(repair: Repair) -> Option<(&'static str, &'static [u8], &'static str)> {
-    match repair {
-        Repair::Name(name) => Some(("perhaps `", name, "` is meant.")),
-        Repair::Above(name) => Some(("the line `", name, "` is missing above this one.")),
-        _ => None,
-    }
 }
 
 /// Adds a repair of a text.
@@ -125,16 +79,46 @@ fn named_words(repair: Repair) -> Option<(&'static str, &'static [u8], &'static 
 /// Want of memory.
 pub fn push_mend(page: &mut Page, text: &[u8], repair: Repair) -> Result<(), AllocError> {
     page.say("Repair: ")?;
-    if let Some((front, name, behind)) = named_words(repair) {
-        page.say(front)?;
-        page.show_all(name)?;
-        return page.line(behind);
-    }
-    if let Some((words, line)) = shown_words(repair) {
-        return push_about(page, words, text, line);
-    }
-    match counted_words(repair) {
-        Some((front, count, behind)) => push_count(page, front, count, behind),
-        None => page.line(words_of(repair)),
+    match repair {
+        Repair::Name(name) => push_pieces(page, &[b"perhaps `", name, b"` is meant."]),
+        Repair::Above(name) => {
+            push_pieces(
+                page,
+                &[b"the line `", name, b"` is missing above this one."],
+            )
+        }
+        Repair::Label(line) => {
+            push_about(page, "perhaps the label of this line is meant:", text, line)
+        }
+        Repair::EndBeside(line) => push_about(page, END_BESIDE, text, line),
+        Repair::Parts(parts) => push_count(
+            page,
+            "a chance is written as ",
+            u64::from(parts),
+            ", in parts of 2147483648.",
+        ),
+        Repair::KeyLength(count) => {
+            push_count(
+                page,
+                "this key has ",
+                count as u64,
+                " characters: it wants 64.",
+            )
+        }
+        Repair::OddDigits(count) => {
+            push_count(
+                page,
+                "these are ",
+                count as u64,
+                " digits, and each byte wants two.",
+            )
+        }
+        Repair::NoDigit(place) => push_count(
+            page,
+            "the character at place ",
+            place as u64,
+            " is no hexadecimal digit.",
+        ),
+        _ => page.line(words_of(repair)),
     }
 }

@@ -6,11 +6,6 @@ use trlab_code::{PLACES, Register};
 use trlab_prose::Page;
 use trlab_verify::{Mark, Note};
 
-/// Adds the name of a register.
-pub fn push_register(page: &mut Page, register: Register) -> Result<(), AllocError> {
-    page.show_all(register_text(register))
-}
-
 /// Adds a range.
 fn push_range(page: &mut Page, low: u32, high: u32) -> Result<(), AllocError> {
     page.number(u64::from(low))?;
@@ -19,7 +14,7 @@ fn push_range(page: &mut Page, low: u32, high: u32) -> Result<(), AllocError> {
 }
 
 /// Adds what a mark says, where the side cell is known to be empty or is not.
-pub fn push_mark(page: &mut Page, mark: Mark, side: bool) -> Result<(), AllocError> {
+fn push_mark(page: &mut Page, mark: Mark, side: bool) -> Result<(), AllocError> {
     match mark {
         Mark::Unset => page.say("not set on every way"),
         Mark::Num(low, high) => push_range(page, low, high),
@@ -65,7 +60,7 @@ fn range_level(high: u32, low: u32) -> u8 {
 }
 
 /// Adds which places a number of a register is at most or below, beyond what their ranges say.
-pub fn push_orders(page: &mut Page, note: &Note, register: Register) -> Result<(), AllocError> {
+fn push_orders(page: &mut Page, note: &Note, register: Register) -> Result<(), AllocError> {
     let own = register.number();
     let Mark::Num(_, high) = note.regs[own] else {
         return Ok(());
@@ -81,10 +76,17 @@ pub fn push_orders(page: &mut Page, note: &Note, register: Register) -> Result<(
     Ok(())
 }
 
-/// Adds what a note says of a register, with its name.
-pub fn push_known(page: &mut Page, note: &Note, register: Register) -> Result<(), AllocError> {
-    push_register(page, register)?;
+/// Adds a line of what a note says of a register, behind this indent.
+pub fn push_known(
+    page: &mut Page,
+    indent: &str,
+    note: &Note,
+    register: Register,
+) -> Result<(), AllocError> {
+    page.say(indent)?;
+    page.show_all(register_text(register))?;
     page.say(": ")?;
     push_mark(page, note.regs[register.number()], note.side)?;
-    push_orders(page, note, register)
+    push_orders(page, note, register)?;
+    page.end_line()
 }

@@ -1,5 +1,6 @@
 //! The explanation of an accepted program.
 
+use crate::lines::push_count;
 use crate::marks::push_known;
 use crate::placed::{Placed, push_instruction};
 use std::alloc::{AllocError, Global};
@@ -11,9 +12,7 @@ use trlab_verify::{Mark, Note, NotesFault, notes};
 fn push_registers(page: &mut Page, note: &Note) -> Result<(), AllocError> {
     for i in 0..REGISTERS.len() {
         if note.regs[i] != Mark::Unset {
-            page.say("    ")?;
-            push_known(page, note, REGISTERS[i])?;
-            page.end_line()?;
+            push_known(page, "    ", note, REGISTERS[i])?;
         }
     }
     if note.side {
@@ -49,9 +48,12 @@ pub fn push_accepted(
     program: Placed<'_>,
     budget: u32,
 ) -> Result<(), AllocError> {
-    page.say("This driver program is accepted: a car needs at most ")?;
-    page.number(u64::from(budget))?;
-    page.line(" instructions for a step.")?;
+    push_count(
+        page,
+        "This driver program is accepted: a car needs at most ",
+        u64::from(budget),
+        " instructions for a step.",
+    )?;
     page.line("Above each instruction stands what is known of the registers before it:")?;
     match notes(alloc, program.code) {
         Ok(table) => push_table(alloc, page, program, &table),

@@ -1,11 +1,13 @@
 //! The explanation of a refused program: the instruction, the reason, what the verifier knows there,
 //! and the usual repair.
 
-use crate::marks::{push_known, push_register};
+use crate::lines::{push_both, push_count, push_meaning, push_pieces};
+use crate::marks::push_known;
 use crate::operands::{leads_to, operands};
 use crate::placed::{Placed, push_instruction};
+use crate::reasons::{meaning_of_reason, repair_of_reason};
 use std::alloc::{AllocError, Global};
-use trlab_advice::{meaning_of_reason, repair_of_reason};
+use trlab_asm::register_text;
 use trlab_code::{Instr, Register};
 use trlab_prose::Page;
 use trlab_verify::{Mark, Note, notes_of_refused};
@@ -28,10 +30,7 @@ fn push_operand(
     register: Option<Register>,
 ) -> Result<(), AllocError> {
     match register {
-        Some(register) => {
-            push_known(page, note, register)?;
-            page.end_line()
-        }
+        Some(register) => push_known(page, "", note, register),
         None => Ok(()),
     }
 }
@@ -64,9 +63,7 @@ fn push_largest(page: &mut Page, note: &Note, instr: Instr) -> Result<(), AllocE
         Instr::Mul(_, a, n) => u64::from(most_of(note, a)) * u64::from(n),
         _ => return Ok(()),
     };
-    page.say("The result may be as large as ")?;
-    page.number(largest)?;
-    page.line(".")
+    push_count(page, "The result may be as large as ", largest, ".")
 }
 
 /// Adds which difference may be below zero.
@@ -74,25 +71,29 @@ fn push_difference(page: &mut Page, instr: Instr) -> Result<(), AllocError> {
     let Instr::Sub(_, a, b) = instr else {
         return Ok(());
     };
-    push_register(page, b)?;
-    page.say(" is not known to be at most ")?;
-    push_register(page, a)?;
-    page.say(", so ")?;
-    push_register(page, a)?;
-    page.say(" - ")?;
-    push_register(page, b)?;
-    page.line(" may be below zero.")
+    let (a, b) = (register_text(a), register_text(b));
+    push_pieces(
+        page,
+        &[
+            b,
+            b" is not known to be at most ",
+            a,
+            b", so ",
+            a,
+            b" - ",
+            b,
+            b" may be below zero.",
+        ],
+    )
 }
 
-/// Adds which speed may be above an input.
-fn push_speed(page: &mut Page, instr: Instr, input: &str) -> Result<(), AllocError> {
+/// Adds which speed may be above an input, as these words say.
+fn push_speed(page: &mut Page, instr: Instr, words: &str) -> Result<(), AllocError> {
     let Instr::Go(a) = instr else {
         return Ok(());
     };
-    push_register(page, a)?;
-    page.say(" is not known to be at most the ")?;
-    page.say(input)?;
-    page.line(".")
+    page.show_all(register_text(a))?;
+    page.line(words)
 }
 
 /// Adds what the operands have to do with the reason.
@@ -100,8 +101,8 @@ fn push_why(page: &mut Page, reason: u32, note: &Note, instr: Instr) -> Result<(
     match reason {
         8 => push_largest(page, note, instr),
         9 => push_difference(page, instr),
-        10 => push_speed(page, instr, "gap"),
-        11 => push_speed(page, instr, "limit"),
+        10 => push_speed(page, instr, " is not known to be at most the gap."),
+        11 => push_speed(page, instr, " is not known to be at most the limit."),
         _ => Ok(()),
     }
 }
@@ -150,18 +151,24 @@ fn push_skip(alloc: Global, page: &mut Page, refused: &Refused<'_>) -> Result<()
     }
 }
 
+/// Adds what the notes of a program say where the refused instruction stands.
+fn push_note(page: &mut Page, refused: &Refused<'_>, notes: &[Note]) -> Result<(), AllocError> {
+    let at = refused.at as usize;
+    match (notes.get(at), refused.program.code.instrs().get(at)) {
+        (Some(note), Some(instr)) => {
+            push_operands(page, note, *instr)?;
+            push_why(page, refused.reason, note, *instr)
+        }
+        _ => Ok(()),
+    }
+}
+
 /// Adds what is known where the refused instruction stands.
 fn push_notes(alloc: Global, page: &mut Page, refused: &Refused<'_>) -> Result<(), AllocError> {
-    let Some(notes) = notes_of_refused(alloc, refused.program.code)? else {
-        return Ok(());
-    };
-    let at = refused.at as usize;
-    let instrs = refused.program.code.instrs();
-    if let (Some(note), Some(instr)) = (notes.get(at), instrs.get(at)) {
-        push_operands(page, note, *instr)?;
-        push_why(page, refused.reason, note, *instr)?;
+    match notes_of_refused(alloc, refused.program.code)? {
+        Some(notes) => push_note(page, refused, &notes),
+        None => Ok(()),
     }
-    Ok(())
 }
 
 /// Adds why a program is refused.
@@ -175,16 +182,14 @@ pub fn push_refusal(
     refused: &Refused<'_>,
 ) -> Result<(), AllocError> {
     push_instruction(alloc, page, refused.program, refused.at)?;
-    page.say("Reason ")?;
-    page.number(u64::from(refused.reason))?;
-    page.say(": ")?;
-    page.line(meaning_of_reason(refused.reason))?;
+    let meaning = meaning_of_reason(refused.reason);
+    push_meaning(page, "Reason ", u64::from(refused.reason), meaning)?;
     if refused.reason == 1 {
         push_skip(alloc, page, refused)?;
     } else {
         push_notes(alloc, page, refused)?;
         push_ways(alloc, page, refused)?;
     }
-    page.say("Repair: ")?;
-    page.line(repair_of_reason(refused.reason, refused.program.code.kind()))
+    let repair = repair_of_reason(refused.reason, refused.program.code.kind());
+    push_both(page, "Repair: ", repair)
 }

@@ -1,0 +1,32 @@
+//! The words of explanations: what a fault means, what had to stand in its place and what mends it,
+//! what a good text will do, and what the verifier finds in a program. No contract says which words
+//! these are, but how a line of a text is quoted.
+#![tactic(auto)]
+
+mod accepted;
+mod causes;
+mod fault;
+mod forms;
+mod hints;
+mod instr_lines;
+mod job;
+mod lines;
+mod marks;
+mod mends;
+mod numbered;
+mod operands;
+mod part;
+mod placed;
+mod reasons;
+mod refusal;
+mod spots;
+mod sweep;
+mod topics;
+mod verdict;
+
+pub use fault::fault_words;
+pub use job::job_page;
+pub use lines::push_quote;
+pub use sweep::sweep_page;
+pub use topics::{Topic, number_words};
+pub use verdict::{accepted_page, refused_words};
