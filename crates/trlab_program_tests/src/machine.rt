@@ -9,8 +9,8 @@ use trlab_words::{Key, words};
 /// The new speed of a car of the zero key with this chance, speed and gap, under limit 5, and how many
 /// instructions it took.
 fn moved(alloc: Global, chance: u32, speed: u32, gap: u32) -> Option<(u32, u32)> {
-    let motion = slowing(alloc, chance)?;
     let view = MotionView::new(speed, 5, gap, speed)?;
+    let motion = slowing(alloc, chance)?;
     let moved = run_motion(&motion, view, &words(&Key([0; 32]), 0, 0, 0));
     Some((moved.speed, moved.steps))
 }
@@ -32,8 +32,8 @@ fn goes_on_where_it_does_not(rt: HostRuntime) {
 
 /// Whether a car beside an empty cell or a car crosses, and how many instructions it took.
 fn chosen(alloc: Global, side: bool) -> Option<(bool, u32)> {
-    let change = change(alloc, CROSSING)?;
     let view = ChangeView::new(3, 5, 1, side, 9, 9, 0, 3)?;
+    let change = change(alloc, CROSSING)?;
     let chosen = run_change(&change, view, &words(&Key([0; 32]), 0, 0, 0));
     Some((chosen.cross, chosen.steps))
 }
