@@ -142,17 +142,10 @@ const TOGETHER: [&[u8]; 2] = [b"10..........", b"............"];
 
 const APART: [&[u8]; 2] = [b"..1.........", b"..2........."];
 
-/// Whether workers bring two cars that stand together to two lanes.
-fn lead_apart(rt: &(impl AllocGlobal + Threads + Sync)) -> bool {
-    match crossing(rt.alloc()) {
-        Some(rule) => lead_on(rt, 2, &TOGETHER, &rule, &APART),
-        None => false,
-    }
-}
-
 #[test]
 fn workers_come_to_the_worked_road_of_two_lanes(rt: HostRuntime) {
-    assert!(rt; lead_apart(&rt));
+    let rule = crossing(rt.alloc()).expect(&rt, "there is no rule");
+    assert!(rt; lead_on(&rt, 2, &TOGETHER, &rule, &APART));
 }
 
 /// Whether a step by workers leads to this road and this tally.
