@@ -5,37 +5,27 @@ ghost use Rattle.trlab_segments.specs.Drawers.{IsFrom};
 use std::alloc::{AllocError, Global};
 use trlab_segments::{Drawer, Gate, OpenGate, Segment, Tickets, segment_count};
 
-/// Draws until no ticket is left, and lists what was drawn.
-fn drawn(alloc: Global, tickets: &Tickets, drawer: &mut Drawer) -> Result<Vec<u32>, AllocError>
+/// Whether a drawer draws these tickets, and then none.
+fn draws(tickets: &Tickets, drawer: &mut Drawer, wanted: &[u32]) -> bool
     requires { IsFrom tickets.now drawer.old }
     ensures { IsFrom tickets.now drawer.new }
 {
-    let mut numbers = Vec::new(alloc);
-    while let Some(number) = tickets.draw(drawer) {
-        numbers.push(number)?;
+    for number in wanted {
+        if tickets.draw(drawer) != Some(*number) {
+            return false;
+        }
     }
-    Ok(numbers)
-}
-
-/// Whether a drawer draws tickets 1 and 2, and then none.
-fn draws_the_others(alloc: Global, tickets: &Tickets, drawer: &mut Drawer) -> bool
-    requires { IsFrom tickets.now drawer.old }
-    ensures { IsFrom tickets.now drawer.new }
-{
-    match drawn(alloc, tickets, drawer) {
-        Ok(numbers) => numbers.as_slice() == [1, 2].as_slice(),
-        Err(_) => false,
-    }
+    tickets.draw(drawer).is_none()
 }
 
 /// Whether two drawers of three tickets draw each once: the second draws one, and the first the
 /// others.
-fn draw_in_turns(alloc: Global, tickets: &Tickets, first: &mut Drawer, second: &mut Drawer) -> bool
+fn draw_in_turns(tickets: &Tickets, first: &mut Drawer, second: &mut Drawer) -> bool
     requires { IsFrom tickets.now first.old × IsFrom tickets.now second.old }
     ensures { IsFrom tickets.now first.new × IsFrom tickets.now second.new }
 {
     let begins = tickets.draw(second) == Some(0);
-    let goes_on = draws_the_others(alloc, tickets, first);
+    let goes_on = draws(tickets, first, &[1, 2]);
     let left = tickets.draw(second).or(tickets.draw(second));
     begins && goes_on && left.is_none()
 }
@@ -56,7 +46,7 @@ fn finish_together(tickets: Tickets, first: Drawer, second: Drawer) -> bool
 fn two_share_three(alloc: Global) -> Result<bool, AllocError> {
     let (tickets, mut first) = Tickets::start(alloc, 3, 2)?;
     let mut second = tickets.split(&mut first);
-    let draw = draw_in_turns(alloc, &tickets, &mut first, &mut second);
+    let draw = draw_in_turns(&tickets, &mut first, &mut second);
     Ok(finish_together(tickets, first, second) && draw)
 }
 

@@ -212,32 +212,14 @@ fn each_number_of_workers_leads_to_the_same_road(rt: HostRuntime) {
     }
 }
 
-/// The fault of a step of a road by 16 workers.
-fn fault_of_sixteen(
-    rt: &(impl AllocGlobal + Threads + Sync),
-    road: &Road,
-    rule: &Rule,
-) -> Option<StepFault> {
-    step_by(rt, road, rule, 15).err()
-}
-
-/// Whether a step of a road by 16 workers, under a rule for two lanes, has this fault.
-fn is_refused(rt: &(impl AllocGlobal + Threads + Sync), road: &Road, fault: StepFault) -> bool {
-    match at_random(rt.alloc()) {
-        Some(rule) => fault_of_sixteen(rt, road, &rule) == Some(fault),
-        None => false,
-    }
-}
-
-/// Whether such a step of one lane does.
-fn is_refused_on_one(rt: &(impl AllocGlobal + Threads + Sync), fault: StepFault) -> bool {
-    match Road::even(rt.alloc(), 1, 100, 5, 60) {
-        Ok(road) => is_refused(rt, &road, fault),
-        Err(_) => false,
-    }
+/// The fault of a step of one lane by 16 workers.
+fn fault_of_sixteen(rt: &(impl AllocGlobal + Threads + Sync), rule: &Rule) -> Option<StepFault> {
+    let road = Road::even(rt.alloc(), 1, 100, 5, 60).ok()?;
+    step_by(rt, &road, rule, 15).err()
 }
 
 #[test]
 fn workers_want_two_lanes_for_a_change(rt: HostRuntime) {
-    assert!(rt; is_refused_on_one(&rt, StepFault::LanesMismatch));
+    let rule = at_random(rt.alloc()).expect(&rt, "there is no rule");
+    assert!(rt; fault_of_sixteen(&rt, &rule) == Some(StepFault::LanesMismatch));
 }
