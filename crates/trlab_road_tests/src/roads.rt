@@ -23,19 +23,28 @@ pub fn shows(alloc: Global, road: &Road, picture: &[u8]) -> bool {
     road.lanes() == 1 && has_picture(alloc, road, 0, picture)
 }
 
-/// Whether the lanes under a limit are the road of two lanes under limit 5.
-fn equal(alloc: Global, limit: u32, others: &[&[u8]]) -> Option<bool> {
-    let road = Road::parse(alloc, limit, &LANES).ok()?;
-    let other = Road::parse(alloc, 5, others).ok()?;
-    Some(road.equals(&other))
+/// Whether a road equals that of other lanes under limit 5, or differs from it.
+fn compares(alloc: Global, road: &Road, others: &[&[u8]], wanted: bool) -> bool {
+    match Road::parse(alloc, 5, others) {
+        Ok(other) => road.equals(&other) == wanted,
+        Err(_) => false,
+    }
+}
+
+/// The same of the road of the lanes under a limit.
+fn lanes_compare(alloc: Global, limit: u32, others: &[&[u8]], wanted: bool) -> bool {
+    match Road::parse(alloc, limit, &LANES) {
+        Ok(road) => compares(alloc, &road, others, wanted),
+        Err(_) => false,
+    }
 }
 
 #[test]
 fn roads_of_other_limits_or_places_differ(rt: HostRuntime) {
     let alloc = rt.alloc();
-    assert!(rt; equal(alloc, 5, &LANES) == Some(true));
-    assert!(rt; equal(alloc, 6, &LANES) == Some(false));
-    assert!(rt; equal(alloc, 5, &OTHERS) == Some(false));
+    assert!(rt; lanes_compare(alloc, 5, &LANES, true));
+    assert!(rt; lanes_compare(alloc, 6, &LANES, false));
+    assert!(rt; lanes_compare(alloc, 5, &OTHERS, false));
 }
 
 /// Whether the copy of a road of one lane equals it and has this picture.

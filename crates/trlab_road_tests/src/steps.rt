@@ -37,19 +37,19 @@ fn standing(alloc: Global) -> Option<Rule> {
     Some(Rule::new(motion, Some(keeping(alloc)?)))
 }
 
-/// Whether there is a rule, and a step of a road under it has this fault, or none.
-fn is_refused(alloc: Global, road: &Road, rule: Option<Rule>, fault: Option<StepFault>) -> bool {
-    match rule {
-        Some(rule) => step_road(alloc, road, &rule, &Key([0; 32]), 0, 0).err() == fault,
-        None => false,
+/// Whether a step of one lane under a rule has this fault, or none.
+fn fails(alloc: Global, rule: &Rule, fault: Option<StepFault>) -> bool {
+    match Road::parse(alloc, 5, &[b"0.0......."]) {
+        Ok(road) => step_road(alloc, &road, rule, &Key([0; 32]), 0, 0).err() == fault,
+        Err(_) => false,
     }
 }
 
-/// The same of a road of one lane.
-fn is_refused_on_one(alloc: Global, rule: Option<Rule>, fault: Option<StepFault>) -> bool {
-    match Road::parse(alloc, 5, &[b"0.0......."]) {
-        Ok(road) => is_refused(alloc, &road, rule, fault),
-        Err(_) => false,
+/// Whether there is a rule, and such a step has this fault, or none.
+fn has_fault(alloc: Global, rule: Option<Rule>, fault: Option<StepFault>) -> bool {
+    match rule {
+        Some(rule) => fails(alloc, &rule, fault),
+        None => false,
     }
 }
 
@@ -57,9 +57,9 @@ fn is_refused_on_one(alloc: Global, rule: Option<Rule>, fault: Option<StepFault>
 fn a_change_program_wants_two_lanes(rt: HostRuntime) {
     let alloc = rt.alloc();
     let mismatch = Some(StepFault::LanesMismatch);
-    assert!(rt; is_refused_on_one(alloc, crossing(alloc), mismatch));
-    assert!(rt; is_refused_on_one(alloc, standing(alloc), mismatch));
-    assert!(rt; is_refused_on_one(alloc, steady(alloc), None));
+    assert!(rt; has_fault(alloc, crossing(alloc), mismatch));
+    assert!(rt; has_fault(alloc, standing(alloc), mismatch));
+    assert!(rt; has_fault(alloc, steady(alloc), None));
 }
 
 /// The road to which a road comes under a rule, so many steps on.
