@@ -5,38 +5,54 @@ ghost use Rattle.trlab_segments.specs.Drawers.{IsFrom};
 use std::alloc::{AllocError, Global};
 use trlab_segments::{Drawer, Gate, OpenGate, Segment, Tickets, segment_count};
 
-/// Draws until no ticket is left, and lists what was drawn.
-fn drawn(alloc: Global, tickets: &Tickets, drawer: &mut Drawer) -> Result<Vec<u32>, AllocError>
+/// Whether a drawer draws these tickets, and then none.
+fn draws(tickets: &Tickets, drawer: &mut Drawer, wanted: &[u32]) -> bool
     requires { IsFrom tickets.now drawer.old }
     ensures { IsFrom tickets.now drawer.new }
 {
-    let mut numbers = Vec::new(alloc);
-    while let Some(number) = tickets.draw(drawer) {
-        numbers.push(number)?;
+    for number in wanted {
+        if tickets.draw(drawer) != Some(*number) {
+            return false;
+        }
     }
-    Ok(numbers)
+    tickets.draw(drawer).is_none()
 }
 
 /// Whether two drawers of three tickets draw each once: the second draws one, and the first the
-/// others; one of them alone can't finish, and both together can.
-fn two_share_three(alloc: Global) -> Result<bool, AllocError> {
-    let (tickets, mut first) = Tickets::start(alloc, 3, 2)?;
-    let mut second = tickets.split(&mut first);
-    let begins = tickets.draw(&mut second) == Some(0);
-    let goes_on = drawn(alloc, &tickets, &mut first)?.as_slice() == [1, 2].as_slice();
-    let left = tickets.draw(&mut second).or(tickets.draw(&mut second));
+/// others.
+fn draw_in_turns(tickets: &Tickets, first: &mut Drawer, second: &mut Drawer) -> bool
+    requires { IsFrom tickets.now first.old × IsFrom tickets.now second.old }
+    ensures { IsFrom tickets.now first.new × IsFrom tickets.now second.new }
+{
+    let begins = tickets.draw(second) == Some(0);
+    let goes_on = draws(tickets, first, &[1, 2]);
+    let left = tickets.draw(second).or(tickets.draw(second));
+    begins && goes_on && left.is_none()
+}
+
+/// Whether one of two drawers alone can't finish, and both together can.
+fn finish_together(tickets: Tickets, first: Drawer, second: Drawer) -> bool
+    requires { IsFrom tickets first × IsFrom tickets second }
+{
     let Err((tickets, first)) = tickets.finish(first) else {
-        return Ok(false);
+        return false;
     };
     let all = tickets.gather(first, second);
     let passes = all.passes();
-    let ends = tickets.finish(all).is_ok();
-    Ok(begins && goes_on && left.is_none() && passes == 2 && ends)
+    tickets.finish(all).is_ok() && passes == 2
+}
+
+/// Whether two drawers do all that.
+fn two_share_three(alloc: Global) -> Result<bool, AllocError> {
+    let (tickets, mut first) = Tickets::start(alloc, 3, 2)?;
+    let mut second = tickets.split(&mut first);
+    let draw = draw_in_turns(&tickets, &mut first, &mut second);
+    Ok(finish_together(tickets, first, second) && draw)
 }
 
 #[test]
 fn two_drawers_draw_each_ticket_once(rt: HostRuntime) {
-    assert_eq!(rt; two_share_three(rt.alloc()), Ok(true));
+    assert!(rt; two_share_three(rt.alloc()) == Ok(true));
 }
 
 /// Whether a drawer finds at once that there is no ticket.
@@ -49,17 +65,14 @@ fn is_done_at_once(alloc: Global) -> Result<bool, AllocError> {
 
 #[test]
 fn no_tickets_are_drawn_at_once(rt: HostRuntime) {
-    assert_eq!(rt; is_done_at_once(rt.alloc()), Ok(true));
+    assert!(rt; is_done_at_once(rt.alloc()) == Ok(true));
 }
 
 #[test]
 fn cars_are_cut_into_segments(rt: HostRuntime) {
-    assert_eq!(rt; (segment_count(3, 16), segment_count(10, 1)), (3, 4));
-    let (second, last) = (Segment { from: 2, to: 5 }, Segment { from: 7, to: 10 });
-    assert_eq!(rt;
-        (Segment::of(10, 4, 1), Segment::of(10, 4, 3)),
-        (second, last)
-    );
+    assert!(rt; segment_count(3, 16) == 3 && segment_count(10, 1) == 4);
+    assert!(rt; Segment::of(10, 4, 1) == Segment { from: 2, to: 5 });
+    assert!(rt; Segment::of(10, 4, 3) == Segment { from: 7, to: 10 });
 }
 
 /// Goes through a gate.

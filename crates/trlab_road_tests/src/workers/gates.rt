@@ -47,43 +47,52 @@ fn step_through<G: Gate + Sync>(
     }
 }
 
+/// The same by the rule of 1996, by which each car crosses where it may.
+fn cross_through<G: Gate + Sync>(
+    rt: &(impl AllocGlobal + Threads + Sync),
+    road: &Road,
+    others: u32,
+    gate: &G,
+) -> bool
+    requires { others < 16 }
+{
+    match crossing(rt.alloc()) {
+        Some(rule) => step_through(rt, road, &rule, others, gate),
+        None => false,
+    }
+}
+
 /// The same of cars that are spread over two lanes.
 fn go_through<G: Gate + Sync>(
     rt: &(impl AllocGlobal + Threads + Sync),
     cars: u32,
     others: u32,
     gate: &G,
-) -> Option<bool>
+) -> bool
     requires { others < 16 }
 {
-    let road = Road::even(rt.alloc(), 2, 100, 5, cars).ok()?;
-    let rule = crossing(rt.alloc())?;
-    Some(step_through(rt, &road, &rule, others, gate))
+    match Road::even(rt.alloc(), 2, 100, 5, cars) {
+        Ok(road) => cross_through(rt, &road, others, gate),
+        Err(_) => false,
+    }
 }
 
-/// How often 16 workers begin a segment of so many cars, and which ones.
-fn begun_by_sixteen(rt: &(impl AllocGlobal + Threads + Sync), cars: u32) -> Option<(u64, u64)> {
+/// Whether 16 workers begin so many segments of so many cars, and these ones.
+fn begin(rt: &(impl AllocGlobal + Threads + Sync), cars: u32, calls: u64, begun: u64) -> bool {
     let notes = Notes {
         calls: AtomicU64::new(0),
         begun: AtomicU64::new(0),
     };
-    go_through(rt, cars, 15, &notes)?.then(|| {
-        (
-            notes.calls.load(Ordering::SeqCst),
-            notes.begun.load(Ordering::SeqCst),
-        )
-    })
+    go_through(rt, cars, 15, &notes)
+        && notes.calls.load(Ordering::SeqCst) == calls
+        && notes.begun.load(Ordering::SeqCst) == begun
 }
 
 #[test]
 fn sixteen_workers_begin_each_segment_once(rt: HostRuntime) {
-    for (cars, begun) in [
-        (0, (0, 0)),
-        (1, (2, 0b1_0000_0001)),
-        (3, (6, 0b111_0000_0111)),
-    ] {
-        assert_eq!(rt; begun_by_sixteen(&rt, cars), Some(begun));
-    }
+    assert!(rt; begin(&rt, 0, 0, 0));
+    assert!(rt; begin(&rt, 1, 2, 0b1_0000_0001));
+    assert!(rt; begin(&rt, 3, 6, 0b111_0000_0111));
 }
 
 /// How many turns a worker is held at most.
@@ -121,18 +130,17 @@ impl Gate for HoldsFirst {
 }
 
 /// Whether one of two workers draws the seven other segments while the other is held at its first.
-fn goes_on_alone(rt: &(impl AllocGlobal + Threads + Sync)) -> Option<bool> {
+fn goes_on_alone(rt: &(impl AllocGlobal + Threads + Sync)) -> bool {
     let gate = HoldsFirst {
         came: AtomicU64::new(0),
         gave_up: AtomicBool::new(false),
     };
-    let is_through = go_through(rt, 8, 1, &gate)?;
-    Some(
-        is_through && !gate.gave_up.load(Ordering::SeqCst) && gate.came.load(Ordering::SeqCst) == 8,
-    )
+    go_through(rt, 8, 1, &gate)
+        && !gate.gave_up.load(Ordering::SeqCst)
+        && gate.came.load(Ordering::SeqCst) == 8
 }
 
 #[test]
 fn a_worker_who_is_held_leaves_the_others_at_work(rt: HostRuntime) {
-    assert_eq!(rt; goes_on_alone(&rt), Some(true));
+    assert!(rt; goes_on_alone(&rt));
 }

@@ -3,7 +3,7 @@
 
 ghost use Rattle.std.specs.Prelude.{◌<◌};
 
-use super::phases::speeds_told;
+use super::phases::{Traffic, speeds_told, spread};
 use std::alloc::Global;
 use std::hint;
 use std::sync::Wait;
@@ -12,12 +12,27 @@ use std::thread::Threads;
 use trlab_pool::Pool;
 use trlab_segments::Gate;
 
-/// Has a pool ask the cars in so many phases.
-fn ask_often<R: Wait, G: Gate>(pool: &Pool<R, G>, alloc: Global, phases: u32) -> Option<()> {
+/// Has a pool ask cars in so many phases, and says whether it always answers.
+fn ask_about<R: Wait, G: Gate>(
+    pool: &Pool<R, G>,
+    alloc: Global,
+    traffic: &Traffic,
+    phases: u32,
+) -> bool {
     for step in 0..phases {
-        speeds_told(pool, alloc, step)?;
+        if speeds_told(pool, alloc, traffic, step).is_none() {
+            return false;
+        }
     }
-    Some(())
+    true
+}
+
+/// Has a pool ask the spread cars so.
+fn ask_often<R: Wait, G: Gate>(pool: &Pool<R, G>, alloc: Global, phases: u32) -> bool {
+    match spread(alloc) {
+        Some(traffic) => ask_about(pool, alloc, &traffic, phases),
+        None => false,
+    }
 }
 
 /// Has a pool of one worker more than these do so, in one run.
@@ -26,7 +41,7 @@ fn go_through<G: Gate + Sync>(
     others: u32,
     phases: u32,
     gate: &G,
-) -> Option<()>
+) -> bool
     requires { others < 16 }
 {
     let alloc = rt.alloc();
@@ -56,9 +71,9 @@ fn sixteen_workers_begin_each_segment_once(rt: HostRuntime) {
         calls: AtomicU64::new(0),
         begun: AtomicU64::new(0),
     };
-    assert!(rt; go_through(&rt, 15, 3, &notes).is_some());
-    assert_eq!(rt; notes.calls.load(Ordering::SeqCst), 180);
-    assert_eq!(rt; notes.begun.load(Ordering::SeqCst), (1 << 60) - 1);
+    assert!(rt; go_through(&rt, 15, 3, &notes));
+    assert!(rt; notes.calls.load(Ordering::SeqCst) == 180);
+    assert!(rt; notes.begun.load(Ordering::SeqCst) == (1 << 60) - 1);
 }
 
 #[test]
@@ -67,10 +82,10 @@ fn who_is_alone_passes_no_gate(rt: HostRuntime) {
         calls: AtomicU64::new(0),
         begun: AtomicU64::new(0),
     };
-    assert!(rt; go_through(&rt, 0, 3, &notes).is_some());
+    assert!(rt; go_through(&rt, 0, 3, &notes));
     let sparing = Pool::new(&rt, 16, &notes).sparing();
-    assert!(rt; ask_often(&sparing, rt.alloc(), 3).is_some());
-    assert_eq!(rt; notes.calls.load(Ordering::SeqCst), 0);
+    assert!(rt; ask_often(&sparing, rt.alloc(), 3));
+    assert!(rt; notes.calls.load(Ordering::SeqCst) == 0);
 }
 
 /// How many turns a worker is held at most.
@@ -111,7 +126,7 @@ fn a_worker_who_is_held_leaves_the_others_to_the_helper(rt: HostRuntime) {
         came: AtomicU64::new(0),
         gave_up: AtomicBool::new(false),
     };
-    assert!(rt; go_through(&rt, 1, 20, &gate).is_some());
-    assert_eq!(rt; gate.came.load(Ordering::SeqCst), 160);
+    assert!(rt; go_through(&rt, 1, 20, &gate));
+    assert!(rt; gate.came.load(Ordering::SeqCst) == 160);
     assert!(rt; !gate.gave_up.load(Ordering::SeqCst));
 }

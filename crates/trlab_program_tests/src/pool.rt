@@ -1,0 +1,4 @@
+//! The pool of threads: its answers beside those of one thread, and workers that are held by gates.
+
+mod gates;
+mod phases;
