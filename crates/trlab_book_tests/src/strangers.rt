@@ -41,9 +41,25 @@ fn is_done<P: Ledger, Q: Ledger, R: Wait>(
     }
 }
 
-/// Whether deeds are done with two new books, the jobs of the other under the key of a byte, both close
-/// behind that, and reads of the other show this.
+/// Whether all of some deeds are done.
 fn are_done<P: Ledger, Q: Ledger, R: Wait>(
+    rt: &R,
+    alloc: Global,
+    own: &mut Table<P>,
+    other: &mut Table<Q>,
+    deeds: &[Deed],
+) -> bool {
+    for deed in deeds {
+        if !is_done(rt, alloc, own, other, *deed) {
+            return false;
+        }
+    }
+    true
+}
+
+/// Whether deeds are done with two new books, the jobs of the other under the key of a byte, reads of the
+/// other show this, and both close behind that.
+fn are_done_anew<P: Ledger, Q: Ledger, R: Wait>(
     rt: &R,
     alloc: Global,
     first: Blank,
@@ -51,20 +67,16 @@ fn are_done<P: Ledger, Q: Ledger, R: Wait>(
     byte: u8,
     deeds: &[Deed],
     wanted: &[Shown],
-) -> Option<bool>
+) -> bool
     requires first { (first.name ≡ P.name) × (first.parts ≡ P.parts) × (first.parts ≡ 1024) }
     requires second { (second.name ≡ Q.name) × (second.parts ≡ Q.parts) × (second.parts ≡ 1024) }
 {
     let mut own = Table::<P>::start(alloc, first, b"0.0.......", 0);
     let mut other = Table::<Q>::start(alloc, second, b"0.0.......", byte);
-    for deed in deeds {
-        if !is_done(rt, alloc, &mut own, &mut other, *deed) {
-            return None;
-        }
-    }
-    own.close()?;
-    let (_, reads) = other.close()?;
-    Some(show(alloc, &reads, wanted))
+    let done = are_done(rt, alloc, &mut own, &mut other, deeds)
+        && show(alloc, &other.reads, wanted);
+    let closed = own.events().is_some();
+    other.events().is_some() && closed && done
 }
 
 const REFUSED: Reply = Reply::Refused(BookFault::StrangerLease);
@@ -81,9 +93,8 @@ fn a_lease_of_a_job_under_another_key_is_a_stranger(rt: HostRuntime) {
         Deed::Back(1),
         Deed::Own(Made::GiveBack(own(1, 0, 0)), Reply::Done),
     ];
-    let blanks = (Blank::new(1024), Blank::new(1024));
-    let found = are_done::<Brand, Brand, _>(&rt, rt.alloc(), blanks.0, blanks.1, 255, &deeds, &[]);
-    assert_eq!(rt; found, Some(true));
+    let (first, second) = (Blank::new(1024), Blank::new(1024));
+    assert!(rt; are_done_anew::<Brand, Brand, _>(&rt, rt.alloc(), first, second, 255, &deeds, &[]));
 }
 
 // Which book lent a lease of the same run can't be told.
@@ -101,8 +112,9 @@ fn a_lease_of_the_same_run_is_taken(rt: HostRuntime) {
         Deed::Other(Made::GiveBack(own(1, 0, 1)), Reply::Done),
         Deed::Other(Made::Read(0), seen(1, 1)),
     ];
-    let blanks = (Blank::new(1024), Blank::new(1024));
+    let (first, second) = (Blank::new(1024), Blank::new(1024));
     let reads: [Shown; 1] = [(1, b".1.1......", &[(0, false)])];
-    let found = are_done::<Brand, Brand, _>(&rt, rt.alloc(), blanks.0, blanks.1, 0, &deeds, &reads);
-    assert_eq!(rt; found, Some(true));
+    assert!(rt;
+        are_done_anew::<Brand, Brand, _>(&rt, rt.alloc(), first, second, 0, &deeds, &reads)
+    );
 }

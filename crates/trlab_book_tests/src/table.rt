@@ -12,8 +12,9 @@ use std::alloc::Global;
 use std::sync::Wait;
 use std::sync::ledger::{Blank, Ledger};
 use trlab_book::{Desk, SharedBook};
+use trlab_book_trials::calls::{replace, submit};
 use trlab_book_trials::histories::Made;
-use trlab_book_trials::jobs::{braking, seed_of, steady};
+use trlab_book_trials::jobs::{ALWAYS, Job, NEVER};
 use trlab_leases::{BookFault, Event, Lease, Offered, Order, Reply, Snapshot};
 use trlab_step::Caller;
 
@@ -80,20 +81,20 @@ impl<L: Ledger> Table<L> {
     }
 
     /// Submits a job, whose cars never brake by chance.
-    fn submit<R: Wait>(&mut self, rt: &R, alloc: Global, steps: u32) -> Option<Reply> {
-        let seed = seed_of(alloc, self.picture, self.byte, 0)?;
-        let rule = steady(alloc)?;
-        let answer = self
-            .book
-            .submit(rt, alloc, &mut self.desk, seed, rule, steps);
-        Some(number_told(answer))
+    fn submit<R: Wait>(&mut self, rt: &R, alloc: Global, steps: u32) -> Reply {
+        let job = Job {
+            picture: self.picture,
+            byte: self.byte,
+            number: 0,
+            chance: NEVER,
+            steps,
+        };
+        number_told(submit(rt, alloc, &self.book, &mut self.desk, &job))
     }
 
     /// Has each car of a job brake in each step.
-    fn replace<R: Wait>(&mut self, rt: &R, alloc: Global, job: u32) -> Option<Reply> {
-        let rule = braking(alloc)?;
-        let answer = self.book.replace(rt, alloc, &mut self.desk, job, rule);
-        Some(number_told(answer))
+    fn replace<R: Wait>(&mut self, rt: &R, alloc: Global, job: u32) -> Reply {
+        number_told(replace(rt, alloc, &self.book, &mut self.desk, job, ALWAYS))
     }
 
     /// Leases a job, and lays the lease at the next place.
@@ -102,7 +103,7 @@ impl<L: Ledger> Table<L> {
         match self.book.lease(rt, alloc, &mut self.desk) {
             Ok(Some(lease)) => {
                 let told = lease_told(&lease);
-                let _ = self.leases.push(Some(Out { lease, order: None }));
+                self.leases.push_reserved(Some(Out { lease, order: None }));
                 Some(told)
             }
             Ok(None) => Some(Reply::NoLease),
@@ -148,7 +149,7 @@ impl<L: Ledger> Table<L> {
         match self.book.read(rt, alloc, &mut self.desk, job) {
             Ok(seen) => {
                 let told = snapshot_told(&seen);
-                let _ = self.reads.push(seen);
+                self.reads.push_reserved(seen);
                 Some(told)
             }
             Err(fault) => Some(Reply::Refused(fault)),
@@ -158,8 +159,8 @@ impl<L: Ledger> Table<L> {
     /// Makes a call, and tells what it answered; nothing where memory ran out before it.
     fn make<R: Wait>(&mut self, rt: &R, alloc: Global, call: Made) -> Option<Reply> {
         match call {
-            Made::Submit(steps) => self.submit(rt, alloc, steps),
-            Made::Replace(job) => self.replace(rt, alloc, job),
+            Made::Submit(steps) => Some(self.submit(rt, alloc, steps)),
+            Made::Replace(job) => Some(self.replace(rt, alloc, job)),
             Made::Lease => self.lease(rt, alloc),
             Made::Order(offered) => self.order(rt, alloc, offered),
             Made::GiveBack(offered) => self.give_back(rt, alloc, offered),
@@ -200,15 +201,20 @@ impl<L: Ledger> Table<L> {
         }
     }
 
-    /// Closes the book, and gives its history and what was read.
-    pub fn close(self) -> Option<(Vec<Event>, Vec<Snapshot>)> {
-        let Table {
-            book,
-            desk,
-            reads,
-            ..
-        } = self;
-        let (_, history) = book.close(desk).ok()?;
-        Some((history, reads))
+    /// Closes the book, and gives its history.
+    pub fn close(self) -> Option<Vec<Event>> {
+        let Table { book, desk, .. } = self;
+        match book.close(desk) {
+            Ok((_, history)) => Some(history),
+            Err(_) => None,
+        }
+    }
+
+    /// How many events the history has, if the book closes.
+    pub fn events(self) -> Option<usize> {
+        match self.close() {
+            Some(history) => Some(history.len()),
+            None => None,
+        }
     }
 }
