@@ -3,15 +3,16 @@
 
 ghost use Rattle.std.specs.Prelude.{◌≡◌};
 
+use crate::replies::{ordered, own, seen, went_out};
 use crate::shown::{Shown, is_rule, show};
 use crate::table::Table;
 use std::alloc::Global;
 use std::marker::Brand;
 use std::sync::Wait;
 use std::sync::ledger::{Blank, Ledger};
-use trlab_book_trials::histories::{Made, is_history, ordered, own, seen, went_out};
+use trlab_book_trials::histories::{Made, is_history};
 use trlab_book_trials::jobs::{ALWAYS, NEVER, shows};
-use trlab_leases::{BookFault, Call, Event, Reply};
+use trlab_leases::{BookFault, Call, Event, Offered, Reply};
 
 /// Whether a submission is of the two cars under the rule by which no car brakes, and a replacement by the
 /// one by which each does.
@@ -67,96 +68,103 @@ fn leave(rt: &(impl AllocGlobal + Wait), calls: &[(Made, Reply)], wanted: &[Show
     leave_in::<Brand, _>(rt, rt.alloc(), Blank::new(1024), calls, wanted)
 }
 
+const REPLACED: [(Made, Reply); 11] = [
+    (Made::Submit(4), Reply::Number(0)),
+    (Made::Lease, went_out!(0, 0)),
+    (Made::Order(own!(0, 0, 0)), ordered!(0, 0, 0)),
+    (Made::Replace(0), Reply::Number(1)),
+    (Made::GiveBack(own!(0, 0, 1)), Reply::Done),
+    (Made::Read(0), seen!(1, 2)),
+    (Made::Revoke(0), Reply::Refused(BookFault::StrangerLease)),
+    (Made::Lease, went_out!(1, 1)),
+    (Made::Order(own!(1, 1, 1)), ordered!(1, 1, 1)),
+    (Made::GiveBack(own!(1, 1, 2)), Reply::Done),
+    (Made::Read(0), seen!(2, 2)),
+];
+
+const REPLACED_READS: [Shown; 2] = [
+    (1, b".1.1......", &[(0, false), (1, true)]),
+    (2, b".0..1.....", &[(0, false), (1, true)]),
+];
+
 #[test]
 fn a_history_has_each_call_in_order(rt: HostRuntime) {
-    let calls = [
-        (Made::Submit(4), Reply::Number(0)),
-        (Made::Lease, went_out(0, 0)),
-        (Made::Order(own(0, 0, 0)), ordered(0, 0, 0)),
-        (Made::Replace(0), Reply::Number(1)),
-        (Made::GiveBack(own(0, 0, 1)), Reply::Done),
-        (Made::Read(0), seen(1, 2)),
-        (Made::Revoke(0), Reply::Refused(BookFault::StrangerLease)),
-        (Made::Lease, went_out(1, 1)),
-        (Made::Order(own(1, 1, 1)), ordered(1, 1, 1)),
-        (Made::GiveBack(own(1, 1, 2)), Reply::Done),
-        (Made::Read(0), seen(2, 2)),
-    ];
-    let reads: [Shown; 2] = [
-        (1, b".1.1......", &[(0, false), (1, true)]),
-        (2, b".0..1.....", &[(0, false), (1, true)]),
-    ];
-    assert!(rt; leave(&rt, &calls, &reads));
+    assert!(rt; leave(&rt, &REPLACED, &REPLACED_READS));
 }
+
+const REVOKED: [(Made, Reply); 9] = [
+    (Made::Submit(4), Reply::Number(0)),
+    (Made::Lease, went_out!(0, 0)),
+    (Made::Order(own!(0, 0, 0)), ordered!(0, 0, 0)),
+    (Made::Replace(0), Reply::Number(1)),
+    (Made::Revoke(0), Reply::Done),
+    (Made::Lease, went_out!(1, 0)),
+    (Made::Order(own!(1, 0, 0)), ordered!(1, 0, 0)),
+    (
+        Made::GiveBack(own!(0, 0, 0)),
+        Reply::Refused(BookFault::StrangerLease),
+    ),
+    (Made::GiveBack(own!(1, 0, 1)), Reply::Done),
+];
 
 #[test]
 fn a_revoked_lease_is_not_taken_back(rt: HostRuntime) {
-    let calls = [
-        (Made::Submit(4), Reply::Number(0)),
-        (Made::Lease, went_out(0, 0)),
-        (Made::Order(own(0, 0, 0)), ordered(0, 0, 0)),
-        (Made::Replace(0), Reply::Number(1)),
-        (Made::Revoke(0), Reply::Done),
-        (Made::Lease, went_out(1, 0)),
-        (Made::Order(own(1, 0, 0)), ordered(1, 0, 0)),
-        (
-            Made::GiveBack(own(0, 0, 0)),
-            Reply::Refused(BookFault::StrangerLease),
-        ),
-        (Made::GiveBack(own(1, 0, 1)), Reply::Done),
-    ];
-    assert!(rt; leave(&rt, &calls, &[]));
+    assert!(rt; leave(&rt, &REVOKED, &[]));
 }
+
+const CANCELLED: [(Made, Reply); 8] = [
+    (Made::Submit(4), Reply::Number(0)),
+    (Made::Lease, went_out!(0, 0)),
+    (Made::Cancel(0), Reply::Done),
+    (Made::Order(own!(0, 0, 0)), Reply::Refused(BookFault::Ended)),
+    (
+        Made::GiveBack(own!(0, 0, 0)),
+        Reply::Refused(BookFault::StrangerLease),
+    ),
+    (Made::Cancel(0), Reply::Refused(BookFault::Ended)),
+    (Made::Lease, Reply::NoLease),
+    (Made::Read(0), seen!(0, 1)),
+];
 
 #[test]
 fn a_cancelled_job_refuses_its_lease(rt: HostRuntime) {
-    let calls = [
-        (Made::Submit(4), Reply::Number(0)),
-        (Made::Lease, went_out(0, 0)),
-        (Made::Cancel(0), Reply::Done),
-        (Made::Order(own(0, 0, 0)), Reply::Refused(BookFault::Ended)),
-        (
-            Made::GiveBack(own(0, 0, 0)),
-            Reply::Refused(BookFault::StrangerLease),
-        ),
-        (Made::Cancel(0), Reply::Refused(BookFault::Ended)),
-        (Made::Lease, Reply::NoLease),
-        (Made::Read(0), seen(0, 1)),
-    ];
-    assert!(rt; leave(&rt, &calls, &[(0, b"0.0.......", &[(0, false)])]));
+    assert!(rt; leave(&rt, &CANCELLED, &[(0, b"0.0.......", &[(0, false)])]));
 }
+
+const TWO_JOBS: [(Made, Reply); 8] = [
+    (Made::Submit(4), Reply::Number(0)),
+    (Made::Submit(4), Reply::Number(1)),
+    (Made::Lease, went_out!(0, 0)),
+    (Made::Revoke(1), Reply::Refused(BookFault::StrangerLease)),
+    (Made::Cancel(1), Reply::Done),
+    (Made::Replace(1), Reply::Refused(BookFault::Ended)),
+    (Made::Read(1), seen!(0, 1)),
+    (Made::Revoke(0), Reply::Done),
+];
 
 #[test]
 fn a_call_is_of_the_job_that_it_names(rt: HostRuntime) {
-    let calls = [
-        (Made::Submit(4), Reply::Number(0)),
-        (Made::Submit(4), Reply::Number(1)),
-        (Made::Lease, went_out(0, 0)),
-        (Made::Revoke(1), Reply::Refused(BookFault::StrangerLease)),
-        (Made::Cancel(1), Reply::Done),
-        (Made::Replace(1), Reply::Refused(BookFault::Ended)),
-        (Made::Read(1), seen(0, 1)),
-        (Made::Revoke(0), Reply::Done),
-    ];
-    assert!(rt; leave(&rt, &calls, &[(0, b"0.0.......", &[(0, false)])]));
+    assert!(rt; leave(&rt, &TWO_JOBS, &[(0, b"0.0.......", &[(0, false)])]));
 }
+
+const REPLACED_AGAIN: [(Made, Reply); 9] = [
+    (Made::Submit(4), Reply::Number(0)),
+    (Made::Replace(0), Reply::Number(0)),
+    (Made::Replace(0), Reply::Number(0)),
+    (Made::Read(0), seen!(0, 1)),
+    (Made::Lease, went_out!(0, 0)),
+    (Made::Order(own!(0, 0, 0)), ordered!(0, 0, 0)),
+    (Made::Replace(0), Reply::Number(1)),
+    (Made::Replace(0), Reply::Number(1)),
+    (Made::Read(0), seen!(0, 2)),
+];
+
+const REPLACED_AGAIN_READS: [Shown; 2] = [
+    (0, b"0.0.......", &[(0, true)]),
+    (0, b"0.0.......", &[(0, true), (1, true)]),
+];
 
 #[test]
 fn the_last_rule_of_a_step_stays(rt: HostRuntime) {
-    let calls = [
-        (Made::Submit(4), Reply::Number(0)),
-        (Made::Replace(0), Reply::Number(0)),
-        (Made::Replace(0), Reply::Number(0)),
-        (Made::Read(0), seen(0, 1)),
-        (Made::Lease, went_out(0, 0)),
-        (Made::Order(own(0, 0, 0)), ordered(0, 0, 0)),
-        (Made::Replace(0), Reply::Number(1)),
-        (Made::Replace(0), Reply::Number(1)),
-        (Made::Read(0), seen(0, 2)),
-    ];
-    let reads: [Shown; 2] = [
-        (0, b"0.0.......", &[(0, true)]),
-        (0, b"0.0.......", &[(0, true), (1, true)]),
-    ];
-    assert!(rt; leave(&rt, &calls, &reads));
+    assert!(rt; leave(&rt, &REPLACED_AGAIN, &REPLACED_AGAIN_READS));
 }

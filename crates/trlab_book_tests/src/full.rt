@@ -2,6 +2,7 @@
 
 ghost use Rattle.std.specs.Prelude.{◌≡◌, ◌<◌, ◌≤◌};
 
+use crate::replies::{ordered, own, seen, went_out};
 use crate::table::Table;
 use std::alloc::Global;
 use std::marker::Brand;
@@ -9,8 +10,8 @@ use std::sync::Wait;
 use std::sync::ledger::{Blank, Ledger};
 use std::thread::Threads;
 use trlab_book::{Desk, RunFault, SharedBook, run_jobs};
-use trlab_book_trials::histories::{Made, ordered, own, seen, went_out};
-use trlab_leases::{BookFault, Reply};
+use trlab_book_trials::histories::Made;
+use trlab_leases::{BookFault, Offered, Reply};
 use trlab_segments::OpenGate;
 
 /// Whether so many calls of a job that there is not are events.
@@ -24,21 +25,23 @@ fn hears<L: Ledger, R: Wait>(rt: &R, alloc: Global, table: &mut Table<L>, calls:
     true
 }
 
+/// Each call of a book.
+const EACH: [Made; 8] = [
+    Made::Submit(4),
+    Made::Replace(0),
+    Made::Lease,
+    Made::Order(own!(0, 0, 0)),
+    Made::GiveBack(own!(0, 0, 0)),
+    Made::Revoke(0),
+    Made::Cancel(0),
+    Made::Read(0),
+];
+
 /// Whether each call of a book is told that its history is full.
 fn is_full<L: Ledger, R: Wait>(rt: &R, alloc: Global, table: &mut Table<L>) -> bool {
-    let calls = [
-        Made::Submit(4),
-        Made::Replace(0),
-        Made::Lease,
-        Made::Order(own(0, 0, 0)),
-        Made::GiveBack(own(0, 0, 0)),
-        Made::Revoke(0),
-        Made::Cancel(0),
-        Made::Read(0),
-    ];
-    for call in calls {
-        let refused = Reply::Refused(BookFault::HistoryFull);
-        if !table.answers(rt, alloc, call, refused) {
+    let refused = Reply::Refused(BookFault::HistoryFull);
+    for call in &EACH {
+        if !table.answers(rt, alloc, *call, refused) {
             return false;
         }
     }
@@ -65,14 +68,15 @@ fn run<L: Ledger + Send + Sync, R: Threads + Wait + Sync>(
     }
 }
 
+const BEFORE: [(Made, Reply); 3] = [
+    (Made::Submit(4), Reply::Number(0)),
+    (Made::Lease, went_out!(0, 0)),
+    (Made::Submit(4), Reply::Number(1)),
+];
+
 /// Fills the history of a book but for its last event; whether it has.
 fn fills<L: Ledger, R: Wait>(rt: &R, alloc: Global, table: &mut Table<L>) -> bool {
-    let calls = [
-        (Made::Submit(4), Reply::Number(0)),
-        (Made::Lease, went_out(0, 0)),
-        (Made::Submit(4), Reply::Number(1)),
-    ];
-    table.make_all(rt, alloc, &calls) && hears(rt, alloc, table, 999995)
+    table.make_all(rt, alloc, &BEFORE) && hears(rt, alloc, table, 999995)
 }
 
 /// The length of the history of a book in which a runner has come to the last event, by the first order of
@@ -106,7 +110,7 @@ fn a_full_history_closes(rt: HostRuntime) {
 fn replaces<L: Ledger, R: Wait>(rt: &R, alloc: Global, table: &mut Table<L>, steps: u32) -> bool {
     for step in 0..steps {
         let calls = [
-            (Made::Order(own(0, 0, step)), ordered(0, step, step)),
+            (Made::Order(own!(0, 0, step)), ordered!(0, step, step)),
             (Made::Replace(0), Reply::Number(step + 1)),
         ];
         if !table.make_all(rt, alloc, &calls) {
@@ -116,27 +120,30 @@ fn replaces<L: Ledger, R: Wait>(rt: &R, alloc: Global, table: &mut Table<L>, ste
     true
 }
 
+const LONG: Reply = Reply::Leased {
+    job: 0,
+    number: 0,
+    step: 0,
+    steps: 2000,
+};
+
+const FRONT: [(Made, Reply); 2] = [(Made::Submit(2000), Reply::Number(0)), (Made::Lease, LONG)];
+
+const END: [(Made, Reply); 3] = [
+    (Made::Order(own!(0, 0, 1023)), ordered!(0, 1023, 1023)),
+    (Made::Replace(0), Reply::Refused(BookFault::SheetFull)),
+    (Made::Read(0), seen!(0, 1024)),
+];
+
 /// Whether a sheet has 1024 entries, and no more.
 fn has_full_sheet<L: Ledger, R: Wait>(rt: &R, alloc: Global, blank: Blank) -> bool
     requires name { blank.name ≡ L.name }
     requires parts { (blank.parts ≡ L.parts) × (blank.parts ≡ 1024) }
 {
     let mut table = Table::<L>::start(alloc, blank, b"0", 0);
-    let lease = Reply::Leased {
-        job: 0,
-        number: 0,
-        step: 0,
-        steps: 2000,
-    };
-    let front = [(Made::Submit(2000), Reply::Number(0)), (Made::Lease, lease)];
-    let end = [
-        (Made::Order(own(0, 0, 1023)), ordered(0, 1023, 1023)),
-        (Made::Replace(0), Reply::Refused(BookFault::SheetFull)),
-        (Made::Read(0), seen(0, 1024)),
-    ];
-    table.make_all(rt, alloc, &front)
+    table.make_all(rt, alloc, &FRONT)
         && replaces(rt, alloc, &mut table, 1023)
-        && table.make_all(rt, alloc, &end)
+        && table.make_all(rt, alloc, &END)
 }
 
 #[test]

@@ -3,14 +3,15 @@
 
 ghost use Rattle.std.specs.Prelude.{◌≡◌};
 
+use crate::replies::{ordered, own, seen, went_out};
 use crate::shown::{Shown, show};
 use crate::table::Table;
 use std::alloc::Global;
 use std::marker::Brand;
 use std::sync::Wait;
 use std::sync::ledger::{Blank, Ledger};
-use trlab_book_trials::histories::{Made, ordered, own, seen, went_out};
-use trlab_leases::{BookFault, Reply};
+use trlab_book_trials::histories::Made;
+use trlab_leases::{BookFault, Offered, Reply};
 
 /// What is done with two books.
 #[derive(Clone, Copy)]
@@ -19,10 +20,10 @@ enum Deed {
     Own(Made, Reply),
     /// A call of the other answers this.
     Other(Made, Reply),
-    /// The lease of a place goes from the one to the other.
-    Over(usize),
-    /// The lease of a place goes from the other to the one.
-    Back(usize),
+    /// The lease of a place goes from the one to the other, at a step.
+    Over(usize, u32),
+    /// The lease of a place goes from the other to the one, at a step.
+    Back(usize, u32),
 }
 
 /// Whether a deed is done.
@@ -36,8 +37,8 @@ fn is_done<P: Ledger, Q: Ledger, R: Wait>(
     match deed {
         Deed::Own(call, wanted) => own.answers(rt, alloc, call, wanted),
         Deed::Other(call, wanted) => other.answers(rt, alloc, call, wanted),
-        Deed::Over(place) => own.hand_over(place, other),
-        Deed::Back(place) => other.hand_over(place, own),
+        Deed::Over(place, step) => own.hand_over(alloc, place, step, other),
+        Deed::Back(place, step) => other.hand_over(alloc, place, step, own),
     }
 }
 
@@ -81,40 +82,53 @@ fn are_done_anew<P: Ledger, Q: Ledger, R: Wait>(
 
 const REFUSED: Reply = Reply::Refused(BookFault::StrangerLease);
 
+const ANOTHER_KEY: [Deed; 8] = [
+    Deed::Own(Made::Submit(4), Reply::Number(0)),
+    Deed::Own(Made::Lease, went_out!(0, 0)),
+    Deed::Other(Made::Submit(4), Reply::Number(0)),
+    Deed::Other(Made::Lease, went_out!(0, 0)),
+    Deed::Over(0, 0),
+    Deed::Other(Made::GiveBack(own!(1, 0, 0)), REFUSED),
+    Deed::Back(1, 0),
+    Deed::Own(Made::GiveBack(own!(1, 0, 0)), Reply::Done),
+];
+
 #[test]
 fn a_lease_of_a_job_under_another_key_is_a_stranger(rt: HostRuntime) {
-    let deeds = [
-        Deed::Own(Made::Submit(4), Reply::Number(0)),
-        Deed::Own(Made::Lease, went_out(0, 0)),
-        Deed::Other(Made::Submit(4), Reply::Number(0)),
-        Deed::Other(Made::Lease, went_out(0, 0)),
-        Deed::Over(0),
-        Deed::Other(Made::GiveBack(own(1, 0, 0)), REFUSED),
-        Deed::Back(1),
-        Deed::Own(Made::GiveBack(own(1, 0, 0)), Reply::Done),
-    ];
     let (first, second) = (Blank::new(1024), Blank::new(1024));
-    assert!(rt; are_done_anew::<Brand, Brand, _>(&rt, rt.alloc(), first, second, 255, &deeds, &[]));
+    assert!(rt;
+        are_done_anew::<Brand, Brand, _>(&rt, rt.alloc(), first, second, 255, &ANOTHER_KEY, &[])
+    );
 }
 
 // Which book lent a lease of the same run can't be told.
+const SAME_RUN: [Deed; 10] = [
+    Deed::Own(Made::Submit(4), Reply::Number(0)),
+    Deed::Own(Made::Lease, went_out!(0, 0)),
+    Deed::Own(Made::Order(own!(0, 0, 0)), ordered!(0, 0, 0)),
+    Deed::Other(Made::Submit(4), Reply::Number(0)),
+    Deed::Other(Made::Lease, went_out!(0, 0)),
+    Deed::Over(0, 1),
+    Deed::Other(Made::GiveBack(own!(1, 0, 1)), REFUSED),
+    Deed::Other(Made::Order(own!(0, 0, 0)), ordered!(0, 0, 0)),
+    Deed::Other(Made::GiveBack(own!(1, 0, 1)), Reply::Done),
+    Deed::Other(Made::Read(0), seen!(1, 1)),
+];
+
+const SAME_RUN_READS: [Shown; 1] = [(1, b".1.1......", &[(0, false)])];
+
 #[test]
 fn a_lease_of_the_same_run_is_taken(rt: HostRuntime) {
-    let deeds = [
-        Deed::Own(Made::Submit(4), Reply::Number(0)),
-        Deed::Own(Made::Lease, went_out(0, 0)),
-        Deed::Own(Made::Order(own(0, 0, 0)), ordered(0, 0, 0)),
-        Deed::Other(Made::Submit(4), Reply::Number(0)),
-        Deed::Other(Made::Lease, went_out(0, 0)),
-        Deed::Over(0),
-        Deed::Other(Made::GiveBack(own(1, 0, 1)), REFUSED),
-        Deed::Other(Made::Order(own(0, 0, 0)), ordered(0, 0, 0)),
-        Deed::Other(Made::GiveBack(own(1, 0, 1)), Reply::Done),
-        Deed::Other(Made::Read(0), seen(1, 1)),
-    ];
     let (first, second) = (Blank::new(1024), Blank::new(1024));
-    let reads: [Shown; 1] = [(1, b".1.1......", &[(0, false)])];
     assert!(rt;
-        are_done_anew::<Brand, Brand, _>(&rt, rt.alloc(), first, second, 0, &deeds, &reads)
+        are_done_anew::<Brand, Brand, _>(
+            &rt,
+            rt.alloc(),
+            first,
+            second,
+            0,
+            &SAME_RUN,
+            &SAME_RUN_READS
+        )
     );
 }

@@ -18,49 +18,25 @@ use trlab_book_trials::jobs::{ALWAYS, Job, NEVER};
 use trlab_leases::{BookFault, Event, Lease, Offered, Order, Reply, Snapshot};
 use trlab_step::Caller;
 
-/// A lease that is out, with the last order for it.
-#[derive(Drop)]
-pub struct Out {
-    lease: Lease,
-    order: Option<Order>,
-}
-
-/// A shared book with its desk, the leases that are not back, by their places, and what was read. Each job
-/// is of the cars of one picture, under the key of one byte.
+/// A shared book with its desk, by their places the leases that are not back, the orders for them, and what
+/// was read. Each job is of the cars of one picture, under the key of one byte.
 #[derive(Drop)]
 pub struct Table<L: Ledger> {
     pub book: SharedBook<L>,
     pub desk: Desk<L>,
-    pub leases: Vec<Option<Out>>,
+    pub leases: Vec<Option<Lease>>,
+    pub orders: Vec<Order>,
     pub reads: Vec<Snapshot>,
     pub picture: &'static [u8],
     pub byte: u8,
 }
 
-/// Has a lease take the step that is ordered, where it does not yet stand at this step.
-fn bring_to(alloc: Global, out: &mut Out, step: u32) -> Option<()> {
-    let Out { lease, order } = out;
+/// Has a lease take the step that was ordered last, where it does not yet stand at this step.
+fn bring_to(alloc: Global, lease: &mut Lease, orders: &[Order], step: u32) -> Option<()> {
     if lease.step() == step {
         return Some(());
     }
-    lease.advance_by(&Caller, alloc, order.as_ref()?).ok()
-}
-
-/// Lays a lease at a place.
-fn lay_at(leases: &mut [Option<Out>], place: usize, lease: Lease) {
-    if let Some(out) = leases.get_mut(place) {
-        *out = Some(Out { lease, order: None });
-    }
-}
-
-/// Takes the lease of a place, which has taken the ordered step where it does not yet stand at this step.
-fn take_at(alloc: Global, leases: &mut [Option<Out>], place: usize, step: u32) -> Option<Lease> {
-    let out = leases.get_mut(place)?;
-    bring_to(alloc, out.as_mut()?, step)?;
-    match out.take() {
-        Some(Out { lease, .. }) => Some(lease),
-        None => None,
-    }
+    lease.advance_by(&Caller, alloc, orders.last()?).ok()
 }
 
 impl<L: Ledger> Table<L> {
@@ -74,6 +50,7 @@ impl<L: Ledger> Table<L> {
             book,
             desk,
             leases: Vec::new(alloc),
+            orders: Vec::new(alloc),
             reads: Vec::new(alloc),
             picture,
             byte,
@@ -103,7 +80,7 @@ impl<L: Ledger> Table<L> {
         match self.book.lease(rt, alloc, &mut self.desk) {
             Ok(Some(lease)) => {
                 let told = lease_told(&lease);
-                self.leases.push_reserved(Some(Out { lease, order: None }));
+                self.leases.push_reserved(Some(lease));
                 Some(told)
             }
             Ok(None) => Some(Reply::NoLease),
@@ -111,36 +88,42 @@ impl<L: Ledger> Table<L> {
         }
     }
 
+    /// Has the lease of a place take the step that was ordered last, where it does not yet stand at this step.
+    fn bring(&mut self, alloc: Global, place: usize, step: u32) -> Option<()> {
+        match self.leases.get_mut(place) {
+            Some(there) => bring_to(alloc, there.as_mut()?, &self.orders, step),
+            None => None,
+        }
+    }
+
     /// Orders the next step of the lease of a place.
     fn order<R: Wait>(&mut self, rt: &R, alloc: Global, offered: Offered) -> Option<Reply> {
-        let out = self.leases.get_mut(offered.number as usize)?.as_mut()?;
-        bring_to(alloc, out, offered.step)?;
-        match self.book.order(rt, alloc, &mut self.desk, &out.lease) {
+        let place = offered.number as usize;
+        self.bring(alloc, place, offered.step)?;
+        self.orders.reserve(1).ok()?;
+        let lease = self.leases.get(place)?.as_ref()?;
+        match self.book.order(rt, alloc, &mut self.desk, lease) {
             Ok(order) => {
                 let told = order_told(&order);
-                out.order = Some(order);
+                self.orders.push_reserved(order);
                 Some(told)
             }
             Err(fault) => Some(Reply::Refused(fault)),
         }
     }
 
-    /// Gives a lease back; where it is refused it is laid at a place, without its order.
-    fn hand_back<R: Wait>(&mut self, rt: &R, place: usize, lease: Lease) -> Reply {
-        match self.book.give_back(rt, &mut self.desk, lease) {
-            Ok(()) => Reply::Done,
-            Err((lease, fault)) => {
-                lay_at(&mut self.leases, place, lease);
-                Reply::Refused(fault)
-            }
-        }
-    }
-
     /// Gives the lease of a place back; where it is refused it is laid back there.
     fn give_back<R: Wait>(&mut self, rt: &R, alloc: Global, offered: Offered) -> Option<Reply> {
         let place = offered.number as usize;
-        let lease = take_at(alloc, &mut self.leases, place, offered.step)?;
-        Some(self.hand_back(rt, place, lease))
+        self.bring(alloc, place, offered.step)?;
+        let there = self.leases.get_mut(place)?;
+        match self.book.give_back(rt, &mut self.desk, there.take()?) {
+            Ok(()) => Some(Reply::Done),
+            Err((lease, fault)) => {
+                *there = Some(lease);
+                Some(Reply::Refused(fault))
+            }
+        }
     }
 
     /// Reads a job, and keeps what it shows.
@@ -190,13 +173,26 @@ impl<L: Ledger> Table<L> {
         true
     }
 
-    /// Hands the lease of a place over to another table, where it lies at the next place; whether it does.
-    pub fn hand_over<M: Ledger>(&mut self, place: usize, other: &mut Table<M>) -> bool {
+    /// Hands the lease of a place over to another table at a step, where it lies at the next place; whether
+    /// it does. Where memory runs out it is tried once more.
+    pub fn hand_over<M: Ledger>(
+        &mut self,
+        alloc: Global,
+        place: usize,
+        step: u32,
+        other: &mut Table<M>,
+    ) -> bool {
+        if self.bring(alloc, place, step).is_none() && self.bring(alloc, place, step).is_none() {
+            return false;
+        }
         if other.leases.reserve(1).is_err() && other.leases.reserve(1).is_err() {
             return false;
         }
         match self.leases.get_mut(place) {
-            Some(out) => other.leases.push(out.take()).is_ok(),
+            Some(there) => {
+                other.leases.push_reserved(there.take());
+                true
+            }
             None => false,
         }
     }

@@ -15,42 +15,6 @@ pub enum Made {
     Read(u32),
 }
 
-/// What a lease of job 0 that runs its own road is in an event.
-pub fn own(number: u32, base: u32, step: u32) -> Offered {
-    Offered {
-        job: 0,
-        number,
-        base,
-        step,
-        same: true,
-    }
-}
-
-/// The reply that a lease of job 0, which has four steps, went out.
-pub fn went_out(number: u32, step: u32) -> Reply {
-    Reply::Leased {
-        job: 0,
-        number,
-        step,
-        steps: 4,
-    }
-}
-
-/// The reply that job 0 is ordered a step.
-pub fn ordered(number: u32, step: u32, from: u32) -> Reply {
-    Reply::Ordered {
-        job: 0,
-        number,
-        step,
-        from,
-    }
-}
-
-/// The reply that a job shows itself at a step, with so many rules.
-pub fn seen(step: u32, entries: u32) -> Reply {
-    Reply::Seen { step, entries }
-}
-
 /// Whether a call is the one that was made.
 fn is_made(call: &Call, made: &Made) -> bool {
     match (call, made) {
