@@ -39,6 +39,42 @@ fn bring_to(alloc: Global, lease: &mut Lease, orders: &[Order], step: u32) -> Op
     lease.advance_by(&Caller, alloc, orders.last()?).ok()
 }
 
+/// Orders the next step of a lease.
+fn order_for<L: Ledger, R: Wait>(
+    rt: &R,
+    alloc: Global,
+    book: &SharedBook<L>,
+    desk: &mut Desk<L>,
+    lease: &Lease,
+    orders: &mut Vec<Order>,
+) -> Option<Reply> {
+    orders.reserve(1).ok()?;
+    match book.order(rt, alloc, desk, lease) {
+        Ok(order) => {
+            let told = order_told(&order);
+            orders.push_reserved(order);
+            Some(told)
+        }
+        Err(fault) => Some(Reply::Refused(fault)),
+    }
+}
+
+/// Gives the lease of a place back; where it is refused it is laid back there.
+fn give_back_from<L: Ledger, R: Wait>(
+    rt: &R,
+    book: &SharedBook<L>,
+    desk: &mut Desk<L>,
+    there: &mut Option<Lease>,
+) -> Option<Reply> {
+    match book.give_back(rt, desk, there.take()?) {
+        Ok(()) => Some(Reply::Done),
+        Err((lease, fault)) => {
+            *there = Some(lease);
+            Some(Reply::Refused(fault))
+        }
+    }
+}
+
 impl<L: Ledger> Table<L> {
     /// A table with a new book.
     pub fn start(alloc: Global, blank: Blank, picture: &'static [u8], byte: u8) -> Table<L>
@@ -100,15 +136,12 @@ impl<L: Ledger> Table<L> {
     fn order<R: Wait>(&mut self, rt: &R, alloc: Global, offered: Offered) -> Option<Reply> {
         let place = offered.number as usize;
         self.bring(alloc, place, offered.step)?;
-        self.orders.reserve(1).ok()?;
-        let lease = self.leases.get(place)?.as_ref()?;
-        match self.book.order(rt, alloc, &mut self.desk, lease) {
-            Ok(order) => {
-                let told = order_told(&order);
-                self.orders.push_reserved(order);
-                Some(told)
+        match self.leases.get(place) {
+            Some(there) => {
+                let (desk, orders) = (&mut self.desk, &mut self.orders);
+                order_for(rt, alloc, &self.book, desk, there.as_ref()?, orders)
             }
-            Err(fault) => Some(Reply::Refused(fault)),
+            None => None,
         }
     }
 
@@ -116,13 +149,9 @@ impl<L: Ledger> Table<L> {
     fn give_back<R: Wait>(&mut self, rt: &R, alloc: Global, offered: Offered) -> Option<Reply> {
         let place = offered.number as usize;
         self.bring(alloc, place, offered.step)?;
-        let there = self.leases.get_mut(place)?;
-        match self.book.give_back(rt, &mut self.desk, there.take()?) {
-            Ok(()) => Some(Reply::Done),
-            Err((lease, fault)) => {
-                *there = Some(lease);
-                Some(Reply::Refused(fault))
-            }
+        match self.leases.get_mut(place) {
+            Some(there) => give_back_from(rt, &self.book, &mut self.desk, there),
+            None => None,
         }
     }
 
