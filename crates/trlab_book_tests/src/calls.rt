@@ -3,62 +3,38 @@
 
 ghost use Rattle.std.specs.Prelude.{◌≡◌};
 
-use crate::shown::{Shown, show};
+use crate::replies::{ordered, own, seen, went_out};
+use crate::shown::{Shown, is_rule, show};
 use crate::table::Table;
 use std::alloc::Global;
 use std::marker::Brand;
 use std::sync::Wait;
 use std::sync::ledger::{Blank, Ledger};
-use trlab_book_trials::histories::{Made, is_history, ordered, own, seen, went_out};
-use trlab_book_trials::jobs::{braking, shows, steady};
-use trlab_leases::{BookFault, Call, Event, Reply, Snapshot};
-use trlab_rules::Rule;
+use trlab_book_trials::histories::{Made, is_history};
+use trlab_book_trials::jobs::{ALWAYS, NEVER, shows};
+use trlab_leases::{BookFault, Call, Event, Offered, Reply};
 
 /// Whether a submission is of the two cars under the rule by which no car brakes, and a replacement by the
 /// one by which each does.
-fn has_rule(alloc: Global, call: &Call, steady: &Rule, braking: &Rule) -> bool {
+fn has_rule(alloc: Global, call: &Call) -> bool {
     match call {
         Call::Submit(from, rule, _) => {
-            rule.get().equals(steady) && shows(alloc, &from.get().road, b"0.0.......") == Some(true)
+            is_rule(alloc, rule.get(), NEVER)
+                && shows(alloc, &from.get().road, b"0.0.......") == Some(true)
         }
-        Call::Replace(_, rule) => rule.get().equals(braking),
+        Call::Replace(_, rule) => is_rule(alloc, rule.get(), ALWAYS),
         _ => true,
     }
 }
 
-/// Whether each submission and each replacement of a history has its rule.
-fn have_rules(alloc: Global, history: &[Event], steady: &Rule, braking: &Rule) -> bool {
+/// Whether a history has the seeds and the rules that were given; not so where memory runs out.
+fn is_given(alloc: Global, history: &[Event]) -> bool {
     for event in history {
-        if !has_rule(alloc, &event.call, steady, braking) {
+        if !has_rule(alloc, &event.call) {
             return false;
         }
     }
     true
-}
-
-/// Whether a history has the seeds and the rules that were given; not so where memory runs out.
-fn is_given(alloc: Global, history: &[Event]) -> bool {
-    match (steady(alloc), braking(alloc)) {
-        (Some(steady), Some(braking)) => have_rules(alloc, history, &steady, &braking),
-        _ => false,
-    }
-}
-
-/// What these calls of a new book leave, if each answers the reply beside it and the book closes.
-fn left_by<L: Ledger, R: Wait>(
-    rt: &R,
-    alloc: Global,
-    blank: Blank,
-    calls: &[(Made, Reply)],
-) -> Option<(Vec<Event>, Vec<Snapshot>)>
-    requires name { blank.name ≡ L.name }
-    requires parts { (blank.parts ≡ L.parts) × (blank.parts ≡ 1024) }
-{
-    let mut table = Table::<L>::start(alloc, blank, b"0.0.......", 0);
-    if !table.make_all(rt, alloc, calls) {
-        return None;
-    }
-    table.close()
 }
 
 /// Whether a history has these calls, with the seeds and the rules that they were given. Where memory runs
@@ -67,107 +43,128 @@ fn is_as_made(alloc: Global, history: &[Event], calls: &[(Made, Reply)]) -> bool
     is_history(history, calls) && (is_given(alloc, history) || is_given(alloc, history))
 }
 
-/// Whether calls of a new book answer the replies beside them, leave these calls and these replies as its
-/// history, and read this.
-fn leave(rt: &(impl AllocGlobal + Wait), calls: &[(Made, Reply)], wanted: &[Shown]) -> bool {
-    match left_by::<Brand, _>(rt, rt.alloc(), Blank::new(1024), calls) {
-        Some((history, reads)) => {
-            is_as_made(rt.alloc(), &history, calls) && show(rt.alloc(), &reads, wanted)
-        }
+/// Whether calls of a new book answer the replies beside them, read this, and leave these calls and these
+/// replies as its history.
+fn leave_in<L: Ledger, R: Wait>(
+    rt: &R,
+    alloc: Global,
+    blank: Blank,
+    calls: &[(Made, Reply)],
+    wanted: &[Shown],
+) -> bool
+    requires name { blank.name ≡ L.name }
+    requires parts { (blank.parts ≡ L.parts) × (blank.parts ≡ 1024) }
+{
+    let mut table = Table::<L>::start(alloc, blank, b"0.0.......", 0);
+    let made = table.make_all(rt, alloc, calls) && show(alloc, &table.reads, wanted);
+    match table.close() {
+        Some(history) => made && is_as_made(alloc, &history, calls),
         None => false,
     }
 }
 
+/// The same, of a book with one desk.
+fn leave(rt: &(impl AllocGlobal + Wait), calls: &[(Made, Reply)], wanted: &[Shown]) -> bool {
+    leave_in::<Brand, _>(rt, rt.alloc(), Blank::new(1024), calls, wanted)
+}
+
+const REPLACED: [(Made, Reply); 11] = [
+    (Made::Submit(4), Reply::Number(0)),
+    (Made::Lease, went_out!(0, 0)),
+    (Made::Order(own!(0, 0, 0)), ordered!(0, 0, 0)),
+    (Made::Replace(0), Reply::Number(1)),
+    (Made::GiveBack(own!(0, 0, 1)), Reply::Done),
+    (Made::Read(0), seen!(1, 2)),
+    (Made::Revoke(0), Reply::Refused(BookFault::StrangerLease)),
+    (Made::Lease, went_out!(1, 1)),
+    (Made::Order(own!(1, 1, 1)), ordered!(1, 1, 1)),
+    (Made::GiveBack(own!(1, 1, 2)), Reply::Done),
+    (Made::Read(0), seen!(2, 2)),
+];
+
+const REPLACED_READS: [Shown; 2] = [
+    (1, b".1.1......", &[(0, false), (1, true)]),
+    (2, b".0..1.....", &[(0, false), (1, true)]),
+];
+
 #[test]
 fn a_history_has_each_call_in_order(rt: HostRuntime) {
-    let calls = [
-        (Made::Submit(4), Reply::Number(0)),
-        (Made::Lease, went_out(0, 0)),
-        (Made::Order(own(0, 0, 0)), ordered(0, 0, 0)),
-        (Made::Replace(0), Reply::Number(1)),
-        (Made::GiveBack(own(0, 0, 1)), Reply::Done),
-        (Made::Read(0), seen(1, 2)),
-        (Made::Revoke(0), Reply::Refused(BookFault::StrangerLease)),
-        (Made::Lease, went_out(1, 1)),
-        (Made::Order(own(1, 1, 1)), ordered(1, 1, 1)),
-        (Made::GiveBack(own(1, 1, 2)), Reply::Done),
-        (Made::Read(0), seen(2, 2)),
-    ];
-    let reads: [Shown; 2] = [
-        (1, b".1.1......", &[(0, false), (1, true)]),
-        (2, b".0..1.....", &[(0, false), (1, true)]),
-    ];
-    assert!(rt; leave(&rt, &calls, &reads));
+    assert!(rt; leave(&rt, &REPLACED, &REPLACED_READS));
 }
+
+const REVOKED: [(Made, Reply); 9] = [
+    (Made::Submit(4), Reply::Number(0)),
+    (Made::Lease, went_out!(0, 0)),
+    (Made::Order(own!(0, 0, 0)), ordered!(0, 0, 0)),
+    (Made::Replace(0), Reply::Number(1)),
+    (Made::Revoke(0), Reply::Done),
+    (Made::Lease, went_out!(1, 0)),
+    (Made::Order(own!(1, 0, 0)), ordered!(1, 0, 0)),
+    (
+        Made::GiveBack(own!(0, 0, 0)),
+        Reply::Refused(BookFault::StrangerLease),
+    ),
+    (Made::GiveBack(own!(1, 0, 1)), Reply::Done),
+];
 
 #[test]
 fn a_revoked_lease_is_not_taken_back(rt: HostRuntime) {
-    let calls = [
-        (Made::Submit(4), Reply::Number(0)),
-        (Made::Lease, went_out(0, 0)),
-        (Made::Order(own(0, 0, 0)), ordered(0, 0, 0)),
-        (Made::Replace(0), Reply::Number(1)),
-        (Made::Revoke(0), Reply::Done),
-        (Made::Lease, went_out(1, 0)),
-        (Made::Order(own(1, 0, 0)), ordered(1, 0, 0)),
-        (
-            Made::GiveBack(own(0, 0, 0)),
-            Reply::Refused(BookFault::StrangerLease),
-        ),
-        (Made::GiveBack(own(1, 0, 1)), Reply::Done),
-    ];
-    assert!(rt; leave(&rt, &calls, &[]));
+    assert!(rt; leave(&rt, &REVOKED, &[]));
 }
+
+const CANCELLED: [(Made, Reply); 8] = [
+    (Made::Submit(4), Reply::Number(0)),
+    (Made::Lease, went_out!(0, 0)),
+    (Made::Cancel(0), Reply::Done),
+    (Made::Order(own!(0, 0, 0)), Reply::Refused(BookFault::Ended)),
+    (
+        Made::GiveBack(own!(0, 0, 0)),
+        Reply::Refused(BookFault::StrangerLease),
+    ),
+    (Made::Cancel(0), Reply::Refused(BookFault::Ended)),
+    (Made::Lease, Reply::NoLease),
+    (Made::Read(0), seen!(0, 1)),
+];
 
 #[test]
 fn a_cancelled_job_refuses_its_lease(rt: HostRuntime) {
-    let calls = [
-        (Made::Submit(4), Reply::Number(0)),
-        (Made::Lease, went_out(0, 0)),
-        (Made::Cancel(0), Reply::Done),
-        (Made::Order(own(0, 0, 0)), Reply::Refused(BookFault::Ended)),
-        (
-            Made::GiveBack(own(0, 0, 0)),
-            Reply::Refused(BookFault::StrangerLease),
-        ),
-        (Made::Cancel(0), Reply::Refused(BookFault::Ended)),
-        (Made::Lease, Reply::NoLease),
-        (Made::Read(0), seen(0, 1)),
-    ];
-    assert!(rt; leave(&rt, &calls, &[(0, b"0.0.......", &[(0, false)])]));
+    assert!(rt; leave(&rt, &CANCELLED, &[(0, b"0.0.......", &[(0, false)])]));
 }
+
+const TWO_JOBS: [(Made, Reply); 8] = [
+    (Made::Submit(4), Reply::Number(0)),
+    (Made::Submit(4), Reply::Number(1)),
+    (Made::Lease, went_out!(0, 0)),
+    (Made::Revoke(1), Reply::Refused(BookFault::StrangerLease)),
+    (Made::Cancel(1), Reply::Done),
+    (Made::Replace(1), Reply::Refused(BookFault::Ended)),
+    (Made::Read(1), seen!(0, 1)),
+    (Made::Revoke(0), Reply::Done),
+];
 
 #[test]
 fn a_call_is_of_the_job_that_it_names(rt: HostRuntime) {
-    let calls = [
-        (Made::Submit(4), Reply::Number(0)),
-        (Made::Submit(4), Reply::Number(1)),
-        (Made::Lease, went_out(0, 0)),
-        (Made::Revoke(1), Reply::Refused(BookFault::StrangerLease)),
-        (Made::Cancel(1), Reply::Done),
-        (Made::Replace(1), Reply::Refused(BookFault::Ended)),
-        (Made::Read(1), seen(0, 1)),
-        (Made::Revoke(0), Reply::Done),
-    ];
-    assert!(rt; leave(&rt, &calls, &[(0, b"0.0.......", &[(0, false)])]));
+    assert!(rt; leave(&rt, &TWO_JOBS, &[(0, b"0.0.......", &[(0, false)])]));
 }
+
+const REPLACED_AGAIN: [(Made, Reply); 9] = [
+    (Made::Submit(4), Reply::Number(0)),
+    (Made::Replace(0), Reply::Number(0)),
+    (Made::Replace(0), Reply::Number(0)),
+    (Made::Read(0), seen!(0, 1)),
+    (Made::Lease, went_out!(0, 0)),
+    (Made::Order(own!(0, 0, 0)), ordered!(0, 0, 0)),
+    (Made::Replace(0), Reply::Number(1)),
+    (Made::Replace(0), Reply::Number(1)),
+    (Made::Read(0), seen!(0, 2)),
+];
+
+const REPLACED_AGAIN_READS: [Shown; 2] = [
+    (0, b"0.0.......", &[(0, true)]),
+    (0, b"0.0.......", &[(0, true), (1, true)]),
+];
 
 #[test]
 fn the_last_rule_of_a_step_stays(rt: HostRuntime) {
-    let calls = [
-        (Made::Submit(4), Reply::Number(0)),
-        (Made::Replace(0), Reply::Number(0)),
-        (Made::Replace(0), Reply::Number(0)),
-        (Made::Read(0), seen(0, 1)),
-        (Made::Lease, went_out(0, 0)),
-        (Made::Order(own(0, 0, 0)), ordered(0, 0, 0)),
-        (Made::Replace(0), Reply::Number(1)),
-        (Made::Replace(0), Reply::Number(1)),
-        (Made::Read(0), seen(0, 2)),
-    ];
-    let reads: [Shown; 2] = [
-        (0, b"0.0.......", &[(0, true)]),
-        (0, b"0.0.......", &[(0, true), (1, true)]),
-    ];
-    assert!(rt; leave(&rt, &calls, &reads));
+    assert!(rt; leave(&rt, &REPLACED_AGAIN, &REPLACED_AGAIN_READS));
 }

@@ -2,15 +2,16 @@
 
 ghost use Rattle.std.specs.Prelude.{◌≡◌, ◌<◌, ◌≤◌};
 
+use crate::replies::{ordered, own, seen, went_out};
 use crate::table::Table;
 use std::alloc::Global;
 use std::marker::Brand;
 use std::sync::Wait;
 use std::sync::ledger::{Blank, Ledger};
 use std::thread::Threads;
-use trlab_book::{RunFault, run_jobs};
-use trlab_book_trials::histories::{Made, ordered, own, seen, went_out};
-use trlab_leases::{BookFault, Reply};
+use trlab_book::{Desk, RunFault, SharedBook, run_jobs};
+use trlab_book_trials::histories::Made;
+use trlab_leases::{BookFault, Offered, Reply};
 use trlab_segments::OpenGate;
 
 /// Whether so many calls of a job that there is not are events.
@@ -24,61 +25,58 @@ fn hears<L: Ledger, R: Wait>(rt: &R, alloc: Global, table: &mut Table<L>, calls:
     true
 }
 
+/// Each call of a book.
+const EACH: [Made; 8] = [
+    Made::Submit(4),
+    Made::Replace(0),
+    Made::Lease,
+    Made::Order(own!(0, 0, 0)),
+    Made::GiveBack(own!(0, 0, 0)),
+    Made::Revoke(0),
+    Made::Cancel(0),
+    Made::Read(0),
+];
+
 /// Whether each call of a book is told that its history is full.
 fn is_full<L: Ledger, R: Wait>(rt: &R, alloc: Global, table: &mut Table<L>) -> bool {
-    let calls = [
-        Made::Submit(4),
-        Made::Replace(0),
-        Made::Lease,
-        Made::Order(own(0, 0, 0)),
-        Made::GiveBack(own(0, 0, 0)),
-        Made::Revoke(0),
-        Made::Cancel(0),
-        Made::Read(0),
-    ];
-    for call in calls {
-        let refused = Reply::Refused(BookFault::HistoryFull);
-        if !table.answers(rt, alloc, call, refused) {
+    let refused = Reply::Refused(BookFault::HistoryFull);
+    for call in &EACH {
+        if !table.answers(rt, alloc, *call, refused) {
             return false;
         }
     }
     true
 }
 
-/// Lets so many runners take the jobs of a table, and says whether they ended since the history was full.
+/// Lets so many runners take the jobs of a book, and says whether they ended since the history was full.
 fn run<L: Ledger + Send + Sync, R: Threads + Wait + Sync>(
     rt: &R,
     alloc: Global,
-    table: Table<L>,
+    book: &SharedBook<L>,
+    desk: Desk<L>,
     runners: u32,
-) -> (Table<L>, bool)
+) -> (Desk<L>, bool)
     requires ledger { L.parts ≡ 1024 }
     requires runners { (0 < runners) × (runners ≤ 16) }
 {
-    if table.desk.parts() < runners {
-        return (table, false);
+    if desk.parts() < runners {
+        return (desk, false);
     }
-    let Table {
-        book,
-        desk,
-        leases,
-        reads,
-        picture,
-        byte,
-    } = table;
-    let (desk, ended) = match run_jobs(rt, alloc, &book, desk, runners, 1, &OpenGate) {
+    match run_jobs(rt, alloc, book, desk, runners, 1, &OpenGate) {
         Ok(desk) => (desk, false),
         Err((desk, fault)) => (desk, fault == RunFault::HistoryFull),
-    };
-    let table = Table {
-        book,
-        desk,
-        leases,
-        reads,
-        picture,
-        byte,
-    };
-    (table, ended)
+    }
+}
+
+const BEFORE: [(Made, Reply); 3] = [
+    (Made::Submit(4), Reply::Number(0)),
+    (Made::Lease, went_out!(0, 0)),
+    (Made::Submit(4), Reply::Number(1)),
+];
+
+/// Fills the history of a book but for its last event; whether it has.
+fn fills<L: Ledger, R: Wait>(rt: &R, alloc: Global, table: &mut Table<L>) -> bool {
+    table.make_all(rt, alloc, &BEFORE) && hears(rt, alloc, table, 999995)
 }
 
 /// The length of the history of a book in which a runner has come to the last event, by the first order of
@@ -92,30 +90,27 @@ fn full_history<L: Ledger + Send + Sync, R: Threads + Wait + Sync>(
     requires parts { (blank.parts ≡ L.parts) × (blank.parts ≡ 1024) }
 {
     let mut table = Table::<L>::start(alloc, blank, b"0.0.......", 0);
-    let calls = [
-        (Made::Submit(4), Reply::Number(0)),
-        (Made::Lease, went_out(0, 0)),
-        (Made::Submit(4), Reply::Number(1)),
-    ];
-    let fills = table.make_all(rt, alloc, &calls) && hears(rt, alloc, &mut table, 999995);
-    let (table, ended) = run(rt, alloc, table, 1);
-    let (mut table, told) = run(rt, alloc, table, 3);
+    let filled = fills(rt, alloc, &mut table);
+    let desk = table.desk;
+    let (desk, ended) = run(rt, alloc, &table.book, desk, 1);
+    let (desk, told) = run(rt, alloc, &table.book, desk, 3);
+    table.desk = desk;
     let full = is_full(rt, alloc, &mut table);
-    let (history, _) = table.close()?;
-    (fills && ended && told && full).then_some(history.len())
+    let events = table.events()?;
+    (filled && ended && told && full).then_some(events)
 }
 
 #[test]
 fn a_full_history_closes(rt: HostRuntime) {
     let found = full_history::<Brand, HostRuntime>(&rt, rt.alloc(), Blank::new(1024));
-    assert_eq!(rt; found, Some(1000000));
+    assert!(rt; found == Some(1000000));
 }
 
 /// Whether the rule of a job is replaced behind each of its first ordered steps.
 fn replaces<L: Ledger, R: Wait>(rt: &R, alloc: Global, table: &mut Table<L>, steps: u32) -> bool {
     for step in 0..steps {
         let calls = [
-            (Made::Order(own(0, 0, step)), ordered(0, step, step)),
+            (Made::Order(own!(0, 0, step)), ordered!(0, step, step)),
             (Made::Replace(0), Reply::Number(step + 1)),
         ];
         if !table.make_all(rt, alloc, &calls) {
@@ -125,27 +120,30 @@ fn replaces<L: Ledger, R: Wait>(rt: &R, alloc: Global, table: &mut Table<L>, ste
     true
 }
 
+const LONG: Reply = Reply::Leased {
+    job: 0,
+    number: 0,
+    step: 0,
+    steps: 2000,
+};
+
+const FRONT: [(Made, Reply); 2] = [(Made::Submit(2000), Reply::Number(0)), (Made::Lease, LONG)];
+
+const END: [(Made, Reply); 3] = [
+    (Made::Order(own!(0, 0, 1023)), ordered!(0, 1023, 1023)),
+    (Made::Replace(0), Reply::Refused(BookFault::SheetFull)),
+    (Made::Read(0), seen!(0, 1024)),
+];
+
 /// Whether a sheet has 1024 entries, and no more.
 fn has_full_sheet<L: Ledger, R: Wait>(rt: &R, alloc: Global, blank: Blank) -> bool
     requires name { blank.name ≡ L.name }
     requires parts { (blank.parts ≡ L.parts) × (blank.parts ≡ 1024) }
 {
     let mut table = Table::<L>::start(alloc, blank, b"0", 0);
-    let lease = Reply::Leased {
-        job: 0,
-        number: 0,
-        step: 0,
-        steps: 2000,
-    };
-    let front = [(Made::Submit(2000), Reply::Number(0)), (Made::Lease, lease)];
-    let end = [
-        (Made::Order(own(0, 0, 1023)), ordered(0, 1023, 1023)),
-        (Made::Replace(0), Reply::Refused(BookFault::SheetFull)),
-        (Made::Read(0), seen(0, 1024)),
-    ];
-    table.make_all(rt, alloc, &front)
+    table.make_all(rt, alloc, &FRONT)
         && replaces(rt, alloc, &mut table, 1023)
-        && table.make_all(rt, alloc, &end)
+        && table.make_all(rt, alloc, &END)
 }
 
 #[test]

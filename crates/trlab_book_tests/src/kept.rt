@@ -7,62 +7,72 @@ use std::alloc::Global;
 use std::thread::Threads;
 use trlab_book::advance;
 use trlab_book::laws::Kept;
-use trlab_book_trials::jobs::{braking, seed, steady};
+use trlab_book_trials::jobs::{ALWAYS, NEVER, rule_of, seed_of, two_cars};
 use trlab_leases::{BookFault, Lease, Snapshot};
 use trlab_segments::OpenGate;
 
-/// A book with the job of two cars, who never brake by chance.
-fn with_job(alloc: Global) -> Option<Kept> {
-    let mut kept = Kept::new(alloc);
-    let (seed, rule) = (seed(alloc, 0)?, steady(alloc)?);
-    (kept.submit(alloc, seed, rule, 4) == Ok(0)).then(|| kept)
+/// Submits the job of two cars, who never brake by chance.
+fn submits(alloc: Global, kept: &mut Kept) -> bool {
+    let Some(seed) = seed_of(alloc, &two_cars(0, 4)) else {
+        return false;
+    };
+    match rule_of(alloc, NEVER) {
+        Some(rule) => kept.submit(alloc, seed, rule, 4) == Ok(0),
+        None => false,
+    }
 }
 
-/// Has a lease take a step by so many workers. Between its order and the step the rule is replaced by the
-/// one by which each car brakes, which is to be in force from the next step on.
-fn take_step<R: Threads + Sync>(
+/// The step from which on each car of the job brakes.
+fn replace(alloc: Global, kept: &mut Kept) -> Option<u32> {
+    kept.replace(alloc, 0, rule_of(alloc, ALWAYS)?).ok()
+}
+
+/// Has a lease take an ordered step by so many workers. Between the order and the step the rule is replaced
+/// by the one by which each car brakes, which is to be in force from the next step on.
+fn takes_step<R: Threads + Sync>(
     rt: &R,
     alloc: Global,
     kept: &mut Kept,
     lease: &mut Lease,
     workers: u32,
-) -> Option<()>
+) -> bool
     requires { (0 < workers) × (workers ≤ 16) }
 {
-    let order = kept.order(alloc, lease).ok()?;
-    let entered = replace(alloc, kept)?;
-    advance(rt, alloc, lease, &order, workers, &OpenGate).ok()?;
-    (entered == lease.step()).then(|| ())
-}
-
-/// The step from which on each car of the job brakes.
-fn replace(alloc: Global, kept: &mut Kept) -> Option<u32> {
-    kept.replace(alloc, 0, braking(alloc)?).ok()
-}
-
-/// Has a lease of the job take a step by so many workers, and reads the job.
-fn read_behind_step<R: Threads + Sync>(
-    rt: &R,
-    alloc: Global,
-    kept: &mut Kept,
-    workers: u32,
-) -> Option<Snapshot>
-    requires { (0 < workers) × (workers ≤ 16) }
-{
-    let mut lease = kept.lease(alloc).ok()??;
-    let took = take_step(rt, alloc, kept, &mut lease, workers);
-    if kept.give_back(lease).is_err() || took.is_none() {
-        return None;
+    match kept.order(alloc, lease) {
+        Ok(order) => {
+            let entered = replace(alloc, kept);
+            let took = advance(rt, alloc, lease, &order, workers, &OpenGate).is_ok();
+            took && entered == Some(lease.step())
+        }
+        Err(_) => false,
     }
-    kept.read(alloc, 0).ok()
 }
 
-/// What is read behind the first step, by two workers, and behind the second, by 16.
-fn read_twice<R: Threads + Sync>(rt: &R, alloc: Global, kept: &mut Kept) -> Option<Vec<Snapshot>> {
-    let mut reads = Vec::new(alloc);
-    reads.push(read_behind_step(rt, alloc, kept, 2)?).ok()?;
-    reads.push(read_behind_step(rt, alloc, kept, 16)?).ok()?;
-    Some(reads)
+/// Has a lease of the job take a step by so many workers, and gives it back.
+fn goes_on<R: Threads + Sync>(rt: &R, alloc: Global, kept: &mut Kept, workers: u32) -> bool
+    requires { (0 < workers) × (workers ≤ 16) }
+{
+    match kept.lease(alloc) {
+        Ok(Some(mut lease)) => {
+            let took = takes_step(rt, alloc, kept, &mut lease, workers);
+            kept.give_back(lease).is_ok() && took
+        }
+        _ => false,
+    }
+}
+
+/// Reads the job.
+fn reads_job(alloc: Global, kept: &mut Kept, reads: &mut Vec<Snapshot>) -> bool {
+    if reads.reserve(1).is_err() {
+        return false;
+    }
+    match kept.read(alloc, 0) {
+        Ok(seen) => {
+            reads.push_reserved(seen);
+            true
+        }
+        Err(_) => false,
+    }
 }
 
 /// Whether a job whose lease is not out is cancelled, and not once more.
@@ -72,11 +82,17 @@ fn ends(kept: &mut Kept) -> bool {
         && kept.cancel(0) == Err(BookFault::Ended)
 }
 
-/// Whether a book runs a job so.
-fn runs<R: Threads + Sync>(rt: &R, alloc: Global, wanted: &[Shown]) -> Option<bool> {
-    let mut kept = with_job(alloc)?;
-    let reads = read_twice(rt, alloc, &mut kept)?;
-    Some(show(alloc, &reads, wanted) && ends(&mut kept))
+/// Whether the job is read so behind the first step, by two workers, and behind the second, by 16.
+fn runs<R: Threads + Sync>(rt: &R, alloc: Global, wanted: &[Shown]) -> bool {
+    let mut kept = Kept::new(alloc);
+    let mut reads = Vec::new(alloc);
+    submits(alloc, &mut kept)
+        && goes_on(rt, alloc, &mut kept, 2)
+        && reads_job(alloc, &mut kept, &mut reads)
+        && goes_on(rt, alloc, &mut kept, 16)
+        && reads_job(alloc, &mut kept, &mut reads)
+        && show(alloc, &reads, wanted)
+        && ends(&mut kept)
 }
 
 #[test]
@@ -85,5 +101,5 @@ fn a_kept_book_has_its_job_run_by_workers(rt: HostRuntime) {
         (1, b".1.1......", &[(0, false), (1, true)]),
         (2, b".0..1.....", &[(0, false), (1, true), (2, true)]),
     ];
-    assert_eq!(rt; runs(&rt, rt.alloc(), &wanted), Some(true));
+    assert!(rt; runs(&rt, rt.alloc(), &wanted));
 }

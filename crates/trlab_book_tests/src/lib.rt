@@ -11,6 +11,8 @@ mod full;
 #[cfg(test)]
 mod kept;
 #[cfg(test)]
+mod replies;
+#[cfg(test)]
 mod shown;
 #[cfg(test)]
 mod strangers;

@@ -2,7 +2,7 @@
 //! goes on.
 
 use std::alloc::Global;
-use trlab_book_trials::jobs::{braking, is_seen, steady};
+use trlab_book_trials::jobs::{ALWAYS, NEVER, is_seen, rule_of};
 use trlab_leases::{Sheet, Snapshot};
 use trlab_rules::Rule;
 
@@ -10,46 +10,48 @@ use trlab_rules::Rule;
 /// whether cars brake by it.
 pub type Shown = (u32, &'static [u8], &'static [(u32, bool)]);
 
+/// Whether a rule is the one of 1992 with a chance to brake; not so where memory runs out.
+pub fn is_rule(alloc: Global, rule: &Rule, chance: u32) -> bool {
+    match rule_of(alloc, chance) {
+        Some(wanted) => rule.equals(&wanted),
+        None => false,
+    }
+}
+
 /// Whether the entry of a sheet is of a first step and a rule.
-fn is_entry(sheet: &Sheet, index: usize, from: u32, rule: &Rule) -> bool {
+fn is_entry(alloc: Global, sheet: &Sheet, index: usize, from: u32, brakes: bool) -> bool {
     if index >= sheet.len() {
         return false;
     }
-    let entry = sheet.entry(index);
-    entry.0 == from && entry.1.equals(rule)
+    let (first, rule) = sheet.entry(index);
+    first == from && is_rule(alloc, rule, if brakes { ALWAYS } else { NEVER })
 }
 
-/// Whether a sheet has these rules, in order, each one of two.
-fn are_entries(sheet: &Sheet, wanted: &[(u32, bool)], steady: &Rule, braking: &Rule) -> bool {
+/// Whether a sheet has these rules, in order; not so where memory runs out.
+fn has_rules(alloc: Global, sheet: &Sheet, wanted: &[(u32, bool)]) -> bool {
     for (index, (from, brakes)) in wanted.iter().enumerate() {
-        let rule = if *brakes { braking } else { steady };
-        if !is_entry(sheet, index, *from, rule) {
+        if !is_entry(alloc, sheet, index, *from, *brakes) {
             return false;
         }
     }
     sheet.len() == wanted.len()
 }
 
-/// Whether a sheet has these rules, in order; nothing where memory ran out.
-fn has_rules(alloc: Global, sheet: &Sheet, wanted: &[(u32, bool)]) -> Option<bool> {
-    let (steady, braking) = (steady(alloc)?, braking(alloc)?);
-    Some(are_entries(sheet, wanted, &steady, &braking))
-}
-
-/// Whether a snapshot is what is wanted; nothing where memory ran out.
-fn is_as_wanted(alloc: Global, read: &Snapshot, wanted: &Shown) -> Option<bool> {
-    let is_seen = is_seen(alloc, read, wanted.0, wanted.1)?;
-    Some(is_seen && has_rules(alloc, read.sheet(), wanted.2)?)
+/// Whether a snapshot is what is wanted; not so where memory runs out.
+fn is_as_wanted(alloc: Global, read: &Snapshot, (step, picture, rules): &Shown) -> bool {
+    is_seen(alloc, read, *step, picture) == Some(true) && has_rules(alloc, read.sheet(), rules)
 }
 
 /// Whether snapshots are these, in order. Where memory runs out it is looked once more.
 pub fn show(alloc: Global, reads: &[Snapshot], wanted: &[Shown]) -> bool {
-    for (read, wanted) in reads.iter().zip(wanted) {
-        let is_so = is_as_wanted(alloc, read, wanted) == Some(true)
-            || is_as_wanted(alloc, read, wanted) == Some(true);
-        if !is_so {
+    if reads.len() != wanted.len() {
+        return false;
+    }
+    for (index, read) in reads.iter().enumerate() {
+        let wanted = &wanted[index];
+        if !is_as_wanted(alloc, read, wanted) && !is_as_wanted(alloc, read, wanted) {
             return false;
         }
     }
-    reads.len() == wanted.len()
+    true
 }

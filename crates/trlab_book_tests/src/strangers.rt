@@ -3,14 +3,15 @@
 
 ghost use Rattle.std.specs.Prelude.{◌≡◌};
 
+use crate::replies::{ordered, own, seen, went_out};
 use crate::shown::{Shown, show};
 use crate::table::Table;
 use std::alloc::Global;
 use std::marker::Brand;
 use std::sync::Wait;
 use std::sync::ledger::{Blank, Ledger};
-use trlab_book_trials::histories::{Made, ordered, own, seen, went_out};
-use trlab_leases::{BookFault, Reply};
+use trlab_book_trials::histories::Made;
+use trlab_leases::{BookFault, Offered, Reply};
 
 /// What is done with two books.
 #[derive(Clone, Copy)]
@@ -19,10 +20,10 @@ enum Deed {
     Own(Made, Reply),
     /// A call of the other answers this.
     Other(Made, Reply),
-    /// The lease of a place goes from the one to the other.
-    Over(usize),
-    /// The lease of a place goes from the other to the one.
-    Back(usize),
+    /// The lease of a place goes from the one to the other, at a step.
+    Over(usize, u32),
+    /// The lease of a place goes from the other to the one, at a step.
+    Back(usize, u32),
 }
 
 /// Whether a deed is done.
@@ -36,14 +37,30 @@ fn is_done<P: Ledger, Q: Ledger, R: Wait>(
     match deed {
         Deed::Own(call, wanted) => own.answers(rt, alloc, call, wanted),
         Deed::Other(call, wanted) => other.answers(rt, alloc, call, wanted),
-        Deed::Over(place) => own.hand_over(place, other),
-        Deed::Back(place) => other.hand_over(place, own),
+        Deed::Over(place, step) => own.hand_over(alloc, place, step, other),
+        Deed::Back(place, step) => other.hand_over(alloc, place, step, own),
     }
 }
 
-/// Whether deeds are done with two new books, the jobs of the other under the key of a byte, both close
-/// behind that, and reads of the other show this.
+/// Whether all of some deeds are done.
 fn are_done<P: Ledger, Q: Ledger, R: Wait>(
+    rt: &R,
+    alloc: Global,
+    own: &mut Table<P>,
+    other: &mut Table<Q>,
+    deeds: &[Deed],
+) -> bool {
+    for deed in deeds {
+        if !is_done(rt, alloc, own, other, *deed) {
+            return false;
+        }
+    }
+    true
+}
+
+/// Whether deeds are done with two new books, the jobs of the other under the key of a byte, reads of the
+/// other show this, and both close behind that.
+fn are_done_anew<P: Ledger, Q: Ledger, R: Wait>(
     rt: &R,
     alloc: Global,
     first: Blank,
@@ -51,58 +68,67 @@ fn are_done<P: Ledger, Q: Ledger, R: Wait>(
     byte: u8,
     deeds: &[Deed],
     wanted: &[Shown],
-) -> Option<bool>
+) -> bool
     requires first { (first.name ≡ P.name) × (first.parts ≡ P.parts) × (first.parts ≡ 1024) }
     requires second { (second.name ≡ Q.name) × (second.parts ≡ Q.parts) × (second.parts ≡ 1024) }
 {
     let mut own = Table::<P>::start(alloc, first, b"0.0.......", 0);
     let mut other = Table::<Q>::start(alloc, second, b"0.0.......", byte);
-    for deed in deeds {
-        if !is_done(rt, alloc, &mut own, &mut other, *deed) {
-            return None;
-        }
-    }
-    own.close()?;
-    let (_, reads) = other.close()?;
-    Some(show(alloc, &reads, wanted))
+    let done = are_done(rt, alloc, &mut own, &mut other, deeds)
+        && show(alloc, &other.reads, wanted);
+    let closed = own.events().is_some();
+    other.events().is_some() && closed && done
 }
 
 const REFUSED: Reply = Reply::Refused(BookFault::StrangerLease);
 
+const ANOTHER_KEY: [Deed; 8] = [
+    Deed::Own(Made::Submit(4), Reply::Number(0)),
+    Deed::Own(Made::Lease, went_out!(0, 0)),
+    Deed::Other(Made::Submit(4), Reply::Number(0)),
+    Deed::Other(Made::Lease, went_out!(0, 0)),
+    Deed::Over(0, 0),
+    Deed::Other(Made::GiveBack(own!(1, 0, 0)), REFUSED),
+    Deed::Back(1, 0),
+    Deed::Own(Made::GiveBack(own!(1, 0, 0)), Reply::Done),
+];
+
 #[test]
 fn a_lease_of_a_job_under_another_key_is_a_stranger(rt: HostRuntime) {
-    let deeds = [
-        Deed::Own(Made::Submit(4), Reply::Number(0)),
-        Deed::Own(Made::Lease, went_out(0, 0)),
-        Deed::Other(Made::Submit(4), Reply::Number(0)),
-        Deed::Other(Made::Lease, went_out(0, 0)),
-        Deed::Over(0),
-        Deed::Other(Made::GiveBack(own(1, 0, 0)), REFUSED),
-        Deed::Back(1),
-        Deed::Own(Made::GiveBack(own(1, 0, 0)), Reply::Done),
-    ];
-    let blanks = (Blank::new(1024), Blank::new(1024));
-    let found = are_done::<Brand, Brand, _>(&rt, rt.alloc(), blanks.0, blanks.1, 255, &deeds, &[]);
-    assert_eq!(rt; found, Some(true));
+    let (first, second) = (Blank::new(1024), Blank::new(1024));
+    assert!(rt;
+        are_done_anew::<Brand, Brand, _>(&rt, rt.alloc(), first, second, 255, &ANOTHER_KEY, &[])
+    );
 }
 
 // Which book lent a lease of the same run can't be told.
+const SAME_RUN: [Deed; 10] = [
+    Deed::Own(Made::Submit(4), Reply::Number(0)),
+    Deed::Own(Made::Lease, went_out!(0, 0)),
+    Deed::Own(Made::Order(own!(0, 0, 0)), ordered!(0, 0, 0)),
+    Deed::Other(Made::Submit(4), Reply::Number(0)),
+    Deed::Other(Made::Lease, went_out!(0, 0)),
+    Deed::Over(0, 1),
+    Deed::Other(Made::GiveBack(own!(1, 0, 1)), REFUSED),
+    Deed::Other(Made::Order(own!(0, 0, 0)), ordered!(0, 0, 0)),
+    Deed::Other(Made::GiveBack(own!(1, 0, 1)), Reply::Done),
+    Deed::Other(Made::Read(0), seen!(1, 1)),
+];
+
+const SAME_RUN_READS: [Shown; 1] = [(1, b".1.1......", &[(0, false)])];
+
 #[test]
 fn a_lease_of_the_same_run_is_taken(rt: HostRuntime) {
-    let deeds = [
-        Deed::Own(Made::Submit(4), Reply::Number(0)),
-        Deed::Own(Made::Lease, went_out(0, 0)),
-        Deed::Own(Made::Order(own(0, 0, 0)), ordered(0, 0, 0)),
-        Deed::Other(Made::Submit(4), Reply::Number(0)),
-        Deed::Other(Made::Lease, went_out(0, 0)),
-        Deed::Over(0),
-        Deed::Other(Made::GiveBack(own(1, 0, 1)), REFUSED),
-        Deed::Other(Made::Order(own(0, 0, 0)), ordered(0, 0, 0)),
-        Deed::Other(Made::GiveBack(own(1, 0, 1)), Reply::Done),
-        Deed::Other(Made::Read(0), seen(1, 1)),
-    ];
-    let blanks = (Blank::new(1024), Blank::new(1024));
-    let reads: [Shown; 1] = [(1, b".1.1......", &[(0, false)])];
-    let found = are_done::<Brand, Brand, _>(&rt, rt.alloc(), blanks.0, blanks.1, 0, &deeds, &reads);
-    assert_eq!(rt; found, Some(true));
+    let (first, second) = (Blank::new(1024), Blank::new(1024));
+    assert!(rt;
+        are_done_anew::<Brand, Brand, _>(
+            &rt,
+            rt.alloc(),
+            first,
+            second,
+            0,
+            &SAME_RUN,
+            &SAME_RUN_READS
+        )
+    );
 }

@@ -12,53 +12,66 @@ use std::alloc::Global;
 use std::sync::Wait;
 use std::sync::ledger::{Blank, Ledger};
 use trlab_book::{Desk, SharedBook};
+use trlab_book_trials::calls::{replace, submit};
 use trlab_book_trials::histories::Made;
-use trlab_book_trials::jobs::{braking, seed_of, steady};
+use trlab_book_trials::jobs::{ALWAYS, Job, NEVER};
 use trlab_leases::{BookFault, Event, Lease, Offered, Order, Reply, Snapshot};
 use trlab_step::Caller;
 
-/// A lease that is out, with the last order for it.
-#[derive(Drop)]
-pub struct Out {
-    lease: Lease,
-    order: Option<Order>,
-}
-
-/// A shared book with its desk, the leases that are not back, by their places, and what was read. Each job
-/// is of the cars of one picture, under the key of one byte.
+/// A shared book with its desk, by their places the leases that are not back, the orders for them, and what
+/// was read. Each job is of the cars of one picture, under the key of one byte.
 #[derive(Drop)]
 pub struct Table<L: Ledger> {
     pub book: SharedBook<L>,
     pub desk: Desk<L>,
-    pub leases: Vec<Option<Out>>,
+    pub leases: Vec<Option<Lease>>,
+    pub orders: Vec<Order>,
     pub reads: Vec<Snapshot>,
     pub picture: &'static [u8],
     pub byte: u8,
 }
 
-/// Has a lease take the step that is ordered, where it does not yet stand at this step.
-fn bring_to(alloc: Global, out: &mut Out, step: u32) -> Option<()> {
-    let Out { lease, order } = out;
+/// Has a lease take the step that was ordered last, where it does not yet stand at this step.
+fn bring_to(alloc: Global, lease: &mut Lease, orders: &[Order], step: u32) -> Option<()> {
     if lease.step() == step {
         return Some(());
     }
-    lease.advance_by(&Caller, alloc, order.as_ref()?).ok()
+    lease.advance_by(&Caller, alloc, orders.last()?).ok()
 }
 
-/// Lays a lease at a place.
-fn lay_at(leases: &mut [Option<Out>], place: usize, lease: Lease) {
-    if let Some(out) = leases.get_mut(place) {
-        *out = Some(Out { lease, order: None });
+/// Orders the next step of a lease.
+fn order_for<L: Ledger, R: Wait>(
+    rt: &R,
+    alloc: Global,
+    book: &SharedBook<L>,
+    desk: &mut Desk<L>,
+    lease: &Lease,
+    orders: &mut Vec<Order>,
+) -> Option<Reply> {
+    orders.reserve(1).ok()?;
+    match book.order(rt, alloc, desk, lease) {
+        Ok(order) => {
+            let told = order_told(&order);
+            orders.push_reserved(order);
+            Some(told)
+        }
+        Err(fault) => Some(Reply::Refused(fault)),
     }
 }
 
-/// Takes the lease of a place, which has taken the ordered step where it does not yet stand at this step.
-fn take_at(alloc: Global, leases: &mut [Option<Out>], place: usize, step: u32) -> Option<Lease> {
-    let out = leases.get_mut(place)?;
-    bring_to(alloc, out.as_mut()?, step)?;
-    match out.take() {
-        Some(Out { lease, .. }) => Some(lease),
-        None => None,
+/// Gives the lease of a place back; where it is refused it is laid back there.
+fn give_back_from<L: Ledger, R: Wait>(
+    rt: &R,
+    book: &SharedBook<L>,
+    desk: &mut Desk<L>,
+    there: &mut Option<Lease>,
+) -> Option<Reply> {
+    match book.give_back(rt, desk, there.take()?) {
+        Ok(()) => Some(Reply::Done),
+        Err((lease, fault)) => {
+            *there = Some(lease);
+            Some(Reply::Refused(fault))
+        }
     }
 }
 
@@ -73,6 +86,7 @@ impl<L: Ledger> Table<L> {
             book,
             desk,
             leases: Vec::new(alloc),
+            orders: Vec::new(alloc),
             reads: Vec::new(alloc),
             picture,
             byte,
@@ -80,20 +94,20 @@ impl<L: Ledger> Table<L> {
     }
 
     /// Submits a job, whose cars never brake by chance.
-    fn submit<R: Wait>(&mut self, rt: &R, alloc: Global, steps: u32) -> Option<Reply> {
-        let seed = seed_of(alloc, self.picture, self.byte, 0)?;
-        let rule = steady(alloc)?;
-        let answer = self
-            .book
-            .submit(rt, alloc, &mut self.desk, seed, rule, steps);
-        Some(number_told(answer))
+    fn submit<R: Wait>(&mut self, rt: &R, alloc: Global, steps: u32) -> Reply {
+        let job = Job {
+            picture: self.picture,
+            byte: self.byte,
+            number: 0,
+            chance: NEVER,
+            steps,
+        };
+        number_told(submit(rt, alloc, &self.book, &mut self.desk, &job))
     }
 
     /// Has each car of a job brake in each step.
-    fn replace<R: Wait>(&mut self, rt: &R, alloc: Global, job: u32) -> Option<Reply> {
-        let rule = braking(alloc)?;
-        let answer = self.book.replace(rt, alloc, &mut self.desk, job, rule);
-        Some(number_told(answer))
+    fn replace<R: Wait>(&mut self, rt: &R, alloc: Global, job: u32) -> Reply {
+        number_told(replace(rt, alloc, &self.book, &mut self.desk, job, ALWAYS))
     }
 
     /// Leases a job, and lays the lease at the next place.
@@ -102,7 +116,7 @@ impl<L: Ledger> Table<L> {
         match self.book.lease(rt, alloc, &mut self.desk) {
             Ok(Some(lease)) => {
                 let told = lease_told(&lease);
-                let _ = self.leases.push(Some(Out { lease, order: None }));
+                self.leases.push_reserved(Some(lease));
                 Some(told)
             }
             Ok(None) => Some(Reply::NoLease),
@@ -110,36 +124,35 @@ impl<L: Ledger> Table<L> {
         }
     }
 
-    /// Orders the next step of the lease of a place.
-    fn order<R: Wait>(&mut self, rt: &R, alloc: Global, offered: Offered) -> Option<Reply> {
-        let out = self.leases.get_mut(offered.number as usize)?.as_mut()?;
-        bring_to(alloc, out, offered.step)?;
-        match self.book.order(rt, alloc, &mut self.desk, &out.lease) {
-            Ok(order) => {
-                let told = order_told(&order);
-                out.order = Some(order);
-                Some(told)
-            }
-            Err(fault) => Some(Reply::Refused(fault)),
+    /// Has the lease of a place take the step that was ordered last, where it does not yet stand at this step.
+    fn bring(&mut self, alloc: Global, place: usize, step: u32) -> Option<()> {
+        match self.leases.get_mut(place) {
+            Some(there) => bring_to(alloc, there.as_mut()?, &self.orders, step),
+            None => None,
         }
     }
 
-    /// Gives a lease back; where it is refused it is laid at a place, without its order.
-    fn hand_back<R: Wait>(&mut self, rt: &R, place: usize, lease: Lease) -> Reply {
-        match self.book.give_back(rt, &mut self.desk, lease) {
-            Ok(()) => Reply::Done,
-            Err((lease, fault)) => {
-                lay_at(&mut self.leases, place, lease);
-                Reply::Refused(fault)
+    /// Orders the next step of the lease of a place.
+    fn order<R: Wait>(&mut self, rt: &R, alloc: Global, offered: Offered) -> Option<Reply> {
+        let place = offered.number as usize;
+        self.bring(alloc, place, offered.step)?;
+        match self.leases.get(place) {
+            Some(there) => {
+                let (desk, orders) = (&mut self.desk, &mut self.orders);
+                order_for(rt, alloc, &self.book, desk, there.as_ref()?, orders)
             }
+            None => None,
         }
     }
 
     /// Gives the lease of a place back; where it is refused it is laid back there.
     fn give_back<R: Wait>(&mut self, rt: &R, alloc: Global, offered: Offered) -> Option<Reply> {
         let place = offered.number as usize;
-        let lease = take_at(alloc, &mut self.leases, place, offered.step)?;
-        Some(self.hand_back(rt, place, lease))
+        self.bring(alloc, place, offered.step)?;
+        match self.leases.get_mut(place) {
+            Some(there) => give_back_from(rt, &self.book, &mut self.desk, there),
+            None => None,
+        }
     }
 
     /// Reads a job, and keeps what it shows.
@@ -148,7 +161,7 @@ impl<L: Ledger> Table<L> {
         match self.book.read(rt, alloc, &mut self.desk, job) {
             Ok(seen) => {
                 let told = snapshot_told(&seen);
-                let _ = self.reads.push(seen);
+                self.reads.push_reserved(seen);
                 Some(told)
             }
             Err(fault) => Some(Reply::Refused(fault)),
@@ -158,8 +171,8 @@ impl<L: Ledger> Table<L> {
     /// Makes a call, and tells what it answered; nothing where memory ran out before it.
     fn make<R: Wait>(&mut self, rt: &R, alloc: Global, call: Made) -> Option<Reply> {
         match call {
-            Made::Submit(steps) => self.submit(rt, alloc, steps),
-            Made::Replace(job) => self.replace(rt, alloc, job),
+            Made::Submit(steps) => Some(self.submit(rt, alloc, steps)),
+            Made::Replace(job) => Some(self.replace(rt, alloc, job)),
             Made::Lease => self.lease(rt, alloc),
             Made::Order(offered) => self.order(rt, alloc, offered),
             Made::GiveBack(offered) => self.give_back(rt, alloc, offered),
@@ -189,26 +202,44 @@ impl<L: Ledger> Table<L> {
         true
     }
 
-    /// Hands the lease of a place over to another table, where it lies at the next place; whether it does.
-    pub fn hand_over<M: Ledger>(&mut self, place: usize, other: &mut Table<M>) -> bool {
+    /// Hands the lease of a place over to another table at a step, where it lies at the next place; whether
+    /// it does. Where memory runs out it is tried once more.
+    pub fn hand_over<M: Ledger>(
+        &mut self,
+        alloc: Global,
+        place: usize,
+        step: u32,
+        other: &mut Table<M>,
+    ) -> bool {
+        if self.bring(alloc, place, step).is_none() && self.bring(alloc, place, step).is_none() {
+            return false;
+        }
         if other.leases.reserve(1).is_err() && other.leases.reserve(1).is_err() {
             return false;
         }
         match self.leases.get_mut(place) {
-            Some(out) => other.leases.push(out.take()).is_ok(),
+            Some(there) => {
+                other.leases.push_reserved(there.take());
+                true
+            }
             None => false,
         }
     }
 
-    /// Closes the book, and gives its history and what was read.
-    pub fn close(self) -> Option<(Vec<Event>, Vec<Snapshot>)> {
-        let Table {
-            book,
-            desk,
-            reads,
-            ..
-        } = self;
-        let (_, history) = book.close(desk).ok()?;
-        Some((history, reads))
+    /// Closes the book, and gives its history.
+    pub fn close(self) -> Option<Vec<Event>> {
+        let Table { book, desk, .. } = self;
+        match book.close(desk) {
+            Ok((_, history)) => Some(history),
+            Err(_) => None,
+        }
+    }
+
+    /// How many events the history has, if the book closes.
+    pub fn events(self) -> Option<usize> {
+        match self.close() {
+            Some(history) => Some(history.len()),
+            None => None,
+        }
     }
 }

@@ -3,7 +3,7 @@
 use trlab_leases::{Call, Event, Offered, Reply};
 
 /// A call without its seed and its rule.
-#[derive(Clone, Copy, PartialEq, Eq)]
+#[derive(Clone, Copy)]
 pub enum Made {
     Submit(u32),
     Replace(u32),
@@ -15,67 +15,35 @@ pub enum Made {
     Read(u32),
 }
 
-/// What a call is.
-pub fn made_by(call: &Call) -> Made {
-    match call {
-        Call::Submit(_, _, steps) => Made::Submit(*steps),
-        Call::Replace(job, _) => Made::Replace(*job),
-        Call::Lease => Made::Lease,
-        Call::Order(lease) => Made::Order(*lease),
-        Call::GiveBack(lease) => Made::GiveBack(*lease),
-        Call::Revoke(job) => Made::Revoke(*job),
-        Call::Cancel(job) => Made::Cancel(*job),
-        Call::Read(job) => Made::Read(*job),
+/// Whether a call is the one that was made.
+fn is_made(call: &Call, made: &Made) -> bool {
+    match (call, made) {
+        (Call::Lease, Made::Lease) => true,
+        (Call::Submit(_, _, number), Made::Submit(wanted))
+        | (Call::Replace(number, _), Made::Replace(wanted))
+        | (Call::Revoke(number), Made::Revoke(wanted))
+        | (Call::Cancel(number), Made::Cancel(wanted))
+        | (Call::Read(number), Made::Read(wanted)) => number == wanted,
+        (Call::Order(lease), Made::Order(wanted))
+        | (Call::GiveBack(lease), Made::GiveBack(wanted)) => lease == wanted,
+        _ => false,
     }
-}
-
-/// What a lease of job 0 that runs its own road is in an event.
-pub fn own(number: u32, base: u32, step: u32) -> Offered {
-    Offered {
-        job: 0,
-        number,
-        base,
-        step,
-        same: true,
-    }
-}
-
-/// The reply that a lease of job 0, which has four steps, went out.
-pub fn went_out(number: u32, step: u32) -> Reply {
-    Reply::Leased {
-        job: 0,
-        number,
-        step,
-        steps: 4,
-    }
-}
-
-/// The reply that job 0 is ordered a step.
-pub fn ordered(number: u32, step: u32, from: u32) -> Reply {
-    Reply::Ordered {
-        job: 0,
-        number,
-        step,
-        from,
-    }
-}
-
-/// The reply that a job shows itself at a step, with so many rules.
-pub fn seen(step: u32, entries: u32) -> Reply {
-    Reply::Seen { step, entries }
 }
 
 /// Whether an event is of this call with this reply.
-fn is_event(event: &Event, (made, reply): &(Made, Reply)) -> bool {
-    made_by(&event.call) == *made && event.reply == *reply
+pub fn is_event(event: &Event, (made, reply): &(Made, Reply)) -> bool {
+    event.reply == *reply && is_made(&event.call, made)
 }
 
 /// Whether a history has these calls with these replies, in order, and nothing else.
 pub fn is_history(history: &[Event], wanted: &[(Made, Reply)]) -> bool {
-    for (event, wanted) in history.iter().zip(wanted) {
-        if !is_event(event, wanted) {
+    if history.len() != wanted.len() {
+        return false;
+    }
+    for (index, event) in history.iter().enumerate() {
+        if !is_event(event, &wanted[index]) {
             return false;
         }
     }
-    history.len() == wanted.len()
+    true
 }

@@ -1,66 +1,65 @@
-//! Jobs of two cars on one lane, and what is seen of them.
+//! Jobs of few cars on one lane.
 
 use std::alloc::Global;
-use std::sync::Wait;
-use std::sync::ledger::Ledger;
-use trlab_book::{Desk, SharedBook};
 use trlab_leases::{Seed, Snapshot};
 use trlab_road::Road;
 use trlab_rules::{Rule, nasch};
 use trlab_step::step_road;
 use trlab_words::{Chance, Key};
 
-/// Two cars on a lane, under the key of zeros: the road with this number.
-pub fn seed(alloc: Global, number: u32) -> Option<Seed> {
-    seed_of(alloc, b"0.0.......", 0, number)
+/// The chance, of 2147483648, by which no car brakes.
+pub const NEVER: u32 = 0;
+
+/// The chance by which a car brakes in half of its steps.
+pub const BY_HALF: u32 = 1073741824;
+
+/// The chance by which each car brakes in each step.
+pub const ALWAYS: u32 = 2147483648;
+
+/// A job of the cars of a picture on one lane, who brake with a chance.
+#[derive(Clone, Copy)]
+pub struct Job {
+    pub picture: &'static [u8],
+    /// The byte of which its key is.
+    pub byte: u8,
+    /// The number of its road.
+    pub number: u32,
+    pub chance: u32,
+    pub steps: u32,
 }
 
-/// The cars of a picture on one lane, under the key of a byte: the road with this number.
-pub fn seed_of(alloc: Global, picture: &[u8], byte: u8, number: u32) -> Option<Seed> {
-    Some(Seed {
-        road: Road::parse(alloc, 5, &[picture]).ok()?,
-        key: Key([byte; 32]),
+/// A job of two cars who never brake by chance, under the key of zeros.
+pub fn two_cars(number: u32, steps: u32) -> Job {
+    Job {
+        picture: b"0.0.......",
+        byte: 0,
         number,
+        chance: NEVER,
+        steps,
+    }
+}
+
+/// The seed of a job.
+pub fn seed_of(alloc: Global, job: &Job) -> Option<Seed> {
+    Some(Seed {
+        road: Road::parse(alloc, 5, &[job.picture]).ok()?,
+        key: Key([job.byte; 32]),
+        number: job.number,
         warm: 0,
     })
 }
 
-/// The rule of 1992 with so many chances of 2147483648 to brake.
-fn rule_of(alloc: Global, chance: u32) -> Option<Rule> {
+/// The rule of 1992 with a chance to brake.
+pub fn rule_of(alloc: Global, chance: u32) -> Option<Rule> {
     nasch(alloc, Chance::new(chance)?).ok()
-}
-
-/// The rule of 1992, by which a car brakes with a chance of a half.
-pub fn chancy(alloc: Global) -> Option<Rule> {
-    rule_of(alloc, 1073741824)
-}
-
-/// The rule of 1992, by which no car brakes by chance.
-pub fn steady(alloc: Global) -> Option<Rule> {
-    rule_of(alloc, 0)
-}
-
-/// The rule of 1992, by which each car brakes in each step.
-pub fn braking(alloc: Global) -> Option<Rule> {
-    rule_of(alloc, 2147483648)
-}
-
-/// Submits a job of so many steps, whose cars never brake by chance, and answers its number.
-pub fn submit<L: Ledger, R: Wait>(
-    rt: &R,
-    alloc: Global,
-    book: &SharedBook<L>,
-    desk: &mut Desk<L>,
-    number: u32,
-    steps: u32,
-) -> Option<u32> {
-    let (seed, rule) = (seed(alloc, number)?, steady(alloc)?);
-    book.submit(rt, alloc, desk, seed, rule, steps).ok()
 }
 
 /// Whether a snapshot is of a step, and its one lane has this picture.
 pub fn is_seen(alloc: Global, seen: &Snapshot, step: u32, picture: &[u8]) -> Option<bool> {
-    Some(seen.step() == step && shows(alloc, seen.road(), picture)?)
+    if seen.step() != step {
+        return Some(false);
+    }
+    shows(alloc, seen.road(), picture)
 }
 
 /// Whether a road of one lane has this picture.
@@ -68,8 +67,10 @@ pub fn shows(alloc: Global, road: &Road, picture: &[u8]) -> Option<bool> {
     if road.lanes() != 1 {
         return Some(false);
     }
-    let shown = road.picture(alloc, 0).ok()?;
-    Some(shown.as_slice() == picture)
+    match road.picture(alloc, 0) {
+        Ok(shown) => Some(shown.as_slice() == picture),
+        Err(_) => None,
+    }
 }
 
 /// The rule of a snapshot's sheet in force at a step, by the number of its entry: the one before, or the
@@ -84,7 +85,7 @@ fn entry_at(seen: &Snapshot, before: usize, step: u32) -> usize {
 }
 
 /// The road to which one worker comes from the seed of a snapshot, under its sheet.
-pub fn road_alone(alloc: Global, seen: &Snapshot) -> Option<Road> {
+fn road_alone(alloc: Global, seen: &Snapshot) -> Option<Road> {
     let start = seen.seed();
     let mut road = start.road.copy(alloc).ok()?;
     let mut index = 0;
@@ -99,4 +100,12 @@ pub fn road_alone(alloc: Global, seen: &Snapshot) -> Option<Road> {
             .0;
     }
     Some(road)
+}
+
+/// Whether the road of a snapshot is the one to which one worker comes.
+pub fn is_road_alone(alloc: Global, seen: &Snapshot) -> bool {
+    match road_alone(alloc, seen) {
+        Some(road) => road.equals(seen.road()),
+        None => false,
+    }
 }

@@ -1,5 +1,6 @@
-//! What tests of the shared book have in common: jobs of few cars, and what histories say of calls.
+//! What tests of the shared book have in common: jobs of few cars, calls, and what histories say of calls.
 #![tactic(auto)]
 
+pub mod calls;
 pub mod histories;
 pub mod jobs;

@@ -24,7 +24,7 @@ pub enum Call {
     Lease,
     /// Orders the next step of a lease.
     Order(usize),
-    /// Has a lease take the step that is ordered.
+    /// Has a lease take the step that was ordered last.
     Step(usize),
     /// Gives a lease back.
     GiveBack(usize),
@@ -38,14 +38,9 @@ pub enum Call {
     Read(u32),
 }
 
-/// The rule of 1992, by which no car brakes by chance.
-fn steady(alloc: Global) -> Option<Rule> {
-    nasch(alloc, Chance::new(0)?).ok()
-}
-
-/// The rule of 1992, by which each car brakes in each step.
-fn braking(alloc: Global) -> Option<Rule> {
-    nasch(alloc, Chance::new(CERTAIN)?).ok()
+/// The rule of 1992 with so many chances of 2147483648 to brake.
+fn nasch_of(alloc: Global, chance: u32) -> Option<Rule> {
+    nasch(alloc, Chance::new(chance)?).ok()
 }
 
 /// The rule of 1996, by which no car brakes by chance and each one crosses where it may.
@@ -56,8 +51,8 @@ fn crossing(alloc: Global) -> Option<Rule> {
 /// The rule of a name.
 pub fn rule_named(alloc: Global, named: Named) -> Option<Rule> {
     match named {
-        Named::Steady => steady(alloc),
-        Named::Braking => braking(alloc),
+        Named::Steady => nasch_of(alloc, 0),
+        Named::Braking => nasch_of(alloc, CERTAIN),
         Named::Crossing => crossing(alloc),
     }
 }

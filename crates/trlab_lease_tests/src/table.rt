@@ -4,34 +4,91 @@
 
 use crate::calls::{Call, Named, name_of, rule_named};
 use std::alloc::Global;
-use trlab_leases::{Book, BookFault, Lease, Order, Seed, Snapshot};
+use trlab_leases::{Book, BookFault, Lease, Order, Seed, Sheet, Snapshot};
 use trlab_road::Road;
 use trlab_step::Caller;
 use trlab_words::Key;
 
-/// A book, and by their places the leases that are not back, each with its order.
+/// A book, by their places the leases that are not back, and the orders for them.
 #[derive(Drop)]
 pub struct Table {
     book: Book,
     leases: Vec<Option<Lease>>,
-    orders: Vec<Option<Order>>,
+    orders: Vec<Order>,
 }
 
-/// Words as a text of their own.
-fn say(alloc: Global, words: &str) -> Option<String> {
-    String::from_str(alloc, words).ok()
+/// Tells why a call is refused.
+fn tell_fault(told: &mut String, fault: BookFault) -> Option<()> {
+    write!(told, "{fault:?}").ok()
 }
 
-/// Why a call is refused.
-fn refusal(alloc: Global, fault: BookFault) -> Option<String> {
-    format!(in alloc; "{fault:?}").ok()
-}
-
-/// That a call is done, or why it is refused.
-fn done(alloc: Global, answer: Result<(), BookFault>) -> Option<String> {
+/// Tells that a call is done, or why it is refused.
+fn tell_done(told: &mut String, answer: Result<(), BookFault>) -> Option<()> {
     match answer {
-        Ok(()) => say(alloc, "done"),
-        Err(fault) => refusal(alloc, fault),
+        Ok(()) => told.push_str("done").ok(),
+        Err(fault) => tell_fault(told, fault),
+    }
+}
+
+/// Tells the number that a call answers, behind a word, or why it is refused.
+fn tell_number(told: &mut String, word: &str, answer: Result<u32, BookFault>) -> Option<()> {
+    match answer {
+        Ok(number) => write!(told, "{word} {number}").ok(),
+        Err(fault) => tell_fault(told, fault),
+    }
+}
+
+/// Tells of a lease.
+fn tell_lease(told: &mut String, lease: &Lease) -> Option<()> {
+    let (number, job) = (lease.number(), lease.job());
+    let (step, steps) = (lease.step(), lease.steps());
+    write!(
+        told,
+        "lease {number} of job {job} at step {step} of {steps}"
+    )
+    .ok()
+}
+
+/// Tells of an order.
+fn tell_order(told: &mut String, alloc: Global, order: &Order) -> Option<()> {
+    let (step, name) = (order.step(), name_of(alloc, order.rule()));
+    write!(told, "step {step}, {name}").ok()
+}
+
+/// Tells the rules of a sheet.
+fn tell_rules(told: &mut String, alloc: Global, sheet: &Sheet) -> Option<()> {
+    for index in 0..sheet.len() {
+        let (from, rule) = sheet.entry(index);
+        let name = name_of(alloc, rule);
+        write!(told, "{from} {name}, ").ok()?;
+    }
+    Some(())
+}
+
+/// Tells the picture of a road of one lane.
+fn tell_picture(told: &mut String, alloc: Global, road: &Road) -> Option<()> {
+    if road.lanes() != 1 {
+        return Some(());
+    }
+    match road.picture(alloc, 0) {
+        Ok(picture) => told.push_str(str::from_utf8(&picture).ok()?).ok(),
+        Err(_) => None,
+    }
+}
+
+/// Tells of a snapshot.
+fn tell_seen(told: &mut String, alloc: Global, seen: &Snapshot) -> Option<()> {
+    let (step, distance) = (seen.step(), seen.tally().distance);
+    write!(told, "step {step}, distance {distance}, ").ok()?;
+    tell_rules(told, alloc, seen.sheet())?;
+    tell_picture(told, alloc, seen.road())
+}
+
+/// Has a lease take an ordered step.
+fn take_step(told: &mut String, alloc: Global, lease: &mut Lease, order: &Order) -> Option<()> {
+    match lease.advance_by(&Caller, alloc, order) {
+        Ok(()) => told.push_str("done").ok(),
+        Err(_) => None,
     }
 }
 
@@ -45,50 +102,6 @@ fn seed(alloc: Global) -> Option<Seed> {
     })
 }
 
-/// What is told of a lease.
-fn lease_line(alloc: Global, lease: &Lease) -> Option<String> {
-    let (number, job) = (lease.number(), lease.job());
-    let (step, steps) = (lease.step(), lease.steps());
-    format!(in alloc; "lease {number} of job {job} at step {step} of {steps}").ok()
-}
-
-/// What is told of an order.
-fn order_line(alloc: Global, order: &Order) -> Option<String> {
-    let (step, name) = (order.step(), name_of(alloc, order.rule()));
-    format!(in alloc; "step {step}, {name}").ok()
-}
-
-/// Adds what is told of the rules of a snapshot.
-fn push_rules(alloc: Global, line: &mut String, seen: &Snapshot) -> Option<()> {
-    let sheet = seen.sheet();
-    for index in 0..sheet.len() {
-        let (from, rule) = sheet.entry(index);
-        let name = name_of(alloc, rule);
-        let entry = format!(in alloc; "{from} {name}, ").ok()?;
-        line.push_str(entry.as_str()).ok()?;
-    }
-    Some(())
-}
-
-/// Adds the picture of a road of one lane.
-fn push_picture(alloc: Global, line: &mut String, road: &Road) -> Option<()> {
-    if road.lanes() == 1 {
-        for byte in road.picture(alloc, 0).ok()? {
-            line.push(char::from(byte)).ok()?;
-        }
-    }
-    Some(())
-}
-
-/// What is told of a snapshot.
-fn seen_line(alloc: Global, seen: &Snapshot) -> Option<String> {
-    let (step, distance) = (seen.step(), seen.tally().distance);
-    let mut line = format!(in alloc; "step {step}, distance {distance}, ").ok()?;
-    push_rules(alloc, &mut line, seen)?;
-    push_picture(alloc, &mut line, seen.road())?;
-    Some(line)
-}
-
 impl Table {
     /// A table with a new book.
     pub fn new(alloc: Global) -> Table {
@@ -99,113 +112,99 @@ impl Table {
         }
     }
 
-    /// Lays a lease on the table, at the next place.
-    fn lay(&mut self, lease: Lease) {
-        let _ = self.leases.push(Some(lease));
-        let _ = self.orders.push(None);
-    }
-
-    /// Takes a lease from its place.
-    fn take(&mut self, place: usize) -> Option<Lease> {
-        self.leases.get_mut(place)?.take()
-    }
-
     /// Submits the road of two cars.
-    fn submit(&mut self, alloc: Global, steps: u32, named: Named) -> Option<String> {
-        let (seed, rule) = (seed(alloc)?, rule_named(alloc, named)?);
-        match self.book.submit(alloc, seed, rule, steps) {
-            Ok(number) => format!(in alloc; "job {number}").ok(),
-            Err(fault) => refusal(alloc, fault),
-        }
+    fn submit(&mut self, told: &mut String, alloc: Global, steps: u32, named: Named) -> Option<()> {
+        let rule = rule_named(alloc, named)?;
+        let answer = self.book.submit(alloc, seed(alloc)?, rule, steps);
+        tell_number(told, "job", answer)
     }
 
-    /// Leases a job.
-    fn lease(&mut self, alloc: Global) -> Option<String> {
+    /// Leases a job, and lays the lease at the next place.
+    fn lease(&mut self, told: &mut String, alloc: Global) -> Option<()> {
+        self.leases.reserve(1).ok()?;
         match self.book.lease(alloc) {
             Ok(Some(lease)) => {
-                let told = lease_line(alloc, &lease);
-                self.lay(lease);
-                told
+                let is_told = tell_lease(told, &lease);
+                self.leases.push_reserved(Some(lease));
+                is_told
             }
-            Ok(None) => say(alloc, "none"),
-            Err(fault) => refusal(alloc, fault),
+            Ok(None) => told.push_str("none").ok(),
+            Err(fault) => tell_fault(told, fault),
         }
     }
 
-    /// Orders the next step of a lease.
-    fn order(&mut self, alloc: Global, place: usize) -> Option<String> {
+    /// Orders the next step of the lease of a place.
+    fn order(&mut self, told: &mut String, alloc: Global, place: usize) -> Option<()> {
+        self.orders.reserve(1).ok()?;
         match self.book.order(alloc, self.leases.get(place)?.as_ref()?) {
             Ok(order) => {
-                let told = order_line(alloc, &order);
-                self.lay_order(place, order);
-                told
+                let is_told = tell_order(told, alloc, &order);
+                self.orders.push_reserved(order);
+                is_told
             }
-            Err(fault) => refusal(alloc, fault),
+            Err(fault) => tell_fault(told, fault),
         }
     }
 
-    /// Has a lease take the step that is ordered.
-    fn step(&mut self, alloc: Global, place: usize) -> Option<String> {
-        let order = self.orders.get_mut(place)?.take()?;
-        let lease = self.leases.get_mut(place)?.as_mut()?;
-        lease.advance_by(&Caller, alloc, &order).ok()?;
-        say(alloc, "done")
+    /// Has the lease of a place take the step that was ordered last.
+    fn step(&mut self, told: &mut String, alloc: Global, place: usize) -> Option<()> {
+        let order = self.orders.last()?;
+        match self.leases.get_mut(place) {
+            Some(there) => take_step(told, alloc, there.as_mut()?, order),
+            None => None,
+        }
     }
 
-    /// Gives a lease back; where it is refused it goes back to its place.
-    fn give_back(&mut self, alloc: Global, place: usize) -> Option<String> {
-        let lease = self.take(place)?;
-        match self.book.give_back(lease) {
-            Ok(()) => say(alloc, "done"),
+    /// Gives the lease of a place back; where it is refused it goes back to its place.
+    fn give_back(&mut self, told: &mut String, place: usize) -> Option<()> {
+        let there = self.leases.get_mut(place)?;
+        match self.book.give_back(there.take()?) {
+            Ok(()) => told.push_str("done").ok(),
             Err((lease, fault)) => {
-                self.lay_back(place, lease);
-                refusal(alloc, fault)
+                *there = Some(lease);
+                tell_fault(told, fault)
             }
-        }
-    }
-
-    /// Lays a lease back at its place.
-    fn lay_back(&mut self, place: usize, lease: Lease) {
-        if let Some(there) = self.leases.get_mut(place) {
-            *there = Some(lease);
-        }
-    }
-
-    /// Lays an order beside the lease of a place.
-    fn lay_order(&mut self, place: usize, order: Order) {
-        if let Some(there) = self.orders.get_mut(place) {
-            *there = Some(order);
         }
     }
 
     /// Replaces the rule of a job.
-    fn replace(&mut self, alloc: Global, job: u32, named: Named) -> Option<String> {
-        match self.book.replace(job, rule_named(alloc, named)?) {
-            Ok(step) => format!(in alloc; "from {step}").ok(),
-            Err(fault) => refusal(alloc, fault),
-        }
+    fn replace(&mut self, told: &mut String, alloc: Global, job: u32, named: Named) -> Option<()> {
+        let answer = self.book.replace(job, rule_named(alloc, named)?);
+        tell_number(told, "from", answer)
     }
 
     /// Reads a job.
-    fn read(&mut self, alloc: Global, job: u32) -> Option<String> {
+    fn read(&mut self, told: &mut String, alloc: Global, job: u32) -> Option<()> {
         match self.book.read(alloc, job) {
-            Ok(seen) => seen_line(alloc, &seen),
-            Err(fault) => refusal(alloc, fault),
+            Ok(seen) => tell_seen(told, alloc, &seen),
+            Err(fault) => tell_fault(told, fault),
         }
     }
 
     /// Makes a call, and tells what the book answers.
-    pub fn make(&mut self, alloc: Global, call: Call) -> Option<String> {
+    fn make(&mut self, told: &mut String, alloc: Global, call: Call) -> Option<()> {
         match call {
-            Call::Submit(steps, named) => self.submit(alloc, steps, named),
-            Call::Lease => self.lease(alloc),
-            Call::Order(place) => self.order(alloc, place),
-            Call::Step(place) => self.step(alloc, place),
-            Call::GiveBack(place) => self.give_back(alloc, place),
-            Call::Replace(job, named) => self.replace(alloc, job, named),
-            Call::Revoke(job) => done(alloc, self.book.revoke(job)),
-            Call::Cancel(job) => done(alloc, self.book.cancel(job)),
-            Call::Read(job) => self.read(alloc, job),
+            Call::Submit(steps, named) => self.submit(told, alloc, steps, named),
+            Call::Lease => self.lease(told, alloc),
+            Call::Order(place) => self.order(told, alloc, place),
+            Call::Step(place) => self.step(told, alloc, place),
+            Call::GiveBack(place) => self.give_back(told, place),
+            Call::Replace(job, named) => self.replace(told, alloc, job, named),
+            Call::Revoke(job) => tell_done(told, self.book.revoke(job)),
+            Call::Cancel(job) => tell_done(told, self.book.cancel(job)),
+            Call::Read(job) => self.read(told, alloc, job),
         }
+    }
+
+    /// Whether a call tells this.
+    pub fn tells(&mut self, alloc: Global, call: Call, wanted: &str) -> bool {
+        let mut told = String::new(alloc);
+        self.make(&mut told, alloc, call).is_some() && told.as_str() == wanted
+    }
+
+    /// Whether a call tells what begins so.
+    pub fn tells_first(&mut self, alloc: Global, call: Call, front: &str) -> bool {
+        let mut told = String::new(alloc);
+        self.make(&mut told, alloc, call).is_some() && told.as_str().starts_with(front)
     }
 }

@@ -1,16 +1,20 @@
 //! Desks in several threads, and books that are closed with some of them.
 
-ghost use Rattle.std.specs.Prelude.{◌≡◌};
+ghost use Rattle.std.specs.Prelude.{◌≡◌, ◌<◌, ◌≤◌};
+ghost use Rattle.std.specs.Thread.{IsSend, IsSync};
+ghost use Rattle.trlab_book.specs.Desks.{parts_of};
 
+use crate::ends::{events_of, history_of};
 use std::alloc::Global;
 use std::marker::Brand;
 use std::sync::Wait;
 use std::sync::ledger::{Blank, Ledger};
 use std::thread::{Threads, join};
 use trlab_book::{Desk, SharedBook};
-use trlab_book_trials::histories::{Made, made_by};
-use trlab_book_trials::jobs::{steady, submit};
-use trlab_leases::{Event, Reply};
+use trlab_book_trials::calls::{reads, replace, submit};
+use trlab_book_trials::histories::{Made, is_event};
+use trlab_book_trials::jobs::{NEVER, two_cars};
+use trlab_leases::{Call, Event, Reply};
 
 /// How many calls each of four threads makes.
 const CALLS: u32 = 50;
@@ -33,53 +37,38 @@ fn wanted(number: u32, job: u32) -> (Made, Reply) {
     }
 }
 
-/// Whether the rule of a job is replaced from step 0 on.
-fn replaces<L: Ledger, R: Wait>(
+/// Makes the call with a number, behind the first, on the job of a thread.
+fn makes<L: Ledger, R: Wait>(
     rt: &R,
     alloc: Global,
     book: &SharedBook<L>,
     desk: &mut Desk<L>,
     job: u32,
+    number: u32,
 ) -> bool {
-    match steady(alloc) {
-        Some(rule) => book.replace(rt, alloc, desk, job, rule) == Ok(0),
-        None => false,
+    if number % 2 == 1 {
+        replace(rt, alloc, book, desk, job, NEVER) == Ok(0)
+    } else {
+        reads(rt, alloc, book, desk, job, (0, 1, b"0.0......."))
     }
 }
 
-/// Whether a job is read at step 0, under one rule.
-fn reads<L: Ledger, R: Wait>(
+/// Makes the calls of one thread.
+fn makes_all<L: Ledger, R: Wait>(
     rt: &R,
     alloc: Global,
     book: &SharedBook<L>,
     desk: &mut Desk<L>,
-    job: u32,
 ) -> bool {
-    match book.read(rt, alloc, desk, job) {
-        Ok(seen) => seen.step() == 0 && seen.sheet().len() == 1,
-        Err(_) => false,
-    }
-}
-
-/// Makes the calls of one thread, and answers its job.
-fn make_calls<L: Ledger, R: Wait>(
-    rt: &R,
-    alloc: Global,
-    book: &SharedBook<L>,
-    desk: &mut Desk<L>,
-) -> Option<u32> {
-    let job = submit(rt, alloc, book, desk, 0, 4)?;
+    let Ok(job) = submit(rt, alloc, book, desk, &two_cars(0, 4)) else {
+        return false;
+    };
     for number in 1..CALLS {
-        let made = if number % 2 == 1 {
-            replaces(rt, alloc, book, desk, job)
-        } else {
-            reads(rt, alloc, book, desk, job)
-        };
-        if !made {
-            return None;
+        if !makes(rt, alloc, book, desk, job, number) {
+            return false;
         }
     }
-    Some(job)
+    true
 }
 
 /// Makes the calls of one thread at its own desk.
@@ -89,59 +78,68 @@ fn at_desk<L: Ledger, R: Wait>(
     book: &SharedBook<L>,
     mut desk: Desk<L>,
 ) -> (Desk<L>, bool) {
-    let made = make_calls(rt, alloc, book, &mut desk).is_some();
+    let made = makes_all(rt, alloc, book, &mut desk);
     (desk, made)
 }
 
-/// Makes the calls of two threads, each at its own desk, and gathers the desks.
-fn at_two_desks<L: Ledger + Send + Sync, R: Threads + Wait + Sync>(
+/// Makes the calls of so many threads, each at its own desk, and gathers the desks.
+fn at_desks<L: Ledger + Send + Sync, R: Threads + Wait + Sync>(
     rt: &R,
     alloc: Global,
     book: &SharedBook<L>,
-    first: Desk<L>,
-    second: Desk<L>,
+    mut desk: Desk<L>,
+    threads: u32,
 ) -> (Desk<L>, bool)
     requires ledger { L.parts ≡ 1024 }
+    requires threads { (0 < threads) × (threads ≤ parts_of desk) }
 {
-    let ((first, a), (second, b)) = join(
+    let others = threads - 1;
+    if others == 0 {
+        return at_desk(rt, alloc, book, desk);
+    }
+    let theirs = desk.split();
+    let ((theirs, one), (mine, other)) = join(
         rt,
-        || at_desk(rt, alloc, book, first),
-        || at_desk(rt, alloc, book, second),
+        move || at_desk(rt, alloc, book, theirs),
+        move || -> (Desk<L>, bool)
+            requires { IsSync R.row × IsSend L.row × IsSync L.row × (L.parts ≡ 1024)
+                × (0 < others) × (others ≤ parts_of desk) }
+        { at_desks(rt, alloc, book, desk, others) },
     );
-    (first.gather(second), a && b)
+    (theirs.gather(mine), one && other)
 }
 
-/// The history of four threads.
+/// Whether four threads leave a history of their calls, in order.
 fn four_threads<L: Ledger + Send + Sync, R: Threads + Wait + Sync>(
     rt: &R,
     alloc: Global,
     blank: Blank,
-) -> Option<Vec<Event>>
+) -> bool
     requires name { blank.name ≡ L.name }
     requires parts { (blank.parts ≡ L.parts) × (blank.parts ≡ 1024) }
 {
-    let (book, mut first) = SharedBook::<L>::start(alloc, blank);
-    let second = first.split();
-    let third = first.split();
-    let fourth = first.split();
-    let ((mine, some), (theirs, others)) = join(
-        rt,
-        || -> (Desk<L>, bool)
-            requires { L.parts ≡ 1024 }
-        { at_two_desks(rt, alloc, &book, first, second) },
-        || -> (Desk<L>, bool)
-            requires { L.parts ≡ 1024 }
-        { at_two_desks(rt, alloc, &book, third, fourth) },
-    );
-    let (_, history) = book.close(mine.gather(theirs)).ok()?;
-    (some && others).then(|| history)
+    let (book, desk) = SharedBook::<L>::start(alloc, blank);
+    let (desk, made) = at_desks(rt, alloc, &book, desk, 4);
+    match history_of(book, desk) {
+        Some(history) => made && has_threads(&history),
+        None => false,
+    }
+}
+
+/// Whether a history has the calls of four threads, and nothing else.
+fn has_threads(history: &[Event]) -> bool {
+    history.len() == 200
+        && has_thread(history, 0)
+        && has_thread(history, 1)
+        && has_thread(history, 2)
+        && has_thread(history, 3)
 }
 
 /// Whether an event is of a job: its call is on the job, or has submitted it.
 fn is_of(event: &Event, job: u32) -> bool {
-    match made_by(&event.call) {
-        Made::Submit(_) => event.reply == Reply::Number(job),
-        Made::Replace(number) | Made::Read(number) => number == job,
+    match &event.call {
+        Call::Submit(..) => event.reply == Reply::Number(job),
+        Call::Replace(number, _) | Call::Read(number) => *number == job,
         _ => false,
     }
 }
@@ -151,8 +149,7 @@ fn has_thread(history: &[Event], job: u32) -> bool {
     let mut number = 0;
     for event in history {
         if is_of(event, job) {
-            let (call, reply) = wanted(number, job);
-            if number >= CALLS || made_by(&event.call) != call || event.reply != reply {
+            if number >= CALLS || !is_event(event, &wanted(number, job)) {
                 return false;
             }
             number += 1;
@@ -163,53 +160,60 @@ fn has_thread(history: &[Event], job: u32) -> bool {
 
 #[test]
 fn four_threads_have_their_calls_in_order(rt: HostRuntime) {
-    let Some(history) = four_threads::<Brand, HostRuntime>(&rt, rt.alloc(), Blank::new(1024)) else {
-        panic!(rt; "a call was not answered as it is to be")
-    };
-    assert_eq!(rt; history.len(), 200);
-    for job in 0..4 {
-        assert!(rt; has_thread(&history, job));
-    }
+    assert!(rt; four_threads::<Brand, HostRuntime>(&rt, rt.alloc(), Blank::new(1024)));
+}
+
+/// The parts of two desks, and how many events the history has when both close the book.
+fn closed_by_both<L: Ledger>(
+    book: SharedBook<L>,
+    mine: Desk<L>,
+    theirs: Desk<L>,
+) -> (u32, u32, Option<usize>)
+    requires ledger { L.parts ≡ 1024 }
+{
+    let (some, one) = (mine.parts(), theirs.parts());
+    (some, one, events_of(book, mine.gather(theirs)))
 }
 
 /// The parts of two desks that can't close the book alone, and how many events the history has when it
 /// closes.
-fn half_a_desk<L: Ledger, R: Wait>(rt: &R, alloc: Global, blank: Blank) -> Option<(u32, u32, usize)>
+fn half_a_desk<L: Ledger, R: Wait>(
+    rt: &R,
+    alloc: Global,
+    blank: Blank,
+) -> Option<(u32, u32, Option<usize>)>
     requires name { blank.name ≡ L.name }
     requires parts { (blank.parts ≡ L.parts) × (blank.parts ≡ 1024) }
 {
     let (book, mut mine) = SharedBook::<L>::start(alloc, blank);
     let mut theirs = mine.split();
     let _ = book.revoke(rt, &mut theirs, 0);
-    let Err((book, mine)) = book.close(mine) else {
-        return None;
-    };
-    let (some, one) = (mine.parts(), theirs.parts());
-    let (_, history) = book.close(mine.gather(theirs)).ok()?;
-    Some((some, one, history.len()))
+    match book.close(mine) {
+        Ok(_) => None,
+        Err((book, mine)) => Some(closed_by_both(book, mine, theirs)),
+    }
 }
 
 #[test]
 fn half_a_desk_does_not_close_the_book(rt: HostRuntime) {
     let closed = half_a_desk::<Brand, HostRuntime>(&rt, rt.alloc(), Blank::new(1024));
-    assert_eq!(rt; closed, Some((1023, 1, 1)));
+    assert!(rt; closed == Some((1023, 1, Some(1))));
 }
 
 /// The parts of a desk without a call, and how many events the history has when another desk, which has
 /// made all calls, closes the book.
-fn a_quiet_desk<L: Ledger, R: Wait>(rt: &R, alloc: Global, blank: Blank) -> Option<(u32, usize)>
+fn a_quiet_desk<L: Ledger, R: Wait>(rt: &R, alloc: Global, blank: Blank) -> (u32, Option<usize>)
     requires name { blank.name ≡ L.name }
     requires parts { (blank.parts ≡ L.parts) × (blank.parts ≡ 1024) }
 {
     let (book, mut mine) = SharedBook::<L>::start(alloc, blank);
-    let quiet = mine.split();
+    let parts = mine.split().parts();
     let _ = book.revoke(rt, &mut mine, 0);
-    let (_, history) = book.close(mine).ok()?;
-    Some((quiet.parts(), history.len()))
+    (parts, events_of(book, mine))
 }
 
 #[test]
 fn a_desk_of_all_calls_closes_the_book(rt: HostRuntime) {
     let closed = a_quiet_desk::<Brand, HostRuntime>(&rt, rt.alloc(), Blank::new(1024));
-    assert_eq!(rt; closed, Some((1, 1)));
+    assert!(rt; closed == (1, Some(1)));
 }

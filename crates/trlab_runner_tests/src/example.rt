@@ -3,13 +3,15 @@
 ghost use Rattle.std.specs.Prelude.{◌≡◌, ◌≤◌};
 ghost use Rattle.trlab_book.specs.Desks.{parts_of};
 
+use crate::ends::{ended, history_of};
 use std::alloc::Global;
 use std::marker::Brand;
 use std::sync::Wait;
 use std::sync::ledger::{Blank, Ledger};
 use std::thread::{Threads, join};
 use trlab_book::{Desk, SharedBook, run_jobs};
-use trlab_book_trials::jobs::{braking, road_alone, submit};
+use trlab_book_trials::calls::{replace, submit};
+use trlab_book_trials::jobs::{ALWAYS, is_road_alone, two_cars};
 use trlab_leases::{Event, Reply, Snapshot};
 use trlab_segments::OpenGate;
 
@@ -21,10 +23,7 @@ fn replace_late<L: Ledger, R: Wait>(
     book: &SharedBook<L>,
     mut desk: Desk<L>,
 ) -> (Desk<L>, Option<u32>) {
-    let Some(rule) = braking(alloc) else {
-        return (desk, None);
-    };
-    let entered = book.replace(rt, alloc, &mut desk, 0, rule).ok();
+    let entered = replace(rt, alloc, book, &mut desk, 0, ALWAYS).ok();
     (desk, entered)
 }
 
@@ -35,8 +34,8 @@ fn submit_two<L: Ledger, R: Wait>(
     book: &SharedBook<L>,
     desk: &mut Desk<L>,
 ) -> bool {
-    submit(rt, alloc, book, desk, 0, 100) == Some(0)
-        && submit(rt, alloc, book, desk, 1, 100) == Some(1)
+    submit(rt, alloc, book, desk, &two_cars(0, 100)) == Ok(0)
+        && submit(rt, alloc, book, desk, &two_cars(1, 100)) == Ok(1)
 }
 
 /// Runs the jobs of a book by two runners, and says whether all went well.
@@ -49,23 +48,21 @@ fn run_two<L: Ledger + Send + Sync, R: Threads + Wait + Sync>(
     requires ledger { L.parts ≡ 1024 }
     requires parts { 2 ≤ parts_of desk }
 {
-    match run_jobs(rt, alloc, book, desk, 2, 1, &OpenGate) {
-        Ok(desk) => (desk, true),
-        Err((desk, _)) => (desk, false),
-    }
+    ended(run_jobs(rt, alloc, book, desk, 2, 1, &OpenGate))
 }
 
-/// Runs the jobs of a book by two runners, while the rule of job 0 is replaced.
+/// Runs the jobs of a book by two runners, while the rule of job 0 is replaced: whether all went well, and
+/// the step from which the rule holds, if it entered.
 fn run_and_replace<L: Ledger + Send + Sync, R: Threads + Wait + Sync>(
     rt: &R,
     alloc: Global,
     book: &SharedBook<L>,
     mut mine: Desk<L>,
-) -> Option<(Desk<L>, Option<u32>)>
+) -> (Desk<L>, bool, Option<u32>)
     requires ledger { L.parts ≡ 1024 }
 {
     if mine.parts() < 3 {
-        return None;
+        return (mine, false, None);
     }
     let theirs = mine.split();
     let ((theirs, entered), (mine, ran)) = join(
@@ -75,27 +72,7 @@ fn run_and_replace<L: Ledger + Send + Sync, R: Threads + Wait + Sync>(
             requires { (L.parts ≡ 1024) × (2 ≤ parts_of mine) }
         { run_two(rt, alloc, book, mine) },
     );
-    ran.then(|| (mine.gather(theirs), entered))
-}
-
-/// Whether the last event is a read of a snapshot: its step, and how many rules its sheet has.
-fn ends_with_read(history: &[Event], seen: &Snapshot) -> bool {
-    let Some(last) = history.last() else {
-        return false;
-    };
-    let Reply::Seen { step, entries } = last.reply else {
-        return false;
-    };
-    step == seen.step() && entries as usize == seen.sheet().len()
-}
-
-/// Whether a snapshot is of step 100 and of the road of one worker, and the read of it is the last event.
-fn is_as_alone(alloc: Global, seen: &Snapshot, history: &[Event]) -> bool {
-    let is_last = seen.step() == 100 && ends_with_read(history, seen);
-    match road_alone(alloc, seen) {
-        Some(road) => is_last && road.equals(seen.road()),
-        None => false,
-    }
+    (mine.gather(theirs), ran, entered)
 }
 
 /// Whether the sheet of a snapshot has a second rule just where one entered, from that step on.
@@ -107,25 +84,62 @@ fn has_entered(seen: &Snapshot, entered: Option<u32>) -> bool {
     }
 }
 
-/// Whether a replaced rule is in the sheet of a job that two runners have run meanwhile.
+/// Whether a snapshot is of step 100, of the road of one worker, and of the rule that entered.
+fn is_end(alloc: Global, seen: &Snapshot, entered: Option<u32>) -> bool {
+    seen.step() == 100 && has_entered(seen, entered) && is_road_alone(alloc, seen)
+}
+
+/// What a snapshot is in the history.
+fn told(seen: &Snapshot) -> Reply {
+    Reply::Seen {
+        step: seen.step(),
+        entries: seen.sheet().len() as u32,
+    }
+}
+
+/// Reads job 0, and answers what this is in the history, if the job has come to its end.
+fn read_end<L: Ledger, R: Wait>(
+    rt: &R,
+    alloc: Global,
+    book: &SharedBook<L>,
+    desk: &mut Desk<L>,
+    entered: Option<u32>,
+) -> Option<Reply> {
+    match book.read(rt, alloc, desk, 0) {
+        Ok(seen) => is_end(alloc, &seen, entered).then_some(told(&seen)),
+        Err(_) => None,
+    }
+}
+
+/// Whether the last event of a history has a reply.
+fn is_last(history: &[Event], reply: Option<Reply>) -> bool {
+    match (history.last(), reply) {
+        (Some(last), Some(reply)) => last.reply == reply,
+        _ => false,
+    }
+}
+
+/// Whether a replaced rule is in the sheet of a job that two runners have run meanwhile, and the read of it
+/// is the last event.
 fn is_in_the_sheet<L: Ledger + Send + Sync, R: Threads + Wait + Sync>(
     rt: &R,
     alloc: Global,
     blank: Blank,
-) -> Option<bool>
+) -> bool
     requires name { blank.name ≡ L.name }
     requires parts { (blank.parts ≡ L.parts) × (blank.parts ≡ 1024) }
 {
-    let (book, mut mine) = SharedBook::<L>::start(alloc, blank);
-    let submitted = submit_two(rt, alloc, &book, &mut mine);
-    let (mut desk, entered) = run_and_replace(rt, alloc, &book, mine)?;
-    let seen = book.read(rt, alloc, &mut desk, 0).ok()?;
-    let (_, history) = book.close(desk).ok()?;
-    Some(submitted && has_entered(&seen, entered) && is_as_alone(alloc, &seen, &history))
+    let (book, mut desk) = SharedBook::<L>::start(alloc, blank);
+    let submitted = submit_two(rt, alloc, &book, &mut desk);
+    let (mut desk, ran, entered) = run_and_replace(rt, alloc, &book, desk);
+    let reply = read_end(rt, alloc, &book, &mut desk, entered);
+    match history_of(book, desk) {
+        Some(history) => submitted && ran && is_last(&history, reply),
+        None => false,
+    }
 }
 
 #[test]
 fn a_replaced_rule_is_in_the_sheet(rt: HostRuntime) {
-    let found = is_in_the_sheet::<Brand, HostRuntime>(&rt, rt.alloc(), Blank::new(1024));
-    assert_eq!(rt; found, Some(true));
+    assert!(rt; is_in_the_sheet::<Brand, HostRuntime>(&rt, rt.alloc(), Blank::new(1024)));
 }

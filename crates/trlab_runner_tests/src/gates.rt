@@ -2,6 +2,7 @@
 
 ghost use Rattle.std.specs.Prelude.{◌≡◌};
 
+use crate::ends::{ended, history_of};
 use crate::meeting::waits_for;
 use std::alloc::Global;
 use std::marker::Brand;
@@ -9,10 +10,10 @@ use std::sync::Wait;
 use std::sync::atomic::{AtomicBool, Ordering};
 use std::sync::ledger::{Blank, Ledger};
 use std::thread::{Threads, join};
-use trlab_book::{Desk, RunFault, SharedBook, run_jobs};
-use trlab_book_trials::histories::{Made, made_by};
-use trlab_book_trials::jobs::{braking, is_seen, submit};
-use trlab_leases::{BookFault, Event, Reply, Snapshot};
+use trlab_book::{Desk, SharedBook, run_jobs};
+use trlab_book_trials::calls::{Wanted, reads, replace, submit};
+use trlab_book_trials::jobs::{ALWAYS, two_cars};
+use trlab_leases::{BookFault, Call, Event, Reply};
 use trlab_segments::Gate;
 
 /// Tells that a segment has come, and holds it until it may go on.
@@ -30,7 +31,7 @@ impl Gate for Barrier {
 }
 
 /// How the lease of a runner ends that stands at the barrier.
-#[derive(Clone, Copy, PartialEq, Eq)]
+#[derive(Clone, Copy)]
 enum Ending {
     /// It is revoked, and the rule of its job replaced.
     Revoked,
@@ -38,14 +39,20 @@ enum Ending {
     Cancelled,
 }
 
-/// Replaces the rule of job 0, and answers the step from which on it is in force.
-fn replace<L: Ledger, R: Wait>(
+/// Ends the lease of job 0.
+fn end_lease<L: Ledger, R: Wait>(
     rt: &R,
     alloc: Global,
     book: &SharedBook<L>,
     desk: &mut Desk<L>,
-) -> Option<u32> {
-    book.replace(rt, alloc, desk, 0, braking(alloc)?).ok()
+    ending: Ending,
+) -> bool {
+    match ending {
+        Ending::Revoked => {
+            book.revoke(rt, desk, 0) == Ok(()) && replace(rt, alloc, book, desk, 0, ALWAYS) == Ok(1)
+        }
+        Ending::Cancelled => book.cancel(rt, desk, 0) == Ok(()),
+    }
 }
 
 /// Ends the lease of a runner that stands at the barrier, and lets it go on.
@@ -58,67 +65,60 @@ fn end_held<L: Ledger, R: Wait>(
     ending: Ending,
 ) -> (Desk<L>, bool) {
     let came = waits_for(&gate.came);
-    let ended = match ending {
-        Ending::Revoked => {
-            book.revoke(rt, &mut desk, 0) == Ok(())
-                && replace(rt, alloc, book, &mut desk) == Some(1)
-        }
-        Ending::Cancelled => book.cancel(rt, &mut desk, 0) == Ok(()),
-    };
+    let ended = end_lease(rt, alloc, book, &mut desk, ending);
     gate.goes_on.store(true, Ordering::SeqCst);
     (desk, came && ended)
 }
 
-/// Whether the job has come to its end under two rules, or where it was cancelled stands where it did.
-fn has_ended<L: Ledger, R: Wait>(
+/// Runs the jobs of a book by one runner, who passes the barrier.
+fn run_one<L: Ledger + Send + Sync, R: Threads + Wait + Sync>(
     rt: &R,
     alloc: Global,
     book: &SharedBook<L>,
-    desk: &mut Desk<L>,
-    ending: Ending,
-) -> bool {
-    let (step, rules, picture) = match ending {
-        Ending::Revoked => (4, 2, b".0....1..."),
-        Ending::Cancelled => (0, 1, b"0.0......."),
-    };
-    match book.read(rt, alloc, desk, 0) {
-        Ok(seen) => is_end(alloc, &seen, step, rules, picture),
-        Err(_) => false,
-    }
+    desk: Desk<L>,
+    gate: &Barrier,
+) -> (Desk<L>, bool)
+    requires ledger { L.parts ≡ 1024 }
+{
+    ended(run_jobs(rt, alloc, book, desk, 1, 1, gate))
 }
 
-/// Whether a snapshot is of a step, a picture and so many rules.
-fn is_end(alloc: Global, seen: &Snapshot, step: u32, rules: usize, picture: &[u8]) -> bool {
-    seen.sheet().len() == rules && is_seen(alloc, seen, step, picture) == Some(true)
-}
-
-/// Runs the jobs of a book by a runner who is held while its lease ends, and says whether the calls
-/// meanwhile are answered as they have to be.
+/// Runs the jobs of a book by a runner who is held while its lease ends, and says whether the runner and
+/// the calls meanwhile are answered as they have to be.
 fn run_held<L: Ledger + Send + Sync, R: Threads + Wait + Sync>(
     rt: &R,
     alloc: Global,
     book: &SharedBook<L>,
     mut mine: Desk<L>,
     ending: Ending,
-) -> Option<(Desk<L>, bool)>
+) -> (Desk<L>, bool)
     requires ledger { L.parts ≡ 1024 }
 {
     if mine.parts() < 2 {
-        return None;
+        return (mine, false);
     }
     let gate = Barrier {
         came: AtomicBool::new(false),
         goes_on: AtomicBool::new(false),
     };
     let theirs = mine.split();
-    let ((theirs, ended), ran) = join(
+    let ((theirs, ended), (mine, ran)) = join(
         rt,
         || end_held(rt, alloc, book, theirs, &gate, ending),
-        || -> Result<Desk<L>, (Desk<L>, RunFault)>
+        || -> (Desk<L>, bool)
             requires { L.parts ≡ 1024 }
-        { run_jobs(rt, alloc, book, mine, 1, 1, &gate) },
+        { run_one(rt, alloc, book, mine, &gate) },
     );
-    Some((ran.ok()?.gather(theirs), ended))
+    (mine.gather(theirs), ended && ran)
+}
+
+/// What is to be read of the job at the end: it has come to its end under two rules, or where it was
+/// cancelled stands where it did.
+fn end_of(ending: Ending) -> Wanted {
+    match ending {
+        Ending::Revoked => (4, 2, b".0....1..."),
+        Ending::Cancelled => (0, 1, b"0.0......."),
+    }
 }
 
 /// How many orders are refused to a runner whose lease ends while it takes the first step, where all else
@@ -132,12 +132,14 @@ fn refused_to_held<L: Ledger + Send + Sync, R: Threads + Wait + Sync>(
     requires name { blank.name ≡ L.name }
     requires parts { (blank.parts ≡ L.parts) × (blank.parts ≡ 1024) }
 {
-    let (book, mut mine) = SharedBook::<L>::start(alloc, blank);
-    let submitted = submit(rt, alloc, &book, &mut mine, 0, 4) == Some(0);
-    let (mut desk, ended) = run_held(rt, alloc, &book, mine, ending)?;
-    let right = has_ended(rt, alloc, &book, &mut desk, ending);
-    let (_, history) = book.close(desk).ok()?;
-    (submitted && ended && right).then_some(refused_orders(&history, ending))
+    let (book, mut desk) = SharedBook::<L>::start(alloc, blank);
+    let submitted = submit(rt, alloc, &book, &mut desk, &two_cars(0, 4)) == Ok(0);
+    let (mut desk, ended) = run_held(rt, alloc, &book, desk, ending);
+    let right = reads(rt, alloc, &book, &mut desk, 0, end_of(ending));
+    match history_of(book, desk) {
+        Some(history) => (submitted && ended && right).then_some(refused_orders(&history, ending)),
+        None => None,
+    }
 }
 
 /// How many events refuse an order since a lease has ended so.
@@ -148,7 +150,7 @@ fn refused_orders(history: &[Event], ending: Ending) -> u32 {
     };
     let mut refused = 0u32;
     for event in history {
-        let is_order = matches!(made_by(&event.call), Made::Order(_));
+        let is_order = matches!(event.call, Call::Order(_));
         if is_order && event.reply == Reply::Refused(fault) {
             refused = refused.saturating_add(1);
         }
@@ -158,9 +160,9 @@ fn refused_orders(history: &[Event], ending: Ending) -> u32 {
 
 #[test]
 fn a_lease_ends_while_its_runner_is_held(rt: HostRuntime) {
-    for ending in [Ending::Revoked, Ending::Cancelled] {
+    for ending in &[Ending::Revoked, Ending::Cancelled] {
         let blank = Blank::new(1024);
-        let found = refused_to_held::<Brand, HostRuntime>(&rt, rt.alloc(), blank, ending);
-        assert_eq!(rt; found, Some(1));
+        let found = refused_to_held::<Brand, HostRuntime>(&rt, rt.alloc(), blank, *ending);
+        assert!(rt; found == Some(1));
     }
 }

@@ -5,6 +5,8 @@
 #[cfg(test)]
 mod desks;
 #[cfg(test)]
+mod ends;
+#[cfg(test)]
 mod example;
 #[cfg(test)]
 mod gates;

@@ -6,6 +6,7 @@
 
 ghost use Rattle.std.specs.Prelude.{◌≡◌, ◌<◌, ◌≤◌};
 
+use crate::ends::{ended, events_of};
 use crate::meeting::Meeting;
 use std::alloc::Global;
 use std::marker::Brand;
@@ -13,8 +14,8 @@ use std::sync::Wait;
 use std::sync::ledger::{Blank, Ledger};
 use std::thread::Threads;
 use trlab_book::{Desk, RunFault, SharedBook, run_jobs};
-use trlab_book_trials::jobs::{chancy, is_seen, road_alone, seed_of, submit};
-use trlab_leases::Snapshot;
+use trlab_book_trials::calls::{reads, submit};
+use trlab_book_trials::jobs::{BY_HALF, Job, is_road_alone, two_cars};
 use trlab_segments::{Gate, OpenGate};
 
 /// What is tried on a new book.
@@ -28,53 +29,31 @@ enum Trial {
     AtOnce,
 }
 
-/// Submits so many jobs of four steps, each with a road of its own number.
-fn submit_jobs<L: Ledger, R: Wait>(
-    rt: &R,
-    alloc: Global,
-    book: &SharedBook<L>,
-    desk: &mut Desk<L>,
-    jobs: u32,
-) -> bool {
-    for job in 0..jobs {
-        let submitted = submit(rt, alloc, book, desk, job, 4) == Some(job)
-            || submit(rt, alloc, book, desk, job, 4) == Some(job);
-        if !submitted {
-            return false;
-        }
+/// The job of a trial with this number: of two cars, or of no car, one and three, who brake with a chance of
+/// a half.
+fn job_of(trial: Trial, number: u32) -> Job {
+    let picture: &[u8] = match (trial, number) {
+        (Trial::ManyJobs | Trial::AtOnce, _) => return two_cars(number, 4),
+        (Trial::FewCars, 0) => b"..........",
+        (Trial::FewCars, 1) => b"0.........",
+        (Trial::FewCars, _) => b"0.00......",
+    };
+    Job {
+        picture,
+        byte: 0,
+        number,
+        chance: BY_HALF,
+        steps: 40,
     }
-    true
 }
 
-/// Submits a job of 40 steps of the cars of a picture, who brake with a chance of a half.
-fn submit_cars<L: Ledger, R: Wait>(
-    rt: &R,
-    alloc: Global,
-    book: &SharedBook<L>,
-    desk: &mut Desk<L>,
-    picture: &[u8],
-    number: u32,
-) -> Option<u32> {
-    let (seed, rule) = (seed_of(alloc, picture, 0, number)?, chancy(alloc)?);
-    book.submit(rt, alloc, desk, seed, rule, 40).ok()
-}
-
-/// Submits jobs of no car, one and three.
-fn submit_few<L: Ledger, R: Wait>(
-    rt: &R,
-    alloc: Global,
-    book: &SharedBook<L>,
-    desk: &mut Desk<L>,
-) -> bool {
-    let pictures = [b"..........", b"0.........", b"0.00......"];
-    for (number, picture) in (0..3).zip(pictures) {
-        let submitted = submit_cars(rt, alloc, book, desk, picture, number) == Some(number)
-            || submit_cars(rt, alloc, book, desk, picture, number) == Some(number);
-        if !submitted {
-            return false;
-        }
+/// How many jobs a trial has.
+fn jobs_of(trial: Trial) -> u32 {
+    match trial {
+        Trial::ManyJobs => 16,
+        Trial::FewCars => 3,
+        Trial::AtOnce => 2,
     }
-    true
 }
 
 /// Submits the jobs of a trial.
@@ -85,15 +64,19 @@ fn fill<L: Ledger, R: Wait>(
     desk: &mut Desk<L>,
     trial: Trial,
 ) -> bool {
-    match trial {
-        Trial::ManyJobs => submit_jobs(rt, alloc, book, desk, 16),
-        Trial::AtOnce => submit_jobs(rt, alloc, book, desk, 2),
-        Trial::FewCars => submit_few(rt, alloc, book, desk),
+    for number in 0..jobs_of(trial) {
+        let job = job_of(trial, number);
+        let submitted = submit(rt, alloc, book, desk, &job) == Ok(number)
+            || submit(rt, alloc, book, desk, &job) == Ok(number);
+        if !submitted {
+            return false;
+        }
     }
+    true
 }
 
-/// Runs the jobs of a book by so many runners, with so many workers each, who pass a gate. Where memory
-/// runs out they are sent once more.
+/// Runs the jobs of a book by so many runners, with so many workers each, who pass a gate, and says
+/// whether all went well. Where memory runs out they are sent once more.
 fn run_by<L: Ledger + Send + Sync, R: Threads + Wait + Sync, G: Gate + Sync>(
     rt: &R,
     alloc: Global,
@@ -102,57 +85,54 @@ fn run_by<L: Ledger + Send + Sync, R: Threads + Wait + Sync, G: Gate + Sync>(
     runners: u32,
     workers: u32,
     gate: &G,
-) -> Option<Desk<L>>
+) -> (Desk<L>, bool)
     requires ledger { L.parts ≡ 1024 }
     requires workers { (0 < workers) × (workers ≤ 16) }
     requires runners { (0 < runners) × (runners ≤ 16) }
 {
     if desk.parts() < runners {
-        return None;
+        return (desk, false);
     }
     match run_jobs(rt, alloc, book, desk, runners, workers, gate) {
-        Ok(desk) => Some(desk),
         Err((desk, RunFault::Memory)) => {
-            run_jobs(rt, alloc, book, desk, runners, workers, gate).ok()
+            ended(run_jobs(rt, alloc, book, desk, runners, workers, gate))
         }
-        Err(_) => None,
+        ran => ended(ran),
     }
 }
 
-/// Runs the jobs of a trial, and says whether its runners met where they have to.
+/// Runs the jobs of a trial, and says whether all went well and its runners met where they have to.
 fn run<L: Ledger + Send + Sync, R: Threads + Wait + Sync>(
     rt: &R,
     alloc: Global,
     book: &SharedBook<L>,
     desk: Desk<L>,
     trial: Trial,
-) -> Option<(Desk<L>, bool)>
+) -> (Desk<L>, bool)
     requires ledger { L.parts ≡ 1024 }
 {
     match trial {
-        Trial::ManyJobs => Some((run_by(rt, alloc, book, desk, 4, 2, &OpenGate)?, true)),
-        Trial::FewCars => Some((run_by(rt, alloc, book, desk, 16, 16, &OpenGate)?, true)),
+        Trial::ManyJobs => run_by(rt, alloc, book, desk, 4, 2, &OpenGate),
+        Trial::FewCars => run_by(rt, alloc, book, desk, 16, 16, &OpenGate),
         Trial::AtOnce => {
             let gate = Meeting::new();
-            let desk = run_by(rt, alloc, book, desk, 2, 1, &gate)?;
-            Some((desk, gate.took_place()))
+            let (desk, ran) = run_by(rt, alloc, book, desk, 2, 1, &gate);
+            (desk, ran && gate.took_place())
         }
     }
 }
 
-/// Whether a snapshot is of step 40 and of the road of one worker.
-fn is_road_of_one(alloc: Global, seen: &Snapshot) -> bool {
-    match road_alone(alloc, seen) {
-        Some(road) => seen.step() == 40 && road.equals(seen.road()),
-        None => false,
-    }
-}
-
-/// Whether a snapshot is of the end of a job of a trial.
-fn is_end(alloc: Global, seen: &Snapshot, trial: Trial) -> bool {
-    match trial {
-        Trial::FewCars => is_road_of_one(alloc, seen),
-        _ => is_seen(alloc, seen, 4, b"..4....3..") == Some(true),
+/// Whether a read of a job shows step 40 and the road of one worker.
+fn reads_alone<L: Ledger, R: Wait>(
+    rt: &R,
+    alloc: Global,
+    book: &SharedBook<L>,
+    desk: &mut Desk<L>,
+    job: u32,
+) -> bool {
+    match book.read(rt, alloc, desk, job) {
+        Ok(seen) => seen.step() == 40 && is_road_alone(alloc, &seen),
+        Err(_) => false,
     }
 }
 
@@ -165,9 +145,9 @@ fn is_right<L: Ledger, R: Wait>(
     trial: Trial,
     job: u32,
 ) -> bool {
-    match book.read(rt, alloc, desk, job) {
-        Ok(seen) => is_end(alloc, &seen, trial),
-        Err(_) => false,
+    match trial {
+        Trial::FewCars => reads_alone(rt, alloc, book, desk, job),
+        _ => reads(rt, alloc, book, desk, job, (4, 1, b"..4....3..")),
     }
 }
 
@@ -179,12 +159,7 @@ fn are_right<L: Ledger, R: Wait>(
     desk: &mut Desk<L>,
     trial: Trial,
 ) -> bool {
-    let jobs = match trial {
-        Trial::ManyJobs => 16,
-        Trial::FewCars => 3,
-        Trial::AtOnce => 2,
-    };
-    for job in 0..jobs {
+    for job in 0..jobs_of(trial) {
         let right = is_right(rt, alloc, book, desk, trial, job)
             || is_right(rt, alloc, book, desk, trial, job);
         if !right {
@@ -206,13 +181,9 @@ fn passes<L: Ledger + Send + Sync, R: Threads + Wait + Sync>(
 {
     let (book, mut desk) = SharedBook::<L>::start(alloc, blank);
     let filled = fill(rt, alloc, &book, &mut desk, trial);
-    match run(rt, alloc, &book, desk, trial) {
-        Some((mut desk, met)) => {
-            let right = are_right(rt, alloc, &book, &mut desk, trial);
-            filled && met && right && book.close(desk).is_ok()
-        }
-        None => false,
-    }
+    let (mut desk, ran) = run(rt, alloc, &book, desk, trial);
+    let right = are_right(rt, alloc, &book, &mut desk, trial);
+    filled && ran && right && events_of(book, desk).is_some()
 }
 
 #[test]
