@@ -4,9 +4,9 @@ ghost use Rattle.std.specs.Prelude.{◌≡◌, false, IfOk};
 ghost use Rattle.trlab_commands.specs.Requests.{HasCounts};
 
 use clap::Error;
+use std::alloc::{AllocError, AllocGlobal, Global};
 use std::io;
 use std::sync::Wait;
-use std::test::Fail;
 use std::thread::Threads;
 use trlab_campaign::{End, Sink, Source, Watched};
 use trlab_commands::{
@@ -17,11 +17,31 @@ use trlab_commands::{
 fn asked(rt: &impl AllocGlobal, line: &str) -> Result<Wanted, Error>
     ensures { IfOk result HasCounts }
 {
-    let mut words = Vec::new(rt.alloc());
-    for word in line.split_whitespace() {
-        words.push(String::from_str(rt.alloc(), word)?)?;
-    }
+    let words = words_of(rt.alloc(), line)?;
     read_words(rt.alloc(), &words)
+}
+
+/// The words of a line.
+fn words_of(alloc: Global, line: &str) -> Result<Vec<String>, AllocError> {
+    let mut words = Vec::new(alloc);
+    for word in line.split_whitespace() {
+        add_word(alloc, &mut words, word)?;
+    }
+    Ok(words)
+}
+
+/// Adds a word.
+fn add_word(alloc: Global, words: &mut Vec<String>, word: &str) -> Result<(), AllocError> {
+    words.push(String::from_str(alloc, word)?)?;
+    Ok(())
+}
+
+/// Whether a line asks for this.
+fn asks_for(rt: &impl AllocGlobal, line: &str, wanted: Wanted) -> bool {
+    match asked(rt, line) {
+        Ok(asked) => asked == wanted,
+        Err(_) => false,
+    }
 }
 
 /// The exit status of the words of a line, where they ask for nothing.
@@ -32,100 +52,113 @@ fn status(rt: &impl AllocGlobal, line: &str) -> Option<u8> {
     }
 }
 
-#[test]
-fn words_ask_for_commands(rt: HostRuntime) -> Result<(), Fail> {
-    for (line, wanted) in [
-        ("check", Wanted::Check),
-        ("check --", Wanted::Check),
-        ("run", Wanted::Run { workers: 1 }),
-        ("run --", Wanted::Run { workers: 1 }),
-        ("run --workers 1", Wanted::Run { workers: 1 }),
-        ("run --workers 2", Wanted::Run { workers: 2 }),
-        ("run --workers 16", Wanted::Run { workers: 16 }),
-        ("run --workers=4", Wanted::Run { workers: 4 }),
-        ("run --workers +4", Wanted::Run { workers: 4 }),
-        ("run --workers 007", Wanted::Run { workers: 7 }),
-    ] {
-        assert_eq!(rt; asked(&rt, line)?, wanted, "at {line:?}");
-    }
-    Ok(())
-}
+/// Lines, and what their words ask for.
+const ASKED: [(&str, Wanted); 10] = [
+    ("check", Wanted::Check),
+    ("check --", Wanted::Check),
+    ("run", Wanted::Run { workers: 1 }),
+    ("run --", Wanted::Run { workers: 1 }),
+    ("run --workers 1", Wanted::Run { workers: 1 }),
+    ("run --workers 2", Wanted::Run { workers: 2 }),
+    ("run --workers 16", Wanted::Run { workers: 16 }),
+    ("run --workers=4", Wanted::Run { workers: 4 }),
+    ("run --workers +4", Wanted::Run { workers: 4 }),
+    ("run --workers 007", Wanted::Run { workers: 7 }),
+];
 
 #[test]
-fn sweeps_take_runners_and_workers(rt: HostRuntime) -> Result<(), Fail> {
-    for (line, runners, workers) in [
-        ("sweep", 1, 1),
-        ("sweep --", 1, 1),
-        ("sweep --runners 16", 16, 1),
-        ("sweep --workers=16", 1, 16),
-        ("sweep --runners 4 --workers 2", 4, 2),
-        ("sweep --workers 2 --runners 4", 4, 2),
-    ] {
-        let wanted = Wanted::Sweep { runners, workers };
-        assert_eq!(rt; asked(&rt, line)?, wanted, "at {line:?}");
+fn words_ask_for_commands(rt: HostRuntime) {
+    for (line, wanted) in &ASKED {
+        assert!(rt; asks_for(&rt, line, *wanted), "at {line:?}");
     }
-    Ok(())
 }
+
+/// Lines that ask for a sweep, and how many runners and workers they want.
+const SWEEPS: [(&str, u32, u32); 6] = [
+    ("sweep", 1, 1),
+    ("sweep --", 1, 1),
+    ("sweep --runners 16", 16, 1),
+    ("sweep --workers=16", 1, 16),
+    ("sweep --runners 4 --workers 2", 4, 2),
+    ("sweep --workers 2 --runners 4", 4, 2),
+];
+
+#[test]
+fn sweeps_take_runners_and_workers(rt: HostRuntime) {
+    for (line, runners, workers) in &SWEEPS {
+        let wanted = Wanted::Sweep {
+            runners: *runners,
+            workers: *workers,
+        };
+        assert!(rt; asks_for(&rt, line, wanted), "at {line:?}");
+    }
+}
+
+/// Lines of which the words are refused.
+const REFUSED: [&str; 34] = [
+    "",
+    "walk",
+    "rum",
+    "--",
+    "-- run",
+    "-v",
+    "--workers 2 run",
+    "check --version",
+    "check --workers 1",
+    "check run",
+    "run run",
+    "run 2",
+    "run -",
+    "run -w 2",
+    "run --workers",
+    "run --workers=",
+    "run --workers 0",
+    "run --workers 17",
+    "run --workers -1",
+    "run --workers 4294967297",
+    "run --workers 18446744073709551617",
+    "run --workers two",
+    "run --workers 2 2",
+    "run --workers 2 --workers 2",
+    "run --workers -- 2",
+    "run --runners 2",
+    "sweep 2",
+    "sweep --runners",
+    "sweep --runners 0",
+    "sweep --runners 17",
+    "sweep --runners 2 --workers 17",
+    "sweep --runners 2 --runners 2",
+    "sweep run",
+    "help walk",
+];
 
 #[test]
 fn other_words_are_refused(rt: HostRuntime) {
-    for line in [
-        "",
-        "walk",
-        "rum",
-        "--",
-        "-- run",
-        "-v",
-        "--workers 2 run",
-        "check --version",
-        "check --workers 1",
-        "check run",
-        "run run",
-        "run 2",
-        "run -",
-        "run -w 2",
-        "run --workers",
-        "run --workers=",
-        "run --workers 0",
-        "run --workers 17",
-        "run --workers -1",
-        "run --workers 4294967297",
-        "run --workers 18446744073709551617",
-        "run --workers two",
-        "run --workers 2 2",
-        "run --workers 2 --workers 2",
-        "run --workers -- 2",
-        "run --runners 2",
-        "sweep 2",
-        "sweep --runners",
-        "sweep --runners 0",
-        "sweep --runners 17",
-        "sweep --runners 2 --workers 17",
-        "sweep --runners 2 --runners 2",
-        "sweep run",
-        "help walk",
-    ] {
+    for line in &REFUSED {
         assert_eq!(rt; status(&rt, line), Some(2), "at {line:?}");
     }
 }
 
+/// Lines that ask for help.
+const HELP: [&str; 13] = [
+    "--help",
+    "-h",
+    "help",
+    "help check",
+    "help run",
+    "check --help",
+    "run --help",
+    "run -h",
+    "run --workers 2 --help",
+    "sweep --help",
+    "help sweep",
+    "--version",
+    "-V",
+];
+
 #[test]
 fn help_is_no_fault(rt: HostRuntime) {
-    for line in [
-        "--help",
-        "-h",
-        "help",
-        "help check",
-        "help run",
-        "check --help",
-        "run --help",
-        "run -h",
-        "run --workers 2 --help",
-        "sweep --help",
-        "help sweep",
-        "--version",
-        "-V",
-    ] {
+    for line in &HELP {
         assert_eq!(rt; status(&rt, line), Some(0), "at {line:?}");
     }
 }
