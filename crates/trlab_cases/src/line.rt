@@ -36,14 +36,28 @@ fn add_escape(
     letter: char,
     number: u32,
 ) -> Result<bool, AllocError> {
-    match letter {
-        's' => text.push(' ')?,
-        't' => text.push('\t')?,
-        'r' => text.push('\r')?,
-        '0' => text.push('\0')?,
-        '\\' => text.push('\\')?,
-        'k' => text.push_str(&format!(in alloc; "{number}")?)?,
-        _ => return Ok(false),
+    if letter == 'k' {
+        let digits = number.to_string(alloc)?;
+        text.push_str(&digits)?;
+        return Ok(true);
     }
-    Ok(true)
+    match escaped(letter) {
+        Some(letter) => {
+            text.push(letter)?;
+            Ok(true)
+        }
+        None => Ok(false),
+    }
+}
+
+/// The letter that a letter behind `\` stands for.
+fn escaped(letter: char) -> Option<char> {
+    match letter {
+        's' => Some(' '),
+        't' => Some('\t'),
+        'r' => Some('\r'),
+        '0' => Some('\0'),
+        '\\' => Some('\\'),
+        _ => None,
+    }
 }

@@ -31,35 +31,56 @@
 
 mod answer;
 mod cases;
+mod engine;
 mod examples;
 mod line;
 mod notes;
+mod page;
 mod parts;
+mod programs;
 mod roads;
+mod steps;
 mod trial;
 
+use std::alloc::{AllocError, Global};
+use std::fs::DirEntry;
 use std::{fs, io};
 
 fn main(rt: HostRuntime) -> io::Result<()> {
-    for name in names(&rt, ".", &[".cases"])? {
-        trial::try_file(&rt, name.as_str())?;
-    }
-    for name in names(&rt, "examples", &[".job", ".rule", ".sweep"])? {
-        examples::try_example(&rt, name.as_str())?;
-    }
-    Ok(())
+    trial::try_files(&rt, &names(&rt, ".", &[".cases"])?)?;
+    examples::try_examples(&rt, &names(&rt, "examples", &[".job", ".rule", ".sweep"])?)
 }
 
 /// The names in a folder that end in one of these ways, in order.
 fn names(rt: &HostRuntime, folder: &str, endings: &[&str]) -> io::Result<Vec<String>> {
     let mut names = Vec::new(rt.alloc());
     for entry in fs::read_dir(rt, folder)? {
-        let entry = entry?;
-        let name = entry.file_name();
-        if endings.iter().any(|ending| name.ends_with(*ending)) {
-            names.push(String::from_str(rt.alloc(), name)?)?;
-        }
+        add_entry(rt.alloc(), &mut names, &entry?, endings)?;
     }
     names.sort()?;
     Ok(names)
+}
+
+/// Adds the name of an entry, where it ends in one of these ways.
+fn add_entry(
+    alloc: Global,
+    names: &mut Vec<String>,
+    entry: &DirEntry,
+    endings: &[&str],
+) -> Result<(), AllocError> {
+    let name = entry.file_name();
+    if ends_so(name, endings) {
+        names.push(String::from_str(alloc, name)?)?;
+    }
+    Ok(())
+}
+
+/// Whether a name ends in one of these ways.
+fn ends_so(name: &str, endings: &[&str]) -> bool {
+    for ending in endings {
+        if name.ends_with(*ending) {
+            return true;
+        }
+    }
+    false
 }

@@ -3,7 +3,7 @@
 ghost use Rattle.std.specs.Prelude.{◌<◌};
 ghost use Rattle.trlab_bounds.specs.declared.programs.TheConstants.{PLACES};
 
-use std::alloc::{AllocError, Global};
+use crate::page::Page;
 use trlab_code::PLACES;
 use trlab_verify::{Mark, Note};
 
@@ -26,64 +26,67 @@ const NAMES: [&str; PLACES] = [
     "headspeed",
 ];
 
-/// A note as a line of text: what the registers hold, which places are at most others or below
-/// them, and whether the side cell is empty.
-pub fn note_line(alloc: Global, note: &Note) -> Result<String, AllocError> {
-    let mut line = String::new(alloc);
-    add_all(alloc, &mut line, note)?;
-    String::from_str(alloc, line.trim_start())
+/// The name of a place.
+fn name_of(place: usize) -> &'static str
+    requires { place < PLACES }
+{
+    NAMES[place]
 }
 
-/// Adds all that a note says, a blank before each.
-fn add_all(alloc: Global, line: &mut String, note: &Note) -> Result<(), AllocError> {
+/// Adds a note, on a line: what the registers hold, which places are at most others or below
+/// them, and whether the side cell is empty.
+pub fn add_note(page: &mut Page, note: &Note) {
     for register in 0..note.regs.len() {
-        add_mark(alloc, line, NAMES[register], note.regs[register])?;
+        add_mark(page, name_of(register), note.regs[register]);
     }
     for place in 0..PLACES {
-        add_order(line, place, "<=", &note.levels[place], 1)?;
-        add_order(line, place, "<", &note.levels[place], 2)?;
+        add_order(page, place, "<=", &note.levels[place], 1);
+        add_order(page, place, "<", &note.levels[place], 2);
     }
     if note.side {
-        line.push_str(" side")?;
+        add_named(page, "side", "");
     }
-    Ok(())
+    page.add("\n");
 }
 
 /// Adds what a register holds.
-fn add_mark(alloc: Global, line: &mut String, name: &str, mark: Mark) -> Result<(), AllocError> {
-    let words = match mark {
-        Mark::Unset => return Ok(()),
-        Mark::Num(low, high) => format!(in alloc; " {name} {low} {high}")?,
-        Mark::Flag(true) => format!(in alloc; " {name} side")?,
-        Mark::Flag(false) => format!(in alloc; " {name} flag")?,
-    };
-    line.push_str(&words)
+fn add_mark(page: &mut Page, name: &str, mark: Mark) {
+    match mark {
+        Mark::Unset => {}
+        Mark::Num(low, high) => {
+            add_named(page, name, " ");
+            page.add_text(format!(in page.alloc; "{low} {high}"));
+        }
+        Mark::Flag(true) => add_named(page, name, " side"),
+        Mark::Flag(false) => add_named(page, name, " flag"),
+    }
+}
+
+/// Adds a name, behind a blank where no line begins, and what stands behind it.
+fn add_named(page: &mut Page, name: &str, behind: &str) {
+    match page.bytes.last() {
+        None | Some(b'\n') => {}
+        Some(_) => page.add(" "),
+    }
+    page.add(name);
+    page.add(behind);
 }
 
 /// Adds the other places to which a place has this level, behind its name and a sign, where there
 /// are some.
-fn add_order(
-    line: &mut String,
-    place: usize,
-    sign: &str,
-    levels: &[u8; PLACES],
-    level: u8,
-) -> Result<(), AllocError>
+fn add_order(page: &mut Page, place: usize, sign: &str, levels: &[u8; PLACES], level: u8)
     requires { place < PLACES }
 {
     let mut is_first = true;
     for other in 0..PLACES {
         if place != other && levels[other] == level {
             if is_first {
-                line.push(' ')?;
-                line.push_str(NAMES[place])?;
-                line.push_str(sign)?;
+                add_named(page, name_of(place), sign);
             } else {
-                line.push(',')?;
+                page.add(",");
             }
-            line.push_str(NAMES[other])?;
+            page.add(name_of(other));
             is_first = false;
         }
     }
-    Ok(())
 }

@@ -52,26 +52,32 @@ fn read_line<'a>(
     number: usize,
     line: &'a str,
 ) -> Result<(), Broken> {
-    let Some((words, text)) = line.split_once('|') else {
-        return begin(alloc, parts, line, number);
-    };
-    let words = words.trim();
-    let repeats = if words.is_empty() {
-        Some(1)
-    } else {
-        words.parse::<u32>().ok()
-    };
-    if repeats.is_none() {
-        begin(alloc, parts, words, number)?;
+    match line.split_once('|') {
+        Some((words, text)) => {
+            let text = text.strip_prefix(' ').unwrap_or(text);
+            read_text(alloc, parts, number, words.trim(), text)
+        }
+        None => begin(alloc, parts, line, number),
     }
-    let Some(part) = parts.last_mut() else {
-        return Err(Broken::Line(number));
-    };
-    let text = text.strip_prefix(' ').unwrap_or(text);
-    if add_lines(alloc, &mut part.text, text, repeats.unwrap_or(1))? {
-        Ok(())
-    } else {
-        Err(Broken::Line(number))
+}
+
+/// Adds to the text of the last part, or of a new one where these words begin one.
+fn read_text<'a>(
+    alloc: Global,
+    parts: &mut Vec<Part<'a>>,
+    number: usize,
+    words: &'a str,
+    text: &str,
+) -> Result<(), Broken> {
+    if words.is_empty() {
+        return add_text(alloc, parts, number, text, 1);
+    }
+    match words.parse::<u32>() {
+        Ok(repeats) => add_text(alloc, parts, number, text, repeats),
+        Err(_) => {
+            begin(alloc, parts, words, number)?;
+            add_text(alloc, parts, number, text, 1)
+        }
     }
 }
 
@@ -88,6 +94,23 @@ fn begin<'a>(
         text: String::new(alloc),
     })?;
     Ok(())
+}
+
+/// Adds so many lines that are the same to the text of the last part.
+fn add_text(
+    alloc: Global,
+    parts: &mut Vec<Part<'_>>,
+    number: usize,
+    line: &str,
+    repeats: u32,
+) -> Result<(), Broken> {
+    match parts.last_mut() {
+        Some(part) => match add_lines(alloc, &mut part.text, line, repeats)? {
+            true => Ok(()),
+            false => Err(Broken::Line(number)),
+        },
+        None => Err(Broken::Line(number)),
+    }
 }
 
 /// Adds so many lines that are the same to a text, and answers whether they are well written.

@@ -4,9 +4,9 @@ ghost use Rattle.std.specs.Prelude.{◌≡◌, false, IfOk};
 ghost use Rattle.trlab_commands.specs.Requests.{HasCounts};
 
 use clap::Error;
+use std::alloc::{AllocError, AllocGlobal, Global};
 use std::io;
 use std::sync::Wait;
-use std::test::Fail;
 use std::thread::Threads;
 use trlab_campaign::{End, Sink, Source, Watched};
 use trlab_commands::{
@@ -17,11 +17,31 @@ use trlab_commands::{
 fn asked(rt: &impl AllocGlobal, line: &str) -> Result<Wanted, Error>
     ensures { IfOk result HasCounts }
 {
-    let mut words = Vec::new(rt.alloc());
-    for word in line.split_whitespace() {
-        words.push(String::from_str(rt.alloc(), word)?)?;
-    }
+    let words = words_of(rt.alloc(), line)?;
     read_words(rt.alloc(), &words)
+}
+
+/// The words of a line.
+fn words_of(alloc: Global, line: &str) -> Result<Vec<String>, AllocError> {
+    let mut words = Vec::new(alloc);
+    for word in line.split_whitespace() {
+        add_word(alloc, &mut words, word)?;
+    }
+    Ok(words)
+}
+
+/// Adds a word.
+fn add_word(alloc: Global, words: &mut Vec<String>, word: &str) -> Result<(), AllocError> {
+    words.push(String::from_str(alloc, word)?)?;
+    Ok(())
+}
+
+/// Whether a line asks for this.
+fn asks_for(rt: &impl AllocGlobal, line: &str, wanted: Wanted) -> bool {
+    match asked(rt, line) {
+        Ok(asked) => asked == wanted,
+        Err(_) => false,
+    }
 }
 
 /// The exit status of the words of a line, where they ask for nothing.
@@ -32,101 +52,114 @@ fn status(rt: &impl AllocGlobal, line: &str) -> Option<u8> {
     }
 }
 
-#[test]
-fn words_ask_for_commands(rt: HostRuntime) -> Result<(), Fail> {
-    for (line, wanted) in [
-        ("check", Wanted::Check),
-        ("check --", Wanted::Check),
-        ("run", Wanted::Run { workers: 1 }),
-        ("run --", Wanted::Run { workers: 1 }),
-        ("run --workers 1", Wanted::Run { workers: 1 }),
-        ("run --workers 2", Wanted::Run { workers: 2 }),
-        ("run --workers 16", Wanted::Run { workers: 16 }),
-        ("run --workers=4", Wanted::Run { workers: 4 }),
-        ("run --workers +4", Wanted::Run { workers: 4 }),
-        ("run --workers 007", Wanted::Run { workers: 7 }),
-    ] {
-        assert_eq!(rt; asked(&rt, line)?, wanted, "at {line:?}");
-    }
-    Ok(())
-}
+/// Lines, and what their words ask for.
+const ASKED: [(&str, Wanted); 10] = [
+    ("check", Wanted::Check),
+    ("check --", Wanted::Check),
+    ("run", Wanted::Run { workers: 1 }),
+    ("run --", Wanted::Run { workers: 1 }),
+    ("run --workers 1", Wanted::Run { workers: 1 }),
+    ("run --workers 2", Wanted::Run { workers: 2 }),
+    ("run --workers 16", Wanted::Run { workers: 16 }),
+    ("run --workers=4", Wanted::Run { workers: 4 }),
+    ("run --workers +4", Wanted::Run { workers: 4 }),
+    ("run --workers 007", Wanted::Run { workers: 7 }),
+];
 
 #[test]
-fn sweeps_take_runners_and_workers(rt: HostRuntime) -> Result<(), Fail> {
-    for (line, runners, workers) in [
-        ("sweep", 1, 1),
-        ("sweep --", 1, 1),
-        ("sweep --runners 16", 16, 1),
-        ("sweep --workers=16", 1, 16),
-        ("sweep --runners 4 --workers 2", 4, 2),
-        ("sweep --workers 2 --runners 4", 4, 2),
-    ] {
-        let wanted = Wanted::Sweep { runners, workers };
-        assert_eq!(rt; asked(&rt, line)?, wanted, "at {line:?}");
+fn words_ask_for_commands(rt: HostRuntime) {
+    for (line, wanted) in &ASKED {
+        assert!(rt; asks_for(&rt, line, *wanted), "at {line:?}");
     }
-    Ok(())
 }
+
+/// Lines that ask for a sweep, and how many runners and workers they want.
+const SWEEPS: [(&str, u32, u32); 6] = [
+    ("sweep", 1, 1),
+    ("sweep --", 1, 1),
+    ("sweep --runners 16", 16, 1),
+    ("sweep --workers=16", 1, 16),
+    ("sweep --runners 4 --workers 2", 4, 2),
+    ("sweep --workers 2 --runners 4", 4, 2),
+];
+
+#[test]
+fn sweeps_take_runners_and_workers(rt: HostRuntime) {
+    for (line, runners, workers) in &SWEEPS {
+        let wanted = Wanted::Sweep {
+            runners: *runners,
+            workers: *workers,
+        };
+        assert!(rt; asks_for(&rt, line, wanted), "at {line:?}");
+    }
+}
+
+/// Lines of which the words are refused.
+const REFUSED: [&str; 34] = [
+    "",
+    "walk",
+    "rum",
+    "--",
+    "-- run",
+    "-v",
+    "--workers 2 run",
+    "check --version",
+    "check --workers 1",
+    "check run",
+    "run run",
+    "run 2",
+    "run -",
+    "run -w 2",
+    "run --workers",
+    "run --workers=",
+    "run --workers 0",
+    "run --workers 17",
+    "run --workers -1",
+    "run --workers 4294967297",
+    "run --workers 18446744073709551617",
+    "run --workers two",
+    "run --workers 2 2",
+    "run --workers 2 --workers 2",
+    "run --workers -- 2",
+    "run --runners 2",
+    "sweep 2",
+    "sweep --runners",
+    "sweep --runners 0",
+    "sweep --runners 17",
+    "sweep --runners 2 --workers 17",
+    "sweep --runners 2 --runners 2",
+    "sweep run",
+    "help walk",
+];
 
 #[test]
 fn other_words_are_refused(rt: HostRuntime) {
-    for line in [
-        "",
-        "walk",
-        "rum",
-        "--",
-        "-- run",
-        "-v",
-        "--workers 2 run",
-        "check --version",
-        "check --workers 1",
-        "check run",
-        "run run",
-        "run 2",
-        "run -",
-        "run -w 2",
-        "run --workers",
-        "run --workers=",
-        "run --workers 0",
-        "run --workers 17",
-        "run --workers -1",
-        "run --workers 4294967297",
-        "run --workers 18446744073709551617",
-        "run --workers two",
-        "run --workers 2 2",
-        "run --workers 2 --workers 2",
-        "run --workers -- 2",
-        "run --runners 2",
-        "sweep 2",
-        "sweep --runners",
-        "sweep --runners 0",
-        "sweep --runners 17",
-        "sweep --runners 2 --workers 17",
-        "sweep --runners 2 --runners 2",
-        "sweep run",
-        "help walk",
-    ] {
-        assert_eq!(rt; status(&rt, line), Some(2), "at {line:?}");
+    for line in &REFUSED {
+        assert!(rt; status(&rt, line) == Some(2), "at {line:?}");
     }
 }
 
+/// Lines that ask for help.
+const HELP: [&str; 13] = [
+    "--help",
+    "-h",
+    "help",
+    "help check",
+    "help run",
+    "check --help",
+    "run --help",
+    "run -h",
+    "run --workers 2 --help",
+    "sweep --help",
+    "help sweep",
+    "--version",
+    "-V",
+];
+
 #[test]
 fn help_is_no_fault(rt: HostRuntime) {
-    for line in [
-        "--help",
-        "-h",
-        "help",
-        "help check",
-        "help run",
-        "check --help",
-        "run --help",
-        "run -h",
-        "run --workers 2 --help",
-        "sweep --help",
-        "help sweep",
-        "--version",
-        "-V",
-    ] {
-        assert_eq!(rt; status(&rt, line), Some(0), "at {line:?}");
+    for line in &HELP {
+        assert!(rt; status(&rt, line) == Some(0), "at {line:?}");
     }
 }
 
@@ -216,27 +249,33 @@ fn without_room(rt: &(impl AllocGlobal + Threads + Wait + Sync), wanted: Wanted)
     carried(rt, wanted, &mut reader, &mut writer)
 }
 
-#[test]
-fn a_writer_without_room_is_a_failed_write(rt: HostRuntime) {
-    let run = Wanted::Run { workers: 1 };
-    let sweep = Wanted::Sweep {
-        runners: 1,
-        workers: 1,
-    };
-    assert_eq!(rt; without_room(&rt, Wanted::Check), 4);
-    assert_eq!(rt; without_room(&rt, run), 4);
-    assert_eq!(rt; without_room(&rt, sweep), 4);
+/// Whether the command of a line is a failed write where the writer has room for five bytes.
+fn fails_without_room(rt: &(impl AllocGlobal + Threads + Wait + Sync), line: &str) -> bool {
+    match asked(rt, line) {
+        Ok(wanted) => without_room(rt, wanted) == 4,
+        Err(_) => false,
+    }
 }
 
 #[test]
+fn a_writer_without_room_is_a_failed_write(rt: HostRuntime) {
+    for line in &["check", "run", "sweep"] {
+        assert!(rt; fails_without_room(&rt, line), "at {line:?}");
+    }
+}
+
+/// Ends, and their exit statuses.
+const STATUSES: [(End, u8); 4] = [
+    (End::Done, 0),
+    (End::Refused, 1),
+    (End::Memory, 3),
+    (End::DeviceFault, 4),
+];
+
+#[test]
 fn each_end_has_its_status(rt: HostRuntime) {
-    for (end, status) in [
-        (End::Done, 0),
-        (End::Refused, 1),
-        (End::Memory, 3),
-        (End::DeviceFault, 4),
-    ] {
-        assert_eq!(rt; status_of_end(end), status);
+    for (end, status) in &STATUSES {
+        assert!(rt; status_of_end(*end) == *status, "not {status}");
     }
 }
 
@@ -249,12 +288,12 @@ fn told(rt: &impl AllocGlobal, line: &str) -> Option<(u8, u8)> {
     Some((written, status_of_print(&error, &failed)))
 }
 
+/// Lines that ask for nothing, and these exit statuses.
+const TOLD: [(&str, (u8, u8)); 3] = [("--help", (0, 4)), ("--version", (0, 4)), ("walk", (2, 2))];
+
 #[test]
 fn help_that_is_not_written_is_a_failed_write(rt: HostRuntime) {
-    for (line, written, not_written) in [("--help", 0, 4), ("--version", 0, 4), ("walk", 2, 2)] {
-        assert!(rt;
-            told(&rt, line) == Some((written, not_written)),
-            "at {line}"
-        );
+    for (line, wanted) in &TOLD {
+        assert!(rt; told(&rt, line) == Some(*wanted), "at {line}");
     }
 }

@@ -1,7 +1,10 @@
 //! A watched reader or writer hands each call on, and fails where that fails and nowhere else; the
 //! engines hand on all that they wrote, and end where a writer fails.
 
-use std::alloc::AllocGlobal;
+ghost use Rattle.std.specs.Prelude.{◌≡◌, false, IfOk};
+ghost use Rattle.trlab_campaign.specs.Watched.{has_failed};
+
+use std::alloc::{AllocGlobal, Global};
 use std::io;
 use std::io::{BufWriter, Error, ErrorKind, Read, Write};
 use std::sync::Wait;
@@ -30,29 +33,36 @@ impl Write for Broken {
 
 #[test]
 fn what_fails_has_failed(rt: HostRuntime) {
+    assert!(rt; Watched::new(Broken).take(&mut [0; 2]) == Err(DeviceError));
+    assert!(rt; Watched::new(Broken).put(b"ab") == Err(DeviceError));
+    assert!(rt; Watched::new(Broken).flush() == Err(DeviceError));
+}
+
+/// Whether a reader with room for two bytes gives these.
+fn takes(reader: &mut impl Source, wanted: &[u8]) -> bool {
     let mut buffer = [0; 2];
-    assert_eq!(rt; Watched::new(Broken).take(&mut buffer), Err(DeviceError));
-    assert_eq!(rt; Watched::new(Broken).put(b"ab"), Err(DeviceError));
-    assert_eq!(rt; Watched::new(Broken).flush(), Err(DeviceError));
+    reader.take(&mut buffer) == Ok(wanted.len()) && buffer.starts_with(wanted)
 }
 
 #[test]
 fn what_is_taken_is_read(rt: HostRuntime) {
     let mut reader = Watched::new(b"abc".as_slice());
-    let mut buffer = [0; 2];
-    assert_eq!(rt; reader.take(&mut buffer), Ok(2));
-    assert!(rt; buffer == *b"ab");
-    assert_eq!(rt; reader.take(&mut buffer), Ok(1));
-    assert!(rt; buffer[0] == b'c');
-    assert_eq!(rt; reader.take(&mut buffer), Ok(0));
+    for wanted in ["ab", "c", ""] {
+        assert!(rt; takes(&mut reader, wanted.as_bytes()), "not {wanted:?}");
+    }
+}
+
+/// Whether all of these bytes are written.
+fn puts(writer: &mut impl Sink, bytes: &[u8]) -> bool {
+    writer.put(bytes) == Ok(bytes.len())
 }
 
 #[test]
 fn what_is_put_is_written(rt: HostRuntime) {
     let mut writer = Watched::new(Vec::new(rt.alloc()));
-    assert_eq!(rt; writer.put(b"ab"), Ok(2));
-    assert_eq!(rt; writer.put(b""), Ok(0));
-    assert_eq!(rt; writer.put(b"c"), Ok(1));
+    for text in ["ab", "", "c"] {
+        assert!(rt; puts(&mut writer, text.as_bytes()), "not {text:?}");
+    }
     assert!(rt; writer.into_inner().as_slice() == b"abc".as_slice());
 }
 
@@ -61,16 +71,31 @@ fn what_is_put_is_written(rt: HostRuntime) {
 fn a_writer_without_room_fails(rt: HostRuntime) {
     let mut room = [0; 1];
     let mut writer = Watched::new(room.as_mut_slice());
-    assert_eq!(rt; writer.put(b"ab"), Ok(1));
-    assert_eq!(rt; writer.put(b"b"), Err(DeviceError));
+    assert!(rt; writer.put(b"ab") == Ok(1));
+    assert!(rt; writer.put(b"b") == Err(DeviceError));
+}
+
+/// A writer with a buffer before it.
+type Buffered = Watched<BufWriter<Vec<u8>>>;
+
+/// A buffer, and behind it nothing.
+fn buffered(alloc: Global) -> io::Result<Buffered>
+    ensures { IfOk result (λ writer. has_failed writer ≡ false) }
+{
+    let buffer = BufWriter::new(alloc, Vec::new(alloc))?;
+    Ok(Watched::new(buffer))
+}
+
+/// Whether this was left behind the buffer.
+fn has_left(writer: Buffered, left: &[u8]) -> bool {
+    writer.into_inner().get_ref().as_slice() == left
 }
 
 /// Whether what is put into a buffer is handed on when it is flushed.
 fn is_handed_on(rt: &impl AllocGlobal, bytes: &[u8]) -> io::Result<bool> {
-    let alloc = rt.alloc();
-    let mut writer = Watched::new(BufWriter::new(alloc, Vec::new(alloc))?);
+    let mut writer = buffered(rt.alloc())?;
     let is_flushed = writer.put(bytes).is_ok() && writer.flush().is_ok();
-    Ok(is_flushed && writer.into_inner().get_ref().as_slice() == bytes)
+    Ok(has_left(writer, bytes) && is_flushed)
 }
 
 #[test]
@@ -86,18 +111,16 @@ fn run_leaves(
     wanted: End,
     left: &[u8],
 ) -> io::Result<bool> {
-    let alloc = rt.alloc();
-    let mut writer = Watched::new(BufWriter::new(alloc, Vec::new(alloc))?);
+    let mut writer = buffered(rt.alloc())?;
     let end = run_job_text(rt, &mut Watched::new(text), &mut writer, 1);
-    Ok(end == wanted && writer.into_inner().get_ref().as_slice() == left)
+    Ok(has_left(writer, left) && end == wanted)
 }
 
 /// The same of a check.
 fn check_leaves(rt: &impl AllocGlobal, text: &[u8], wanted: End, left: &[u8]) -> io::Result<bool> {
-    let alloc = rt.alloc();
-    let mut writer = Watched::new(BufWriter::new(alloc, Vec::new(alloc))?);
+    let mut writer = buffered(rt.alloc())?;
     let end = check_text(rt, &mut Watched::new(text), &mut writer);
-    Ok(end == wanted && writer.into_inner().get_ref().as_slice() == left)
+    Ok(has_left(writer, left) && end == wanted)
 }
 
 #[test]

@@ -157,6 +157,20 @@ impl Tight {
     }
 }
 
+/// How an engine ends where the reader fails behind so many calls.
+fn end_behind(
+    rt: &(impl AllocGlobal + Threads + Wait + Sync),
+    worked: Worked,
+    reads: usize,
+    tight: &mut Tight,
+) -> End {
+    let mut reader = Watched::new(Dripping {
+        left: worked.text(),
+        calls: reads,
+    });
+    worked.end(rt, &mut reader, &mut Watched::new(tight))
+}
+
 /// Whether this is left where the reader and the writer fail so.
 fn leaves(
     rt: &(impl AllocGlobal + Threads + Wait + Sync),
@@ -164,13 +178,9 @@ fn leaves(
     failing: Failing,
     left: Left<'_>,
 ) -> bool {
-    let mut reader = Watched::new(Dripping {
-        left: worked.text(),
-        calls: failing.reads,
-    });
-    let mut writer = Watched::new(Tight::new(rt.alloc(), failing));
-    let end = worked.end(rt, &mut reader, &mut writer);
-    end == left.end && writer.into_inner().has(left.output, left.flushed)
+    let mut tight = Tight::new(rt.alloc(), failing);
+    let end = end_behind(rt, worked, failing.reads, &mut tight);
+    end == left.end && tight.has(left.output, left.flushed)
 }
 
 /// Whether an engine ends in a failed device, and leaves nothing, where the reader fails behind so many
@@ -297,12 +307,23 @@ fn read_without_end(
     rt: &(impl AllocGlobal + Threads + Wait + Sync),
     worked: Worked,
 ) -> Option<u64> {
-    let mut reader = Watched::new(Endless { given: 0 });
-    let mut writer = Watched::new(Vec::new(rt.alloc()));
-    let end = worked.end(rt, &mut reader, &mut writer);
-    let told = writer.into_inner();
-    let is_right = end == End::Refused && told.as_slice() == b"fault line 0 cause 9\n".as_slice();
-    is_right.then(|| reader.into_inner().given)
+    let mut endless = Endless { given: 0 };
+    if is_too_long(rt, worked, &mut endless) {
+        Some(endless.given)
+    } else {
+        None
+    }
+}
+
+/// Whether an engine ends as it has to over a text that never ends.
+fn is_too_long(
+    rt: &(impl AllocGlobal + Threads + Wait + Sync),
+    worked: Worked,
+    endless: &mut Endless,
+) -> bool {
+    let mut told = Vec::new(rt.alloc());
+    let end = worked.end(rt, &mut Watched::new(endless), &mut Watched::new(&mut told));
+    end == End::Refused && told.as_slice() == b"fault line 0 cause 9\n".as_slice()
 }
 
 #[test]
