@@ -7,7 +7,7 @@ use Rattle.trlab_leases.specs.Answers.{is_event}
 use Rattle.trlab_leases.specs.Machine.{reply_of}
 use Rattle.trlab_leases.specs.Replay.{event}
 use Rattle.trlab_book.specs.declared.kept.Kept.{Kept}
-use Rattle.trlab_book.specs.Events.{Appends, IsUnchanged, Makes}
+use Rattle.trlab_book.specs.Events.{Appends, IsUnchanged, Lengthens, Makes}
 
 -- a history is longer by the event that a call is, if it is one
 longer : (old new : Kept) (call : Call) (told : Reply) (one : Bool) → MatchBool one (Appends old call told new) (IsUnchanged old new)
@@ -26,6 +26,14 @@ pub counted : (old new : Kept) (call : Call) (told reply : Reply) (before after 
 counted old new call told reply before after made same was is =
     let long = longer old new call told (is_event told) made in
     let this = subst (λ (r : Reply). after ≡ before + cond (is_event r) 1 0) same is in
+    let first : vec_len old.history ≡ length old.history.items = search rules in
+    let last : vec_len new.history ≡ length new.history.items = search rules in
+    omega arith
+
+-- a history is longer by the event that a call is
+pub lengthens : (old new : Kept) (call : Call) (told : Reply) → Makes old call told new → Lengthens old told new
+lengthens old new call told made =
+    let long = longer old new call told (is_event told) made in
     let first : vec_len old.history ≡ length old.history.items = search rules in
     let last : vec_len new.history ≡ length new.history.items = search rules in
     omega arith

@@ -1,5 +1,6 @@
 -- One event more is one call more to replay.
-use Rattle.std.proofs.Common.{◌≡◌, ◌+◌, ◌↔◌, IsTrue, Bool, List, [], ◌∷◌, ◌++◌, true, false, map, refl, sym, ap, subst, ◌∙◌, arith, length-append, MatchBool, Option, Some, None, slice_get, slice_set}
+use Rattle.std.proofs.Common.{◌≡◌, ◌+◌, ◌==◌, ◌||◌, max, ◌↔◌, IsTrue, Bool, List, [], ◌∷◌, ◌++◌, true, false, map, refl, sym, ap, subst, ◌∙◌, arith, length-append, MatchBool, Option, Some, None, slice_get, slice_set}
+use Rattle.std.specs.Prelude.{if◌then◌else◌}
 use Rattle.std.proofs.lemmas.Bool.{cond-false, cond_both, false≢true}
 use Rattle.std.proofs.lemmas.List.{map-append}
 use Rattle.std.proofs.Math.Logic.{∥∥₁_map}
@@ -8,12 +9,13 @@ use Rattle.trlab_leases.specs.declared.event.Event.{Event}
 use Rattle.trlab_leases.specs.declared.event.Call.TheVariants.{GiveBack}
 use Rattle.trlab_leases.specs.declared.event.Offered.{Offered}
 use Rattle.trlab_leases.specs.declared.event.Reply.{Reply}
-use Rattle.trlab_leases.specs.declared.event.Reply.TheVariants.{Done, Refused}
-use Rattle.trlab_leases.specs.declared.fault.BookFault.TheVariants.{HistoryFull, NoSuchJob, StrangerLease}
+use Rattle.trlab_leases.specs.declared.event.Reply.TheVariants.{Done, Ordered, Refused}
+use Rattle.trlab_leases.specs.declared.fault.BookFault.TheVariants.{Ended, HistoryFull, NoSuchJob, StrangerLease}
 use Rattle.trlab_leases.specs.Answers.{is_event}
-use Rattle.trlab_leases.specs.Comparison.{IsSame, offered}
+use Rattle.trlab_leases.specs.Comparison.{IsSame, OrderCall, offered}
 use Rattle.trlab_leases.specs.Leases.{LeaseState}
-use Rattle.trlab_leases.specs.Machine.{JobState, Outcome, Served, State, after, giving_back, is_full, is_own, next_after, refused, reply_of, served, start}
+use Rattle.trlab_leases.specs.Machine.{JobState, Outcome, Served, State, after, giving_back, is_full, is_own, next_after, ordering, refused, reply_of, served, start}
+use Rattle.trlab_leases.specs.Sheets.{begin_in_force}
 use Rattle.trlab_leases.specs.Replay.{Replays, call_of, event, replies_from, state_from, told_by}
 use Rattle.trlab_book.specs.declared.kept.Kept.{Kept}
 use Rattle.trlab_book.specs.Events.{Appends, IsUnchanged, Makes, TellsFull}
@@ -95,6 +97,33 @@ back_is_event s lease free =
     of_job None = refl
     of_job (Some job) = taken job
 
+-- the same of a lease that is ordered
+pub order_is_event : (s : State) (lease : Offered) → is_full s ≡ false → is_event (reply_of s (OrderCall lease)) ≡ true
+order_is_event s lease free =
+    ap is_event (cond-false (is_full s) (Refused HistoryFull) (served s (OrderCall lease)).reply free)
+    ∙ of_job (slice_get s.jobs lease.job)
+  where
+    taken : (job : JobState) → is_event (ordering lease job).reply ≡ true
+    taken job =
+        let refusal = refused StrangerLease job in
+        let told : Outcome = record {
+          reply = Ordered lease.job lease.number lease.step (begin_in_force job.sheet lease.step);
+          job = record job { high = max job.high (lease.step + 1) };
+        } in
+        let going : Outcome = if is_own lease job then told else refusal in
+        cond_both (job.cancelled || (lease.step == job.steps)) (refused Ended job) going (λ (o : Outcome). is_event o.reply ≡ true) (λ _. refl)
+        (λ _. cond_both (is_own lease job) told refusal (λ (o : Outcome). is_event o.reply ≡ true) (λ _. refl) (λ _. refl))
+
+    by_job : Option JobState → Served
+    by_job found = elim found [
+      | None ↦ record { reply = Refused NoSuchJob; jobs = s.jobs }
+      | Some job ↦ record { reply = (ordering lease job).reply; jobs = slice_set s.jobs lease.job (ordering lease job).job }
+    ]
+
+    of_job : (found : Option JobState) → is_event (by_job found).reply ≡ true
+    of_job None = refl
+    of_job (Some job) = taken job
+
 -- an event's reply does not say that the history is full
 pub tells_event : (old : Kept) (said : Reply) → is_full old.book ≡ false → is_event said ≡ true → TellsFull old said
 tells_event old said free is_one =
@@ -107,15 +136,15 @@ one_answer false false P x y = refl
 one_answer true false P x y = absurd (false≢true (y.1 (x.0 refl)))
 one_answer false true P x y = absurd (false≢true (x.1 (y.0 refl)))
 
--- a lease that is given back, whichever way it is told whether it runs its job's road
-pub makes_back : (old ready new : Kept) (lease : LeaseState) (same other : Bool) (noted : Offered) (told said : Reply) → IsUnchanged old ready → is_full ready.book ≡ false
-    → IsTrue same ↔ IsSame ready.book.jobs lease → IsTrue other ↔ IsSame old.book.jobs lease
-    → new.history.items ≡ ready.history.items ++ event (GiveBack noted) told ∷ [] → noted ≡ offered lease same → told ≡ said
-    → said ≡ reply_of ready.book (GiveBack (offered lease same)) → new.book ≡ after ready.book (GiveBack (offered lease same))
-    → Makes old (GiveBack (offered lease other)) said new
-makes_back old ready new lease same other noted told said unchanged free is is_other pushed noted_is told_is answered state_is =
+-- a call that offers a lease, whichever way it is told whether the lease runs its job's road
+pub makes_offered : (call : Offered → Call) (old ready new : Kept) (lease : LeaseState) (same other : Bool) (noted : Offered) (told said : Reply) → IsUnchanged old ready
+    → is_event (reply_of ready.book (call (offered lease same))) ≡ true → IsTrue same ↔ IsSame ready.book.jobs lease → IsTrue other ↔ IsSame old.book.jobs lease
+    → new.history.items ≡ ready.history.items ++ event (call noted) told ∷ [] → noted ≡ offered lease same → told ≡ said
+    → said ≡ reply_of ready.book (call (offered lease same)) → new.book ≡ after ready.book (call (offered lease same))
+    → Makes old (call (offered lease other)) said new
+makes_offered call old ready new lease same other noted told said unchanged is_one is is_other pushed noted_is told_is answered state_is =
     let mine = subst (λ (b : State). IsTrue other ↔ IsSame b.jobs lease) (sym unchanged.book) is_other in
     let one = one_answer same other (IsSame ready.book.jobs lease) is mine in
-    subst (λ (s : Bool). Makes old (GiveBack (offered lease s)) said new) one
-    (makes old ready new (GiveBack (offered lease same)) (GiveBack noted) told said unchanged pushed (ap GiveBack noted_is) told_is
-    (ap is_event answered ∙ back_is_event ready.book (offered lease same) free) answered state_is)
+    subst (λ (s : Bool). Makes old (call (offered lease s)) said new) one
+    (makes old ready new (call (offered lease same)) (call noted) told said unchanged pushed (ap call noted_is) told_is
+    (ap is_event answered ∙ is_one) answered state_is)

@@ -1,14 +1,16 @@
 -- Facts of the book machine.
-use Rattle.std.proofs.Common.{◌≡◌, ℕ, ◌+◌, ◌<◌, ◌≤◌, ◌==◌, ◌&&◌, ◌↔◌, IsTrue, not, ltb, [], Bool, true, false, List, Option, Some, None, length, ap, sym, ◌∙◌, refl, slice_get, slice_set, slice_index_or, MatchBool, MatchOption, IfOk, Result, Ok, Err, subst}
+use Rattle.std.proofs.Common.{◌≡◌, ℕ, zero, suc, arith, ◌∷◌, ◌+◌, ◌<◌, ◌≤◌, ◌==◌, ◌&&◌, ◌↔◌, IsTrue, not, ltb, [], Bool, true, false, List, Option, Some, None, length, ap, sym, ◌∙◌, refl, slice_get, slice_set, slice_index_or, MatchBool, MatchOption, IfOk, Result, Ok, Err, subst}
 use Rattle.std.proofs.lemmas.Option.{slice_get-get_or, get_or_from_slice_get}
 use Rattle.std.proofs.lemmas.List.{set-get_or}
-use Rattle.std.proofs.lemmas.Bool.{and_parts, cond-false, eqb-true, ltb-false}
+use Rattle.std.proofs.lemmas.Bool.{and_parts, cond-false, cond-true, false≢true, eqb-true, ltb-false}
 use Rattle.std.specs.Prelude.{if◌then◌else◌}
 use Rattle.std.specs.List.{position}
 use Rattle.trlab_road.specs.Cells.{Cells}
 use Rattle.trlab_step.specs.declared.tally.StepTally.{StepTally}
 use Rattle.trlab_run.specs.Progress.{IsUnderway, Progress}
+use Rattle.trlab_leases.specs.declared.event.Call.{Call}
 use Rattle.trlab_leases.specs.declared.event.Offered.{Offered}
+use Rattle.trlab_leases.specs.Answers.{back_reply, done_reply, number_reply, order_reply, seen_reply}
 use Rattle.trlab_leases.specs.declared.ran.Ran.{Ran}
 use Rattle.trlab_step.proofs.RunLaws.{road_at_is_one}
 use Rattle.trlab_leases.specs.Jobs.{run_of, start_of}
@@ -17,7 +19,7 @@ use Rattle.trlab_leases.specs.Leases.{LeaseState}
 use Rattle.trlab_leases.specs.declared.fault.BookFault.{BookFault}
 use Rattle.trlab_leases.specs.declared.fault.BookFault.TheVariants.{HistoryFull, NoSuchJob, StrangerLease}
 use Rattle.trlab_leases.specs.declared.event.Reply.{Reply}
-use Rattle.trlab_leases.specs.declared.event.Reply.TheVariants.{Done, Leased, Refused, Seen}
+use Rattle.trlab_leases.specs.declared.event.Reply.TheVariants.{Done, Leased, NoLease, Refused, Seen}
 use Rattle.trlab_leases.specs.declared.order.Order.{Order}
 use Rattle.trlab_step.specs.Run.{IsRoadAt, Sheet, in_force}
 use Rattle.trlab_leases.specs.Comparison.{IsFresh, IsLent, IsOwnRun, IsRuleAt, IsSame, IsSeen, IsSnapshotOf, LeaseCall}
@@ -31,6 +33,17 @@ pub on_found : (jobs : List JobState) (i : ℕ) (j : JobState) (f : JobState →
 on_found jobs i j f e =
     let t : Option JobState → Served = λ o. elim o [ None ↦ record { reply = Refused NoSuchJob; jobs = jobs } | Some k ↦ record { reply = (f k).reply; jobs = slice_set jobs i (f k).job } ] in
     ap t e
+
+-- a job that is not there
+pub on_none : (jobs : List JobState) (i : ℕ) (f : JobState → Outcome) → length jobs ≤ i → on_job jobs i f ≡ record { reply = Refused NoSuchJob; jobs = jobs }
+on_none jobs i f h =
+    let t : Option JobState → Served = λ o. elim o [ None ↦ record { reply = Refused NoSuchJob; jobs = jobs } | Some k ↦ record { reply = (f k).reply; jobs = slice_set jobs i (f k).job } ] in
+    ap t (none_there jobs i h)
+  where
+    none_there : (others : List JobState) (k : ℕ) → length others ≤ k → slice_get others k ≡ None
+    none_there [] k h = refl
+    none_there (x ∷ others) zero h = absurd (omega arith)
+    none_there (x ∷ others) (suc k) h = none_there others k (omega arith)
 
 pub jobs_made : (jobs : List JobState) (i : ℕ) (old new : JobState) (f : JobState → Outcome) (m : Bool) → i < length jobs → old ≡ slice_index_or jobs i old → MatchBool m (new ≡ old) (new ≡ (f old).job) → MatchBool m (slice_set jobs i new ≡ jobs) (slice_set jobs i new ≡ (on_job jobs i f).jobs)
 jobs_made jobs i old new f true h e n = ap (slice_set jobs i) (n ∙ e) ∙ set-get_or jobs i old
@@ -179,3 +192,88 @@ back_refused lease job other = ap (λ own. if own then record { reply = Done; jo
 pub back_taken : (lease : Offered) (job : JobState) → is_own lease job ≡ true → Done ≡ (giving_back lease job).reply
 back_taken lease job own =
     sym (ap (λ own. (if own then record { reply = Done; job = record job { done = lease.step; out = None } } else refused StrangerLease job).reply) own)
+
+pub back_made : (lease : Offered) (job now : JobState) (step : ℕ) → job ≡ now → is_own lease now ≡ true → step ≡ lease.step
+    → record job { done = step; out = None } ≡ (giving_back lease now).job
+back_made lease job now step view own at =
+    ap (λ (n : ℕ). record job { done = n; out = None }) at
+    ∙ ap (λ (s : JobState). record s { done = lease.step; out = None }) view
+    ∙ sym (ap (λ own. (if own then record { reply = Done; job = record now { done = lease.step; out = None } } else refused StrangerLease now).job) own)
+
+-- the reply to a call, and the state after it, of a book that is full
+pub full_told : (s : State) (call : Call) → is_full s ≡ true → Refused HistoryFull ≡ reply_of s call
+full_told s call full = sym (cond-true (is_full s) (Refused HistoryFull) (served s call).reply full)
+
+pub full_stays : (s : State) (call : Call) → is_full s ≡ true → s ≡ after s call
+full_stays s call full =
+    let next : State = record { count = s.count + 1; next = next_after s.next (served s call).reply; jobs = (served s call).jobs } in
+    sym (cond-true (is_full s) s next full)
+
+-- the same of one that is not full, for a call that may have wanted memory and that lends nothing
+pub told_made : (s now : State) (m : Bool) (call : Call) (told : Reply) → s ≡ now → is_full now ≡ false
+    → MatchBool m (Unit {0}) (told ≡ (served s call).reply) → MatchBool m (Unit {0}) (told ≡ reply_of now call)
+told_made s now true call told view room made = tt
+told_made s now false call told view room made =
+    made ∙ sym (cond-false (is_full s) (Refused HistoryFull) (served s call).reply (ap is_full view ∙ room)) ∙ ap (λ (t : State). reply_of t call) view
+
+pub leads_made : (s now : State) (m : Bool) (call : Call) (told : Reply) (jobs : List JobState) → s ≡ now → is_full now ≡ false → m ≡ false → next_after s.next told ≡ s.next
+    → MatchBool m (Unit {0}) (told ≡ (served s call).reply) → MatchBool m (jobs ≡ s.jobs) (jobs ≡ (served s call).jobs)
+    → MatchBool m (record { count = s.count + 1; next = s.next; jobs = jobs } ≡ now) (record { count = s.count + 1; next = s.next; jobs = jobs } ≡ after now call)
+leads_made s now true call told jobs view room kept next made put = absurd (false≢true (sym kept))
+leads_made s now false call told jobs view room kept next made put =
+    let by : ℕ → List JobState → State = λ n xs. record { count = s.count + 1; next = n; jobs = xs } in
+    ap (by s.next) put ∙ ap (λ n. by n (served s call).jobs) (sym next ∙ ap (next_after s.next) made)
+    ∙ sym (cond-false (is_full s) s (by (next_after s.next (served s call).reply) (served s call).jobs) (ap is_full view ∙ room))
+    ∙ ap (λ (t : State). after t call) view
+
+pub stays_made : (s now : State) (m : Bool) (call : Call) (jobs : List JobState) → s ≡ now → m ≡ true → MatchBool m (jobs ≡ s.jobs) (jobs ≡ (served s call).jobs)
+    → MatchBool m (record { count = s.count; next = s.next; jobs = jobs } ≡ now) (record { count = s.count; next = s.next; jobs = jobs } ≡ after now call)
+stays_made s now true call jobs view wanting put =
+    ap (λ (xs : List JobState). record { count = s.count; next = s.next; jobs = xs }) put ∙ view
+stays_made s now false call jobs view wanting put = absurd (false≢true wanting)
+
+-- replies that lend nothing
+pub next_number : (next : ℕ) (answer : Result ℕ BookFault) → next_after next (number_reply answer) ≡ next
+next_number next (Ok number) = refl
+next_number next (Err fault) = refl
+
+pub next_order : (next : ℕ) (answer : Result Order BookFault) → next_after next (order_reply answer) ≡ next
+next_order next (Ok order) = refl
+next_order next (Err fault) = refl
+
+pub next_seen : (next : ℕ) (answer : Result Progress BookFault) → next_after next (seen_reply answer) ≡ next
+next_seen next (Ok seen) = refl
+next_seen next (Err fault) = refl
+
+pub next_done : (next : ℕ) (answer : Result (Unit {0}) BookFault) → next_after next (done_reply answer) ≡ next
+next_done next (Ok done) = refl
+next_done next (Err fault) = refl
+
+pub next_back : (next : ℕ) (answer : Result (Unit {0}) (LeaseState × BookFault)) → next_after next (back_reply answer) ≡ next
+next_back next (Ok done) = refl
+next_back next (Err handed) = refl
+
+-- a call that changes no job, whether memory was wanting or not
+pub same_jobs : (m : Bool) (jobs others : List JobState) → others ≡ jobs → MatchBool m (jobs ≡ jobs) (jobs ≡ others)
+same_jobs true jobs others same = refl
+same_jobs false jobs others same = sym same
+
+pub told_seen : (jobs seen : List JobState) (i : ℕ) (m : Bool) (told : Reply) → seen ≡ jobs
+    → MatchBool m (Unit {0}) (told ≡ (on_job seen i reading).reply) → MatchBool m (Unit {0}) (told ≡ (on_job jobs i reading).reply)
+told_seen jobs seen i m told same made =
+    subst (λ (xs : List JobState). MatchBool m (Unit {0}) (told ≡ (on_job xs i reading).reply)) same made
+
+-- the call `lease` of a book in which no job is free
+pub none_told : (s now : State) → s ≡ now → is_full now ≡ false → position is_free s.jobs ≡ None → NoLease ≡ reply_of now LeaseCall
+none_told s now view room none =
+    told_made s now false LeaseCall NoLease view room (sym (ap (λ (o : Option ℕ). (on_free s.jobs s.next o).reply) none))
+
+pub none_leads : (s now : State) → s ≡ now → is_full now ≡ false → position is_free s.jobs ≡ None → record { count = s.count + 1; next = s.next; jobs = s.jobs } ≡ after now LeaseCall
+none_leads s now view room none =
+    leads_made s now false LeaseCall NoLease s.jobs view room refl refl (sym (ap (λ (o : Option ℕ). (on_free s.jobs s.next o).reply) none))
+    (sym (ap (λ (o : Option ℕ). (on_free s.jobs s.next o).jobs) none))
+
+-- a call that changed nothing, since memory was wanting
+pub unchanged : (now next : State) (m : Bool) → m ≡ true → MatchBool m (now ≡ now) (now ≡ next)
+unchanged now next true wanting = refl
+unchanged now next false wanting = absurd (false≢true wanting)

@@ -16,8 +16,7 @@ use Rattle.trlab_run.specs.Progress.{IsUnderway}
 use Rattle.trlab_run.proofs.OnTheWay.{IsSmallSum, like_start, room_for}
 use Rattle.trlab_leases.specs.declared.ran.Ran.{Ran}
 use Rattle.trlab_leases.specs.Sheets.{AreInForce}
-use Rattle.trlab_leases.specs.Leases.{FitsOrder, HasRun, LeadsTo, LeaseState, IsLease, one_more}
-use Rattle.trlab_leases.specs.declared.order.Order.{Order}
+use Rattle.trlab_leases.specs.Leases.{LeadsTo, LeaseState, IsLease, one_more}
 use Rattle.trlab_leases.specs.Comparison.{IsOwnRun}
 use Rattle.trlab_leases.specs.Jobs.{start_of, run_of}
 use Rattle.trlab_leases.specs.Machine.{JobState}
@@ -117,20 +116,21 @@ lease_goes_on lease rule tally next dice a b d is on =
           (subst (λ s. IsNext rule (dice_of lease.key.0 lease.road_number s) lease.road next tally) at here);
     }
 
--- the step of an order, which a lease has run
-pub has_run : (lease old : LeaseState) (order : Order) (rule : Programs) (tally : StepTally) (next : Cells) (dice : Dice) (applied : List Ran) → lease ≡ old → FitsOrder old order → rule ≡ order.rule → dice.key ≡ lease.key.0 → dice.road ≡ lease.road_number → dice.step ≡ lease.step
+-- the step that a lease has run under a copy of a rule
+pub has_stepped : (lease old : LeaseState) (under rule : Programs) (tally : StepTally) (next : Cells) (dice : Dice) (applied : List Ran) → lease ≡ old → rule ≡ under → dice.key ≡ lease.key.0 → dice.road ≡ lease.road_number → dice.step ≡ lease.step
     → IsNext rule dice lease.road next tally → applied ≡ lease.applied ++ record { rule = rule; tally = tally } ∷ []
-    → HasRun old order (record lease { step = lease.step + 1; road = next; applied = applied })
-has_run lease old order rule tally next dice applied view fits copied a b d is pushed =
+    → (sum : StepTally) × IsNext under (dice_of old.key.0 old.road_number old.step) old.road next sum
+    × (record lease { step = lease.step + 1; road = next; applied = applied } ≡ one_more old under sum next)
+has_stepped lease old under rule tally next dice applied view copied a b d is pushed =
     let here : IsNext rule (dice_of lease.key.0 lease.road_number lease.step) lease.road next tally = subst (λ (one : Dice). IsNext rule one lease.road next tally) (same_dice dice lease.key.0 lease.road_number lease.step a b d) is in
-    let P : LeaseState → Type 0 = λ l. FitsOrder l order → HasRun l order (record lease { step = lease.step + 1; road = next; applied = applied }) in
-    subst P view (λ mine. record {
-      fits = mine;
-      tally = tally;
-      next = subst (λ (r : Programs). IsNext r (dice_of lease.key.0 lease.road_number lease.step) lease.road next tally) copied here;
-      grown = ap (λ (xs : List Ran). (record lease { step = lease.step + 1; road = next; applied = xs }))
-          (pushed ∙ ap (λ (r : Programs). lease.applied ++ record { rule = r; tally = tally } ∷ []) copied);
-    }) fits
+    let P : LeaseState → Type 0 = λ l. (sum : StepTally) × IsNext under (dice_of l.key.0 l.road_number l.step) l.road next sum
+    × (record lease { step = lease.step + 1; road = next; applied = applied } ≡ one_more l under sum next) in
+    subst P view (
+      tally,
+      subst (λ (r : Programs). IsNext r (dice_of lease.key.0 lease.road_number lease.step) lease.road next tally) copied here,
+      ap (λ (xs : List Ran). (record lease { step = lease.step + 1; road = next; applied = xs }))
+          (pushed ∙ ap (λ (r : Programs). lease.applied ++ record { rule = r; tally = tally } ∷ []) copied),
+    )
 
 -- a lease of which neither the road nor the steps that it has run change, as seen from inside
 pub still : (lease now : LeaseState) (road : Cells) (applied : List Ran) → road ≡ lease.road → applied ≡ lease.applied → lease ≡ now → record lease { road = road; applied = applied } ≡ now

@@ -1,8 +1,11 @@
 //! One ordered step of a lease.
 
-ghost use Rattle.std.specs.Prelude.{◌≡◌, ◌↔◌, IsTrue, OnOk, OnErr, length};
+ghost use Rattle.std.specs.Prelude.{◌≡◌, ◌↔◌, ◌+◌, ◌<◌, ◌^◌, IsTrue, OnOk, OnErr, length};
+ghost use Rattle.trlab_step.specs.Answers.{dice_of};
 ghost use Rattle.trlab_step.specs.Laws.{IsRuleFor};
-ghost use Rattle.trlab_leases.specs.Leases.{FitsOrder, HasRun};
+ghost use Rattle.trlab_step.specs.Next.{IsNext};
+ghost use Rattle.trlab_step.specs.declared.tally.StepTally.{StepTally};
+ghost use Rattle.trlab_leases.specs.Leases.{FitsOrder, HasRun, one_more};
 ghost use Rattle.trlab_leases.specs.declared.advance.LeaseFault.TheVariants.{Memory, WrongOrder};
 
 use crate::lease::Lease;
@@ -12,6 +15,7 @@ use crate::suits::suits;
 use std::alloc::{AllocError, Global};
 use thiserror::Error;
 use trlab_machine::Dice;
+use trlab_rules::Rule;
 use trlab_step::{Asker, Nobody, take_step};
 
 /// Why a lease ran no step.
@@ -54,12 +58,32 @@ impl Lease {
         if !self.fits(order) {
             return Err(LeaseFault::WrongOrder);
         }
+        Ok(self.run(asker, alloc, &order.rule)?)
+    }
+
+    /// Runs one step more, under a rule. Where memory ran out nothing changes.
+    fn run<A: Asker>(&mut self, asker: &A, alloc: Global, rule: &Rule) -> Result<(), AllocError>
+        requires ready { A.is_ready asker.now }
+        requires rule { IsRuleFor (length self.old.road.lanes) rule.now }
+        requires step { self.old.step + 1 < 2 ^ 32 }
+        ensures ok { OnOk result ((tally : StepTally)
+            × IsNext rule.now (dice_of self.old.key.0 self.old.road_number self.old.step) self.old.road self.new.road tally
+            × (self.new ≡ one_more self.old rule.now tally self.new.road)) }
+        ensures err { OnErr result (self.new ≡ self.old) }
+    {
         self.applied.reserve(1)?;
-        let rule = order.rule.copy(alloc)?;
         let dice = Dice::new(&self.key, self.road_number, self.step);
-        let (road, room) = (&mut self.road, &mut self.room);
-        let tally = take_step(asker, alloc, road, room, &rule, &dice, &mut Nobody)?;
-        self.applied.push_reserved(Ran { rule, tally });
+        let copy = rule.copy(alloc)?;
+        let tally = take_step(
+            asker,
+            alloc,
+            &mut self.road,
+            &mut self.room,
+            rule,
+            &dice,
+            &mut Nobody,
+        )?;
+        self.applied.push_reserved(Ran { rule: copy, tally });
         self.step += 1;
         Ok(())
     }

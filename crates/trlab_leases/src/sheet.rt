@@ -1,8 +1,9 @@
 //! Sheets of the book: up to 1024 rules, each in force from its step on, up to that of the next.
 
-ghost use Rattle.std.specs.Prelude.{◌≡◌, ◌≤◌, ◌<◌, ◌↔◌, ◌+◌, ◌^◌, ◌∷◌, [], IsTrue, IfOk, IfErr, OnOk, OnErr, length, Some, slice_get};
+ghost use Rattle.std.specs.Prelude.{◌≡◌, ◌≤◌, ◌<◌, ◌↔◌, ◌+◌, ◌^◌, ◌∷◌, ◌++◌, [], IsTrue, IfOk, IfErr, OnOk, OnErr, length, Some, slice_get, vec_len, vec_capacity};
 ghost use Rattle.trlab_step.specs.Run.{IsSheet, in_force};
-ghost use Rattle.trlab_leases.specs.Sheets.{AreInForce, BeginBy, MayRefuse, entered, entry_in_force};
+ghost use Rattle.trlab_leases.specs.Sheets.{AreInForce, BeginBy, IsBookSheet, MayRefuse, entered, entry_in_force};
+ghost use Rattle.trlab_rules.specs.Rules.{Programs};
 
 use crate::fault::BookFault;
 use crate::limits::MOST_ENTRIES;
@@ -105,21 +106,34 @@ impl Sheet {
         ensures err { IfErr result (λ fault. MayRefuse fault (entered self.old from rule)) }
         ensures same { OnErr result (self.new ≡ self.old) }
     {
-        let Some(last) = self.entries.pop() else {
-            unreachable!()
-        };
-        if last.0 == from {
-            self.entries.push_reserved((from, rule));
-            return Ok(());
-        }
-        self.entries.push_reserved(last);
-        if self.entries.len() >= MOST_ENTRIES {
-            return Err(BookFault::SheetFull);
-        }
-        self.entries.reserve(1)?;
+        make_way(&mut self.entries, from)?;
         self.entries.push_reserved((from, rule));
         Ok(())
     }
+}
+
+/// Has room for an entry from a step on: the last one goes where it begins there.
+fn make_way(entries: &mut Vec<(u32, Rule)>, from: u32) -> Result<(), BookFault>
+    requires sheet { IsBookSheet entries.old.items }
+    requires begin { BeginBy from entries.old.items }
+    ensures ok { (rule : Programs) → OnOk result
+        (entries.new.items ++ (from, rule) ∷ [] ≡ entered entries.old.items from rule) }
+    ensures sheet { (rule : Programs) → OnOk result (IsBookSheet (entries.new.items ++ (from, rule) ∷ [])) }
+    ensures room { OnOk result (vec_len entries.new < vec_capacity entries.new) }
+    ensures err { (rule : Programs) → IfErr result (λ fault. MayRefuse fault (entered entries.old.items from rule)) }
+    ensures same { OnErr result (entries.new.items ≡ entries.old.items) }
+{
+    let Some(last) = entries.pop() else {
+        unreachable!()
+    };
+    if last.0 == from {
+        return Ok(());
+    }
+    entries.push_reserved(last);
+    if entries.len() >= MOST_ENTRIES {
+        return Err(BookFault::SheetFull);
+    }
+    Ok(entries.reserve(1)?)
 }
 
 /// A copy of a list of entries.

@@ -1,8 +1,8 @@
-use Rattle.std.proofs.Common.{rules}
-use Rattle.trlab_leases.specs.Machine.{ordering}
+use Rattle.std.proofs.Common.{rules, ap, sym}
+use Rattle.trlab_leases.specs.Machine.{Served, ordering}
 use Rattle.trlab_leases.specs.Comparison.{offered}
 use Rattle.trlab_leases.specs.Answers.{is_memory, order_reply}
-use Rattle.trlab_leases.proofs.Booking.{jobs_made, reply_made, rule_found}
+use Rattle.trlab_leases.proofs.Booking.{jobs_made, on_none, reply_made, rule_found}
 use Rattle.trlab_leases.proofs.on_jobs.order_in.Goals as goal
 
 pub returns-clause-reply : goal.returns-clause-reply
@@ -19,3 +19,11 @@ pub returns-clause-rule : goal.returns-clause-rule
 returns-clause-rule c =
     rule_found c.args.jobs.now.items c.args.lease.now.job c.index_mut-found.result.now c.order.result
     (search (rules, c.if-index-len.false, c.len.ensures, c.job-index.ensures)) (rw c.job-index.ensures at c.index_mut-found.ensures.value) c.order.ensures.index c.order.ensures.rule
+
+pub returns-then-index-len-clause-reply : goal.returns-then-index-len-clause-reply
+returns-then-index-len-clause-reply c =
+    sym (ap (λ (s : Served). s.reply) (on_none c.args.jobs.now.items c.args.lease.now.job (ordering (offered c.args.lease.now c.args.same)) (search (rules, c.if-index-len.true, c.len.ensures, c.job-index.ensures))))
+
+pub returns-then-index-len-clause-jobs : goal.returns-then-index-len-clause-jobs
+returns-then-index-len-clause-jobs c =
+    sym (ap (λ (s : Served). s.jobs) (on_none c.args.jobs.now.items c.args.lease.now.job (ordering (offered c.args.lease.now c.args.same)) (search (rules, c.if-index-len.true, c.len.ensures, c.job-index.ensures))))

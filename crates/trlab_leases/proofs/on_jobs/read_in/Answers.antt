@@ -1,5 +1,6 @@
-use Rattle.std.proofs.Common.{rules}
-use Rattle.trlab_leases.proofs.Booking.{reading_stays, seen_found, seen_told}
+use Rattle.std.proofs.Common.{rules, ap, sym}
+use Rattle.trlab_leases.specs.Machine.{Served, reading}
+use Rattle.trlab_leases.proofs.Booking.{on_none, reading_stays, seen_found, seen_told}
 use Rattle.trlab_leases.proofs.on_jobs.read_in.Goals as goal
 
 pub returns-then-index-jobs-clause-jobs : goal.returns-then-index-jobs-clause-jobs
@@ -18,3 +19,7 @@ returns-clause-seen c =
 
 pub returns-clause-jobs : goal.returns-clause-jobs
 returns-clause-jobs c = reading_stays c.args.jobs.now c.args.index
+
+pub returns-then-index-jobs-clause-reply : goal.returns-then-index-jobs-clause-reply
+returns-then-index-jobs-clause-reply c =
+    sym (ap (λ (s : Served). s.reply) (on_none c.args.jobs.now c.args.index reading (search (rules, c.if-index-jobs.true))))

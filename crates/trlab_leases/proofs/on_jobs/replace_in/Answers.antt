@@ -1,7 +1,7 @@
-use Rattle.std.proofs.Common.{rules}
-use Rattle.trlab_leases.specs.Machine.{replacing}
+use Rattle.std.proofs.Common.{rules, ap, sym}
+use Rattle.trlab_leases.specs.Machine.{Served, replacing}
 use Rattle.trlab_leases.specs.Answers.{is_memory, number_reply}
-use Rattle.trlab_leases.proofs.Booking.{jobs_made, reply_made}
+use Rattle.trlab_leases.proofs.Booking.{jobs_made, on_none, reply_made}
 use Rattle.trlab_leases.proofs.on_jobs.replace_in.Goals as goal
 
 pub returns-clause-reply : goal.returns-clause-reply
@@ -13,3 +13,11 @@ pub returns-clause-jobs : goal.returns-clause-jobs
 returns-clause-jobs c =
     jobs_made c.args.jobs.now.items c.args.index c.index_mut-found.result.now c.replace.new.self (replacing c.args.rule) (is_memory c.replace.result)
     (search (rules, c.if-index-len.false, c.len.ensures)) c.index_mut-found.ensures.value c.replace.ensures.job
+
+pub returns-then-index-len-clause-reply : goal.returns-then-index-len-clause-reply
+returns-then-index-len-clause-reply c =
+    sym (ap (λ (s : Served). s.reply) (on_none c.args.jobs.now.items c.args.index (replacing c.args.rule) (search (rules, c.if-index-len.true, c.len.ensures))))
+
+pub returns-then-index-len-clause-jobs : goal.returns-then-index-len-clause-jobs
+returns-then-index-len-clause-jobs c =
+    sym (ap (λ (s : Served). s.jobs) (on_none c.args.jobs.now.items c.args.index (replacing c.args.rule) (search (rules, c.if-index-len.true, c.len.ensures))))

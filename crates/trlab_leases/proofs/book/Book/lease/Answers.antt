@@ -1,7 +1,9 @@
-use Rattle.std.proofs.Common.{arith, rules, sym, ◌∙◌}
+use Rattle.std.proofs.Common.{ap, arith, rules, sym, ◌∙◌}
+use Rattle.std.specs.List.{position}
 use Rattle.std.proofs.lemmas.Grind.{common_steps}
-use Rattle.trlab_leases.specs.Machine.{State}
-use Rattle.trlab_leases.proofs.Booking.{lease_leads, lease_lent, lease_told}
+use Rattle.trlab_leases.specs.Comparison.{LeaseCall}
+use Rattle.trlab_leases.specs.Machine.{State, is_free}
+use Rattle.trlab_leases.proofs.Booking.{full_stays, full_told, lease_leads, lease_lent, lease_told, none_leads, none_told}
 use Rattle.trlab_leases.proofs.book.Book.lease.Goals as goal
 
 pub invariant_of-self-in_err-lease : goal.invariant_of-self-in_err-lease
@@ -35,3 +37,21 @@ returns-clause-lent c =
     let within = rw c.deref.ensures.value at c.in-Some.ensures.within in
     lease_lent state c.args.self.now c.in-Some.index c.index_mut-found.result.now c.in_ok-lease.lease c.self.view_is
     within c.index_mut-found.ensures.value c.in_ok-lease.ensures.lease.0 c.in_ok-lease.ensures.lease.1
+
+pub returns-then-is_full-clause-reply : goal.returns-then-is_full-clause-reply
+returns-then-is_full-clause-reply c = full_told c.args.self.now LeaseCall (sym c.is_full.ensures ∙ c.if-is_full.true)
+
+pub returns-then-is_full-clause-state : goal.returns-then-is_full-clause-state
+returns-then-is_full-clause-state c = full_stays c.args.self.now LeaseCall (sym c.is_full.ensures ∙ c.if-is_full.true)
+
+pub returns-in_default-clause-reply : goal.returns-in_default-clause-reply
+returns-in_default-clause-reply c =
+    let book = c.self.inside in
+    let state : State = record { count = book.count; next = book.next; jobs = book.jobs.items } in
+    none_told state c.args.self.now c.self.view_is (sym c.is_full.ensures ∙ c.if-is_full.false) (ap (position is_free) (sym c.deref.ensures.value) ∙ sym c.in_default.ensures.place)
+
+pub returns-in_default-clause-state : goal.returns-in_default-clause-state
+returns-in_default-clause-state c =
+    let book = c.self.inside in
+    let state : State = record { count = book.count; next = book.next; jobs = book.jobs.items } in
+    none_leads state c.args.self.now c.self.view_is (sym c.is_full.ensures ∙ c.if-is_full.false) (ap (position is_free) (sym c.deref.ensures.value) ∙ sym c.in_default.ensures.place)

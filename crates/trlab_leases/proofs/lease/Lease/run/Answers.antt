@@ -1,0 +1,41 @@
+use Rattle.std.proofs.Common.{List, ◌≡◌, ◌∙◌, ◌∷◌, [], ◌++◌, ap, refl}
+use Rattle.std.specs.Prelude.{Result, Ok, Err, OnErr}
+use Rattle.std.specs.declared.alloc.AllocError.{AllocError}
+use Rattle.trlab_leases.specs.declared.ran.Ran.{Ran}
+use Rattle.trlab_leases.proofs.LeaseRuns.{has_stepped, lease_grows, still, still_lease}
+use Rattle.trlab_leases.proofs.lease.Lease.run.Goals as goal
+
+refused : (told : Result (Unit {0}) AllocError) (P : Type 0) → P → OnErr told P
+refused (Ok done) P p = tt
+refused (Err fault) P p = p
+
+grown : (before reserved after : List Ran) (ran : Ran) → after ≡ reserved ++ ran ∷ [] → reserved ≡ before → after ≡ before ++ ran ∷ []
+grown before reserved after ran pushed same = pushed ∙ ap (λ (xs : List Ran). xs ++ ran ∷ []) same
+
+pub invariant_of-self : goal.invariant_of-self
+invariant_of-self g c = still_lease _ _ _ refl c.reserve.ensures.items c.self.invariant
+
+pub returns-in_err-reserve-clause-err : goal.returns-in_err-reserve-clause-err
+returns-in_err-reserve-clause-err g c = refused _ _ (still _ _ _ _ refl c.reserve.ensures.items c.self.view_is)
+
+pub invariant_of-self-in_err-copy : goal.invariant_of-self-in_err-copy
+invariant_of-self-in_err-copy g c = still_lease _ _ _ refl c.reserve.ensures.items c.self.invariant
+
+pub returns-in_err-copy-clause-err : goal.returns-in_err-copy-clause-err
+returns-in_err-copy-clause-err g c = refused _ _ (still _ _ _ _ refl c.reserve.ensures.items c.self.view_is)
+
+pub invariant_of-self-in_err-tally : goal.invariant_of-self-in_err-tally
+invariant_of-self-in_err-tally g c = still_lease _ _ _ c.in_err-tally.ensures.same c.reserve.ensures.items c.self.invariant
+
+pub returns-in_err-tally-clause-err : goal.returns-in_err-tally-clause-err
+returns-in_err-tally-clause-err g c = refused _ _ (still _ _ _ _ c.in_err-tally.ensures.same c.reserve.ensures.items c.self.view_is)
+
+pub invariant_of-self-2 : goal.invariant_of-self-2
+invariant_of-self-2 g c =
+    lease_grows _ c.in_ok-copy.copy c.in_ok-tally.tally c.take_step.new.road _ _ c.new-dice.ensures.key c.new-dice.ensures.road c.new-dice.ensures.step (rw c.in_ok-copy.ensures c.in_ok-tally.ensures.next)
+    (grown _ _ _ _ c.push_reserved.ensures.items c.reserve.ensures.items) c.self.invariant
+
+pub returns-clause-ok : goal.returns-clause-ok
+returns-clause-ok g c =
+    has_stepped _ _ c.args.rule.now c.in_ok-copy.copy c.in_ok-tally.tally c.take_step.new.road _ _ c.self.view_is c.in_ok-copy.ensures c.new-dice.ensures.key c.new-dice.ensures.road c.new-dice.ensures.step (rw c.in_ok-copy.ensures c.in_ok-tally.ensures.next)
+    (grown _ _ _ _ c.push_reserved.ensures.items c.reserve.ensures.items)
