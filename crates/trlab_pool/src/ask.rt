@@ -29,6 +29,17 @@ const SEGMENTS_A_WORKER: u32 = 16;
 /// How many cars a segment has, so that to draw it costs little beside asking them.
 const CARS_A_SEGMENT: u32 = 256;
 
+/// Waits a little after so many looks, and answers how many they are with this one.
+fn pause(looks: u32) -> u32 {
+    if looks < LOOKS {
+        hint::spin_loop();
+        looks + 1
+    } else {
+        thread::yield_now();
+        looks
+    }
+}
+
 /// The phase, once no helper has it.
 fn alone<A, P: Asked<A>, R: Wait>(rt: &R, task: Arc<Task<A, P>, Global>) -> Task<A, P>
     ensures { result ≡ arc_value task }
@@ -40,12 +51,7 @@ fn alone<A, P: Asked<A>, R: Wait>(rt: &R, task: Arc<Task<A, P>, Global>) -> Task
             Ok(task) => return task,
             Err(shared) => task = shared,
         }
-        if looks < LOOKS {
-            looks += 1;
-            hint::spin_loop();
-        } else {
-            thread::yield_now();
-        }
+        looks = pause(looks);
     }
     unreachable!()
 }
@@ -168,6 +174,31 @@ impl<'a, R: Wait, G: Gate> Pool<'a, R, G> {
             onlooker.see(&road);
             return ask_alone(alloc, program, dice, road);
         }
+        self.shared_answers_of(alloc, board, program, dice, road, workers, onlooker)
+    }
+
+    /// The same, where the caller asks them with helpers.
+    ///
+    /// # Errors
+    ///
+    /// Where an allocation was refused, to the caller or to a helper.
+    fn shared_answers_of<A: Copy + Drop, P: Asked<A> + Drop, O: Onlooker>(
+        &self,
+        alloc: Global,
+        board: &Board<A, P>,
+        program: P,
+        dice: Dice,
+        road: Road,
+        workers: u32,
+        onlooker: &mut O,
+    ) -> (Road, Result<Vec<A>, AllocError>)
+        requires many { 1 < workers }
+        requires few { workers ≤ MOST_WORKERS }
+        requires lanes { P.can_ask road }
+        ensures road { result.0 ≡ road }
+        ensures seen { O.sees onlooker.old road onlooker.new }
+        ensures answers { IfOk result.1 (λ answers. P.answers program dice road 0 (cars road) answers.items) }
+    {
         let count = segments_for(road.cars(), workers);
         match begun(alloc, program, dice, road, count, workers) {
             Ok((task, mine)) => {

@@ -1,6 +1,6 @@
 //! A phase that threads have in common.
 
-ghost use Rattle.std.specs.Prelude.{◌≡◌, IfErr, IfOk};
+ghost use Rattle.std.specs.Prelude.{◌≡◌, IfErr, IfOk, IfSome};
 ghost use Rattle.trlab_pool.specs.Trays.{AnswersAll, HasDone, IsAskedWhole, IsNew, IsTray, TellsDone};
 ghost use Rattle.trlab_pool.specs.Lockers.{HasOnly};
 
@@ -56,18 +56,38 @@ impl<A: Copy + Drop, P: Asked<A> + Drop> Task<A, P> {
         self.tray.put_back(tray, loan);
     }
 
-    /// Helps, where a pass is left: asks the cars of segments until none is left, and lays down the answers.
-    pub fn help<R: Wait, G: Gate>(&self, rt: &R, alloc: Global, gate: &G) {
+    /// A pass of the reserve, if one is left, and the number of its worker.
+    fn pick<R: Wait>(&self, rt: &R) -> Option<(Drawer, u32)>
+        ensures new { IfSome result (λ picked. IsNew self.now.brief.tickets picked.0) }
+        ensures lanes { P.can_ask self.now.brief.road }
+    {
         let (tray, loan) = self.take(rt);
         let (tray, picked) = pick(&self.brief, tray);
         self.put_back(tray, loan);
-        let Some((mut drawer, worker)) = picked else {
-            return;
-        };
-        let parts = draw_all(alloc, &self.brief, &mut drawer, worker, gate);
+        picked
+    }
+
+    /// Lays down what a helper did.
+    fn lay<R: Wait>(
+        &self,
+        rt: &R,
+        alloc: Global,
+        drawer: Drawer,
+        parts: Result<Vec<Part<A>>, AllocError>,
+    )
+        requires { TellsDone P.answers self.now.brief drawer parts }
+    {
         let (tray, loan) = self.take(rt);
         let tray = lay(alloc, &self.brief, tray, drawer, parts);
         self.put_back(tray, loan);
+    }
+
+    /// Helps, where a pass is left: asks the cars of segments until none is left, and lays down the answers.
+    pub fn help<R: Wait, G: Gate>(&self, rt: &R, alloc: Global, gate: &G) {
+        if let Some((mut drawer, worker)) = self.pick(rt) {
+            let parts = draw_all(alloc, &self.brief, &mut drawer, worker, gate);
+            self.lay(rt, alloc, drawer, parts);
+        }
     }
 
     /// What everyone did, with every pass that came back, once nobody else has the tray.

@@ -144,11 +144,10 @@ pub fn gathered<A: Drop, P: Asked<A>>(
     } = tray;
     let drawn = one_drawer(&brief.tickets, done, mine);
     let drawer = one_drawer(&brief.tickets, reserve, drawn);
-    if failed {
-        return Err(AllocError);
+    match one_list(theirs, parts) {
+        Ok(parts) if !failed => Ok((drawer, parts)),
+        _ => Err(AllocError),
     }
-    let parts = one_list(theirs, parts)?;
-    Ok((drawer, parts))
 }
 
 impl<P: Drop> Brief<P> {

@@ -12,10 +12,10 @@ one_drawer-drawer-requires g c = record {
   from = joined_from c.args.brief.now.tickets c.args.tray.done _ _ c.requires.done.0 c.one_drawer-drawn.ensures;
 }
 
-pub returns : goal.returns
-returns g c =
+pub returns-in-Ok : goal.returns-in-Ok
+returns-in-Ok g c =
     let fits = IsRight g.P.Asked.answers c.args.brief.now in
     let t = c.args.brief.now.tickets in
     with_reserve fits t c.args.tray.reserve _ _ _ c.requires.tray.reserve
-    (all_told fits t c.args.tray.done _ _ _ _ c.args.parts c.requires.tray.done c.requires.done c.in_ok-parts.ensures c.one_drawer-drawn.ensures)
+    (all_told fits t c.args.tray.done _ _ _ _ c.args.parts c.requires.tray.done c.requires.done c.in-Ok.ensures c.one_drawer-drawn.ensures)
     c.one_drawer-drawer.ensures
