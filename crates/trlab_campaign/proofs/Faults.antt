@@ -10,7 +10,3 @@ memory≢device e = cc e
 -- memory ran out, and the writer works
 pub by_memory : (fault : WriteFault) (failed : Bool) → fault ≡ Memory → failed ≡ false → (fault ≡ Device) ↔ (failed ≡ true)
 by_memory fault failed is works = (λ e. absurd (memory≢device (sym is ∙ e)), λ fails. absurd (false≢true (sym works ∙ fails)))
-
--- the writer has failed
-pub by_device : (fault : WriteFault) (failed : Bool) → fault ≡ Device → failed ≡ true → (fault ≡ Device) ↔ (failed ≡ true)
-by_device fault failed is fails = (λ _. fails, λ _. is)

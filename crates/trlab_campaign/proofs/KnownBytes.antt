@@ -78,8 +78,5 @@ appends_whole a b text done inside all p =
 pub front_whole : (a b : Option (List ℕ)) (text : List ℕ) → Appends a b text → AppendsFront a b text
 front_whole a b text p = record { count = length text; front = subst (λ (t : List ℕ). Appends a b t) (sym (take-length text)) p }
 
-pub front_none : (a : Option (List ℕ)) (text : List ℕ) → AppendsFront a a text
-front_none a text = record { count = 0; front = appends_none a }
-
 pub front_kept : (a b c : Option (List ℕ)) (text : List ℕ) → Appends a b text → Keeps b c → AppendsFront a c text
 front_kept a b c text p q = record { count = length text; front = subst (λ (t : List ℕ). Appends a c t) (sym (take-length text)) (appends_kept a b c text p q) }

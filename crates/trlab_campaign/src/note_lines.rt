@@ -8,6 +8,7 @@ ghost use Rattle.trlab_verify.specs.TableForm.{said_of, meaning, meaning_at};
 ghost use Rattle.trlab_verify.specs.Verdict.{IsAccepted};
 ghost use Rattle.trlab_campaign.specs.NoteLines.{register_entry, said_text, registers_text, side_text, note_line, notes_text};
 
+use crate::output::push_text;
 use std::alloc::{AllocError, Global};
 use trlab_asm::{REGISTERS, register_text};
 use trlab_code::{Code, Register};
@@ -72,8 +73,8 @@ fn push_note(alloc: Global, out: &mut Vec<u8>, pc: usize, note: &Note) -> Result
     ensures { (kind : Kind) → OnOk result
         (out.new.items ≡ out.old.items ++ note_line pc (meaning kind note.now)) }
 {
-    let head = format!(in alloc; "note {pc}")?;
-    out.extend_from_slice(head.as_bytes())?;
+    let head = format!(in alloc; "note {pc}");
+    push_text(out, head)?;
     push_registers(alloc, out, note)?;
     out.extend_from_slice(line_end(note.side))
 }

@@ -1,6 +1,6 @@
 //! The lines of outputs: those of a step with its pictures, and that of a refused text.
 
-ghost use Rattle.std.specs.Prelude.{◌≡◌, ◌++◌, IfOk, OnOk};
+ghost use Rattle.std.specs.Prelude.{◌≡◌, ◌++◌, ℕ, List, IfOk, OnOk};
 ghost use Rattle.std.specs.String.{string_bytes};
 ghost use Rattle.trlab_campaign.specs.Output.{step_text};
 ghost use Rattle.trlab_campaign.specs.Refusal.{fault_line};
@@ -8,6 +8,21 @@ ghost use Rattle.trlab_campaign.specs.Refusal.{fault_line};
 use std::alloc::{AllocError, Global};
 use trlab_road::Road;
 use trlab_texts::Cause;
+
+/// Adds a text, where it was made.
+///
+/// # Errors
+///
+/// Where it was not made, and want of memory.
+pub fn push_text(out: &mut Vec<u8>, text: Result<String, AllocError>) -> Result<(), AllocError>
+    ensures { (bytes : List ℕ) → IfOk text (λ text. string_bytes text ≡ bytes)
+        → OnOk result (out.new.items ≡ out.old.items ++ bytes) }
+{
+    match text {
+        Ok(text) => out.extend_from_slice(text.as_bytes()),
+        Err(error) => Err(error),
+    }
+}
 
 /// Adds the text of a step: its line, and the picture of each lane.
 ///
@@ -17,8 +32,8 @@ use trlab_texts::Cause;
 pub fn push_step(alloc: Global, out: &mut Vec<u8>, step: u32, road: &Road) -> Result<(), AllocError>
     ensures { OnOk result (out.new.items ≡ out.old.items ++ step_text step road.now) }
 {
-    let line = format!(in alloc; "step {step}\n")?;
-    out.extend_from_slice(line.as_bytes())?;
+    let line = format!(in alloc; "step {step}\n");
+    push_text(out, line)?;
     for lane in 0..road.lanes() {
         road.push_picture(out, lane)?;
         out.push(b'\n')?;

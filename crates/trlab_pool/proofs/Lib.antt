@@ -1,3 +1,4 @@
 pub mod Locks
 pub mod Cuts
 pub mod Copies
+pub mod Joining

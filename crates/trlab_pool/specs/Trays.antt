@@ -1,15 +1,21 @@
 -- What lies on the tray of a phase: the right to draw that no helper has yet, and what helpers laid down.
-use Rattle.std.specs.Prelude.{◌≡◌, ℕ, ◌+◌, List, [], Option, IfSome, MatchOption, Result, IfOk, Vec}
+use Rattle.std.specs.Prelude.{◌≡◌, ℕ, ◌+◌, List, [], ◌++◌, ◌||◌, Option, IfSome, MatchOption, Result, IfOk, Vec}
 use Rattle.trlab_machine.specs.declared.dice.Dice.{Dice}
 use Rattle.trlab_road.specs.Cells.{Cells, cars}
 use Rattle.trlab_segments.specs.Answered.{HasParts}
-use Rattle.trlab_segments.specs.Drawers.{IsFrom, count_of, tickets_of}
+use Rattle.trlab_segments.specs.Drawers.{IsFrom, count_of, is_ended, tickets_of}
 use Rattle.trlab_segments.specs.Segments.{first_car}
 use Rattle.trlab_segments.specs.declared.drawer.Drawer.{Drawer}
 use Rattle.trlab_segments.specs.declared.drawer.Tickets.{Tickets}
 use Rattle.trlab_segments.specs.declared.part.Part.{Part}
 use Rattle.trlab_pool.specs.declared.brief.Brief.{Brief}
 use Rattle.trlab_pool.specs.declared.brief.Tray.{Tray}
+
+-- a drawer has what one drew, and then what another drew
+pub record Joins (t : Tickets) (one other all : Drawer) : Type 0 where
+  pub from : IsFrom t all
+  pub tickets : tickets_of all ≡ tickets_of one ++ tickets_of other
+  pub ended : is_ended all ≡ (is_ended one || is_ended other)
 
 -- a drawer of these tickets that drew nothing
 abbrev pub IsNew : Tickets → Drawer → Type 0
@@ -45,6 +51,22 @@ IsLaid answers b laid parts = MatchOption laid (parts ≡ []) (λ d. HasDone ans
 abbrev pub AnswersAll : {P A : Type 0} → (P → Dice → Cells → ℕ → ℕ → List A → Type 0)
     → Brief P → List A → Type 0
 AnswersAll answers b found = answers b.program b.dice b.road 0 (cars b.road) found
+
+-- what is asked of the cars of a road
+pub record Asks {P : Type 0} (b : Brief P) (p : P) (d : Dice) (r : Cells) : Type 0 where
+  pub program : b.program ≡ p
+  pub dice : b.dice ≡ d
+  pub road : b.road ≡ r
+
+-- the cars are cut into so many segments, which have them all, and can be asked
+pub record IsAskedWhole {P : Type 0} (can_ask : Cells → Type 0) (b : Brief P) (n : ℕ) : Type 0 where
+  pub count : n ≡ count_of b.tickets
+  pub cut : IsCutWhole b
+  pub lanes : can_ask b.road
+
+-- a drawer has what another drew before, if there is one, and then what a second drew
+abbrev pub IsJoined : Tickets → Option Drawer → Drawer → Drawer → Type 0
+IsJoined tickets before d all = MatchOption before (all ≡ d) (λ b. Joins tickets b d all)
 
 -- what was asked can be, what is left to draw with is new, and what was laid down is right
 pub record IsTray {P A : Type 0} (answers : P → Dice → Cells → ℕ → ℕ → List A → Type 0)

@@ -79,12 +79,8 @@ impl Hall {
             if self.is_closed() {
                 return;
             }
-            if let Some(task) = self.motions.task(rt) {
-                task.help(rt, alloc, gate);
-            }
-            if let Some(task) = self.changes.task(rt) {
-                task.help(rt, alloc, gate);
-            }
+            self.motions.help(rt, alloc, gate);
+            self.changes.help(rt, alloc, gate);
         }
     }
 }

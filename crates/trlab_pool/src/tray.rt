@@ -1,12 +1,13 @@
 //! What helpers and the caller do at the tray of a phase.
 
-ghost use Rattle.std.specs.Prelude.{◌≡◌, IfOk, IfSome};
-ghost use Rattle.trlab_pool.specs.Trays.{HasDone, IsTray, IsLaid, IsNew, TellsDone};
+ghost use Rattle.std.specs.Prelude.{◌≡◌, ◌++◌, IfOk, IfSome, IsOkAnd};
+ghost use Rattle.trlab_pool.specs.Trays.{HasDone, IsJoined, IsNew, IsTray, TellsDone};
+ghost use Rattle.trlab_segments.specs.Drawers.{IsFrom};
 
 use crate::brief::{Brief, Tray};
 use std::alloc::{AllocError, Global};
 use trlab_road::Road;
-use trlab_segments::{Asked, Drawer, Part};
+use trlab_segments::{Asked, Drawer, Part, Tickets};
 
 /// A pass of the reserve for a helper, if one is left, and the number of its worker, from 1 on.
 pub fn pick<A: Drop, P: Asked<A>>(
@@ -71,8 +72,9 @@ pub fn lay<A: Drop, P: Asked<A>>(
         parts,
         failed,
     } = tray;
-    match together(brief, done, parts, drawer, more) {
-        Ok((drawer, parts)) => Tray {
+    let drawer = one_drawer(&brief.tickets, done, drawer);
+    match one_list(parts, more) {
+        Ok(parts) => Tray {
             reserve,
             done: Some(drawer),
             parts,
@@ -87,30 +89,36 @@ pub fn lay<A: Drop, P: Asked<A>>(
     }
 }
 
-/// What two drawers drew, or one where there is no other, and the parts of both.
+/// A drawer with what another drew before, if there is one, and what this drew.
+fn one_drawer(tickets: &Tickets, before: Option<Drawer>, drawer: Drawer) -> Drawer
+    requires before { IfSome before (IsFrom tickets.now) }
+    requires from { IsFrom tickets.now drawer }
+    ensures { IsJoined tickets.now before drawer result }
+{
+    match before {
+        None => drawer,
+        Some(before) => tickets.gather(before, drawer),
+    }
+}
+
+/// These parts, and then more of them.
 ///
 /// # Errors
 ///
 /// Where an allocation was refused, now or before.
-fn together<A: Drop, P: Asked<A>>(
-    brief: &Brief<P>,
-    before: Option<Drawer>,
+fn one_list<A: Drop>(
     parts: Vec<Part<A>>,
-    drawer: Drawer,
     more: Result<Vec<Part<A>>, AllocError>,
-) -> Result<(Drawer, Vec<Part<A>>), AllocError>
-    requires before { IsLaid P.answers brief.now before parts.items }
-    requires done { TellsDone P.answers brief.now drawer more }
-    ensures { IfOk result (λ all. HasDone P.answers brief.now all.0 all.1.items) }
+) -> Result<Vec<Part<A>>, AllocError>
+    ensures { IfOk result (λ all. IsOkAnd more (λ more. all.items ≡ parts.items ++ more.items)) }
 {
     let mut more = more?;
-    let Some(before) = before else {
-        return Ok((drawer, more));
-    };
-    let drawer = brief.tickets.gather(before, drawer);
+    if parts.is_empty() {
+        return Ok(more);
+    }
     let mut parts = parts;
     parts.append(&mut more)?;
-    Ok((drawer, parts))
+    Ok(parts)
 }
 
 /// What everyone did, with every pass that came back.
@@ -134,13 +142,11 @@ pub fn gathered<A: Drop, P: Asked<A>>(
         parts: theirs,
         failed,
     } = tray;
-    if failed {
-        return Err(AllocError);
-    }
-    let (drawer, parts) = together(brief, done, theirs, mine, parts)?;
-    match reserve {
-        None => Ok((drawer, parts)),
-        Some(rest) => Ok((brief.tickets.gather(drawer, rest), parts)),
+    let drawn = one_drawer(&brief.tickets, done, mine);
+    let drawer = one_drawer(&brief.tickets, reserve, drawn);
+    match one_list(theirs, parts) {
+        Ok(parts) if !failed => Ok((drawer, parts)),
+        _ => Err(AllocError),
     }
 }
 

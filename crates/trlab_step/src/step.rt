@@ -104,15 +104,37 @@ pub fn take_step<A: Asker, O: Onlooker>(
     match rule.change() {
         None => move_cars(asker, alloc, road, &mut room.speeds, motion, dice, onlooker),
         Some(change) => {
-            let (mut middle, changes) = change_lanes(
-                asker, alloc, road, room, change, dice, onlooker,
-            )?;
-            let speeds = &mut room.speeds;
-            let tally = move_cars(asker, alloc, &mut middle, speeds, motion, dice, &mut Nobody)?;
-            mem::replace(road, middle).leave_to(&mut room.lanes);
+            let (middle, changes) = change_lanes(asker, alloc, road, room, change, dice, onlooker)?;
+            let tally = move_on(asker, alloc, road, middle, room, motion, dice)?;
             Ok(StepTally { changes, ..tally })
         }
     }
+}
+
+/// Takes the motion on the road after the lane change, which becomes the road, and tells the tally of a step
+/// in which no car crossed before.
+fn move_on<A: Asker>(
+    asker: &A,
+    alloc: Global,
+    road: &mut Road,
+    middle: Road,
+    room: &mut StepRoom,
+    motion: &Motion,
+    dice: &Dice,
+) -> Result<StepTally, AllocError>
+    requires { A.is_ready asker.now }
+    ensures phase { OnOk result (IsMotionPhase motion.now dice.now middle road.new) }
+    ensures distance { IfOk result (λ tally. tally.distance ≡ total_speed road.new) }
+    ensures stopped { IfOk result (λ tally. tally.stopped ≡ stopped_cars road.new) }
+    ensures clean { OnOk result (CleanMotion middle road.new) }
+    ensures legal { OnOk result (IsLegal road.new) }
+    ensures same { OnErr result (road.new ≡ road.old) }
+{
+    let mut middle = middle;
+    let speeds = &mut room.speeds;
+    let tally = move_cars(asker, alloc, &mut middle, speeds, motion, dice, &mut Nobody)?;
+    mem::replace(road, middle).leave_to(&mut room.lanes);
+    Ok(tally)
 }
 
 /// The road after the lane change under a change program, and how many cars crossed.

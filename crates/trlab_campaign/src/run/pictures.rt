@@ -1,6 +1,6 @@
 //! The pictures of a run: that of a road is made while its cars are asked, and written once they have moved.
 
-ghost use Rattle.std.specs.Prelude.{◌≡◌, ◌+◌, ◌<◌, ◌^◌, ◌↔◌, true, false, OnOk, OnErr, IfErr};
+ghost use Rattle.std.specs.Prelude.{◌≡◌, ℕ, ◌+◌, ◌<◌, ◌^◌, ◌↔◌, List, true, false, OnOk, OnErr, IfErr};
 ghost use Rattle.std.specs.Io.KnownBytes.{Appends};
 ghost use Rattle.trlab_jobs.specs.Job.{Job as Told, seed_of, sheet_of};
 ghost use Rattle.trlab_jobs.specs.Stored.{IsStored};
@@ -10,12 +10,12 @@ ghost use Rattle.trlab_campaign.specs.Device.{AppendsFront};
 ghost use Rattle.trlab_campaign.specs.Ending.{HandsOn, JobEnds, WrotePictures, WroteSome};
 ghost use Rattle.trlab_campaign.specs.Output.{step_text};
 ghost use Rattle.trlab_campaign.specs.declared.end.End.TheVariants.{DeviceFault};
-ghost use Rattle.trlab_campaign.specs.declared.run.pictures.WriteFault.TheVariants.{Memory, Device};
+ghost use Rattle.trlab_campaign.specs.declared.run.pictures.WriteFault.TheVariants.{Device};
 
-use crate::device::{DeviceError, Sink, write_text};
+use crate::device::{Sink, write_text};
 use crate::end::End;
 use crate::run::step_text::StepText;
-use std::alloc::{AllocError, Global};
+use std::alloc::Global;
 use trlab_jobs::Job;
 use trlab_road::Road;
 use trlab_run::{Run, Sheet};
@@ -27,22 +27,6 @@ pub enum WriteFault {
     Memory,
     /// The writer failed.
     Device,
-}
-
-impl From<AllocError> for WriteFault {
-    ghost from_gives = { λ _ fault. fault ≡ Memory };
-
-    fn from(_: AllocError) -> WriteFault {
-        WriteFault::Memory
-    }
-}
-
-impl From<DeviceError> for WriteFault {
-    ghost from_gives = { λ _ fault. fault ≡ Device };
-
-    fn from(_: DeviceError) -> WriteFault {
-        WriteFault::Device
-    }
 }
 
 /// The run of a job from step 0 on.
@@ -57,6 +41,26 @@ fn run_of(alloc: Global, job: Job) -> Run
         steps: _,
     } = job;
     Run::new(alloc, key, 0, 0, road, Sheet::new(first, later))
+}
+
+/// Writes the text of a step, where it was made.
+fn write_made<K: Sink>(text: &StepText, writer: &mut K) -> Result<(), WriteFault>
+    requires { K.failed writer.old ≡ false }
+    ensures whole { (bytes : List ℕ) → OnOk text.now.made (text.now.bytes.items ≡ bytes)
+        → OnOk result (Appends (K.written writer.old) (K.written writer.new) bytes) }
+    ensures front { (bytes : List ℕ) → OnOk text.now.made (text.now.bytes.items ≡ bytes)
+        → OnErr result (AppendsFront (K.written writer.old) (K.written writer.new) bytes) }
+    ensures works { OnOk result (K.failed writer.new ≡ false) }
+    ensures fails { IfErr result (λ fault. (fault ≡ Device) ↔ (K.failed writer.new ≡ true)) }
+    ensures flushed { K.flushes writer.new ≡ K.flushes writer.old }
+{
+    match text.made {
+        Ok(()) => match write_text(writer, &text.bytes) {
+            Ok(()) => Ok(()),
+            Err(_) => Err(WriteFault::Device),
+        },
+        Err(_) => Err(WriteFault::Memory),
+    }
 }
 
 /// Takes a step of a run, in which the asker asks the cars, and writes the text of the road before it.
@@ -83,10 +87,11 @@ fn show_step<A: Asker, K: Sink>(
 {
     text.step = step;
     let advanced = run.advance_showing(asker, alloc, text);
-    text.made?;
-    write_text(writer, &text.bytes)?;
-    advanced?;
-    Ok(())
+    write_made(text, writer)?;
+    match advanced {
+        Ok(()) => Ok(()),
+        Err(_) => Err(WriteFault::Memory),
+    }
 }
 
 /// Writes the text of a road at a step.
@@ -107,9 +112,7 @@ fn show_last<K: Sink>(
 {
     text.step = step;
     text.see(road);
-    text.made?;
-    write_text(writer, &text.bytes)?;
-    Ok(())
+    write_made(text, writer)
 }
 
 /// Writes the pictures of the road of a run at each step, as they are made: it starts as that of a job.

@@ -1,6 +1,5 @@
-use Rattle.std.proofs.Common.{◌≡◌, ◌<◌, ◌∷◌, [], ◌++◌, ◌∙◌, refl, length, flat_map, arith}
+use Rattle.std.proofs.Common.{◌<◌, ◌∷◌, [], ◌++◌, ◌∙◌, refl, length, flat_map, arith}
 use Rattle.std.specs.Prelude.{decimal, codes}
-use Rattle.std.specs.String.{string_bytes}
 use Rattle.trlab_road.specs.Cells.{Lane, lane_of}
 use Rattle.trlab_road.specs.Pictures.{picture}
 use Rattle.trlab_campaign.specs.Output.{picture_line}
@@ -9,10 +8,9 @@ use Rattle.trlab_campaign.proofs.output.push_step.Goals as goal
 
 pub loop-lane-init : goal.loop-lane-init
 loop-lane-init c =
-    let line : string_bytes c.in_ok-line.line ≡ codes "step " ++ (decimal c.args.step ++ (10 ∷ [])) = c.in_ok-line.ensures.ok in
-    let first = rw c.as_bytes.ensures.value at c.in_ok-extend_from_slice.ensures.items in
-    line_then (codes "step ") (decimal c.args.step) (string_bytes c.in_ok-line.line) c.args.out.now.items c.extend_from_slice.new.self.items
-    (flat_map (λ lane. picture_line (picture lane)) c.args.road.now.lanes) line first
+    let line = codes "step " ++ (decimal c.args.step ++ (10 ∷ [])) in
+    line_then (codes "step ") (decimal c.args.step) line c.args.out.now.items c.push_text.new.out.items
+    (flat_map (λ lane. picture_line (picture lane)) c.args.road.now.lanes) refl (c.in_ok-push_text.ensures line c.format-line.ensures.ok)
 
 pub loop-lane-preserved : goal.loop-lane-preserved
 loop-lane-preserved c =

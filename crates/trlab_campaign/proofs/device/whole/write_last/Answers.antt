@@ -1,4 +1,4 @@
-use Rattle.std.proofs.Common.{refl, ap, inl, inr, ◌∙◌}
+use Rattle.std.proofs.Common.{ap, inl, inr, ◌∙◌}
 use Rattle.std.proofs.Math.Bool.{or-false}
 use Rattle.std.proofs.lemmas.Result.{err_from_is_err_and}
 use Rattle.trlab_campaign.specs.Flushes.{once_more}

@@ -1,4 +1,4 @@
-use Rattle.std.proofs.Common.{◌≡◌, ap, refl}
+use Rattle.std.proofs.Common.{ap, refl}
 use Rattle.trlab_jobs.specs.Job.{Job}
 use Rattle.trlab_jobs.specs.Stored.{IsStored}
 use Rattle.trlab_campaign.proofs.run.pictures.write_pictures.Goals as goal
