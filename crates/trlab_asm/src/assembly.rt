@@ -54,11 +54,11 @@ fn resolve<'a>(labels: &Labels<'a>, read: &LineDraft<'a>) -> Result<Instr, AsmFa
     ensures in_range { IfOk result IsInRange }
 {
     let draft = read.draft();
-    let Some(name) = draft.label() else {
-        return Ok(draft.instr());
+    let Some(name) = draft.label else {
+        return Ok(draft.instr);
     };
     match labels.get(name) {
-        Some(pc) => Ok(with_target(pc, draft.instr())),
+        Some(pc) => Ok(with_target(pc, draft.instr)),
         None => Err(AsmFault {
             line: read.line(),
             why: Why::NoLabel,
