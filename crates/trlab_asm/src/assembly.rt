@@ -81,7 +81,9 @@ fn resolve_all<'a>(
     let mut instrs = Vec::new(alloc);
     for read in reads {
         let instr = resolve(labels, read)?;
-        instrs.push(instr).map_err(AllocError::from)?;
+        if instrs.push(instr).is_err() {
+            return Err(AsmFault::from(AllocError));
+        }
     }
     Ok(instrs)
 }
