@@ -1,9 +1,9 @@
 -- Operands on both sides of a comma.
-use Rattle.std.proofs.Common.{◌≡◌, ℕ, List, refl}
+use Rattle.std.proofs.Common.{◌≡◌, ℕ, List, Bor, refl}
 use Rattle.std.specs.Prelude.{Some, Result, Ok, Err, IfOk}
 use Rattle.trlab_lines.specs.Cutting.{cut}
-use Rattle.trlab_asm.specs.Results.{◌>>=◌}
-use Rattle.trlab_asm.specs.Operands.{◌then◌}
+use Rattle.trlab_asm.specs.Results.{◌>>=◌, map_ok}
+use Rattle.trlab_asm.specs.Operands.{◌then◌, numeral, two_numerals}
 use Rattle.trlab_asm.specs.declared.fault.Why.{Why}
 
 -- one operand, and then the rest
@@ -22,3 +22,11 @@ pub rest_known : {A B : Type 0} (P : B → Type 0) (a : Result A Why) (b : Resul
 rest_known P (Ok p) (Ok q) r e known = rw e known
 rest_known P (Ok p) (Err f) r e known = rw e tt
 rest_known P (Err f) b r e known = rw e tt
+
+-- the digits of two numbers
+pub numerals_said : (text x y : List ℕ) (a b : Result (Bor (List ℕ)) Why) (r : Result (Bor (List ℕ) × Bor (List ℕ)) Why)
+    → Some (x, y) ≡ cut 44 text → map_ok (λ digits. digits.now) a ≡ numeral x → map_ok (λ digits. digits.now) b ≡ numeral y → r ≡ (a >>= λ p. b >>= λ q. Ok (p, q))
+    → map_ok (λ parts. (parts.0.now, parts.1.now)) r ≡ two_numerals text
+numerals_said text x y (Ok p) (Ok q) r parts first rest e = rw (e, ← parts, ← first, ← rest) refl
+numerals_said text x y (Ok p) (Err f) r parts first rest e = rw (e, ← parts, ← first, ← rest) refl
+numerals_said text x y (Err f) b r parts first rest e = rw (e, ← parts, ← first) refl

@@ -54,11 +54,11 @@ fn resolve<'a>(labels: &Labels<'a>, read: &LineDraft<'a>) -> Result<Instr, AsmFa
     ensures in_range { IfOk result IsInRange }
 {
     let draft = read.draft();
-    let Some(name) = draft.label() else {
-        return Ok(draft.instr());
+    let Some(name) = draft.label else {
+        return Ok(draft.instr);
     };
     match labels.get(name) {
-        Some(pc) => Ok(with_target(pc, draft.instr())),
+        Some(pc) => Ok(with_target(pc, draft.instr)),
         None => Err(AsmFault {
             line: read.line(),
             why: Why::NoLabel,
@@ -81,7 +81,9 @@ fn resolve_all<'a>(
     let mut instrs = Vec::new(alloc);
     for read in reads {
         let instr = resolve(labels, read)?;
-        instrs.push(instr).map_err(AllocError::from)?;
+        if instrs.push(instr).is_err() {
+            return Err(AsmFault::from(AllocError));
+        }
     }
     Ok(instrs)
 }

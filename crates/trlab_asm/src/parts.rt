@@ -98,15 +98,17 @@ impl<'a> Parts<'a> {
         requires { OnSome line.draft (length (stored_parts self.old).reads < MOST_INSTRUCTIONS) }
         ensures { OnOk result (stored_parts self.new ≡ with_line (stored_parts self.old) number line.entry) }
     {
-        if let Some(name) = line.label {
-            self.labels.add(name, self.reads.len() as u32)?;
-        }
-        if let Some(draft) = line.draft {
+        let pc = self.reads.len() as u32;
+        let Line { label, draft } = line;
+        if let Some(draft) = draft {
             self.reads.push(LineDraft {
                 line: number,
                 draft,
             })?;
         }
-        Ok(())
+        match label {
+            Some(name) => self.labels.add(name, pc),
+            None => Ok(()),
+        }
     }
 }

@@ -46,8 +46,10 @@ fn pc_named(text: &[u8]) -> Result<Target<'_>, Why>
     let Some(digits) = text.strip_prefix(b"@") else {
         return Err(Why::Operand);
     };
-    let pc = number_of(0, digits)?;
-    Ok(Target { pc, label: None })
+    match number_of(0, digits) {
+        Ok(pc) => Ok(Target { pc, label: None }),
+        Err(why) => Err(why),
+    }
 }
 
 /// The target that a word names: a label, or a pc.

@@ -1,4 +1,5 @@
-use Rattle.std.proofs.Common.{◌≡◌, ◌+◌, ◌++◌, ◌∷◌, [], sym, ◌∙◌, ap, inl}
+use Rattle.std.proofs.Common.{◌≡◌, ◌+◌, ◌++◌, ◌∷◌, [], sym, ◌∙◌, ap, inl, arith}
+use Rattle.std.proofs.lemmas.Grind.{common_steps}
 use Rattle.std.specs.Prelude.{Err}
 use Rattle.std.proofs.lemmas.List.{length_push}
 use Rattle.std.proofs.lemmas.Result.{err_from_is_err_and}
@@ -20,7 +21,7 @@ pub loop-read-preserved : goal.loop-read-preserved
 loop-read-preserved c =
     let value = rw c.read-item.is at c.in_ok-instr.ensures.value in
     let next = second_next (pcs c.args.labels.now) c.args.reads.now c.loop-read.read-index c.read-item.result c.loop-read.instrs.items c.in_ok-instr.instr c.loop-read-test.true value in
-    let pushed : c.push.new.self.items ≡ c.loop-read.instrs.items ++ (c.in_ok-instr.instr ∷ []) = rw (← c.in_ok-map_err.ensures.variant) at c.push.ensures.items in
+    let pushed : c.push.new.self.items ≡ c.loop-read.instrs.items ++ (c.in_ok-instr.instr ∷ []) = grind (arith, common_steps) in
     record {
       says = rw pushed (sym next ∙ c.loop-read.invariant.says);
       count = rw pushed (length_push c.loop-read.instrs.items c.in_ok-instr.instr ∙ ap (λ n. n + 1) c.loop-read.invariant.count);
