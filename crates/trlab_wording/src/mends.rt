@@ -91,6 +91,13 @@ pub fn push_mend(page: &mut Page, text: &[u8], repair: Repair) -> Result<(), All
             push_about(page, "perhaps the label of this line is meant:", text, line)
         }
         Repair::EndBeside(line) => push_about(page, END_BESIDE, text, line),
+        _ => push_counted(page, repair),
+    }
+}
+
+/// Adds a repair that has a number of its own, or words alone.
+fn push_counted(page: &mut Page, repair: Repair) -> Result<(), AllocError> {
+    match repair {
         Repair::Parts(parts) => push_count(
             page,
             "a chance is written as ",
