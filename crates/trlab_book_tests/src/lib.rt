@@ -9,6 +9,8 @@ mod calls;
 #[cfg(test)]
 mod full;
 #[cfg(test)]
+mod held;
+#[cfg(test)]
 mod kept;
 #[cfg(test)]
 mod replies;

@@ -37,8 +37,8 @@ fn is_done<P: Ledger, Q: Ledger, R: Wait>(
     match deed {
         Deed::Own(call, wanted) => own.answers(rt, alloc, call, wanted),
         Deed::Other(call, wanted) => other.answers(rt, alloc, call, wanted),
-        Deed::Over(place, step) => own.hand_over(alloc, place, step, other),
-        Deed::Back(place, step) => other.hand_over(alloc, place, step, own),
+        Deed::Over(place, step) => own.held.hand_over(alloc, place, step, &mut other.held),
+        Deed::Back(place, step) => other.held.hand_over(alloc, place, step, &mut own.held),
     }
 }
 

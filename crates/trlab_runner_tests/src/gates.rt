@@ -121,6 +121,22 @@ fn end_of(ending: Ending) -> Wanted {
     }
 }
 
+/// Has a runner be held while the lease of a job ends, and says whether all is as it has to be.
+fn hold<L: Ledger + Send + Sync, R: Threads + Wait + Sync>(
+    rt: &R,
+    alloc: Global,
+    book: &SharedBook<L>,
+    mut desk: Desk<L>,
+    ending: Ending,
+) -> (Desk<L>, bool)
+    requires ledger { L.parts ≡ 1024 }
+{
+    let submitted = submit(rt, alloc, book, &mut desk, &two_cars(0, 4)) == Ok(0);
+    let (mut desk, ended) = run_held(rt, alloc, book, desk, ending);
+    let right = reads(rt, alloc, book, &mut desk, 0, end_of(ending));
+    (desk, submitted && ended && right)
+}
+
 /// How many orders are refused to a runner whose lease ends while it takes the first step, where all else
 /// is as it has to be.
 fn refused_to_held<L: Ledger + Send + Sync, R: Threads + Wait + Sync>(
@@ -132,12 +148,10 @@ fn refused_to_held<L: Ledger + Send + Sync, R: Threads + Wait + Sync>(
     requires name { blank.name ≡ L.name }
     requires parts { (blank.parts ≡ L.parts) × (blank.parts ≡ 1024) }
 {
-    let (book, mut desk) = SharedBook::<L>::start(alloc, blank);
-    let submitted = submit(rt, alloc, &book, &mut desk, &two_cars(0, 4)) == Ok(0);
-    let (mut desk, ended) = run_held(rt, alloc, &book, desk, ending);
-    let right = reads(rt, alloc, &book, &mut desk, 0, end_of(ending));
+    let (book, desk) = SharedBook::<L>::start(alloc, blank);
+    let (desk, held) = hold(rt, alloc, &book, desk, ending);
     match history_of(book, desk) {
-        Some(history) => (submitted && ended && right).then_some(refused_orders(&history, ending)),
+        Some(history) => held.then_some(refused_orders(&history, ending)),
         None => None,
     }
 }
