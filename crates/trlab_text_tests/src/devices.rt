@@ -1,9 +1,6 @@
 //! A watched reader or writer hands each call on, and fails where that fails and nowhere else; the
 //! engines hand on all that they wrote, and end where a writer fails.
 
-ghost use Rattle.std.specs.Prelude.{◌≡◌, false, IfOk};
-ghost use Rattle.trlab_campaign.specs.Watched.{has_failed};
-
 use std::alloc::{AllocGlobal, Global};
 use std::io;
 use std::io::{BufWriter, Error, ErrorKind, Read, Write};
@@ -75,25 +72,19 @@ fn a_writer_without_room_fails(rt: HostRuntime) {
     assert!(rt; writer.put(b"b") == Err(DeviceError));
 }
 
-/// A writer with a buffer before it.
-type Buffered = Watched<BufWriter<Vec<u8>>>;
-
 /// A buffer, and behind it nothing.
-fn buffered(alloc: Global) -> io::Result<Buffered>
-    ensures { IfOk result (λ writer. has_failed writer ≡ false) }
-{
-    let buffer = BufWriter::new(alloc, Vec::new(alloc))?;
-    Ok(Watched::new(buffer))
+fn buffered(alloc: Global) -> io::Result<BufWriter<Vec<u8>>> {
+    Ok(BufWriter::new(alloc, Vec::new(alloc))?)
 }
 
 /// Whether this was left behind the buffer.
-fn has_left(writer: Buffered, left: &[u8]) -> bool {
+fn has_left(writer: Watched<BufWriter<Vec<u8>>>, left: &[u8]) -> bool {
     writer.into_inner().get_ref().as_slice() == left
 }
 
 /// Whether what is put into a buffer is handed on when it is flushed.
 fn is_handed_on(rt: &impl AllocGlobal, bytes: &[u8]) -> io::Result<bool> {
-    let mut writer = buffered(rt.alloc())?;
+    let mut writer = Watched::new(buffered(rt.alloc())?);
     let is_flushed = writer.put(bytes).is_ok() && writer.flush().is_ok();
     Ok(has_left(writer, bytes) && is_flushed)
 }
@@ -111,14 +102,14 @@ fn run_leaves(
     wanted: End,
     left: &[u8],
 ) -> io::Result<bool> {
-    let mut writer = buffered(rt.alloc())?;
+    let mut writer = Watched::new(buffered(rt.alloc())?);
     let end = run_job_text(rt, &mut Watched::new(text), &mut writer, 1);
     Ok(has_left(writer, left) && end == wanted)
 }
 
 /// The same of a check.
 fn check_leaves(rt: &impl AllocGlobal, text: &[u8], wanted: End, left: &[u8]) -> io::Result<bool> {
-    let mut writer = buffered(rt.alloc())?;
+    let mut writer = Watched::new(buffered(rt.alloc())?);
     let end = check_text(rt, &mut Watched::new(text), &mut writer);
     Ok(has_left(writer, left) && end == wanted)
 }
