@@ -1,5 +1,5 @@
 use Rattle.std.proofs.Common.{◌≡◌, ◌∙◌, ◌∷◌, [], ◌++◌, ap, arith, sym, take}
-use Rattle.std.proofs.lemmas.List.{take_more}
+use Rattle.std.proofs.lemmas.List.{take_all, take_more}
 use Rattle.trlab_rules.specs.Rules.{Programs}
 use Rattle.trlab_leases.proofs.sheet.copy_entries.Goals as goal
 
@@ -18,3 +18,15 @@ loop-entry-preserved c =
       len = omega arith;
       room = c.push_reserved.ensures.capacity ∙ kept.room;
     }
+
+pub push_reserved-requires : goal.push_reserved-requires
+push_reserved-requires c =
+    let len = c.loop-entry.invariant.len in
+    let room = c.loop-entry.invariant.room in
+    let below = c.loop-entry-test.true in
+    omega arith
+
+pub returns : goal.returns
+returns c =
+    let end = c.loop-entry-test.false in
+    c.loop-entry.invariant.items ∙ take_all c.loop-entry.entry-index c.args.entries.now (omega arith)

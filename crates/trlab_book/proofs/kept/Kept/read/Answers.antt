@@ -1,8 +1,9 @@
-use Rattle.std.proofs.Common.{rules, ◌≡◌, false, true, ◌∙◌}
+use Rattle.std.proofs.Common.{rules, ◌≡◌, ap, refl, sym, false, true, ◌∙◌}
 use Rattle.std.proofs.lemmas.Bool.{MatchBool-at_false, MatchBool-at_true}
-use Rattle.trlab_leases.specs.Answers.{is_memory}
+use Rattle.trlab_leases.specs.Answers.{is_event, is_memory, seen_reply}
+use Rattle.trlab_leases.specs.Machine.{is_full}
 use Rattle.trlab_leases.specs.declared.event.Call.TheVariants.{Read}
-use Rattle.trlab_book.proofs.Replaying.{replays_on}
+use Rattle.trlab_book.proofs.Replaying.{makes, read_is_event, replays_on, tells_event}
 use Rattle.trlab_book.proofs.kept.Kept.read.Goals as goal
 
 pub invariant_of-self : goal.invariant_of-self
@@ -25,4 +26,14 @@ invariant_of-self-2 c =
     }
 
 pub returns-clause-made : goal.returns-clause-made
-returns-clause-made c = search rules
+returns-clause-made c =
+    let free = c.in_ok-make_room.ensures.free in
+    let kept : is_memory c.read-answer.result ≡ false = search rules in
+    makes c.args.self.now c.make_room.new.self _ (Read c.args.job) (Read c.args.job) c.reply_to_read-reply.result (seen_reply c.read-answer.result) c.make_room.ensures.same c.push_reserved.ensures.items refl
+    c.reply_to_read-reply.ensures (ap is_event (MatchBool-at_false _ _ kept c.read-answer.ensures.reply) ∙ read_is_event c.make_room.new.self.book c.args.job free) (MatchBool-at_false _ _ kept c.read-answer.ensures.reply) (MatchBool-at_false _ _ kept c.read-answer.ensures.state)
+
+pub returns-clause-full : goal.returns-clause-full
+returns-clause-full c =
+    let free = c.in_ok-make_room.ensures.free in
+    let kept : is_memory c.read-answer.result ≡ false = search rules in
+    tells_event c.args.self.now _ (sym (ap is_full c.make_room.ensures.same.book) ∙ free) (ap is_event (MatchBool-at_false _ _ kept c.read-answer.ensures.reply) ∙ read_is_event c.make_room.new.self.book c.args.job free)

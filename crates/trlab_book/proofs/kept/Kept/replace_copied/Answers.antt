@@ -1,9 +1,10 @@
 use Rattle.std.proofs.Common.{rules, ◌≡◌, [], ◌∷◌, ◌++◌, false, sym, ap, ◌∙◌}
 use Rattle.std.proofs.lemmas.Bool.{MatchBool-at_false}
-use Rattle.trlab_leases.specs.Answers.{is_memory}
+use Rattle.trlab_leases.specs.Answers.{is_event, is_memory, number_reply}
+use Rattle.trlab_leases.specs.Machine.{is_full}
 use Rattle.trlab_leases.specs.declared.event.Call.TheVariants.{Replace}
 use Rattle.trlab_leases.specs.Replay.{event}
-use Rattle.trlab_book.proofs.Replaying.{replays_on}
+use Rattle.trlab_book.proofs.Replaying.{makes, replace_is_event, replays_on, tells_event}
 use Rattle.trlab_book.proofs.kept.Kept.replace_copied.Goals as goal
 
 pub invariant_of-self-2 : goal.invariant_of-self-2
@@ -20,3 +21,19 @@ invariant_of-self-2 c =
       replays = replays_on ready.history.items c.push_reserved.new.self.items ready.book c.replace-answer.new.self noted
           told_reply ready.replays c.in_ok-call.ensures.free items told state;
     }
+
+pub returns-clause-made : goal.returns-clause-made
+returns-clause-made c =
+    let free = c.in_ok-call.ensures.free in
+    let kept : is_memory c.replace-answer.result ≡ false = sym c.is_for_memory.ensures ∙ c.if-is_for_memory.false in
+    let told = MatchBool-at_false _ _ kept c.replace-answer.ensures.reply in
+    let same : c.in_ok-call.call ≡ (Replace c.args.job c.args.rule) = search (rules, c.in_ok-call.ensures.call, c.requires) in
+    makes c.args.self.now c.make_room_for.new.self _ (Replace c.args.job c.args.rule) c.in_ok-call.call c.reply_to_number-reply.result (number_reply c.replace-answer.result) c.make_room_for.ensures.same c.push_reserved.ensures.items same
+    c.reply_to_number-reply.ensures (ap is_event told ∙ replace_is_event c.make_room_for.new.self.book c.args.job c.args.rule free) told (MatchBool-at_false _ _ kept c.replace-answer.ensures.state)
+
+pub returns-clause-full : goal.returns-clause-full
+returns-clause-full c =
+    let free = c.in_ok-call.ensures.free in
+    let kept : is_memory c.replace-answer.result ≡ false = sym c.is_for_memory.ensures ∙ c.if-is_for_memory.false in
+    let told = MatchBool-at_false _ _ kept c.replace-answer.ensures.reply in
+    tells_event c.args.self.now _ (sym (ap is_full c.make_room_for.ensures.same.book) ∙ free) (ap is_event told ∙ replace_is_event c.make_room_for.new.self.book c.args.job c.args.rule free)

@@ -1,9 +1,14 @@
 use Rattle.std.proofs.Common.{List, ◌≡◌, ◌∙◌, ◌∷◌, [], ◌++◌, ap, refl}
-use Rattle.std.specs.Prelude.{Result, Ok, Err, OnErr}
+use Rattle.std.proofs.lemmas.Bool.{false≢true}
+use Rattle.std.specs.Prelude.{Result, Ok, Err, IsErr, OnErr, OnOk}
 use Rattle.std.specs.declared.alloc.AllocError.{AllocError}
 use Rattle.trlab_leases.specs.declared.ran.Ran.{Ran}
 use Rattle.trlab_leases.proofs.LeaseRuns.{has_stepped, lease_grows, still, still_lease}
 use Rattle.trlab_leases.proofs.lease.Lease.run.Goals as goal
+
+no_step : (told : Result (Unit {0}) AllocError) (P : Type 0) → IsErr told → OnOk told P
+no_step (Ok done) P is = absurd (false≢true is)
+no_step (Err fault) P is = tt
 
 refused : (told : Result (Unit {0}) AllocError) (P : Type 0) → P → OnErr told P
 refused (Ok done) P p = tt
@@ -15,17 +20,26 @@ grown before reserved after ran pushed same = pushed ∙ ap (λ (xs : List Ran).
 pub invariant_of-self : goal.invariant_of-self
 invariant_of-self g c = still_lease _ _ _ refl c.reserve.ensures.items c.self.invariant
 
+pub returns-in_err-reserve-clause-ok : goal.returns-in_err-reserve-clause-ok
+returns-in_err-reserve-clause-ok g c = no_step _ _ c.from_residual.ensures.0
+
 pub returns-in_err-reserve-clause-err : goal.returns-in_err-reserve-clause-err
 returns-in_err-reserve-clause-err g c = refused _ _ (still _ _ _ _ refl c.reserve.ensures.items c.self.view_is)
 
 pub invariant_of-self-in_err-copy : goal.invariant_of-self-in_err-copy
 invariant_of-self-in_err-copy g c = still_lease _ _ _ refl c.reserve.ensures.items c.self.invariant
 
+pub returns-in_err-copy-clause-ok : goal.returns-in_err-copy-clause-ok
+returns-in_err-copy-clause-ok g c = no_step _ _ c.from_residual-in_err-copy.ensures.0
+
 pub returns-in_err-copy-clause-err : goal.returns-in_err-copy-clause-err
 returns-in_err-copy-clause-err g c = refused _ _ (still _ _ _ _ refl c.reserve.ensures.items c.self.view_is)
 
 pub invariant_of-self-in_err-tally : goal.invariant_of-self-in_err-tally
 invariant_of-self-in_err-tally g c = still_lease _ _ _ c.in_err-tally.ensures.same c.reserve.ensures.items c.self.invariant
+
+pub returns-in_err-tally-clause-ok : goal.returns-in_err-tally-clause-ok
+returns-in_err-tally-clause-ok g c = no_step _ _ c.from_residual-in_err-tally.ensures.0
 
 pub returns-in_err-tally-clause-err : goal.returns-in_err-tally-clause-err
 returns-in_err-tally-clause-err g c = refused _ _ (still _ _ _ _ c.in_err-tally.ensures.same c.reserve.ensures.items c.self.view_is)
