@@ -1,16 +1,13 @@
 -- A drawer with the tickets of two has the parts of both.
-use Rattle.std.proofs.Common.{◌≡◌, ℕ, Bool, true, false, List, [], ◌++◌, ◌||◌, Option, Some, None, IfSome, MatchOption, Result, Ok, Err, IfOk, IsOkAnd, Vec, refl, All, map, ap, sym, ◌∙◌, subst}
+use Rattle.std.proofs.Common.{◌≡◌, Bool, true, false, List, [], ◌++◌, ◌||◌, Option, Some, None, IfSome, MatchOption, Result, Ok, Err, IfOk, IsOkAnd, Vec, refl, All, map, ap, sym, ◌∙◌, subst}
 use Rattle.std.proofs.lemmas.List.{map-append}
 use Rattle.std.proofs.lemmas.List.Elements.{All-append}
-use Rattle.trlab_machine.specs.declared.dice.Dice.{Dice}
-use Rattle.trlab_road.specs.Cells.{Cells, cars}
 use Rattle.trlab_segments.specs.Answered.{HasParts, number_of}
 use Rattle.trlab_segments.specs.Drawers.{IsFrom, tickets_of, is_ended}
 use Rattle.trlab_segments.specs.declared.drawer.Drawer.{Drawer}
 use Rattle.trlab_segments.specs.declared.drawer.Tickets.{Tickets}
 use Rattle.trlab_segments.specs.declared.part.Part.{Part}
-use Rattle.trlab_pool.specs.declared.brief.Brief.{Brief}
-use Rattle.trlab_pool.specs.Trays.{AnswersAll, Asks, IsJoined, IsNew, Joins}
+use Rattle.trlab_pool.specs.Trays.{IsJoined, IsNew, Joins}
 
 or_true : (x : Bool) → (x || true) ≡ true
 or_true true = refl
@@ -73,12 +70,3 @@ joined_from t (Some b) d all from joins = joins.from
 pub new_from : (t : Tickets) (reserve : Option Drawer) → IfSome reserve (IsNew t) → IfSome reserve (IsFrom t)
 new_from t None new = tt
 new_from t (Some d) new = new.0
-
--- what all cars answer to what is asked of them
-pub asked_all : {P A B E : Type 0} (answers : P → Dice → Cells → ℕ → ℕ → List A → Type 0) (b : Brief P) (p : P) (d : Dice) (r : Cells)
-    (told : Result (Vec A B) E) → Asks b p d r → IfOk told (λ found. AnswersAll answers b found.items)
-    → IfOk told (λ found. answers p d r 0 (cars r) found.items)
-asked_all answers b p d r told asks holds =
-    subst (λ x. IfOk told (λ found. answers p d x 0 (cars x) found.items)) asks.road
-    (subst (λ x. IfOk told (λ found. answers p x b.road 0 (cars b.road) found.items)) asks.dice
-    (subst (λ x. IfOk told (λ found. answers x b.dice b.road 0 (cars b.road) found.items)) asks.program holds))

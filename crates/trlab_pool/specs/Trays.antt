@@ -52,18 +52,6 @@ abbrev pub AnswersAll : {P A : Type 0} → (P → Dice → Cells → ℕ → ℕ
     → Brief P → List A → Type 0
 AnswersAll answers b found = answers b.program b.dice b.road 0 (cars b.road) found
 
--- what is asked of the cars of a road
-pub record Asks {P : Type 0} (b : Brief P) (p : P) (d : Dice) (r : Cells) : Type 0 where
-  pub program : b.program ≡ p
-  pub dice : b.dice ≡ d
-  pub road : b.road ≡ r
-
--- the cars are cut into so many segments, which have them all, and can be asked
-pub record IsAskedWhole {P : Type 0} (can_ask : Cells → Type 0) (b : Brief P) (n : ℕ) : Type 0 where
-  pub count : n ≡ count_of b.tickets
-  pub cut : IsCutWhole b
-  pub lanes : can_ask b.road
-
 -- a drawer has what another drew before, if there is one, and then what a second drew
 abbrev pub IsJoined : Tickets → Option Drawer → Drawer → Drawer → Type 0
 IsJoined tickets before d all = MatchOption before (all ≡ d) (λ b. Joins tickets b d all)

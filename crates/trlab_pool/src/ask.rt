@@ -3,7 +3,7 @@
 ghost use Rattle.std.specs.Prelude.{◌≡◌, ◌<◌, ◌≤◌, IfErr, IfOk};
 ghost use Rattle.std.specs.Arc.{arc_value};
 ghost use Rattle.trlab_bounds.specs.declared.runs.TheConstants.{MOST_WORKERS};
-ghost use Rattle.trlab_pool.specs.Trays.{AnswersAll, Asks, IsAskedWhole, IsNew};
+ghost use Rattle.trlab_pool.specs.Trays.{IsNew};
 ghost use Rattle.trlab_road.specs.Cells.{cars};
 ghost use Rattle.trlab_segments.specs.Segments.{first_car};
 
@@ -29,17 +29,6 @@ const SEGMENTS_A_WORKER: u32 = 16;
 /// How many cars a segment has, so that to draw it costs little beside asking them.
 const CARS_A_SEGMENT: u32 = 256;
 
-/// Waits a little after so many looks, and answers how many they are with this one.
-fn pause(looks: u32) -> u32 {
-    if looks < LOOKS {
-        hint::spin_loop();
-        looks + 1
-    } else {
-        thread::yield_now();
-        looks
-    }
-}
-
 /// The phase, once no helper has it.
 fn alone<A, P: Asked<A>, R: Wait>(rt: &R, task: Arc<Task<A, P>, Global>) -> Task<A, P>
     ensures { result ≡ arc_value task }
@@ -51,7 +40,12 @@ fn alone<A, P: Asked<A>, R: Wait>(rt: &R, task: Arc<Task<A, P>, Global>) -> Task
             Ok(task) => return task,
             Err(shared) => task = shared,
         }
-        looks = pause(looks);
+        if looks < LOOKS {
+            looks += 1;
+            hint::spin_loop();
+        } else {
+            thread::yield_now();
+        }
     }
     unreachable!()
 }
@@ -67,45 +61,7 @@ fn segments_for(cars: u32, workers: u32) -> u32
     segment_count(cars, workers).max(fine)
 }
 
-/// What is asked, as all workers see it, of as many segments, and the caller's drawer.
-///
-/// # Errors
-///
-/// Gives the road back where an allocation was refused.
-fn begun<A: Copy + Drop, P: Asked<A> + Drop>(
-    alloc: Global,
-    program: P,
-    dice: Dice,
-    road: Road,
-    count: u32,
-    workers: u32,
-) -> Result<(Arc<Task<A, P>, Global>, Drawer), Road>
-    requires many { 1 < workers }
-    requires few { workers ≤ MOST_WORKERS }
-    requires cut { first_car (cars road) count count ≡ cars road }
-    requires lanes { P.can_ask road }
-    ensures asks { IfOk result (λ begun. Asks (arc_value begun.0).brief program dice road) }
-    ensures asked { IfOk result (λ begun. IsAskedWhole P.can_ask (arc_value begun.0).brief count) }
-    ensures mine { IfOk result (λ begun. IsNew (arc_value begun.0).brief.tickets begun.1) }
-    ensures err { IfErr result (λ back. back ≡ road) }
-{
-    let Ok((tickets, mut reserve)) = Tickets::start(alloc, count, workers) else {
-        return Err(road);
-    };
-    let mine = tickets.split(&mut reserve);
-    let brief = Brief {
-        program,
-        dice,
-        road,
-        tickets,
-    };
-    match shared_task(alloc, brief, reserve) {
-        Ok(task) => Ok((task, mine)),
-        Err(road) => Err(road),
-    }
-}
-
-/// What is asked, once a tray is kept for it.
+/// What is asked, as all workers see it.
 ///
 /// # Errors
 ///
@@ -174,64 +130,26 @@ impl<'a, R: Wait, G: Gate> Pool<'a, R, G> {
             onlooker.see(&road);
             return ask_alone(alloc, program, dice, road);
         }
-        self.shared_answers_of(alloc, board, program, dice, road, workers, onlooker)
-    }
-
-    /// The same, where the caller asks them with helpers.
-    ///
-    /// # Errors
-    ///
-    /// Where an allocation was refused, to the caller or to a helper.
-    fn shared_answers_of<A: Copy + Drop, P: Asked<A> + Drop, O: Onlooker>(
-        &self,
-        alloc: Global,
-        board: &Board<A, P>,
-        program: P,
-        dice: Dice,
-        road: Road,
-        workers: u32,
-        onlooker: &mut O,
-    ) -> (Road, Result<Vec<A>, AllocError>)
-        requires many { 1 < workers }
-        requires few { workers ≤ MOST_WORKERS }
-        requires lanes { P.can_ask road }
-        ensures road { result.0 ≡ road }
-        ensures seen { O.sees onlooker.old road onlooker.new }
-        ensures answers { IfOk result.1 (λ answers. P.answers program dice road 0 (cars road) answers.items) }
-    {
         let count = segments_for(road.cars(), workers);
-        match begun(alloc, program, dice, road, count, workers) {
-            Ok((task, mine)) => {
-                self.open(board, &task, workers, onlooker);
-                self.drawn_with(alloc, board, task, mine, count)
-            }
+        let Ok((tickets, mut reserve)) = Tickets::start(alloc, count, workers) else {
+            onlooker.see(&road);
+            return (road, Err(AllocError));
+        };
+        let mut mine = tickets.split(&mut reserve);
+        let brief = Brief {
+            program,
+            dice,
+            road,
+            tickets,
+        };
+        let task = match shared_task(alloc, brief, reserve) {
+            Ok(task) => task,
             Err(road) => {
                 onlooker.see(&road);
-                (road, Err(AllocError))
+                return (road, Err(AllocError));
             }
-        }
-    }
-
-    /// The road, and what is answered to all its cars, where the caller draws with the helpers until the
-    /// phase has ended.
-    ///
-    /// # Errors
-    ///
-    /// Where an allocation was refused, to the caller or to a helper.
-    fn drawn_with<A: Copy + Drop, P: Asked<A> + Drop>(
-        &self,
-        alloc: Global,
-        board: &Board<A, P>,
-        task: Arc<Task<A, P>, Global>,
-        mine: Drawer,
-        count: u32,
-    ) -> (Road, Result<Vec<A>, AllocError>)
-        requires asked { IsAskedWhole P.can_ask (arc_value task).brief count }
-        requires mine { IsNew (arc_value task).brief.tickets mine }
-        ensures road { result.0 ≡ (arc_value task).brief.road }
-        ensures answers { IfOk result.1 (λ answers. AnswersAll P.answers (arc_value task).brief answers.items) }
-    {
-        let mut mine = mine;
+        };
+        self.open(board, &task, workers, onlooker);
         let parts = draw_all(alloc, &task.brief, &mut mine, 0, self.gate);
         board.withdraw(self.rt);
         alone(self.rt, task).settle(self.rt, alloc, count, mine, parts)

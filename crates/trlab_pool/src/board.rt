@@ -3,7 +3,7 @@
 use crate::task::Task;
 use std::alloc::Global;
 use std::sync::{Arc, Mutex, Wait};
-use trlab_segments::{Asked, Gate};
+use trlab_segments::Asked;
 
 /// At most one phase of a kind.
 #[derive(Drop)]
@@ -11,7 +11,7 @@ pub struct Board<A, P: Asked<A>> {
     open: Mutex<Option<Arc<Task<A, P>, Global>>>,
 }
 
-impl<A: Copy + Drop, P: Asked<A> + Drop> Board<A, P> {
+impl<A: Drop, P: Asked<A> + Drop> Board<A, P> {
     /// No phase is open.
     pub fn new() -> Board<A, P> {
         Board {
@@ -37,15 +37,8 @@ impl<A: Copy + Drop, P: Asked<A> + Drop> Board<A, P> {
         drop(before);
     }
 
-    /// Helps with the phase that is open, if one is.
-    pub fn help<R: Wait, G: Gate>(&self, rt: &R, alloc: Global, gate: &G) {
-        if let Some(task) = self.task(rt) {
-            task.help(rt, alloc, gate);
-        }
-    }
-
     /// The phase that is open.
-    fn task<R: Wait>(&self, rt: &R) -> Option<Arc<Task<A, P>, Global>> {
+    pub fn task<R: Wait>(&self, rt: &R) -> Option<Arc<Task<A, P>, Global>> {
         let open = self.open.lock(rt);
         match &*open {
             Some(task) => Arc::try_clone(task).ok(),

@@ -1,19 +1,17 @@
 //! What a worker does in a phase, and how the answers of all become one list.
 
-ghost use Rattle.std.specs.Prelude.{◌≡◌, All, IfOk, map, true};
-ghost use Rattle.trlab_pool.specs.Trays.{AnswersAll, HasDone, IsAskedWhole, IsNew, IsRight};
+ghost use Rattle.std.specs.Prelude.{◌≡◌, IfOk};
+ghost use Rattle.trlab_pool.specs.Trays.{AnswersAll, HasDone, IsCutWhole, IsNew, IsRight};
 ghost use Rattle.trlab_road.specs.Cells.{cars};
-ghost use Rattle.trlab_segments.specs.Answered.{HasParts, IsPart, number_of};
-ghost use Rattle.trlab_segments.specs.Drawers.{IsFrom, count_of, tickets_of};
-ghost use Rattle.trlab_segments.specs.Segments.{first_car};
-ghost use Rattle.trlab_segments.specs.Stocks.{IsWhole};
+ghost use Rattle.trlab_segments.specs.Answered.{HasParts};
+ghost use Rattle.trlab_segments.specs.Drawers.{IsFrom, count_of};
 
 use crate::brief::Brief;
 use std::alloc::{AllocError, Global};
 use trlab_road::Road;
 use trlab_segments::lineup::line_up;
 use trlab_segments::work::work;
-use trlab_segments::{Asked, Drawer, Gate, Part, Phase, Segment, Tickets};
+use trlab_segments::{Asked, Drawer, Gate, Part, Phase, Segment};
 
 /// Asks the cars of one segment after the other, as their numbers are drawn, until none is left.
 ///
@@ -55,40 +53,6 @@ pub fn ask_whole<A, P: Asked<A>>(alloc: Global, phase: &Phase<P>) -> Result<Vec<
     P::ask(alloc, phase, Segment { from: 0, to })
 }
 
-/// Whether one drawer drew all tickets, so that no pass of them is left.
-fn is_whole(tickets: Tickets, drawer: Drawer) -> bool
-    requires { IsFrom tickets drawer }
-    ensures { result ≡ true → IsWhole (tickets_of drawer) (count_of tickets) }
-{
-    tickets.finish(drawer).is_ok()
-}
-
-/// The answers of all cars of a phase, in standing order: those of the parts, where these are whole.
-///
-/// # Errors
-///
-/// Where an allocation was refused.
-fn line_up_or_ask<A: Copy, P: Asked<A>>(
-    alloc: Global,
-    phase: &Phase<P>,
-    count: u32,
-    is_whole: bool,
-    parts: &[Part<A>],
-) -> Result<Vec<A>, AllocError>
-    requires cut { first_car (cars phase.now.road.now) count count ≡ cars phase.now.road.now }
-    requires lanes { P.can_ask phase.now.road.now }
-    requires right { All (IsPart P.answers phase.now count) parts.now }
-    requires whole { is_whole ≡ true → IsWhole (map number_of parts.now) count }
-    ensures { IfOk result (λ answers. P.answers phase.now.program.now phase.now.dice.now
-        phase.now.road.now 0 (cars phase.now.road.now) answers.items) }
-{
-    if is_whole {
-        line_up(alloc, phase, count, parts)
-    } else {
-        ask_whole(alloc, phase)
-    }
-}
-
 /// The road, and the answers of all its cars, of which one drawer drew the numbers of the segments. They
 /// are asked here where it did not draw all.
 ///
@@ -102,7 +66,9 @@ pub fn finish<A: Copy + Drop, P: Asked<A> + Drop>(
     drawer: Drawer,
     parts: &[Part<A>],
 ) -> (Road, Result<Vec<A>, AllocError>)
-    requires asked { IsAskedWhole P.can_ask brief count }
+    requires count { count ≡ count_of brief.tickets }
+    requires cut { IsCutWhole brief }
+    requires lanes { P.can_ask brief.road }
     requires done { HasDone P.answers brief drawer parts.now }
     ensures road { result.0 ≡ brief.road }
     ensures answers { IfOk result.1 (λ answers. AnswersAll P.answers brief answers.items) }
@@ -113,12 +79,14 @@ pub fn finish<A: Copy + Drop, P: Asked<A> + Drop>(
         road,
         tickets,
     } = brief;
-    let whole = is_whole(tickets, drawer);
     let phase = Phase {
         program: &program,
         road: &road,
         dice: &dice,
     };
-    let answers = line_up_or_ask(alloc, &phase, count, whole, parts);
+    let answers = match tickets.finish(drawer) {
+        Ok(()) => line_up(alloc, &phase, count, parts),
+        Err(_) => ask_whole(alloc, &phase),
+    };
     (road, answers)
 }

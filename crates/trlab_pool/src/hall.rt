@@ -79,8 +79,12 @@ impl Hall {
             if self.is_closed() {
                 return;
             }
-            self.motions.help(rt, alloc, gate);
-            self.changes.help(rt, alloc, gate);
+            if let Some(task) = self.motions.task(rt) {
+                task.help(rt, alloc, gate);
+            }
+            if let Some(task) = self.changes.task(rt) {
+                task.help(rt, alloc, gate);
+            }
         }
     }
 }

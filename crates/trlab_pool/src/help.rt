@@ -1,8 +1,9 @@
 //! A phase that threads have in common.
 
-ghost use Rattle.std.specs.Prelude.{◌≡◌, IfErr, IfOk, IfSome};
-ghost use Rattle.trlab_pool.specs.Trays.{AnswersAll, HasDone, IsAskedWhole, IsNew, IsTray, TellsDone};
+ghost use Rattle.std.specs.Prelude.{◌≡◌, IfErr, IfOk};
+ghost use Rattle.trlab_pool.specs.Trays.{AnswersAll, IsCutWhole, IsTray, IsNew, TellsDone};
 ghost use Rattle.trlab_pool.specs.Lockers.{HasOnly};
+ghost use Rattle.trlab_segments.specs.Drawers.{count_of};
 
 use crate::brief::{Brief, Tray};
 use crate::drawing::{draw_all, finish};
@@ -56,56 +57,18 @@ impl<A: Copy + Drop, P: Asked<A> + Drop> Task<A, P> {
         self.tray.put_back(tray, loan);
     }
 
-    /// A pass of the reserve, if one is left, and the number of its worker.
-    fn pick<R: Wait>(&self, rt: &R) -> Option<(Drawer, u32)>
-        ensures new { IfSome result (λ picked. IsNew self.now.brief.tickets picked.0) }
-        ensures lanes { P.can_ask self.now.brief.road }
-    {
+    /// Helps, where a pass is left: asks the cars of segments until none is left, and lays down the answers.
+    pub fn help<R: Wait, G: Gate>(&self, rt: &R, alloc: Global, gate: &G) {
         let (tray, loan) = self.take(rt);
         let (tray, picked) = pick(&self.brief, tray);
         self.put_back(tray, loan);
-        picked
-    }
-
-    /// Lays down what a helper did.
-    fn lay<R: Wait>(
-        &self,
-        rt: &R,
-        alloc: Global,
-        drawer: Drawer,
-        parts: Result<Vec<Part<A>>, AllocError>,
-    )
-        requires { TellsDone P.answers self.now.brief drawer parts }
-    {
+        let Some((mut drawer, worker)) = picked else {
+            return;
+        };
+        let parts = draw_all(alloc, &self.brief, &mut drawer, worker, gate);
         let (tray, loan) = self.take(rt);
         let tray = lay(alloc, &self.brief, tray, drawer, parts);
         self.put_back(tray, loan);
-    }
-
-    /// Helps, where a pass is left: asks the cars of segments until none is left, and lays down the answers.
-    pub fn help<R: Wait, G: Gate>(&self, rt: &R, alloc: Global, gate: &G) {
-        if let Some((mut drawer, worker)) = self.pick(rt) {
-            let parts = draw_all(alloc, &self.brief, &mut drawer, worker, gate);
-            self.lay(rt, alloc, drawer, parts);
-        }
-    }
-
-    /// What everyone did, with every pass that came back, once nobody else has the tray.
-    ///
-    /// # Errors
-    ///
-    /// Where an allocation was refused, to the caller or to a helper.
-    fn gathered<R: Wait>(
-        &self,
-        rt: &R,
-        mine: Drawer,
-        parts: Result<Vec<Part<A>>, AllocError>,
-    ) -> Result<(Drawer, Vec<Part<A>>), AllocError>
-        requires { TellsDone P.answers self.now.brief mine parts }
-        ensures { IfOk result (λ all. HasDone P.answers self.now.brief all.0 all.1.items) }
-    {
-        let (tray, _) = self.take(rt);
-        gathered(&self.brief, tray, mine, parts)
     }
 
     /// The road, and the answers of all its cars, once no helper is left; the caller drew so many numbers
@@ -122,31 +85,25 @@ impl<A: Copy + Drop, P: Asked<A> + Drop> Task<A, P> {
         mine: Drawer,
         parts: Result<Vec<Part<A>>, AllocError>,
     ) -> (Road, Result<Vec<A>, AllocError>)
-        requires asked { IsAskedWhole P.can_ask self.brief count }
+        requires count { count ≡ count_of self.brief.tickets }
+        requires cut { IsCutWhole self.brief }
         requires done { TellsDone P.answers self.brief mine parts }
         ensures road { result.0 ≡ self.brief.road }
         ensures answers { IfOk result.1 (λ answers. AnswersAll P.answers self.brief answers.items) }
     {
-        let done = self.gathered(rt, mine, parts);
-        let brief = self.into_brief();
-        match done {
+        let (found, _) = self.take(rt);
+        let Task { brief, tray: _tray } = self;
+        match gathered(&brief, found, mine, parts) {
             Ok((drawer, parts)) => finish(alloc, brief, count, drawer, &parts),
             Err(_) => (brief.into_road(), Err(AllocError)),
         }
-    }
-
-    /// What is asked.
-    fn into_brief(self) -> Brief<P>
-        ensures { result ≡ self.brief }
-    {
-        let Task { brief, tray: _tray } = self;
-        brief
     }
 
     /// The road alone.
     pub fn into_road(self) -> Road
         ensures { result ≡ self.brief.road }
     {
-        self.into_brief().into_road()
+        let Task { brief, tray: _tray } = self;
+        brief.into_road()
     }
 }

@@ -6,27 +6,27 @@ use Rattle.trlab_pool.proofs.asker.PoolAsker.crossings.Goals as goal
 
 pub prove-unreachable-requires : goal.prove-unreachable-requires
 prove-unreachable-requires g c =
-    let told = of_copied c.copy-program.result (λ p. IsCrossesPart p c.args.dice.now c.args.road.now 0 (cars c.args.road.now) c.put_told.new.answers.items)
-    c.args.change.now c.copy-program.ensures c.in_ok-put_told.ensures.answers in
-    c.if-prove.true (omega (arith, told.0.one_each, c.cars-cars.ensures.value, c.len.ensures, c.put_told.new.answers.ok))
+    let told = of_copied c.copy-program.result (λ p. IsCrossesPart p c.args.dice.now c.args.road.now 0 (cars c.args.road.now) c.in_ok-answers.field-0.items)
+    c.args.change.now c.copy-program.ensures c.in_ok-answers.ensures.answers in
+    c.if-prove.true (omega (arith, told.0.one_each, c.cars-cars.ensures.value, c.len.ensures, c.in_ok-answers.field-0.ok))
 
 pub returns-clause-crossings : goal.returns-clause-crossings
 returns-clause-crossings g c =
-    let told = of_copied c.copy-program.result (λ p. IsCrossesPart p c.args.dice.now c.args.road.now 0 (cars c.args.road.now) c.put_told.new.answers.items)
-    c.args.change.now c.copy-program.ensures c.in_ok-put_told.ensures.answers in
+    let told = of_copied c.copy-program.result (λ p. IsCrossesPart p c.args.dice.now c.args.road.now 0 (cars c.args.road.now) c.in_ok-answers.field-0.items)
+    c.args.change.now c.copy-program.ensures c.in_ok-answers.ensures.answers in
     told.0
 
 pub returns-clause-free : goal.returns-clause-free
 returns-clause-free g c =
-    let told = of_copied c.copy-program.result (λ p. IsCrossesPart p c.args.dice.now c.args.road.now 0 (cars c.args.road.now) c.put_told.new.answers.items)
-    c.args.change.now c.copy-program.ensures c.in_ok-put_told.ensures.answers in
+    let told = of_copied c.copy-program.result (λ p. IsCrossesPart p c.args.dice.now c.args.road.now 0 (cars c.args.road.now) c.in_ok-answers.field-0.items)
+    c.args.change.now c.copy-program.ensures c.in_ok-answers.ensures.answers in
     told.1
 
 pub returns-clause-few : goal.returns-clause-few
 returns-clause-few g c =
-    let told = of_copied c.copy-program.result (λ p. IsCrossesPart p c.args.dice.now c.args.road.now 0 (cars c.args.road.now) c.put_told.new.answers.items)
-    c.args.change.now c.copy-program.ensures c.in_ok-put_told.ensures.answers in
+    let told = of_copied c.copy-program.result (λ p. IsCrossesPart p c.args.dice.now c.args.road.now 0 (cars c.args.road.now) c.in_ok-answers.field-0.items)
+    c.args.change.now c.copy-program.ensures c.in_ok-answers.ensures.answers in
     omega (arith, told.0.one_each, c.cars-cars.ensures.value, c.cars-cars.ensures.few)
 
 pub returns-clause-seen : goal.returns-clause-seen
-returns-clause-seen g c = c.put_told.ensures.seen
+returns-clause-seen g c = c.told_by.ensures.seen
