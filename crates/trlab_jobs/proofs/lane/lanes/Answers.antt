@@ -1,3 +1,5 @@
+use Rattle.std.proofs.Common.{arith}
+use Rattle.std.proofs.lemmas.Grind.{common_steps}
 use Rattle.trlab_jobs.proofs.HandedOn.{handed_on}
 use Rattle.trlab_jobs.proofs.Shown.{lanes_show, lanes_fail}
 use Rattle.trlab_jobs.proofs.lane.lanes.Goals as goal
@@ -10,3 +12,9 @@ returns-in_err-road-clause-told c =
 pub returns-clause-told : goal.returns-clause-told
 returns-clause-told c =
     lanes_show c.args.limit c.number-first.result _ _ _ _ _ c.in_ok-road.road c.number-first.ensures c.in_ok-picture.ensures.told c.in_ok-second.ensures c.in_ok-road.ensures.told
+
+pub returns-in_err-picture-clause-told : goal.returns-in_err-picture-clause-told
+returns-in_err-picture-clause-told c = grind (arith, common_steps)
+
+pub returns-in_err-second-clause-told : goal.returns-in_err-second-clause-told
+returns-in_err-second-clause-told c = grind (arith, common_steps)

@@ -1,3 +1,5 @@
+use Rattle.std.proofs.Common.{arith}
+use Rattle.std.proofs.lemmas.Grind.{common_steps}
 use Rattle.trlab_jobs.specs.RuleLines.{stored_words}
 use Rattle.trlab_jobs.proofs.LaterWords.{later_said}
 use Rattle.trlab_jobs.proofs.rule_line.later_line.Goals as goal
@@ -9,3 +11,15 @@ returns-clause-value c =
 
 pub returns-clause-rises : goal.returns-clause-rises
 returns-clause-rises c = c.in_ok-from.ensures.rises
+
+pub returns-in_default-clause-value : goal.returns-in_default-clause-value
+returns-in_default-clause-value c = grind (arith, common_steps)
+
+pub returns-in_err-step-clause-value : goal.returns-in_err-step-clause-value
+returns-in_err-step-clause-value c = grind (arith, common_steps)
+
+pub returns-in_err-rule-clause-value : goal.returns-in_err-rule-clause-value
+returns-in_err-rule-clause-value c = grind (arith, common_steps)
+
+pub returns-in_err-from-clause-value : goal.returns-in_err-from-clause-value
+returns-in_err-from-clause-value c = grind (arith, common_steps)

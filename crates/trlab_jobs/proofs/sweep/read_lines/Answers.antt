@@ -1,3 +1,5 @@
+use Rattle.std.proofs.Common.{arith}
+use Rattle.std.proofs.lemmas.Grind.{common_steps}
 use Rattle.trlab_jobs.proofs.HandedOn.{handed_on}
 use Rattle.trlab_jobs.proofs.SweepCounts.{counts_fail, counts_said}
 use Rattle.trlab_jobs.proofs.SomeSweep.{said_stored}
@@ -23,3 +25,6 @@ pub returns-clause-told : goal.returns-clause-told
 returns-clause-told c =
     let told = rw (← c.setup.view_is) at c.in_ok-setup.ensures.told in
     counts_said _ c.in_ok-cars.cars.items c.args.text.now c.start.result c.in_ok-setup.rest c.start.ensures told c.in_ok-cars.ensures
+
+pub returns-in_err-setup-clause-told : goal.returns-in_err-setup-clause-told
+returns-in_err-setup-clause-told c = grind (arith, common_steps)
