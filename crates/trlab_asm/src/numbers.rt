@@ -44,8 +44,5 @@ pub(crate) fn number_of(low: u32, word: &[u8]) -> Result<u32, Why>
     ensures value { result ≡ digits_of word.now followed value_within low GREATEST_NUMBER }
     ensures low { IfOk result (λ n. low ≤ n) }
 {
-    match digits_of(word) {
-        Ok(digits) => value_within(low, GREATEST_NUMBER, digits),
-        Err(why) => Err(why),
-    }
+    value_within(low, GREATEST_NUMBER, digits_of(word)?)
 }

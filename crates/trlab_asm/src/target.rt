@@ -46,10 +46,8 @@ fn pc_named(text: &[u8]) -> Result<Target<'_>, Why>
     let Some(digits) = text.strip_prefix(b"@") else {
         return Err(Why::Operand);
     };
-    match number_of(0, digits) {
-        Ok(pc) => Ok(Target { pc, label: None }),
-        Err(why) => Err(why),
-    }
+    let pc = number_of(0, digits)?;
+    Ok(Target { pc, label: None })
 }
 
 /// The target that a word names: a label, or a pc.
