@@ -52,108 +52,88 @@ fn jump_draft<'a>(instr: Instr, to: Target<'a>) -> Draft<'a>
 fn read_draw(text: &[u8]) -> Result<Draft<'_>, Why>
     ensures { result ≡ draft_of Draw text.now }
 {
-    match register_word_chance(text) {
-        Ok((d, (k, t))) => Ok(whole_draft(Instr::Draw(d, k as u8, t))),
-        Err(why) => Err(why),
-    }
+    let (d, (k, t)) = register_word_chance(text)?;
+    Ok(whole_draft(Instr::Draw(d, k as u8, t)))
 }
 
 /// `div` with its operands, of which the number is at least 1.
 fn read_div(text: &[u8]) -> Result<Draft<'_>, Why>
     ensures { result ≡ draft_of Div text.now }
 {
-    match two_registers_number(1, text) {
-        Ok((d, (a, n))) => Ok(whole_draft(Instr::Div(d, a, n))),
-        Err(why) => Err(why),
-    }
+    let (d, (a, n)) = two_registers_number(1, text)?;
+    Ok(whole_draft(Instr::Div(d, a, n)))
 }
 
 /// An instruction without operands: `cross`, or else `stay`.
 fn read_none(name: Mnemonic, text: &[u8]) -> Result<Draft<'_>, Why>
     ensures { result ≡ no_operand text.now followed λ none. whole_draft (of_none name) }
 {
-    match no_operand(text) {
-        Ok(()) => Ok(whole_draft(match name {
-            Mnemonic::Cross => Instr::Cross,
-            _ => Instr::Stay,
-        })),
-        Err(why) => Err(why),
-    }
+    no_operand(text)?;
+    Ok(whole_draft(match name {
+        Mnemonic::Cross => Instr::Cross,
+        _ => Instr::Stay,
+    }))
 }
 
 /// An instruction with one register: `side`, or else `go`.
 fn read_one(name: Mnemonic, text: &[u8]) -> Result<Draft<'_>, Why>
     ensures { result ≡ register text.now followed λ a. whole_draft (of_one name a) }
 {
-    match register(text) {
-        Ok(a) => Ok(whole_draft(match name {
-            Mnemonic::Side => Instr::Side(a),
-            _ => Instr::Go(a),
-        })),
-        Err(why) => Err(why),
-    }
+    let a = register(text)?;
+    Ok(whole_draft(match name {
+        Mnemonic::Side => Instr::Side(a),
+        _ => Instr::Go(a),
+    }))
 }
 
 /// An instruction with two registers: `copy`, or else `not`.
 fn read_two(name: Mnemonic, text: &[u8]) -> Result<Draft<'_>, Why>
     ensures { result ≡ two_registers text.now followed λ x. whole_draft (of_two name x.0 x.1) }
 {
-    match two_registers(text) {
-        Ok((d, a)) => Ok(whole_draft(match name {
-            Mnemonic::Copy => Instr::Copy(d, a),
-            _ => Instr::Not(d, a),
-        })),
-        Err(why) => Err(why),
-    }
+    let (d, a) = two_registers(text)?;
+    Ok(whole_draft(match name {
+        Mnemonic::Copy => Instr::Copy(d, a),
+        _ => Instr::Not(d, a),
+    }))
 }
 
 /// An instruction with three registers: one of five, or else `or`.
 fn read_three(name: Mnemonic, text: &[u8]) -> Result<Draft<'_>, Why>
     ensures { result ≡ three_registers text.now followed λ x. whole_draft (of_three name x.0 x.1.0 x.1.1) }
 {
-    match three_registers(text) {
-        Ok((d, (a, b))) => Ok(whole_draft(match name {
-            Mnemonic::Add => Instr::Add(d, a, b),
-            Mnemonic::Sub => Instr::Sub(d, a, b),
-            Mnemonic::Min => Instr::Min(d, a, b),
-            Mnemonic::Max => Instr::Max(d, a, b),
-            Mnemonic::And => Instr::And(d, a, b),
-            _ => Instr::Or(d, a, b),
-        })),
-        Err(why) => Err(why),
-    }
+    let (d, (a, b)) = three_registers(text)?;
+    Ok(whole_draft(match name {
+        Mnemonic::Add => Instr::Add(d, a, b),
+        Mnemonic::Sub => Instr::Sub(d, a, b),
+        Mnemonic::Min => Instr::Min(d, a, b),
+        Mnemonic::Max => Instr::Max(d, a, b),
+        Mnemonic::And => Instr::And(d, a, b),
+        _ => Instr::Or(d, a, b),
+    }))
 }
 
 /// A jump by one register: `jtrue`, or else `jfalse`.
 fn read_jump_by_one(name: Mnemonic, text: &[u8]) -> Result<Draft<'_>, Why>
     ensures { result ≡ register_target text.now followed λ x. jump_draft (of_one_target name x.0) x.1 }
 {
-    match register_target(text) {
-        Ok((a, to)) => {
-            let instr = match name {
-                Mnemonic::JumpTrue => Instr::JumpTrue(a, to.pc),
-                _ => Instr::JumpFalse(a, to.pc),
-            };
-            Ok(jump_draft(instr, to))
-        }
-        Err(why) => Err(why),
-    }
+    let (a, to) = register_target(text)?;
+    let instr = match name {
+        Mnemonic::JumpTrue => Instr::JumpTrue(a, to.pc),
+        _ => Instr::JumpFalse(a, to.pc),
+    };
+    Ok(jump_draft(instr, to))
 }
 
 /// A jump by two registers: `jlt`, or else `jle`.
 fn read_jump_by_two(name: Mnemonic, text: &[u8]) -> Result<Draft<'_>, Why>
     ensures { result ≡ two_registers_target text.now followed λ x. jump_draft (of_two_target name x.0 x.1.0) x.1.1 }
 {
-    match two_registers_target(text) {
-        Ok((a, (b, to))) => {
-            let instr = match name {
-                Mnemonic::JumpLess => Instr::JumpLess(a, b, to.pc),
-                _ => Instr::JumpAtMost(a, b, to.pc),
-            };
-            Ok(jump_draft(instr, to))
-        }
-        Err(why) => Err(why),
-    }
+    let (a, (b, to)) = two_registers_target(text)?;
+    let instr = match name {
+        Mnemonic::JumpLess => Instr::JumpLess(a, b, to.pc),
+        _ => Instr::JumpAtMost(a, b, to.pc),
+    };
+    Ok(jump_draft(instr, to))
 }
 
 /// The instruction of a name and its operands.
