@@ -18,7 +18,7 @@ DONE, REFUSED, WORDS, MEMORY, DEVICE = range(5)
 
 def need_program():
     if not os.access(PROGRAM, os.X_OK):
-        sys.exit(f"{PROGRAM} is not there; build it first: ./trlab run < examples/two_cars.job")
+        sys.exit(f"{PROGRAM} is not there; build it first (./trlab --prove), or name one in TRLAB")
 
 
 def ended(pid):
