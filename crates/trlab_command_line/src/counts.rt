@@ -42,7 +42,7 @@ pub(crate) fn runners_option<'a>(alloc: Global) -> Arg<'a>
 }
 
 /// The number that an option has among the matches of its command.
-pub fn count_of(matches: &ArgMatches, option: &str) -> u32
+pub(crate) fn count_of(matches: &ArgMatches, option: &str) -> u32
     requires { (v : Text) × HasValue (option.now) 16 (rows_of (found_of matches.now)) v }
     ensures number { GivesNumber (option.now) (rows_of (found_of matches.now)) result }
     ensures some { 1 ≤ result }

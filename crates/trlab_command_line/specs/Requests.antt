@@ -2,8 +2,8 @@
 use Rattle.std.specs.Prelude.{◌≡◌, ◌≤◌, ⊤, List, ◌∷◌, Option, Some, codes}
 use Rattle.clap.specs.Words.{Row, Text}
 use Rattle.trlab_command_line.specs.Numbers.{GivesNumber}
-use Rattle.trlab_commands.specs.declared.words.Wanted.{Wanted}
-use Rattle.trlab_commands.specs.declared.words.Wanted.TheVariants.{Check, Run, Sweep}
+use Rattle.trlab_command_line.specs.declared.words.Wanted.{Wanted}
+use Rattle.trlab_command_line.specs.declared.words.Wanted.TheVariants.{Check, Run, Sweep}
 use Rattle.trlab_bounds.specs.declared.runs.TheConstants.{MOST_WORKERS}
 use Rattle.trlab_book.specs.declared.limits.TheConstants.{MOST_RUNNERS}
 

@@ -7,8 +7,8 @@ use Rattle.trlab_wording.specs.declared.topics.Topic.{Topic}
 use Rattle.trlab_wording.specs.declared.topics.Topic.TheVariants.{Cause, Reason}
 use Rattle.trlab_texts.specs.declared.fault.Cause.{Cause as OfText}
 use Rattle.trlab_texts.specs.Words.{number_of, within}
-use Rattle.trlab_commands.specs.declared.explain.Explaining.{Explaining}
-use Rattle.trlab_commands.specs.declared.explain.Explaining.TheVariants.{Text, Number, Help, Nothing}
+use Rattle.trlab_command_line.specs.declared.explain.Explaining.{Explaining}
+use Rattle.trlab_command_line.specs.declared.explain.Explaining.TheVariants.{Text, Number, Help, Nothing}
 
 -- what a text is read as by the command of this name
 abbrev pub subject_named : List ℕ → Option Subject

@@ -3,11 +3,12 @@
 ghost use Rattle.std.specs.Prelude.{◌≡◌, ◌∷◌, [], IfOk, map, codes, string_bytes};
 ghost use Rattle.clap.specs.Words.{FailsBy, fault_of, subcommand_of};
 ghost use Rattle.trlab_command_line.specs.CommandLine.{command_line};
-ghost use Rattle.trlab_commands.specs.Requests.{Asks, HasCounts, IsNamedFirst};
+ghost use Rattle.trlab_command_line.specs.Requests.{Asks, HasCounts, IsNamedFirst};
 
+use crate::commands::command_line;
+use crate::counts::count_of;
 use clap::Error;
 use std::alloc::Global;
-use trlab_command_line::{command_line, count_of};
 
 /// What the words of the command line ask for.
 #[derive(Clone, Copy, Debug, PartialEq, Eq)]

@@ -1,9 +1,9 @@
 use Rattle.std.proofs.Common.{rules, sym, ap, ap₂, inl, inr, map, string_bytes}
 use Rattle.clap.specs.Words.{found_of, rows_of}
-use Rattle.trlab_commands.specs.declared.words.Wanted.TheVariants.{Run, Sweep}
+use Rattle.trlab_command_line.specs.declared.words.Wanted.TheVariants.{Run, Sweep}
 use Rattle.trlab_command_line.proofs.Matches.{alone_is_one, alone_has_one_runner, alone_has_one_worker, check_not_run, check_not_sweep, run_not_sweep, same_name, found, found_check, found_run, found_sweep, found_name, found_one}
-use Rattle.trlab_commands.proofs.words.read_words.Goals as goal
-use Rattle.trlab_commands.proofs.words.read_words.Goals.{in_default-via-in-Some+in_default, in_default-via-in_default}
+use Rattle.trlab_command_line.proofs.words.read_words.Goals as goal
+use Rattle.trlab_command_line.proofs.words.read_words.Goals.{in_default-via-in-Some+in_default, in_default-via-in_default}
 
 pub returns-in-Some-check-default : goal.returns-in-Some-check-default
 returns-in-Some-check-default c =

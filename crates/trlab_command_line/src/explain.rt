@@ -1,7 +1,7 @@
 //! The words of `explain`: which text is explained, and as what.
 
 ghost use Rattle.std.specs.Prelude.{◌≡◌, map, string_bytes};
-ghost use Rattle.trlab_commands.specs.Explains.{explain_word, explain_words, number_page, subject_named, topic_named};
+ghost use Rattle.trlab_command_line.specs.Explains.{explain_word, explain_words, number_page, subject_named, topic_named};
 
 use trlab_advice::Subject;
 use trlab_texts::word::number_from;
