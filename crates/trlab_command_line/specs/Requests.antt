@@ -4,8 +4,7 @@ use Rattle.clap.specs.Words.{Row, Text}
 use Rattle.trlab_command_line.specs.Numbers.{GivesNumber}
 use Rattle.trlab_command_line.specs.declared.words.Wanted.{Wanted}
 use Rattle.trlab_command_line.specs.declared.words.Wanted.TheVariants.{Check, Run, Sweep}
-use Rattle.trlab_bounds.specs.declared.runs.TheConstants.{MOST_WORKERS}
-use Rattle.trlab_book.specs.declared.limits.TheConstants.{MOST_RUNNERS}
+use Rattle.trlab_bounds.specs.declared.runs.TheConstants.{MOST_RUNNERS, MOST_WORKERS}
 
 -- what is asked for where a command was entered and has these matches: the command of that name,
 -- with the numbers of its options

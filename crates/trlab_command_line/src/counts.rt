@@ -9,8 +9,7 @@ ghost use Rattle.trlab_command_line.specs.Numbers.{GivesNumber, HasValue};
 use crate::help::{RUNNERS_HELP, WORKERS_HELP};
 use clap::{Arg, ArgMatches, value_parser};
 use std::alloc::Global;
-use trlab_book::MOST_RUNNERS;
-use trlab_bounds::runs::MOST_WORKERS;
+use trlab_bounds::runs::{MOST_RUNNERS, MOST_WORKERS};
 
 /// The option `--name n`, n from 1 to a greatest number, which is 1 where it is not given.
 fn count_option<'a>(alloc: Global, name: &'a str, most: u32, help: &'a str) -> Arg<'a>
