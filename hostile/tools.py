@@ -1,9 +1,14 @@
-"""What the scripts of this folder share: the built program, its runs on texts, and the count at the end.
+"""What the scripts of this folder share: the built program, its runs on texts, checks of a copy of the sources, and the
+count at the end.
 
 The program is the built one, or the one that TRLAB names."""
+import glob
 import os
+import re
 import select
+import shutil
 import signal
+import subprocess
 import sys
 from concurrent.futures import ProcessPoolExecutor
 
@@ -12,6 +17,15 @@ BUILT = os.path.join(TOP, "crates", "trlab_program", "out", "trlab_program")
 PROGRAM = os.environ.get("TRLAB", BUILT)
 LONGEST = 60  # seconds after which a run is called a hang
 MOST_TOLD = 20
+
+# A line that tells only that a proof file names what the edit took away.
+BY_NAME = re.compile(r"(note: )?(\./)?proofs/.*(has no field|is not in scope|has no `|was not admitted)")
+# A line that tells what is not proved, or where.
+TOLD = re.compile(r"\S+:\d+:\d+: error|note: \S+:\d+:\d+:")
+# A line that tells that a definition does not read.
+UNREAD = re.compile(r"(\./)?specs/\S+:\d+:\d+: error")
+# How the last line of a check begins, of a crate or of one function, that ends as not proved.
+NOT_PROVED = ("logic=not-proved", "only=1 proved=0")
 
 DONE, REFUSED, WORDS, MEMORY, DEVICE = range(5)
 
@@ -51,6 +65,31 @@ def run(words, text=b"", env=None, program=PROGRAM):
     finally:
         os.close(source)
         os.close(sink)
+
+
+def copy_of_sources(to):
+    """The files that git knows, in a new folder."""
+    files = subprocess.run(["git", "ls-files", "-z", "crates", "crates.txt", "HANDLES"], cwd=TOP, capture_output=True, check=True)
+    for name in filter(None, files.stdout.decode().split("\0")):
+        os.makedirs(os.path.dirname(os.path.join(to, name)), exist_ok=True)
+        shutil.copyfile(os.path.join(TOP, name), os.path.join(to, name))
+
+
+def copy_of_libraries(to):
+    """The libraries that were proved here, beside a copy of the sources, so that they are not proved again."""
+    for library in glob.glob(os.path.join(TOP, "crates", "*", "out", "rlib")):
+        shutil.copytree(library, os.path.join(to, os.path.relpath(library, TOP)))
+
+
+def is_refused(crate, *words):
+    """Whether the check of a crate, or of what the words name, ends as not proved by more than a name, while all
+    definitions read; and the first line that says why."""
+    ran = subprocess.run(["rt", "check", *words], cwd=crate, capture_output=True, text=True)
+    lines = (ran.stdout + ran.stderr).splitlines()
+    told = [line for line in lines if TOLD.match(line) and not BY_NAME.match(line)]
+    unread = [line for line in lines if UNREAD.match(line)]
+    is_judged = any(line.startswith(NOT_PROVED) for line in lines)
+    return is_judged and bool(told) and not unread, (unread or told or lines or [""])[0][:160]
 
 
 class Count:
