@@ -1,4 +1,4 @@
--- A lane whose cars go by the limit or their gaps, whichever is less: its cars are the slope of long heights.
+-- A lane whose cars go by the limit or their gaps, whichever is less: its cars are the slope of heights.
 use Rattle.std.proofs.Common.{◌≡◌, ◌≢◌, ℕ, zero, suc, ◌+◌, ◌-◌, ◌*◌, ◌%◌, ◌<◌, ◌≤◌, min, max, Bool, true, false, is_some, Some, None, length, refl, sym, ◌∙◌, ap, subst, inl, inr, arith, mod-eq_of_lt, mul-suc}
 use Rattle.std.proofs.Math.Nat.{add-mod_right, add-mul-mod_self_right, mod-add-mod, mod-lt}
 use Rattle.std.proofs.lemmas.Bool.{cases_lt}
@@ -8,8 +8,8 @@ use Rattle.trlab_road.specs.Motion.{IsClearAhead, LaneFits, LaneMoves}
 use Rattle.trlab_road.proofs.Ring.{blocked, clear_within_gap, inside}
 use Rattle.trlab_traffic.specs.Rule184.{digit, is_taken}
 use Rattle.trlab_traffic.proofs.GapsAfter.{left_free}
-use Rattle.trlab_traffic.proofs.Heights.{digit_at, digits_again, digits_total}
-use Rattle.trlab_traffic.proofs.LongHeights.{last_of, tall, tall_fast, tall_slowly, window, window_has, window_last, window_none, window_slides}
+use Rattle.trlab_traffic.proofs.Digits.{digit_at, digits_again, digits_total}
+use Rattle.trlab_traffic.proofs.Heights.{height, last_of, rises_fast, rises_slowly, window, window_has, window_last, window_none, window_slides}
 use Rattle.trlab_traffic.proofs.Places.{ahead_none, ahead_once, clear_is_gap}
 use Rattle.trlab_traffic.proofs.Sums.{total_last, total_same}
 use Rattle.trlab_traffic.proofs.Wolfram.{gap_none, gap_some}
@@ -215,7 +215,7 @@ module _ (limit : ℕ) (answer : ℕ → ℕ) (old new : Lane) (some_limit : 1 �
 -- a lane that has leapt for so many steps: its cars are the slope of the heights
 pub record Leaps (limit : ℕ) (first lane : Lane) (t : ℕ) : Type 0 where
   pub same_length : length lane ≡ length first
-  pub slope : (x : ℕ) → tall (digit_at first) (suc limit) t (suc x) ≡ tall (digit_at first) (suc limit) t x + digit_at lane (x + limit * t)
+  pub slope : (x : ℕ) → height (digit_at first) (suc limit) t (suc x) ≡ height (digit_at first) (suc limit) t x + digit_at lane (x + limit * t)
 
 pub leaps_itself : (limit : ℕ) (lane : Lane) → Leaps limit lane lane 0
 leaps_itself limit lane = record {
@@ -224,12 +224,12 @@ leaps_itself limit lane = record {
 }
 
 -- heights over some cells
-slopes : (limit : ℕ) (first lane : Lane) (t x k : ℕ) → Leaps limit first lane t → tall (digit_at first) (suc limit) t (x + k) ≡ tall (digit_at first) (suc limit) t x + window (digit_at lane) (x + limit * t) k
+slopes : (limit : ℕ) (first lane : Lane) (t x k : ℕ) → Leaps limit first lane t → height (digit_at first) (suc limit) t (x + k) ≡ height (digit_at first) (suc limit) t x + window (digit_at lane) (x + limit * t) k
 slopes limit first lane t x zero l =
     let e : x + 0 ≡ x = omega arith in
-    ap (tall (digit_at first) (suc limit) t) e ∙ (let g : tall (digit_at first) (suc limit) t x ≡ tall (digit_at first) (suc limit) t x + 0 = omega arith in g)
+    ap (height (digit_at first) (suc limit) t) e ∙ (let g : height (digit_at first) (suc limit) t x ≡ height (digit_at first) (suc limit) t x + 0 = omega arith in g)
 slopes limit first lane t x (suc k) l =
-    let h = tall (digit_at first) (suc limit) t in
+    let h = height (digit_at first) (suc limit) t in
     let e : x + suc k ≡ suc (x + k) = omega arith in
     let rest = slopes limit first lane t x k l in
     let more = l.slope (x + k) in
@@ -246,7 +246,7 @@ pub leaps_more : (limit : ℕ) (answer : ℕ → ℕ) (first old new : Lane) (t 
 leaps_more limit answer first old new t some_limit some l m goes = record {
   same_length = m.same_length ∙ l.same_length;
   slope = λ x.
-      let h = tall (digit_at first) (suc limit) t in
+      let h = height (digit_at first) (suc limit) t in
       let d = digit_at old in
       let p = x + limit * t in
       let size = l.same_length in
@@ -266,7 +266,7 @@ leaps_more limit answer first old new t some_limit some l m goes = record {
       let more = mul-suc limit t in
       let place : x + limit * suc t ≡ p + limit = omega (arith, more) in
       let there : digit_at new (x + limit * suc t) ≡ after = ap (digit_at new) place ∙ ap (λ k. digit (is_taken new ((p + limit) % k))) m.same_length in
-      a ∙ up ∙ ap (λ k. k + after) (sym b) ∙ ap (λ k. tall (digit_at first) (suc limit) (suc t) x + k) (sym there);
+      a ∙ up ∙ ap (λ k. k + after) (sym b) ∙ ap (λ k. height (digit_at first) (suc limit) (suc t) x + k) (sym there);
 }
 
 -- some cells of a lane by their heights
@@ -274,7 +274,7 @@ module _ (limit : ℕ) (first lane : Lane) (t y : ℕ) (l : Leaps limit first la
   abbrev seen_from : ℕ
   seen_from = y + limit * t * (length lane - 1)
 
-  cells_from : tall (digit_at first) (suc limit) t (seen_from + suc limit) ≡ tall (digit_at first) (suc limit) t seen_from + window (digit_at lane) y (suc limit)
+  cells_from : height (digit_at first) (suc limit) t (seen_from + suc limit) ≡ height (digit_at first) (suc limit) t seen_from + window (digit_at lane) y (suc limit)
   cells_from =
       let n = length lane in
       let q = limit * t in
@@ -285,14 +285,14 @@ module _ (limit : ℕ) (first lane : Lane) (t y : ℕ) (l : Leaps limit first la
       (λ i low.
       let f : seen_from + q + i ≡ y + i + q * n = omega (arith, e) in
       ap (digit_at lane) f ∙ ap (λ k. digit (is_taken lane k)) (add-mul-mod_self_right (y + i) q n)) in
-      slopes limit first lane t seen_from (suc limit) l ∙ ap (λ k. tall (digit_at first) (suc limit) t seen_from + k) same
+      slopes limit first lane t seen_from (suc limit) l ∙ ap (λ k. height (digit_at first) (suc limit) t seen_from + k) same
 
   -- where there is room for the limit behind each car, no two cars are nearer, once as many steps as cells were gone
   pub few_near : suc limit * lane_cars first ≤ length first → length first ≤ t + 1 → window (digit_at lane) y (suc limit) ≤ 1
   few_near few round =
       let size = l.same_length in
       let all = ap (λ k. suc limit * k) (digits_total first) in
-      let slowly = tall_slowly (digit_at first) (length first) (digits_again first) (suc limit) t seen_from (omega (arith, all, few)) round (omega (arith, some, size)) in
+      let slowly = rises_slowly (digit_at first) (length first) (digits_again first) (suc limit) t seen_from (omega (arith, all, few)) round (omega (arith, some, size)) in
       let here = cells_from in
       omega (arith, slowly, here)
 
@@ -301,6 +301,6 @@ module _ (limit : ℕ) (first lane : Lane) (t y : ℕ) (l : Leaps limit first la
   some_near many round =
       let size = l.same_length in
       let all = ap (λ k. suc limit * k) (digits_total first) in
-      let fast = tall_fast (digit_at first) (length first) (digits_again first) (suc limit) t seen_from (omega (arith, all, many)) round (omega (arith, some, size)) in
+      let fast = rises_fast (digit_at first) (length first) (digits_again first) (suc limit) t seen_from (omega (arith, all, many)) round (omega (arith, some, size)) in
       let here = cells_from in
       omega (arith, fast, here)

@@ -28,11 +28,10 @@ pub mod Certainties
 pub mod Reductions
 pub mod Wolfram
 -- the fundamental diagram without randomization
-pub mod Heights
-pub mod Relaxing
 pub mod EvenGaps
 pub mod EvenFlows
-pub mod LongHeights
+pub mod Digits
+pub mod Heights
 pub mod Leaping
 pub mod Readiness
 -- what detectors count

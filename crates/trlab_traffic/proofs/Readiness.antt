@@ -5,7 +5,7 @@ use Rattle.std.specs.Prelude.{sum_by}
 use Rattle.std.proofs.lemmas.Bool.{cases_lt}
 use Rattle.std.proofs.lemmas.Option.{some_pair_parts}
 use Rattle.trlab_road.specs.declared.car.Car.{Car}
-use Rattle.trlab_road.specs.Cells.{Cell, Lane, at, cars, lane_cars, lane_of}
+use Rattle.trlab_road.specs.Cells.{Cell, Cells, Lane, at, cars, lane_cars, lane_of}
 use Rattle.trlab_road.specs.Gaps.{ahead, gap, next_place}
 use Rattle.trlab_road.specs.Motion.{LaneFits, LaneMoves}
 use Rattle.trlab_road.specs.Standing.{standing_from}
@@ -13,14 +13,14 @@ use Rattle.trlab_road.proofs.MotionLaws.{lane_same_count}
 use Rattle.trlab_road.proofs.Ring.{apart_within_gaps, blocked, clear_within_gap, inside}
 use Rattle.trlab_road.proofs.StandingOrder.{length-standing_from, rank_below}
 use Rattle.trlab_traffic.specs.Capacity.{empty_cells, lane_cells, lane_empty_cells}
-use Rattle.trlab_traffic.specs.Diagram.{NaschComesToCapacity}
+use Rattle.trlab_traffic.specs.Diagram.{NaschComesToCapacity, Rule184ComesToCapacity}
 use Rattle.trlab_traffic.specs.Rule184.{digit, is_taken}
 use Rattle.trlab_traffic.proofs.EvenFlows.{Regime, flows, gaps_total, sum_at_cars}
 use Rattle.trlab_traffic.proofs.Freely.{sum_by-same}
 use Rattle.trlab_traffic.proofs.GapsAfter.{gap_after, next_taken}
-use Rattle.trlab_traffic.proofs.Heights.{digit_at}
+use Rattle.trlab_traffic.proofs.Digits.{digit_at}
 use Rattle.trlab_traffic.proofs.Leaping.{Leaps, few_near, leaps_itself, leaps_more, none_is_empty, one_is_car, some_near}
-use Rattle.trlab_traffic.proofs.LongHeights.{last_of, window, window_has, window_last, window_slides}
+use Rattle.trlab_traffic.proofs.Heights.{last_of, window, window_has, window_last, window_slides}
 use Rattle.trlab_traffic.proofs.Places.{ahead_more, clear_is_gap}
 use Rattle.trlab_traffic.proofs.OneLane.{one_sum}
 use Rattle.trlab_traffic.proofs.RoomAhead.{lane_taken_or_empty}
@@ -212,6 +212,15 @@ leapt_far limit cells count k lane answer some_limit some_cell size full l round
     one_fits limit zero size length_now some few same = absurd (omega (arith, some))
     one_fits limit (suc n) size length_now some few same = let e = suc-mul limit (suc n) in omega (arith, few, same, e)
 
+-- a lane that has leapt leaps once more where its cars go by the limit or their gaps
+leap_on : (limit cells count k : ℕ) (answer : ℕ → ℕ) (old new : Lane) → 1 ≤ limit → 1 ≤ cells → LaneMoves answer old new → LaneFits answer old
+    → ((x number speed : ℕ) → at old x ≡ Some (number, speed) → answer x ≡ min limit (gap old x)) → (lane_cars old ≡ count → Leaping limit cells count k old)
+    → lane_cars new ≡ count → Leaping limit cells count (suc k) new
+leap_on limit cells count k answer old new some_limit some_cell m fits goes leaping full =
+    let l = leaping (sym (lane_same_count answer old new m (apart_within_gaps answer old fits)) ∙ full) in
+    let size = l.size in
+    record { first = l.first; size = l.size; full = l.full; leaps = leaps_more limit answer l.first old new k some_limit (omega (arith, size, some_cell)) l.leaps m goes }
+
 -- the regime of a run from any start
 to_capacity : (limit count cells : ℕ) → 1 ≤ limit → 1 ≤ cells → Regime limit (min (limit * count) (cells - count)) count (limit + cells)
 to_capacity limit count cells some_limit some_cell = record {
@@ -239,18 +248,18 @@ to_capacity limit count cells some_limit some_cell = record {
               let e : 0 ≡ suc t - limit = omega (arith, first, late) in
               record { first = new; size = m.same_length ∙ way.size; full = full; leaps = subst (λ k. Leaps limit new new k) e (leaps_itself limit new) }
           | inr more ↦
-              let kept : lane_cars old ≡ count = sym (lane_same_count answer old new m (apart_within_gaps answer old fits)) ∙ full in
-              let l = way.leaping more kept in
-              let size = l.size in
               let e : suc (t - limit) ≡ suc t - limit = omega (arith, more) in
-              record {
-                first = l.first;
-                size = l.size;
-                full = l.full;
-                leaps = subst (λ k. Leaps limit l.first new k) e (leaps_more limit answer l.first old new (t - limit) some_limit (omega (arith, size, some_cell)) l.leaps m
-                    (ready limit t old answer some_limit more (way.quick (omega (arith, more, some_limit))) goes));
-              }
+              let goes_far = ready limit t old answer some_limit more (way.quick (omega (arith, more, some_limit))) goes in
+              subst (λ k. Leaping limit cells count k new) e (leap_on limit cells count (t - limit) answer old new some_limit some_cell m fits goes_far (way.leaping more) full)
         ]
+
+-- the cells of a road of one lane that its cars leave empty
+one_lane_left : (road : Cells) → length road.lanes ≡ 1 → length (lane_of road 0) - cars road ≡ empty_cells road
+one_lane_left road one =
+    let own = one_sum lane_cars road.lanes one in
+    let holes = one_sum lane_empty_cells road.lanes one in
+    let whole = lane_taken_or_empty (lane_of road 0) in
+    omega (arith, own, holes, whole)
 
 pub nasch_comes_to_capacity : NaschComesToCapacity
 unfolding to_capacity
@@ -269,8 +278,37 @@ nasch_comes_to_capacity rule seed step road sum is legal one late comes =
     } in
     let way = flows rule seed is legal one limit (min (limit * count) (cells - count)) count (limit + cells) refl refl (to_capacity limit count cells some_limit some_cell) start step road sum comes in
     let size = one_sum lane_cells seed.road.lanes one in
-    let own = one_sum lane_cars seed.road.lanes one in
-    let holes = one_sum lane_empty_cells seed.road.lanes one in
-    let whole = lane_taken_or_empty lane in
-    let empty : cells - count ≡ empty_cells seed.road = omega (arith, own, holes, whole) in
-    way.gone (omega (arith, late, size)) ∙ ap (λ k. (step - seed.warm) * min (limit * count) k) empty
+    way.gone (omega (arith, late, size)) ∙ ap (λ k. (step - seed.warm) * min (limit * count) k) (one_lane_left seed.road one)
+
+-- with the limit 1 acceleration holds no car back, and so a lane leaps from the start
+at_once : (answer : ℕ → ℕ) (lane : Lane) → ((x number speed : ℕ) → at lane x ≡ Some (number, speed) → answer x ≡ min (min (speed + 1) 1) (gap lane x))
+    → (x number speed : ℕ) → at lane x ≡ Some (number, speed) → answer x ≡ min 1 (gap lane x)
+at_once answer lane goes x number speed here = let far = goes x number speed here in omega (arith, far)
+
+record OnWayAtOnce (cells count t : ℕ) (lane : Lane) : Type 0 where
+  size : length lane ≡ cells
+  leaping : lane_cars lane ≡ count → Leaping 1 cells count t lane
+
+to_capacity_at_once : (count cells : ℕ) → 1 ≤ cells → Regime 1 (min (1 * count) (cells - count)) count cells
+to_capacity_at_once count cells some_cell = record {
+  Holds = λ t lane. OnWayAtOnce cells count t lane;
+  goes_on = λ t old new answer m fits goes way. record {
+    size = m.same_length ∙ way.size;
+    leaping = leap_on 1 cells count t answer old new (omega arith) some_cell m fits (at_once answer old goes) way.leaping;
+  };
+  far = λ t old answer goes way late full. leapt_far 1 cells count t old answer (omega arith) some_cell way.size full (way.leaping full) late (at_once answer old goes);
+}
+
+pub rule_184_comes_to_capacity : Rule184ComesToCapacity
+unfolding to_capacity_at_once
+rule_184_comes_to_capacity rule seed step road sum is legal one slow late comes =
+    let lane = lane_of seed.road 0 in
+    let cells = length lane in
+    let count = cars seed.road in
+    let start : OnWayAtOnce cells count 0 lane = record { size = refl; leaping = λ full. record { first = lane; size = refl; full = full; leaps = leaps_itself 1 lane } } in
+    let regime = to_capacity_at_once count cells legal.shape.cells.some_cell in
+    let way = flows rule seed is legal one 1 (min (1 * count) (cells - count)) count cells slow refl regime start step road sum comes in
+    let size = one_sum lane_cells seed.road.lanes one in
+    way.gone (omega (arith, late, size))
+    ∙ ap (λ k. (step - seed.warm) * min (1 * count) k) (one_lane_left seed.road one)
+    ∙ ap (λ k. (step - seed.warm) * min (k * count) (empty_cells seed.road)) (sym slow)

@@ -132,11 +132,11 @@ module _ (answer : ℕ → ℕ) (old new : Lane) (m : LaneMoves answer old new)
   by_184 y low = by_cells y (at old (behind (length old) y 1)) (at old y) (at old (ahead (length old) y 1)) low refl refl refl
 
 -- the speed by the limit 1
-pub slow : (speed gap : ℕ) → min (min (speed + 1) 1) gap ≡ min 1 gap
+slow : (speed gap : ℕ) → min (min (speed + 1) 1) gap ≡ min 1 gap
 slow speed gap = omega arith
 
 -- the speeds of a safe motion with the limit 1
-pub slow_speeds : (old new : Cells) (motion : SafeMotion old new) → old.limit ≡ 1
+slow_speeds : (old new : Cells) (motion : SafeMotion old new) → old.limit ≡ 1
     → (l x number speed : ℕ) → cell old l x ≡ Some (number, speed) → motion.speeds l x ≡ min 1 (gap (lane_of old l) x)
 slow_speeds old new motion one l x number speed here =
     motion.safe (car_in l x number speed) here
@@ -144,7 +144,7 @@ slow_speeds old new motion one l x number speed here =
     ∙ slow speed (gap (lane_of old l) x)
 
 -- each lane goes by the rule
-pub lane_by_184 : (old new : Cells) (motion : SafeMotion old new) → old.limit ≡ 1 → (l : ℕ) → l < length old.lanes → GoesBy 184 (lane_of old l) (lane_of new l)
+lane_by_184 : (old new : Cells) (motion : SafeMotion old new) → old.limit ≡ 1 → (l : ℕ) → l < length old.lanes → GoesBy 184 (lane_of old l) (lane_of new l)
 lane_by_184 old new motion one l on =
     by_184 (motion.speeds l) (lane_of old l) (lane_of new l) (motion.moves.each_lane l on) (slow_speeds old new motion one l)
 

@@ -1,4 +1,4 @@
-use Rattle.trlab_traffic.proofs.Relaxing.{rule_184_comes_to_capacity}
+use Rattle.trlab_traffic.proofs.Readiness.{rule_184_comes_to_capacity}
 use Rattle.trlab_traffic.proofs.laws.rule_184_comes_to_capacity.Goals as goal
 
 pub returns : goal.returns
