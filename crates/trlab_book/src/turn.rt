@@ -2,23 +2,23 @@
 
 ghost use Rattle.std.specs.Prelude.{◌≡◌, ◌<◌, ◌≤◌};
 ghost use Rattle.trlab_bounds.specs.declared.runs.TheConstants.{MOST_WORKERS};
-ghost use Rattle.trlab_book.specs.Desks.{parts_of};
+ghost use Rattle.trlab_book.specs.Desks.{GoesOn};
 
 use crate::desk::{Desk, SharedBook};
 use crate::fault::RunFault;
 use crate::team::Team;
 use std::alloc::Global;
 use std::sync::Wait;
-use std::sync::ledger::Ledger;
 use std::thread::Threads;
 use trlab_leases::{BookFault, Lease, LeaseFault};
 use trlab_segments::Gate;
+use trlab_strands::Room;
 
 /// How many steps a runner takes at most before it gives a lease back.
 const STEPS_A_TURN: u32 = 32;
 
 /// Takes leases until no job is free. The workers live as long as the runner.
-pub fn run_one<L: Ledger, R: Threads + Wait + Sync, G: Gate + Sync>(
+pub fn run_one<L: Room, R: Threads + Wait + Sync, G: Gate + Sync>(
     rt: &R,
     alloc: Global,
     book: &SharedBook<L>,
@@ -27,26 +27,26 @@ pub fn run_one<L: Ledger, R: Threads + Wait + Sync, G: Gate + Sync>(
     gate: &G,
 ) -> Result<(), RunFault>
     requires { (0 < workers) × (workers ≤ MOST_WORKERS) }
-    ensures { parts_of desk.new ≡ parts_of desk.old }
+    ensures { GoesOn desk.old desk.new }
 {
     let team = Team::new(rt, workers, gate);
     team.pool.run(
         alloc,
         &mut || -> Result<(), RunFault>
-            ensures { parts_of desk.exit.now ≡ parts_of desk.entry.now }
+            ensures { GoesOn desk.entry.now desk.exit.now }
         { take_leases(rt, alloc, book, desk, &team) },
     )
 }
 
 /// Takes leases until no job is free.
-fn take_leases<L: Ledger, R: Threads + Wait + Sync, G: Gate + Sync>(
+fn take_leases<L: Room, R: Threads + Wait + Sync, G: Gate + Sync>(
     rt: &R,
     alloc: Global,
     book: &SharedBook<L>,
     desk: &mut Desk<L>,
     team: &Team<R, G>,
 ) -> Result<(), RunFault>
-    ensures { parts_of desk.new ≡ parts_of desk.old }
+    ensures { GoesOn desk.old desk.new }
 {
     for _ in rt.forever() {
         if let Some(ended) = take_free(rt, alloc, book, desk, team) {
@@ -57,14 +57,14 @@ fn take_leases<L: Ledger, R: Threads + Wait + Sync, G: Gate + Sync>(
 }
 
 /// Leases a free job for one turn. Where none is free, or after a fault, it answers how the runner ends.
-fn take_free<L: Ledger, R: Threads + Wait + Sync, G: Gate + Sync>(
+fn take_free<L: Room, R: Threads + Wait + Sync, G: Gate + Sync>(
     rt: &R,
     alloc: Global,
     book: &SharedBook<L>,
     desk: &mut Desk<L>,
     team: &Team<R, G>,
 ) -> Option<Result<(), RunFault>>
-    ensures { parts_of desk.new ≡ parts_of desk.old }
+    ensures { GoesOn desk.old desk.new }
 {
     match book.lease(rt, alloc, desk) {
         Ok(Some(lease)) => match take_turn(rt, alloc, book, desk, lease, team) {
@@ -78,7 +78,7 @@ fn take_free<L: Ledger, R: Threads + Wait + Sync, G: Gate + Sync>(
 }
 
 /// Runs a lease for some steps and gives it back.
-fn take_turn<L: Ledger, R: Threads + Wait + Sync, G: Gate + Sync>(
+fn take_turn<L: Room, R: Threads + Wait + Sync, G: Gate + Sync>(
     rt: &R,
     alloc: Global,
     book: &SharedBook<L>,
@@ -86,7 +86,7 @@ fn take_turn<L: Ledger, R: Threads + Wait + Sync, G: Gate + Sync>(
     lease: Lease,
     team: &Team<R, G>,
 ) -> Result<(), RunFault>
-    ensures { parts_of desk.new ≡ parts_of desk.old }
+    ensures { GoesOn desk.old desk.new }
 {
     let mut lease = lease;
     match run_steps(rt, alloc, book, desk, &mut lease, team) {
@@ -99,7 +99,7 @@ fn take_turn<L: Ledger, R: Threads + Wait + Sync, G: Gate + Sync>(
 }
 
 /// Orders a step and runs it, over and over. The lock is free while it runs.
-fn run_steps<L: Ledger, R: Threads + Wait + Sync, G: Gate + Sync>(
+fn run_steps<L: Room, R: Threads + Wait + Sync, G: Gate + Sync>(
     rt: &R,
     alloc: Global,
     book: &SharedBook<L>,
@@ -107,7 +107,7 @@ fn run_steps<L: Ledger, R: Threads + Wait + Sync, G: Gate + Sync>(
     lease: &mut Lease,
     team: &Team<R, G>,
 ) -> Result<(), BookFault>
-    ensures { parts_of desk.new ≡ parts_of desk.old }
+    ensures { GoesOn desk.old desk.new }
 {
     for _ in 0..STEPS_A_TURN {
         if lease.step() >= lease.steps() {
@@ -127,14 +127,14 @@ fn run_steps<L: Ledger, R: Threads + Wait + Sync, G: Gate + Sync>(
 
 /// Drops a lease after a fault. Where memory ran out it is revoked, so that others can take the job; where
 /// the book no longer takes it, the runner goes on.
-fn end_lease<L: Ledger, R: Wait>(
+fn end_lease<L: Room, R: Wait>(
     rt: &R,
     book: &SharedBook<L>,
     desk: &mut Desk<L>,
     lease: Lease,
     fault: BookFault,
 ) -> Result<(), RunFault>
-    ensures { parts_of desk.new ≡ parts_of desk.old }
+    ensures { GoesOn desk.old desk.new }
 {
     let job = lease.job();
     drop(lease);

@@ -4,11 +4,11 @@ ghost use Rattle.std.specs.Prelude.{◌≡◌};
 
 use std::alloc::Global;
 use std::sync::Wait;
-use std::sync::ledger::{Blank, Ledger};
 use trlab_book::SharedBook;
-use trlab_leases::{BookFault, Seed};
+use trlab_leases::{BookFault, Event, Seed};
 use trlab_road::Road;
 use trlab_rules::nasch;
+use trlab_strands::{Opening, Room};
 use trlab_words::{Chance, Key};
 
 /// How many cells the lane has, a car in each.
@@ -26,17 +26,16 @@ fn full_lane(alloc: Global) -> Option<Seed> {
 
 /// Makes so many calls of a book with one job: reads of the job, or else revokes of a lease that is not
 /// out. None where a call was not answered so.
-pub fn make_calls<L: Ledger, R: Wait>(
+pub fn make_calls<L: Room, R: Wait>(
     rt: &R,
     alloc: Global,
-    blank: Blank,
+    opening: Opening<Event>,
     reads: bool,
     count: u32,
 ) -> Option<()>
-    requires name { blank.name ≡ L.name }
-    requires parts { (blank.parts ≡ L.parts) × (blank.parts ≡ 1024) }
+    requires opening { opening.table.shared.table_id ≡ L.table }
 {
-    let (book, mut desk) = SharedBook::<L>::start(alloc, blank);
+    let (book, mut desk) = SharedBook::<L>::start(alloc, opening);
     let rule = nasch(alloc, Chance::new(0)?).ok()?;
     book.submit(rt, alloc, &mut desk, full_lane(alloc)?, rule, 1)
         .ok()?;

@@ -9,10 +9,10 @@ use crate::table::Table;
 use std::alloc::Global;
 use std::marker::Brand;
 use std::sync::Wait;
-use std::sync::ledger::{Blank, Ledger};
 use trlab_book_trials::histories::{Made, is_history};
 use trlab_book_trials::jobs::{ALWAYS, NEVER, shows};
 use trlab_leases::{BookFault, Call, Event, Offered, Reply};
+use trlab_strands::{Opening, Room};
 
 /// Whether a submission is of the two cars under the rule by which no car brakes, and a replacement by the
 /// one by which each does.
@@ -45,17 +45,16 @@ fn is_as_made(alloc: Global, history: &[Event], calls: &[(Made, Reply)]) -> bool
 
 /// Whether calls of a new book answer the replies beside them, read this, and leave these calls and these
 /// replies as its history.
-fn leave_in<L: Ledger, R: Wait>(
+fn leave_in<L: Room, R: Wait>(
     rt: &R,
     alloc: Global,
-    blank: Blank,
+    opening: Opening<Event>,
     calls: &[(Made, Reply)],
     wanted: &[Shown],
 ) -> bool
-    requires name { blank.name ≡ L.name }
-    requires parts { (blank.parts ≡ L.parts) × (blank.parts ≡ 1024) }
+    requires opening { opening.table.shared.table_id ≡ L.table }
 {
-    let mut table = Table::<L>::start(alloc, blank, b"0.0.......", 0);
+    let mut table = Table::<L>::start(alloc, opening, b"0.0.......", 0);
     let made = table.make_all(rt, alloc, calls) && show(alloc, &table.reads, wanted);
     match table.close() {
         Some(history) => made && is_as_made(alloc, &history, calls),
@@ -65,7 +64,10 @@ fn leave_in<L: Ledger, R: Wait>(
 
 /// The same, of a book with one desk.
 fn leave(rt: &(impl AllocGlobal + Wait), calls: &[(Made, Reply)], wanted: &[Shown]) -> bool {
-    leave_in::<Brand, _>(rt, rt.alloc(), Blank::new(1024), calls, wanted)
+    let Ok(opening) = Opening::new(rt.alloc()) else {
+        return false;
+    };
+    leave_in::<Brand, _>(rt, rt.alloc(), opening, calls, wanted)
 }
 
 const REPLACED: [(Made, Reply); 11] = [

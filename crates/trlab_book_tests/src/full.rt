@@ -7,15 +7,15 @@ use crate::table::Table;
 use std::alloc::Global;
 use std::marker::Brand;
 use std::sync::Wait;
-use std::sync::ledger::{Blank, Ledger};
 use std::thread::Threads;
 use trlab_book::{Desk, RunFault, SharedBook, run_jobs};
 use trlab_book_trials::histories::Made;
-use trlab_leases::{BookFault, Offered, Reply};
+use trlab_leases::{Event, BookFault, Offered, Reply};
 use trlab_segments::OpenGate;
+use trlab_strands::{Opening, Room};
 
 /// Whether so many calls of a job that there is not are events.
-fn hears<L: Ledger, R: Wait>(rt: &R, alloc: Global, table: &mut Table<L>, calls: u32) -> bool {
+fn hears<L: Room, R: Wait>(rt: &R, alloc: Global, table: &mut Table<L>, calls: u32) -> bool {
     let refused = Reply::Refused(BookFault::NoSuchJob);
     for _ in 0..calls {
         if !table.answers(rt, alloc, Made::Revoke(7), refused) {
@@ -38,7 +38,7 @@ const EACH: [Made; 8] = [
 ];
 
 /// Whether each call of a book is told that its history is full.
-fn is_full<L: Ledger, R: Wait>(rt: &R, alloc: Global, table: &mut Table<L>) -> bool {
+fn is_full<L: Room, R: Wait>(rt: &R, alloc: Global, table: &mut Table<L>) -> bool {
     let refused = Reply::Refused(BookFault::HistoryFull);
     for call in &EACH {
         if !table.answers(rt, alloc, *call, refused) {
@@ -49,14 +49,13 @@ fn is_full<L: Ledger, R: Wait>(rt: &R, alloc: Global, table: &mut Table<L>) -> b
 }
 
 /// Lets so many runners take the jobs of a book, and says whether they ended since the history was full.
-fn run<L: Ledger + Send + Sync, R: Threads + Wait + Sync>(
+fn run<L: Room + Send + Sync, R: Threads + Wait + Sync>(
     rt: &R,
     alloc: Global,
     book: &SharedBook<L>,
     desk: Desk<L>,
     runners: u32,
 ) -> (Desk<L>, bool)
-    requires ledger { L.parts ≡ 1024 }
     requires runners { (0 < runners) × (runners ≤ 16) }
 {
     if desk.parts() < runners {
@@ -75,21 +74,20 @@ const BEFORE: [(Made, Reply); 3] = [
 ];
 
 /// Fills the history of a book but for its last event; whether it has.
-fn fills<L: Ledger, R: Wait>(rt: &R, alloc: Global, table: &mut Table<L>) -> bool {
+fn fills<L: Room, R: Wait>(rt: &R, alloc: Global, table: &mut Table<L>) -> bool {
     table.make_all(rt, alloc, &BEFORE) && hears(rt, alloc, table, 999995)
 }
 
 /// The length of the history of a book in which a runner has come to the last event, by the first order of
 /// a lease, and each call behind that is refused, those of three runners too.
-fn full_history<L: Ledger + Send + Sync, R: Threads + Wait + Sync>(
+fn full_history<L: Room + Send + Sync, R: Threads + Wait + Sync>(
     rt: &R,
     alloc: Global,
-    blank: Blank,
+    opening: Opening<Event>,
 ) -> Option<usize>
-    requires name { blank.name ≡ L.name }
-    requires parts { (blank.parts ≡ L.parts) × (blank.parts ≡ 1024) }
+    requires opening { opening.table.shared.table_id ≡ L.table }
 {
-    let mut table = Table::<L>::start(alloc, blank, b"0.0.......", 0);
+    let mut table = Table::<L>::start(alloc, opening, b"0.0.......", 0);
     let filled = fills(rt, alloc, &mut table);
     let desk = table.desk;
     let (desk, ended) = run(rt, alloc, &table.book, desk, 1);
@@ -102,12 +100,12 @@ fn full_history<L: Ledger + Send + Sync, R: Threads + Wait + Sync>(
 
 #[test]
 fn a_full_history_closes(rt: HostRuntime) {
-    let found = full_history::<Brand, HostRuntime>(&rt, rt.alloc(), Blank::new(1024));
+    let found = full_history::<Brand, HostRuntime>(&rt, rt.alloc(), Opening::new(rt.alloc()).expect(&rt, "memory"));
     assert!(rt; found == Some(1000000));
 }
 
 /// Whether the rule of a job is replaced behind each of its first ordered steps.
-fn replaces<L: Ledger, R: Wait>(rt: &R, alloc: Global, table: &mut Table<L>, steps: u32) -> bool {
+fn replaces<L: Room, R: Wait>(rt: &R, alloc: Global, table: &mut Table<L>, steps: u32) -> bool {
     for step in 0..steps {
         let calls = [
             (Made::Order(own!(0, 0, step)), ordered!(0, step, step)),
@@ -136,11 +134,10 @@ const END: [(Made, Reply); 3] = [
 ];
 
 /// Whether a sheet has 1024 entries, and no more.
-fn has_full_sheet<L: Ledger, R: Wait>(rt: &R, alloc: Global, blank: Blank) -> bool
-    requires name { blank.name ≡ L.name }
-    requires parts { (blank.parts ≡ L.parts) × (blank.parts ≡ 1024) }
+fn has_full_sheet<L: Room, R: Wait>(rt: &R, alloc: Global, opening: Opening<Event>) -> bool
+    requires opening { opening.table.shared.table_id ≡ L.table }
 {
-    let mut table = Table::<L>::start(alloc, blank, b"0", 0);
+    let mut table = Table::<L>::start(alloc, opening, b"0", 0);
     table.make_all(rt, alloc, &FRONT)
         && replaces(rt, alloc, &mut table, 1023)
         && table.make_all(rt, alloc, &END)
@@ -148,5 +145,5 @@ fn has_full_sheet<L: Ledger, R: Wait>(rt: &R, alloc: Global, blank: Blank) -> bo
 
 #[test]
 fn a_sheet_has_1024_entries(rt: HostRuntime) {
-    assert!(rt; has_full_sheet::<Brand, HostRuntime>(&rt, rt.alloc(), Blank::new(1024)));
+    assert!(rt; has_full_sheet::<Brand, HostRuntime>(&rt, rt.alloc(), Opening::new(rt.alloc()).expect(&rt, "memory")));
 }

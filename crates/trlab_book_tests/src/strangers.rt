@@ -9,9 +9,9 @@ use crate::table::Table;
 use std::alloc::Global;
 use std::marker::Brand;
 use std::sync::Wait;
-use std::sync::ledger::{Blank, Ledger};
 use trlab_book_trials::histories::Made;
-use trlab_leases::{BookFault, Offered, Reply};
+use trlab_leases::{Event, BookFault, Offered, Reply};
+use trlab_strands::{Opening, Room};
 
 /// What is done with two books.
 #[derive(Clone, Copy)]
@@ -27,7 +27,7 @@ enum Deed {
 }
 
 /// Whether a deed is done.
-fn is_done<P: Ledger, Q: Ledger, R: Wait>(
+fn is_done<P: Room, Q: Room, R: Wait>(
     rt: &R,
     alloc: Global,
     own: &mut Table<P>,
@@ -43,7 +43,7 @@ fn is_done<P: Ledger, Q: Ledger, R: Wait>(
 }
 
 /// Whether all of some deeds are done.
-fn are_done<P: Ledger, Q: Ledger, R: Wait>(
+fn are_done<P: Room, Q: Room, R: Wait>(
     rt: &R,
     alloc: Global,
     own: &mut Table<P>,
@@ -60,17 +60,17 @@ fn are_done<P: Ledger, Q: Ledger, R: Wait>(
 
 /// Whether deeds are done with two new books, the jobs of the other under the key of a byte, reads of the
 /// other show this, and both close behind that.
-fn are_done_anew<P: Ledger, Q: Ledger, R: Wait>(
+fn are_done_anew<P: Room, Q: Room, R: Wait>(
     rt: &R,
     alloc: Global,
-    first: Blank,
-    second: Blank,
+    first: Opening<Event>,
+    second: Opening<Event>,
     byte: u8,
     deeds: &[Deed],
     wanted: &[Shown],
 ) -> bool
-    requires first { (first.name ≡ P.name) × (first.parts ≡ P.parts) × (first.parts ≡ 1024) }
-    requires second { (second.name ≡ Q.name) × (second.parts ≡ Q.parts) × (second.parts ≡ 1024) }
+    requires first { first.table.shared.table_id ≡ P.table }
+    requires second { second.table.shared.table_id ≡ Q.table }
 {
     let mut own = Table::<P>::start(alloc, first, b"0.0.......", 0);
     let mut other = Table::<Q>::start(alloc, second, b"0.0.......", byte);
@@ -95,7 +95,10 @@ const ANOTHER_KEY: [Deed; 8] = [
 
 #[test]
 fn a_lease_of_a_job_under_another_key_is_a_stranger(rt: HostRuntime) {
-    let (first, second) = (Blank::new(1024), Blank::new(1024));
+    let (first, second) = (
+        Opening::new(rt.alloc()).expect(&rt, "memory"),
+        Opening::new(rt.alloc()).expect(&rt, "memory"),
+    );
     assert!(rt;
         are_done_anew::<Brand, Brand, _>(&rt, rt.alloc(), first, second, 255, &ANOTHER_KEY, &[])
     );
@@ -119,7 +122,10 @@ const SAME_RUN_READS: [Shown; 1] = [(1, b".1.1......", &[(0, false)])];
 
 #[test]
 fn a_lease_of_the_same_run_is_taken(rt: HostRuntime) {
-    let (first, second) = (Blank::new(1024), Blank::new(1024));
+    let (first, second) = (
+        Opening::new(rt.alloc()).expect(&rt, "memory"),
+        Opening::new(rt.alloc()).expect(&rt, "memory"),
+    );
     assert!(rt;
         are_done_anew::<Brand, Brand, _>(
             &rt,

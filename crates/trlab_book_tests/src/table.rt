@@ -11,17 +11,17 @@ use crate::answers::{done_told, number_told, snapshot_told};
 use crate::held::Held;
 use std::alloc::Global;
 use std::sync::Wait;
-use std::sync::ledger::{Blank, Ledger};
 use trlab_book::{Desk, SharedBook};
 use trlab_book_trials::calls::{replace, submit};
 use trlab_book_trials::histories::Made;
 use trlab_book_trials::jobs::{ALWAYS, Job, NEVER};
 use trlab_leases::{BookFault, Event, Reply, Snapshot};
+use trlab_strands::{Opening, Room};
 
 /// A shared book with its desk, the leases that are not back, and what was read. Each job is of the cars of
 /// one picture, under the key of one byte.
 #[derive(Drop)]
-pub struct Table<L: Ledger> {
+pub struct Table<L: Room> {
     pub book: SharedBook<L>,
     pub desk: Desk<L>,
     pub held: Held,
@@ -30,13 +30,12 @@ pub struct Table<L: Ledger> {
     pub byte: u8,
 }
 
-impl<L: Ledger> Table<L> {
+impl<L: Room> Table<L> {
     /// A table with a new book.
-    pub fn start(alloc: Global, blank: Blank, picture: &'static [u8], byte: u8) -> Table<L>
-        requires name { blank.name ≡ L.name }
-        requires parts { (blank.parts ≡ L.parts) × (blank.parts ≡ 1024) }
+    pub fn start(alloc: Global, opening: Opening<Event>, picture: &'static [u8], byte: u8) -> Table<L>
+        requires opening { opening.table.shared.table_id ≡ L.table }
     {
-        let (book, desk) = SharedBook::<L>::start(alloc, blank);
+        let (book, desk) = SharedBook::<L>::start(alloc, opening);
         Table {
             book,
             desk,

@@ -7,17 +7,17 @@ use crate::ends::{ended, history_of};
 use std::alloc::Global;
 use std::marker::Brand;
 use std::sync::Wait;
-use std::sync::ledger::{Blank, Ledger};
 use std::thread::{Threads, join};
 use trlab_book::{Desk, SharedBook, run_jobs};
 use trlab_book_trials::calls::{replace, submit};
 use trlab_book_trials::jobs::{ALWAYS, is_road_alone, two_cars};
 use trlab_leases::{Event, Reply, Snapshot};
 use trlab_segments::OpenGate;
+use trlab_strands::{Opening, Room};
 
 /// Replaces the rule of job 0, whose steps are perhaps all ordered by then: the step from which the rule
 /// holds, if it entered.
-fn replace_late<L: Ledger, R: Wait>(
+fn replace_late<L: Room, R: Wait>(
     rt: &R,
     alloc: Global,
     book: &SharedBook<L>,
@@ -28,7 +28,7 @@ fn replace_late<L: Ledger, R: Wait>(
 }
 
 /// Submits two jobs of 100 steps.
-fn submit_two<L: Ledger, R: Wait>(
+fn submit_two<L: Room, R: Wait>(
     rt: &R,
     alloc: Global,
     book: &SharedBook<L>,
@@ -39,13 +39,12 @@ fn submit_two<L: Ledger, R: Wait>(
 }
 
 /// Runs the jobs of a book by two runners, and says whether all went well.
-fn run_two<L: Ledger + Send + Sync, R: Threads + Wait + Sync>(
+fn run_two<L: Room + Send + Sync, R: Threads + Wait + Sync>(
     rt: &R,
     alloc: Global,
     book: &SharedBook<L>,
     desk: Desk<L>,
 ) -> (Desk<L>, bool)
-    requires ledger { L.parts ≡ 1024 }
     requires parts { 2 ≤ parts_of desk }
 {
     ended(run_jobs(rt, alloc, book, desk, 2, 1, &OpenGate))
@@ -53,26 +52,25 @@ fn run_two<L: Ledger + Send + Sync, R: Threads + Wait + Sync>(
 
 /// Runs the jobs of a book by two runners, while the rule of job 0 is replaced: whether all went well, and
 /// the step from which the rule holds, if it entered.
-fn run_and_replace<L: Ledger + Send + Sync, R: Threads + Wait + Sync>(
+fn run_and_replace<L: Room + Send + Sync, R: Threads + Wait + Sync>(
     rt: &R,
     alloc: Global,
     book: &SharedBook<L>,
     mut mine: Desk<L>,
 ) -> (Desk<L>, bool, Option<u32>)
-    requires ledger { L.parts ≡ 1024 }
 {
     if mine.parts() < 3 {
         return (mine, false, None);
     }
-    let theirs = mine.split();
+    let theirs = book.split(&mut mine);
     let ((theirs, entered), (mine, ran)) = join(
         rt,
         || replace_late(rt, alloc, book, theirs),
         || -> (Desk<L>, bool)
-            requires { (L.parts ≡ 1024) × (2 ≤ parts_of mine) }
+            requires { 2 ≤ parts_of mine }
         { run_two(rt, alloc, book, mine) },
     );
-    (mine.gather(theirs), ran, entered)
+    (book.gather(mine, theirs), ran, entered)
 }
 
 /// Whether the sheet of a snapshot has a second rule just where one entered, from that step on.
@@ -98,7 +96,7 @@ fn told(seen: &Snapshot) -> Reply {
 }
 
 /// Reads job 0, and answers what this is in the history, if the job has come to its end.
-fn read_end<L: Ledger, R: Wait>(
+fn read_end<L: Room, R: Wait>(
     rt: &R,
     alloc: Global,
     book: &SharedBook<L>,
@@ -121,15 +119,14 @@ fn is_last(history: &[Event], reply: Option<Reply>) -> bool {
 
 /// Whether a replaced rule is in the sheet of a job that two runners have run meanwhile, and the read of it
 /// is the last event.
-fn is_in_the_sheet<L: Ledger + Send + Sync, R: Threads + Wait + Sync>(
+fn is_in_the_sheet<L: Room + Send + Sync, R: Threads + Wait + Sync>(
     rt: &R,
     alloc: Global,
-    blank: Blank,
+    opening: Opening<Event>,
 ) -> bool
-    requires name { blank.name ≡ L.name }
-    requires parts { (blank.parts ≡ L.parts) × (blank.parts ≡ 1024) }
+    requires opening { opening.table.shared.table_id ≡ L.table }
 {
-    let (book, mut desk) = SharedBook::<L>::start(alloc, blank);
+    let (book, mut desk) = SharedBook::<L>::start(alloc, opening);
     let submitted = submit_two(rt, alloc, &book, &mut desk);
     let (mut desk, ran, entered) = run_and_replace(rt, alloc, &book, desk);
     let reply = read_end(rt, alloc, &book, &mut desk, entered);
@@ -141,5 +138,5 @@ fn is_in_the_sheet<L: Ledger + Send + Sync, R: Threads + Wait + Sync>(
 
 #[test]
 fn a_replaced_rule_is_in_the_sheet(rt: HostRuntime) {
-    assert!(rt; is_in_the_sheet::<Brand, HostRuntime>(&rt, rt.alloc(), Blank::new(1024)));
+    assert!(rt; is_in_the_sheet::<Brand, HostRuntime>(&rt, rt.alloc(), Opening::new(rt.alloc()).expect(&rt, "memory")));
 }

@@ -8,13 +8,13 @@ use std::alloc::Global;
 use std::marker::Brand;
 use std::sync::Wait;
 use std::sync::atomic::{AtomicBool, Ordering};
-use std::sync::ledger::{Blank, Ledger};
 use std::thread::{Threads, join};
 use trlab_book::{Desk, SharedBook, run_jobs};
 use trlab_book_trials::calls::{Wanted, reads, replace, submit};
 use trlab_book_trials::jobs::{ALWAYS, two_cars};
 use trlab_leases::{BookFault, Call, Event, Reply};
 use trlab_segments::Gate;
+use trlab_strands::{Opening, Room};
 
 /// Tells that a segment has come, and holds it until it may go on.
 #[derive(Drop)]
@@ -40,7 +40,7 @@ enum Ending {
 }
 
 /// Ends the lease of job 0.
-fn end_lease<L: Ledger, R: Wait>(
+fn end_lease<L: Room, R: Wait>(
     rt: &R,
     alloc: Global,
     book: &SharedBook<L>,
@@ -56,7 +56,7 @@ fn end_lease<L: Ledger, R: Wait>(
 }
 
 /// Ends the lease of a runner that stands at the barrier, and lets it go on.
-fn end_held<L: Ledger, R: Wait>(
+fn end_held<L: Room, R: Wait>(
     rt: &R,
     alloc: Global,
     book: &SharedBook<L>,
@@ -71,28 +71,26 @@ fn end_held<L: Ledger, R: Wait>(
 }
 
 /// Runs the jobs of a book by one runner, who passes the barrier.
-fn run_one<L: Ledger + Send + Sync, R: Threads + Wait + Sync>(
+fn run_one<L: Room + Send + Sync, R: Threads + Wait + Sync>(
     rt: &R,
     alloc: Global,
     book: &SharedBook<L>,
     desk: Desk<L>,
     gate: &Barrier,
 ) -> (Desk<L>, bool)
-    requires ledger { L.parts ≡ 1024 }
 {
     ended(run_jobs(rt, alloc, book, desk, 1, 1, gate))
 }
 
 /// Runs the jobs of a book by a runner who is held while its lease ends, and says whether the runner and
 /// the calls meanwhile are answered as they have to be.
-fn run_held<L: Ledger + Send + Sync, R: Threads + Wait + Sync>(
+fn run_held<L: Room + Send + Sync, R: Threads + Wait + Sync>(
     rt: &R,
     alloc: Global,
     book: &SharedBook<L>,
     mut mine: Desk<L>,
     ending: Ending,
 ) -> (Desk<L>, bool)
-    requires ledger { L.parts ≡ 1024 }
 {
     if mine.parts() < 2 {
         return (mine, false);
@@ -101,15 +99,14 @@ fn run_held<L: Ledger + Send + Sync, R: Threads + Wait + Sync>(
         came: AtomicBool::new(false),
         goes_on: AtomicBool::new(false),
     };
-    let theirs = mine.split();
+    let theirs = book.split(&mut mine);
     let ((theirs, ended), (mine, ran)) = join(
         rt,
         || end_held(rt, alloc, book, theirs, &gate, ending),
         || -> (Desk<L>, bool)
-            requires { L.parts ≡ 1024 }
         { run_one(rt, alloc, book, mine, &gate) },
     );
-    (mine.gather(theirs), ended && ran)
+    (book.gather(mine, theirs), ended && ran)
 }
 
 /// What is to be read of the job at the end: it has come to its end under two rules, or where it was
@@ -122,14 +119,13 @@ fn end_of(ending: Ending) -> Wanted {
 }
 
 /// Has a runner be held while the lease of a job ends, and says whether all is as it has to be.
-fn hold<L: Ledger + Send + Sync, R: Threads + Wait + Sync>(
+fn hold<L: Room + Send + Sync, R: Threads + Wait + Sync>(
     rt: &R,
     alloc: Global,
     book: &SharedBook<L>,
     mut desk: Desk<L>,
     ending: Ending,
 ) -> (Desk<L>, bool)
-    requires ledger { L.parts ≡ 1024 }
 {
     let submitted = submit(rt, alloc, book, &mut desk, &two_cars(0, 4)) == Ok(0);
     let (mut desk, ended) = run_held(rt, alloc, book, desk, ending);
@@ -139,16 +135,15 @@ fn hold<L: Ledger + Send + Sync, R: Threads + Wait + Sync>(
 
 /// How many orders are refused to a runner whose lease ends while it takes the first step, where all else
 /// is as it has to be.
-fn refused_to_held<L: Ledger + Send + Sync, R: Threads + Wait + Sync>(
+fn refused_to_held<L: Room + Send + Sync, R: Threads + Wait + Sync>(
     rt: &R,
     alloc: Global,
-    blank: Blank,
+    opening: Opening<Event>,
     ending: Ending,
 ) -> Option<u32>
-    requires name { blank.name ≡ L.name }
-    requires parts { (blank.parts ≡ L.parts) × (blank.parts ≡ 1024) }
+    requires opening { opening.table.shared.table_id ≡ L.table }
 {
-    let (book, desk) = SharedBook::<L>::start(alloc, blank);
+    let (book, desk) = SharedBook::<L>::start(alloc, opening);
     let (desk, held) = hold(rt, alloc, &book, desk, ending);
     match history_of(book, desk) {
         Some(history) => held.then_some(refused_orders(&history, ending)),
@@ -175,8 +170,8 @@ fn refused_orders(history: &[Event], ending: Ending) -> u32 {
 #[test]
 fn a_lease_ends_while_its_runner_is_held(rt: HostRuntime) {
     for ending in &[Ending::Revoked, Ending::Cancelled] {
-        let blank = Blank::new(1024);
-        let found = refused_to_held::<Brand, HostRuntime>(&rt, rt.alloc(), blank, *ending);
+        let opening = Opening::new(rt.alloc()).expect(&rt, "memory");
+        let found = refused_to_held::<Brand, HostRuntime>(&rt, rt.alloc(), opening, *ending);
         assert!(rt; found == Some(1));
     }
 }

@@ -5,25 +5,25 @@ ghost use Rattle.trlab_diagram.specs.Flow.{IsMeasured};
 ghost use Rattle.trlab_road.specs.Spreading.{IsEven};
 ghost use Rattle.trlab_bounds.specs.declared.runs.TheConstants.{MOST_WORKERS};
 ghost use Rattle.trlab_book.specs.Desks.{parts_of};
-ghost use Rattle.trlab_book.specs.declared.limits.TheConstants.{ALL_PARTS, MOST_RUNNERS};
+ghost use Rattle.trlab_book.specs.declared.limits.TheConstants.{MOST_RUNNERS};
 ghost use Rattle.trlab_campaign.specs.SweepOutput.{ArePoints, IsPoint};
 
 use crate::sweep::points::{even_road, run_point};
 use crate::sweep::snapshots::point_seen;
 use std::alloc::{AllocError, Global};
 use std::sync::Wait;
-use std::sync::ledger::{Blank, Ledger};
 use std::thread::Threads;
 use trlab_book::{Desk, SharedBook, run_jobs};
 use trlab_diagram::Point;
 use trlab_jobs::Sweep;
-use trlab_leases::Seed;
+use trlab_leases::{Event, Seed};
 use trlab_road::Road;
 use trlab_segments::OpenGate;
+use trlab_strands::{Opening, Room};
 
 /// Submits the road of each point, so that a job has the number of its point. Where the book takes no
 /// more, the roads that are left have no job.
-fn submit_roads<L: Ledger, R: Wait>(
+fn submit_roads<L: Room, R: Wait>(
     rt: &R,
     alloc: Global,
     book: &SharedBook<L>,
@@ -50,7 +50,7 @@ fn submit_roads<L: Ledger, R: Wait>(
 
 /// The point of the book's job with this number, whose road starts so, where that has come to its last
 /// step.
-fn point_in_book<L: Ledger, R: Wait>(
+fn point_in_book<L: Room, R: Wait>(
     rt: &R,
     alloc: Global,
     book: &SharedBook<L>,
@@ -74,7 +74,7 @@ fn point_in_book<L: Ledger, R: Wait>(
 
 /// The point with this number and so many cars: that of the book's job, or where the job has not come
 /// to its last step, that of a run by the caller.
-fn point_of_job<L: Ledger, R: Wait>(
+fn point_of_job<L: Room, R: Wait>(
     rt: &R,
     alloc: Global,
     book: &SharedBook<L>,
@@ -96,7 +96,7 @@ fn point_of_job<L: Ledger, R: Wait>(
 }
 
 /// The points of a sweep whose roads were run.
-fn collect_points<L: Ledger, R: Wait>(
+fn collect_points<L: Room, R: Wait>(
     rt: &R,
     alloc: Global,
     book: &SharedBook<L>,
@@ -119,22 +119,21 @@ fn collect_points<L: Ledger, R: Wait>(
 /// # Errors
 ///
 /// Want of memory.
-pub fn points_by_runners<L: Ledger + Send + Sync, R: Threads + Wait + Sync>(
+pub fn points_by_runners<L: Room + Send + Sync, R: Threads + Wait + Sync>(
     rt: &R,
     alloc: Global,
-    blank: Blank,
+    opening: Opening<Event>,
     sweep: &Sweep,
     runners: u32,
     workers: u32,
 ) -> Result<Vec<Point>, AllocError>
-    requires name { blank.name ≡ L.name }
-    requires parts { (blank.parts ≡ L.parts) × (blank.parts ≡ ALL_PARTS) }
+    requires opening { opening.table.shared.table_id ≡ L.table }
     requires runners { (0 < runners) × (runners ≤ MOST_RUNNERS) }
     requires workers { (0 < workers) × (workers ≤ MOST_WORKERS) }
     ensures are { IfOk result (λ points. ArePoints sweep.now points.items) }
     ensures measured { IfOk result (λ points. All IsMeasured points.items) }
 {
-    let (book, mut desk) = SharedBook::<L>::start(alloc, blank);
+    let (book, mut desk) = SharedBook::<L>::start(alloc, opening);
     submit_roads(rt, alloc, &book, &mut desk, sweep)?;
     let mut desk = match run_jobs(rt, alloc, &book, desk, runners, workers, &OpenGate) {
         Ok(desk) => desk,

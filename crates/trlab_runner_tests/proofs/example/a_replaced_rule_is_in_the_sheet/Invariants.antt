@@ -1,4 +1,4 @@
 use Rattle.trlab_runner_tests.proofs.example.a_replaced_rule_is_in_the_sheet.Given as goal
 
 abbrev pub ghosts-is_in_the_sheet : goal.ghosts-is_in_the_sheet
-ghosts-is_in_the_sheet g a = record { name = a.blank.name; parts = a.blank.parts }
+ghosts-is_in_the_sheet g a = record { table = a.opening.table.shared.table_id }

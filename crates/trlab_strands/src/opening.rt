@@ -1,0 +1,60 @@
+//! Strands of an empty list.
+
+ghost use Rattle.std.specs.Prelude.{◌≡◌, [], IfOk};
+ghost use Rattle.trlab_strands.specs.Stocks.{opening_stock};
+ghost use Rattle.trlab_strands.specs.Tokens.{entries_of, least_of, list_of, parts_of};
+ghost use Rattle.trlab_strands.specs.declared.limits.TheConstants.{ALL_PARTS};
+
+use crate::room::Room;
+use crate::stock::{Apart, OncePerEvent, Stock};
+use crate::tokens::{Keeper, Strand, Strands};
+use atomic_table::{Seat, Table};
+use std::alloc::{AllocError, Global};
+use std::marker::PhantomData;
+
+/// Strands that no room has a name for yet.
+#[derive(Drop)]
+pub struct Opening<E> {
+    pub(crate) table: Table<E, Stock<E>, (), OncePerEvent<E>, Global>,
+    pub(crate) seat: Seat<E, Stock<E>>,
+    ghost one_word: { table.shared.table_id.words ≡ 1 },
+    ghost from: { seat.table_id ≡ table.shared.table_id },
+    ghost first: { seat.me ≡ (opening_stock, []) },
+}
+
+impl<E: Drop> Opening<E> {
+    /// The strands of an empty list.
+    ///
+    /// # Errors
+    ///
+    /// Where there is no memory for their word.
+    pub fn new(alloc: Global) -> Result<Opening<E>, AllocError> {
+        let (table, seat) = Table::of_words(alloc, &[0], &())?;
+        Ok(Opening { table, seat })
+    }
+
+    /// What strands share, the keeper of an empty list, and the strand with all 1024 parts.
+    pub fn named<L: Room>(self) -> (Strands<L, E>, Keeper<L, E>, Strand<L, E>)
+        requires { self.table.shared.table_id ≡ L.table }
+        ensures list { list_of result.1 ≡ [] }
+        ensures parts { parts_of result.2 ≡ ALL_PARTS }
+        ensures entries { (entries_of result.2 ≡ []) × (least_of result.2 ≡ 0) }
+    {
+        let Opening { table, mut seat } = self;
+        let list = table.shared.split_seat::<Apart>(&mut seat);
+        (
+            Strands {
+                table,
+                room: PhantomData,
+            },
+            Keeper {
+                seat: list,
+                room: PhantomData,
+            },
+            Strand {
+                seat,
+                room: PhantomData,
+            },
+        )
+    }
+}
