@@ -18,7 +18,7 @@ def trlab():
     """The path of the proved program."""
     path = os.environ.get("TRLAB", BUILT)
     if not os.access(path, os.X_OK):
-        sys.exit(f"{path} is not there; build it first: ./trlab run < examples/two_cars.job")
+        sys.exit(f"{path} is not there; build it first (./trlab --prove), or name one in TRLAB")
     return path
 
 

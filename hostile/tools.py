@@ -1,9 +1,13 @@
-"""What the scripts of this folder share: the built program, its runs on texts, and the count at the end.
+"""What the scripts of this folder share: the built program, its runs on texts, checks of a copy of the sources, and the
+count at the end.
 
 The program is the built one, or the one that TRLAB names."""
+import glob
 import os
 import select
+import shutil
 import signal
+import subprocess
 import sys
 from concurrent.futures import ProcessPoolExecutor
 
@@ -18,7 +22,7 @@ DONE, REFUSED, WORDS, MEMORY, DEVICE = range(5)
 
 def need_program():
     if not os.access(PROGRAM, os.X_OK):
-        sys.exit(f"{PROGRAM} is not there; build it first: ./trlab run < examples/two_cars.job")
+        sys.exit(f"{PROGRAM} is not there; build it first (./trlab --prove), or name one in TRLAB")
 
 
 def ended(pid):
@@ -51,6 +55,22 @@ def run(words, text=b"", env=None, program=PROGRAM):
     finally:
         os.close(source)
         os.close(sink)
+
+
+def copy_of_sources(to):
+    """The files of the crates that git knows or would take, in a new folder."""
+    words = ["git", "ls-files", "-z", "--cached", "--others", "--exclude-standard", "crates", "crates.txt", "HANDLES"]
+    told = subprocess.run(words, cwd=TOP, capture_output=True, check=True).stdout.decode()
+    for name in filter(None, told.split("\0")):
+        if os.path.isfile(os.path.join(TOP, name)):
+            os.makedirs(os.path.dirname(os.path.join(to, name)), exist_ok=True)
+            shutil.copyfile(os.path.join(TOP, name), os.path.join(to, name))
+
+
+def copy_of_libraries(to):
+    """The libraries that were proved here, beside a copy of the sources, so that they are not proved again."""
+    for library in glob.glob(os.path.join(TOP, "crates", "*", "out", "rlib")):
+        shutil.copytree(library, os.path.join(to, os.path.relpath(library, TOP)))
 
 
 class Count:

@@ -19,9 +19,10 @@ mod turn;
 
 pub use desk::{Desk, SharedBook};
 pub use fault::RunFault;
-pub use limits::{ALL_PARTS, MOST_RUNNERS};
+pub use limits::ALL_PARTS;
 pub use ordered::advance;
 pub use running::run_jobs;
+pub use trlab_bounds::runs::MOST_RUNNERS;
 pub use trlab_leases::{
     Book, BookFault, BoxedRule, BoxedSeed, Call, Event, Lease, LeaseFault, Offered, Order, Reply,
     Seed, Sheet, Snapshot,

@@ -2,6 +2,3 @@
 
 /// The parts of the right to call a book.
 pub const ALL_PARTS: u32 = 1024;
-
-/// The most runners of a book.
-pub const MOST_RUNNERS: u32 = 16;

@@ -2,10 +2,9 @@
 
 ghost use Rattle.std.specs.Prelude.{◌≡◌, ◌<◌, ◌≤◌, ◌↔◌, ◌⊎◌, Err, IsOk, MatchResult};
 ghost use Rattle.std.specs.Thread.{IsSend, IsSync};
-ghost use Rattle.trlab_bounds.specs.declared.runs.TheConstants.{MOST_WORKERS};
+ghost use Rattle.trlab_bounds.specs.declared.runs.TheConstants.{MOST_RUNNERS, MOST_WORKERS};
 ghost use Rattle.trlab_book.specs.Desks.{GoesOn, parts_of};
 ghost use Rattle.trlab_book.specs.declared.fault.RunFault.TheVariants.{HistoryFull};
-ghost use Rattle.trlab_book.specs.declared.limits.TheConstants.{MOST_RUNNERS};
 
 use crate::desk::{Desk, SharedBook};
 use crate::fault::RunFault;

@@ -10,7 +10,7 @@ use crate::programs::{
     MOST_DIGITS, MOST_INSTRUCTIONS, PLACES, PLAIN_VERSION, WORDS,
 };
 use crate::roads::{GREATEST_GAP, GREATEST_LENGTH, GREATEST_LIMIT, MOST_LANES};
-use crate::runs::{MOST_LATER, MOST_STEPS, MOST_WORKERS};
+use crate::runs::{MOST_LATER, MOST_RUNNERS, MOST_STEPS, MOST_WORKERS};
 use crate::texts::{LONGEST_NUMBER, TEXT_LIMIT};
 
 /// The bounds of roads; a car sees at most all other cells of the longest lane.
@@ -56,4 +56,5 @@ pub fn runs()
     ensures steps { MOST_STEPS ≡ 500000 }
     ensures later { MOST_LATER ≡ 1023 }
     ensures workers { MOST_WORKERS ≡ 16 }
+    ensures runners { MOST_RUNNERS ≡ 16 }
 {}

@@ -15,3 +15,5 @@ pub mod OnePoints
 pub mod SomePoints
 pub mod SomeOutput
 pub mod Verdicts
+pub mod StatedRules
+pub mod Capacities

@@ -8,6 +8,7 @@ pub mod Output
 pub mod NoteLines
 pub mod CheckOutput
 pub mod SweepOutput
+pub mod Capacity
 pub mod TooBig
 -- how engines end, and laws
 pub mod Ending

@@ -1,8 +1,7 @@
 //! The engines that are tried, over texts in memory.
 
 ghost use Rattle.std.specs.Prelude.{◌≡◌, ◌≤◌, false};
-ghost use Rattle.trlab_bounds.specs.declared.runs.TheConstants.{MOST_WORKERS};
-ghost use Rattle.trlab_book.specs.declared.limits.TheConstants.{MOST_RUNNERS};
+ghost use Rattle.trlab_bounds.specs.declared.runs.TheConstants.{MOST_RUNNERS, MOST_WORKERS};
 
 use std::alloc::AllocGlobal;
 use std::sync::Wait;

@@ -1,3 +1,3 @@
 mod CommandLine
-pub mod Matches
+mod Matches
 mod Options

@@ -18,8 +18,7 @@ use Rattle.clap.specs.declared.builder.value_parser.ValueParser.TheVariants.{Sig
 use Rattle.clap.proofs.OnLiterals.{clap_on_literals}
 use Rattle.clap.proofs.CallerReads.{signed_reads}
 use Rattle.clap.proofs.ValueTestLemmas.{accepts-Accepts}
-use Rattle.trlab_bounds.specs.declared.runs.TheConstants.{MOST_WORKERS}
-use Rattle.trlab_book.specs.declared.limits.TheConstants.{MOST_RUNNERS}
+use Rattle.trlab_bounds.specs.declared.runs.TheConstants.{MOST_RUNNERS, MOST_WORKERS}
 use Rattle.trlab_command_line.specs.Numbers.{GivesNumber, HasValue}
 use Rattle.trlab_command_line.specs.CommandLine.{command_line}
 use Rattle.trlab_command_line.proofs.CommandLine.{Taken, check, check_level, run_level, sweep_level, enters_check, enters_run, enters_sweep, run, sweep, taken, workers_value, sweep_runners_value, sweep_workers_value}

@@ -3,8 +3,7 @@ use Rattle.std.specs.Prelude.{ℕ, [], ◌∷◌, Some, codes, pos, true}
 use Rattle.clap.specs.Words.{App, Rule, Text, new_app, new_rule, with_rule, with_subcommand}
 use Rattle.clap.specs.Simple.{on_top}
 use Rattle.clap.specs.declared.builder.value_parser.ValueParser.TheVariants.{Signed}
-use Rattle.trlab_bounds.specs.declared.runs.TheConstants.{MOST_WORKERS}
-use Rattle.trlab_book.specs.declared.limits.TheConstants.{MOST_RUNNERS}
+use Rattle.trlab_bounds.specs.declared.runs.TheConstants.{MOST_RUNNERS, MOST_WORKERS}
 
 -- the option `--name n`: an integer from 1 to a greatest one, and 1 where the words give none
 abbrev pub count_option : Text → ℕ → Rule

@@ -1,2 +1,5 @@
 pub mod CommandLine
 pub mod Numbers
+pub mod Requests
+pub mod Explains
+pub mod Statuses

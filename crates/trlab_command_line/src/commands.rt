@@ -60,7 +60,7 @@ fn program<'a>(alloc: Global) -> Result<Command<'a>, AllocError>
 }
 
 /// The command line of `trlab`: the program with its commands.
-pub fn command_line<'a>(alloc: Global) -> Result<Command<'a>, AllocError>
+pub(crate) fn command_line<'a>(alloc: Global) -> Result<Command<'a>, AllocError>
     ensures { IfOk result (λ command. app_of command ≡ command_line) }
 {
     program(alloc)?

@@ -9,8 +9,7 @@ ghost use Rattle.trlab_command_line.specs.Numbers.{GivesNumber, HasValue};
 use crate::help::{RUNNERS_HELP, WORKERS_HELP};
 use clap::{Arg, ArgMatches, value_parser};
 use std::alloc::Global;
-use trlab_book::MOST_RUNNERS;
-use trlab_bounds::runs::MOST_WORKERS;
+use trlab_bounds::runs::{MOST_RUNNERS, MOST_WORKERS};
 
 /// The option `--name n`, n from 1 to a greatest number, which is 1 where it is not given.
 fn count_option<'a>(alloc: Global, name: &'a str, most: u32, help: &'a str) -> Arg<'a>
@@ -42,7 +41,7 @@ pub(crate) fn runners_option<'a>(alloc: Global) -> Arg<'a>
 }
 
 /// The number that an option has among the matches of its command.
-pub fn count_of(matches: &ArgMatches, option: &str) -> u32
+pub(crate) fn count_of(matches: &ArgMatches, option: &str) -> u32
     requires { (v : Text) × HasValue (option.now) 16 (rows_of (found_of matches.now)) v }
     ensures number { GivesNumber (option.now) (rows_of (found_of matches.now)) result }
     ensures some { 1 ≤ result }

@@ -1,11 +1,17 @@
-//! The command line of `trlab` as `clap` is told it: its commands, their options and texts of help,
-//! and the numbers that the options give.
+//! The command line of `trlab` as `clap` is told it, with its texts of help; what its words ask for;
+//! and the exit statuses of words that ask for nothing.
 #![tactic(auto)]
 
 mod commands;
 mod counts;
+mod explain;
 mod help;
+mod status;
+mod words;
 
-pub use commands::command_line;
-pub use counts::count_of;
+pub use explain::{Explaining, explain_words, word_not_taken};
 pub use help::EXPLAIN_HELP;
+pub use status::{REFUSED_WORDS, status_of_print, status_of_words};
+pub use trlab_advice::Subject;
+pub use trlab_wording::Topic;
+pub use words::{Wanted, read_words};

@@ -4,8 +4,8 @@ use Rattle.trlab_campaign.specs.CheckOutput.{IsCheckOutput}
 use Rattle.trlab_campaign.specs.Refusal.{Outputs}
 use Rattle.trlab_campaign.specs.Output.{IsOutput}
 use Rattle.trlab_campaign.specs.SweepOutput.{IsSweepOutput}
-use Rattle.trlab_commands.specs.declared.words.Wanted.{Wanted}
-use Rattle.trlab_commands.specs.declared.words.Wanted.TheVariants.{Check, Run, Sweep}
+use Rattle.trlab_command_line.specs.declared.words.Wanted.{Wanted}
+use Rattle.trlab_command_line.specs.declared.words.Wanted.TheVariants.{Check, Run, Sweep}
 
 -- the whole output of a command for a text, and whether it is a refusal: `check` writes a verdict on a
 -- program, `run` the pictures of a job and `sweep` the table of a sweep, whatever the number of workers

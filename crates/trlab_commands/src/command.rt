@@ -6,14 +6,14 @@ ghost use Rattle.trlab_campaign.specs.Device.{ConsumesUpTo};
 ghost use Rattle.trlab_campaign.specs.Ending.{EndsSo, HandsOn};
 ghost use Rattle.trlab_campaign.specs.declared.end.End.TheVariants.{DeviceFault};
 ghost use Rattle.trlab_bounds.specs.declared.texts.TheConstants.{TEXT_LIMIT};
-ghost use Rattle.trlab_commands.specs.Requests.{HasCounts};
+ghost use Rattle.trlab_command_line.specs.Requests.{HasCounts};
 ghost use Rattle.trlab_commands.specs.Commands.{output_of};
 
-use crate::words::Wanted;
 use std::alloc::AllocGlobal;
 use std::sync::Wait;
 use std::thread::Threads;
 use trlab_campaign::{End, Sink, Source, check_text, run_job_text, run_sweep_text};
+use trlab_command_line::Wanted;
 
 /// Does what is wanted, from a reader to a writer.
 pub fn carry_out<R: AllocGlobal + Threads + Wait + Sync, S: Source, K: Sink>(

@@ -3,7 +3,7 @@
 
 ghost use Rattle.std.specs.Prelude.{◌≡◌, Bool, false};
 ghost use Rattle.clap.specs.Words.{kind_of};
-ghost use Rattle.trlab_commands.specs.Statuses.{status_of_print};
+ghost use Rattle.trlab_command_line.specs.Statuses.{status_of_print};
 
 use clap::Error;
 use clap::error::ErrorKind;
@@ -13,10 +13,11 @@ use std::sync::Wait;
 use std::thread::Threads;
 use std::{env, io};
 use trlab_campaign::{End, Sink, Source, Watched};
-use trlab_commands::{
-    EXPLAIN_HELP, Explaining, REFUSED_WORDS, carry_out, explain_words, read_words, status_of_end,
-    status_of_print, word_not_taken,
+use trlab_command_line::{
+    EXPLAIN_HELP, Explaining, REFUSED_WORDS, explain_words, read_words, status_of_print,
+    word_not_taken,
 };
+use trlab_commands::{carry_out, status_of_end};
 use trlab_explain::{explain_number, explain_text};
 
 fn main(rt: HostRuntime) -> ExitCode {

@@ -1,7 +1,7 @@
 //! Words of the command line, what is made of them, and how the commands end.
 
 ghost use Rattle.std.specs.Prelude.{◌≡◌, false, IfOk};
-ghost use Rattle.trlab_commands.specs.Requests.{HasCounts};
+ghost use Rattle.trlab_command_line.specs.Requests.{HasCounts};
 
 use clap::Error;
 use std::alloc::{AllocError, AllocGlobal, Global};
@@ -9,9 +9,8 @@ use std::io;
 use std::sync::Wait;
 use std::thread::Threads;
 use trlab_campaign::{End, Sink, Source, Watched};
-use trlab_commands::{
-    Wanted, carry_out, read_words, status_of_end, status_of_print, status_of_words,
-};
+use trlab_command_line::{Wanted, read_words, status_of_print, status_of_words};
+use trlab_commands::{carry_out, status_of_end};
 
 /// What the words of a line ask for.
 fn asked(rt: &impl AllocGlobal, line: &str) -> Result<Wanted, Error>

@@ -3,9 +3,8 @@
 ghost use Rattle.std.specs.Prelude.{◌≡◌, ◌<◌, ◌≤◌, All, IfOk, IfSome, get_or, length};
 ghost use Rattle.trlab_diagram.specs.Flow.{IsMeasured};
 ghost use Rattle.trlab_road.specs.Spreading.{IsEven};
-ghost use Rattle.trlab_bounds.specs.declared.runs.TheConstants.{MOST_WORKERS};
+ghost use Rattle.trlab_bounds.specs.declared.runs.TheConstants.{MOST_RUNNERS, MOST_WORKERS};
 ghost use Rattle.trlab_book.specs.Desks.{parts_of};
-ghost use Rattle.trlab_book.specs.declared.limits.TheConstants.{MOST_RUNNERS};
 ghost use Rattle.trlab_campaign.specs.SweepOutput.{ArePoints, IsPoint};
 
 use crate::sweep::points::{even_road, run_point};

@@ -1,8 +1,7 @@
 //! The table of a sweep's points.
 
 ghost use Rattle.std.specs.Prelude.{◌≡◌, ◌<◌, ◌≤◌, IfOk, false};
-ghost use Rattle.trlab_bounds.specs.declared.runs.TheConstants.{MOST_WORKERS};
-ghost use Rattle.trlab_book.specs.declared.limits.TheConstants.{MOST_RUNNERS};
+ghost use Rattle.trlab_bounds.specs.declared.runs.TheConstants.{MOST_RUNNERS, MOST_WORKERS};
 ghost use Rattle.trlab_campaign.specs.SweepOutput.{SweepOutput};
 
 use crate::sweep::runners::points_by_runners;

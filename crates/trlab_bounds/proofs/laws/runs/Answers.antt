@@ -9,3 +9,6 @@ returns-clause-later c = refl
 
 pub returns-clause-workers : goal.returns-clause-workers
 returns-clause-workers c = refl
+
+pub returns-clause-runners : goal.returns-clause-runners
+returns-clause-runners c = refl

@@ -1,0 +1,132 @@
+-- The points of a sweep are within the capacity of their roads.
+use Rattle.std.proofs.Common.{◌≡◌, ℕ, suc, ◌+◌, ◌-◌, ◌*◌, ◌/◌, ◌<◌, ◌≤◌, min, List, [], ◌∷◌, length, get_or, sym, ◌∙◌, ap, subst, arith, mul_comm, mul_assoc, mul_right_comm, le_of_mul-le-mul_right, div-mul-le_self, mul-le-mul_right, le-div_iff_mul-le, le_trans}
+use Rattle.std.specs.Prelude.{IfOk, Ok, Result, sum_by}
+use Rattle.std.proofs.Math.Nat.{mul-div-mul_right}
+use Rattle.std.proofs.lemmas.List.Sums.{sum_by-cons}
+use Rattle.trlab_diagram.specs.declared.point.Point.{Point}
+use Rattle.trlab_road.specs.Cells.{Cells, Lane, cars}
+use Rattle.trlab_road.specs.Spreading.{CanSpread, IsEven}
+use Rattle.trlab_road.proofs.EvenRoads.{even_count, even_legal}
+use Rattle.trlab_texts.specs.Reading.{Fault}
+use Rattle.trlab_jobs.specs.declared.shape.Shape.{Shape}
+use Rattle.trlab_jobs.specs.Shapes.{all_steps}
+use Rattle.trlab_jobs.specs.Stored.{IsStoredSweep, Spreads}
+use Rattle.trlab_jobs.specs.Sweep.{Setup, Sweep}
+use Rattle.trlab_jobs.proofs.OneSweep.{one_thing}
+use Rattle.trlab_jobs.proofs.SomeSweep.{says_stored}
+use Rattle.trlab_traffic.specs.Capacity.{all_cells as cells_of_road, capacity, empty_cells, lane_cells}
+use Rattle.trlab_traffic.proofs.Capacities.{run_keeps_to_capacity}
+use Rattle.trlab_traffic.proofs.EvenFlows.{even_cars_flow_at_capacity}
+use Rattle.trlab_traffic.proofs.RoomAhead.{taken_or_empty}
+use Rattle.trlab_campaign.specs.Capacity.{DiagramIsTriangle, IsOnTriangle, IsUnderTriangle, AsksForTriangle, SweepsKeepToCapacity}
+use Rattle.trlab_campaign.specs.SweepOutput.{IsPoint, seed_of, sheet_of}
+use Rattle.trlab_campaign.proofs.Points.{some_cells}
+use Rattle.trlab_campaign.proofs.StatedRules.{stated_nasch}
+use Rattle.trlab_rules.specs.StandardRules.{IsNasch}
+
+-- the cells of lanes of one length
+equal_lanes : (lanes : List Lane) (n : ℕ) → ((l : ℕ) → l < length lanes → length (get_or lanes l []) ≡ n) → sum_by lane_cells lanes ≡ length lanes * n
+equal_lanes [] n equal = omega arith
+equal_lanes (lane ∷ lanes) n equal =
+    let first : length lane ≡ n = equal 0 (omega arith) in
+    let rest = equal_lanes lanes n (λ l h. equal (suc l) (omega arith)) in
+    let split = sum_by-cons lane_cells lane lanes in
+    omega (arith, first, rest, split)
+
+even_cells : (lanes cells limit n : ℕ) (road : Cells) → IsEven lanes cells limit n road → cells_of_road road ≡ lanes * cells
+even_cells lanes cells limit n road even =
+    equal_lanes road.lanes cells (λ l h. (even.each_lane l (subst (λ k. l < k) even.same_lanes h)).same_length) ∙ ap (λ k. k * cells) even.same_lanes
+
+-- a flow by a bound on the distance of each step
+flow_within : (distance cells steps most : ℕ) → 1 ≤ cells → 1 ≤ steps → distance ≤ steps * most → distance * 1000000 / (cells * steps) ≤ most * 1000000 / cells
+flow_within distance cells steps most some_cell some_step far =
+    let flow = distance * 1000000 / (cells * steps) in
+    let a : flow * (cells * steps) ≤ distance * 1000000 = div-mul-le_self (distance * 1000000) (cells * steps) in
+    let b : distance * 1000000 ≤ steps * most * 1000000 = mul-le-mul_right 1000000 far in
+    let c : flow * (cells * steps) ≡ flow * cells * steps = sym (mul_assoc flow cells steps) in
+    let d : steps * most * 1000000 ≡ most * 1000000 * steps = ap (λ k. k * 1000000) (mul_comm steps most) ∙ mul_right_comm most steps 1000000 in
+    let e : flow * cells * steps ≤ most * 1000000 * steps = subst (λ k. k ≤ most * 1000000 * steps) c (subst (λ k. flow * (cells * steps) ≤ k) d (le_trans a b)) in
+    (le-div_iff_mul-le some_cell).1 (le_of_mul-le-mul_right e some_step)
+
+-- the road of a point at the start: what its cars can go, by the counts of cells and cars
+module _ (shape : Shape) (count : ℕ) (start : Cells) (fits : Spreads shape count) (even : IsEven shape.lanes shape.cells shape.limit count start) where
+  all_cars : cars start ≡ count
+  all_cars = even_count shape.lanes shape.cells shape.limit count start fits even
+
+  empty_at_start : empty_cells start ≡ shape.lanes * shape.cells - count
+  empty_at_start =
+      let all = all_cars in
+      let cells = even_cells shape.lanes shape.cells shape.limit count start even in
+      let split = taken_or_empty start in
+      omega (arith, all, cells, split)
+
+  at_limit : start.limit * cars start ≡ shape.limit * count
+  at_limit = ap (λ k. k * cars start) even.same_limit ∙ ap (λ k. shape.limit * k) all_cars
+
+module _ (common : Setup) (counted : 1 ≤ common.span.measure) where
+  -- what is told of one point
+  told_within : (number cars : ℕ) (point : Point) → Spreads common.shape cars → IsPoint common number cars point → IsUnderTriangle common.shape.limit point
+  told_within number count point fits is =
+      let shape = common.shape in
+      let span = common.span in
+      let start = is.start in
+      let legal = even_legal shape.lanes shape.cells shape.limit count start fits is.even in
+      let within = run_keeps_to_capacity (seed_of common number start) (sheet_of common) (all_steps span) is.counted.0 is.tally legal is.counted.1 in
+      let steps : span.warm + span.measure - span.warm ≡ span.measure = omega arith in
+      let empty : empty_cells start ≡ shape.lanes * shape.cells - count = empty_at_start shape count start fits is.even in
+      let most : start.limit * cars start ≡ shape.limit * count = at_limit shape count start fits is.even in
+      let by_cells : is.tally.distance ≤ span.measure * (shape.lanes * shape.cells - count) = rw (← steps, ← empty) within.by_empty_cells in
+      let by_limit : is.tally.distance ≤ span.measure * (shape.limit * count) = rw (← steps, ← most) within.by_limit in
+      let some = some_cells shape.lanes shape.cells fits.lanes_fit.some_lane fits.length_fits.some_cell in
+      subst (IsUnderTriangle shape.limit) (sym is.told) (record {
+        room = fits.room;
+        by_empty_cells = by_cells;
+        by_limit = by_limit;
+        flow_by_empty_cells = flow_within is.tally.distance (shape.lanes * shape.cells) span.measure (shape.lanes * shape.cells - count) some counted by_cells;
+        flow_by_limit = flow_within is.tally.distance (shape.lanes * shape.cells) span.measure (shape.limit * count) some counted by_limit;
+      })
+
+pub sweeps_keep_to_capacity : SweepsKeepToCapacity
+sweeps_keep_to_capacity text sweep points says are =
+    let found = says_stored text in
+    let same = one_thing text found.0 (Ok sweep) found.1.0 says in
+    let stored : IsStoredSweep sweep = subst (λ (said : Result Sweep Fault). IfOk said IsStoredSweep) same found.1.1 in
+    λ i d inside.
+    let on : i < length sweep.cars = (let size = are.one_each in omega (arith, size, inside)) in
+    told_within sweep.setup stored.counted i (get_or sweep.cars i 0) (get_or points i d) (stored.spreads i 0 on) (are.each i 0 d on)
+
+-- a flow by the distance of each step
+flow_is : (distance cells steps each : ℕ) → 1 ≤ steps → distance ≡ steps * each → distance * 1000000 / (cells * steps) ≡ each * 1000000 / cells
+flow_is distance cells steps each some far =
+    let e : steps * each * 1000000 ≡ each * 1000000 * steps = ap (λ k. k * 1000000) (mul_comm steps each) ∙ mul_right_comm each steps 1000000 in
+    ap (λ k. k * 1000000 / (cells * steps)) far ∙ ap (λ k. k / (cells * steps)) e ∙ mul-div-mul_right (each * 1000000) cells some
+
+module _ (text : List ℕ) (common : Setup) (counted : 1 ≤ common.span.measure) (is_nasch : IsNasch 0 common.rule) (without : AsksForTriangle text common) where
+  on_triangle : (number cars : ℕ) (point : Point) → Spreads common.shape cars → IsPoint common number cars point → IsOnTriangle common.shape.limit point
+  on_triangle number count point fits is =
+      let shape = common.shape in
+      let span = common.span in
+      let one = without.lanes in
+      let alone = subst (λ lanes. CanSpread lanes shape.cells shape.limit count) one fits in
+      let even = subst (λ lanes. IsEven lanes shape.cells shape.limit count is.start) one is.even in
+      let gone = even_cars_flow_at_capacity shape.cells shape.limit count common.rule (seed_of common number is.start) (all_steps span) is.counted.0 is.tally is_nasch alone even without.warm is.counted.1 in
+      let steps : span.warm + span.measure - span.warm ≡ span.measure = omega arith in
+      let empty = empty_at_start shape count is.start fits is.even in
+      let most = at_limit shape count is.start fits is.even in
+      let far : is.tally.distance ≡ span.measure * min (shape.limit * count) (shape.lanes * shape.cells - count) =
+      gone ∙ ap (λ k. k * capacity is.start) steps
+      ∙ ap (λ k. span.measure * min k (empty_cells is.start)) most
+      ∙ ap (λ k. span.measure * min (shape.limit * count) k) empty in
+      subst (IsOnTriangle shape.limit) (sym is.told) (record {
+        distance = far;
+        flow = flow_is is.tally.distance (shape.lanes * shape.cells) span.measure (min (shape.limit * count) (shape.lanes * shape.cells - count)) counted far;
+      })
+
+pub diagram_is_triangle : DiagramIsTriangle
+diagram_is_triangle text sweep points says are without =
+    let found = says_stored text in
+    let same = one_thing text found.0 (Ok sweep) found.1.0 says in
+    let stored : IsStoredSweep sweep = subst (λ (said : Result Sweep Fault). IfOk said IsStoredSweep) same found.1.1 in
+    λ i d inside.
+    let on : i < length sweep.cars = (let size = are.one_each in omega (arith, size, inside)) in
+    on_triangle text sweep.setup stored.counted (stated_nasch 0 text sweep without.rule says) without i (get_or sweep.cars i 0) (get_or points i d) (stored.spreads i 0 on) (are.each i 0 d on)

@@ -1,0 +1,65 @@
+-- The capacity at the points of a sweep: each is under a triangle of the fundamental diagram, or on it.
+use Rattle.std.specs.Prelude.{◌≡◌, ℕ, ◌+◌, ◌-◌, ◌*◌, ◌/◌, ◌≤◌, min, List, [], All, Ok, Result, slice_index_or}
+use Rattle.trlab_diagram.specs.declared.point.Point.{Point}
+use Rattle.trlab_diagram.specs.Flow.{flow_of}
+use Rattle.trlab_lines.specs.Lines.{lines_of}
+use Rattle.trlab_texts.specs.declared.fault.Cause.{Cause}
+use Rattle.trlab_jobs.specs.declared.rule_line.RuleLine.{RuleLine}
+use Rattle.trlab_jobs.specs.declared.rule_line.RuleLine.TheVariants.{Nasch}
+use Rattle.trlab_jobs.specs.RuleLines.{rule_line}
+use Rattle.trlab_jobs.specs.Sweep.{Setup, Sweep, SweepText}
+use Rattle.trlab_campaign.specs.SweepOutput.{ArePoints}
+
+-- the empty cells at a point
+abbrev pub empty_cells_at : Point → ℕ
+empty_cells_at point = point.cells - point.cars
+
+-- the capacity at a point, the greatest distance of a step: each car goes by the limit, or each empty cell
+-- is gone onto
+abbrev pub capacity_at : ℕ → Point → ℕ
+capacity_at limit point = min (limit * point.cars) (empty_cells_at point)
+
+-- the flow at a point where this is the distance of each step, in millionths and rounded down
+abbrev pub steady_flow : Point → ℕ → ℕ
+steady_flow point distance = distance * 1000000 / point.cells
+
+-- a point under the triangle: as a mean over its steps, the cars went over no more cells than its road has
+-- empty ones, and no further than the limit each; so the flow is at most one less the density, and at most
+-- the limit times the density
+pub record IsUnderTriangle (limit : ℕ) (point : Point) : Type 0 where
+  pub room : point.cars ≤ point.cells
+  pub by_empty_cells : point.distance ≤ point.steps * empty_cells_at point
+  pub by_limit : point.distance ≤ point.steps * (limit * point.cars)
+  pub flow_by_empty_cells : flow_of point ≤ steady_flow point (empty_cells_at point)
+  pub flow_by_limit : flow_of point ≤ steady_flow point (limit * point.cars)
+
+-- each point of the table for a sweep text is so, under any rule that the text may state
+abbrev pub SweepsKeepToCapacity : Type 0
+SweepsKeepToCapacity =
+    (text : List ℕ) (sweep : Sweep) (points : List Point)
+    → SweepText text (Ok sweep) → ArePoints sweep points
+    → All (IsUnderTriangle sweep.setup.shape.limit) points
+
+-- a point on the triangle: its distance is the capacity for each of its steps
+pub record IsOnTriangle (limit : ℕ) (point : Point) : Type 0 where
+  pub distance : point.distance ≡ point.steps * capacity_at limit point
+  pub flow : flow_of point ≡ steady_flow point (capacity_at limit point)
+
+-- the rule that a sweep text states, by its sixth line
+abbrev pub rule_stated : List ℕ → Result (RuleLine ℕ) Cause
+rule_stated text = rule_line (slice_index_or (lines_of text) 5 [])
+
+-- a sweep text asks for the triangle: it states the rule of 1992 without randomization, by the line `rule
+-- nasch 0`, has one lane, and counts from no earlier step on than that in which cars could come to the
+-- limit
+pub record AsksForTriangle (text : List ℕ) (common : Setup) : Type 0 where
+  pub rule : rule_stated text ≡ Ok (Nasch 0)
+  pub lanes : common.shape.lanes ≡ 1
+  pub warm : common.shape.limit ≤ common.span.warm + 1
+
+-- then each point of its table is on it
+abbrev pub DiagramIsTriangle : Type 0
+DiagramIsTriangle =
+    (text : List ℕ) (sweep : Sweep) (points : List Point)
+    → SweepText text (Ok sweep) → ArePoints sweep points → AsksForTriangle text sweep.setup
+    → All (IsOnTriangle sweep.setup.shape.limit) points

@@ -1,0 +1,224 @@
+-- What detectors count in runs.
+use Rattle.std.proofs.Common.{◌≡◌, ℕ, zero, suc, ◌+◌, ◌<◌, ◌≤◌, Bool, true, false, cond, length, refl, sym, ◌∙◌, ap, subst, arith, ◌-◌, ◌*◌, inl, inr, if◌then◌else◌}
+use Rattle.std.specs.Prelude.{nat_le, sum_by}
+use Rattle.std.specs.List.{range_with_len}
+use Rattle.std.proofs.lemmas.Bool.{le-leb, cases_lt, lt-leb}
+use Rattle.std.proofs.lemmas.List.Sums.{sum_by-cons}
+use Rattle.trlab_road.specs.Cells.{Cells, Lane, lane_of}
+use Rattle.trlab_road.specs.Gaps.{ahead}
+use Rattle.trlab_rules.specs.Rules.{Programs}
+use Rattle.trlab_machine.specs.declared.dice.Dice.{Dice}
+use Rattle.trlab_step.specs.declared.tally.StepTally.{StepTally}
+use Rattle.trlab_step.specs.Next.{IsNext}
+use Rattle.trlab_step.specs.Run.{ComesTo, Seed, Sheet, dice_at, IsRoadAt}
+use Rattle.trlab_step.proofs.RunLaws.{force_all, road_at_is_one}
+use Rattle.trlab_traffic.specs.Detector.{all_passages, cars_ahead_of, passages, way}
+use Rattle.trlab_traffic.specs.DetectorRuns.{AreWithin, CountExists, Counts, DetectorMeasuresFlow, DetectorsAgree, DetectorsCountRun, RunIsContinuous}
+use Rattle.trlab_traffic.specs.Rule184.{is_taken}
+use Rattle.trlab_traffic.specs.Runs.{EachRule, StaysInLane}
+use Rattle.trlab_traffic.proofs.Capacities.{distance_counted, distance_uncounted}
+use Rattle.trlab_traffic.proofs.Detecting.{detectors_count_distance, step_is_continuous, way_reaches}
+use Rattle.trlab_traffic.proofs.Places.{ahead_below}
+use Rattle.trlab_traffic.proofs.LanesApart.{any_lane}
+use Rattle.trlab_traffic.proofs.NaschMoves.{motion_alone}
+use Rattle.trlab_traffic.proofs.OneLane.{one_sum}
+use Rattle.trlab_traffic.proofs.RunLanes.{run_lanes}
+use Rattle.trlab_traffic.proofs.Sums.{sum_range, total_add, total_none, total_same}
+
+pub count_exists : CountExists
+count_exists seed sheet zero road sum l x comes = (0, refl)
+count_exists seed sheet (suc step) road sum l x comes =
+    let before = count_exists seed sheet step comes.0 comes.1 l x comes.4 in
+    let count = if nat_le seed.warm step then before.0 + passages (lane_of road l) x else before.0 in
+    (count, (road, before.0, (sum, comes), before.1, refl))
+
+-- what a detector counts in one step more
+counts_on : (seed : Seed) (sheet : Sheet) (step : ℕ) (road : Cells) (l x count : ℕ) → IsRoadAt seed sheet (suc step) road → Counts seed sheet l x (suc step) count
+    → (before : ℕ) × (Counts seed sheet l x step before × (count ≡ (if nat_le seed.warm step then before + passages (lane_of road l) x else before)))
+counts_on seed sheet step road l x count here counts =
+    let same = road_at_is_one seed sheet (suc step) counts.0 road counts.2 here in
+    (counts.1, (counts.3, counts.4 ∙ ap (λ (r : Cells). if nat_le seed.warm step then counts.1 + passages (lane_of r l) x else counts.1) same))
+
+counted_so : (b : Bool) (count before p : ℕ) → count ≡ (if b then before + p else before) → b ≡ true → count ≡ before + p
+counted_so true count before p is so = is
+counted_so false count before p is so = absurd (cc so)
+
+uncounted_so : (b : Bool) (count before p : ℕ) → count ≡ (if b then before + p else before) → b ≡ false → count ≡ before
+uncounted_so true count before p is so = absurd (cc so)
+uncounted_so false count before p is so = is
+
+-- nothing is counted before the count begins
+none_counted : (seed : Seed) (sheet : Sheet) (l x step count : ℕ) → step ≤ seed.warm → Counts seed sheet l x step count → count ≡ 0
+none_counted seed sheet l x zero count early counts = counts
+none_counted seed sheet l x (suc step) count early counts =
+    uncounted_so (nat_le seed.warm step) count counts.1 (passages (lane_of counts.0 l) x) counts.4 (lt-leb seed.warm step (omega (arith, early)))
+    ∙ none_counted seed sheet l x step counts.1 (omega (arith, early)) counts.3
+
+-- a run has a road at each step before
+road_before : (seed : Seed) (sheet : Sheet) (at step : ℕ) (road : Cells) → at ≤ step → IsRoadAt seed sheet step road → (start : Cells) × IsRoadAt seed sheet at start
+road_before seed sheet at zero road early here = let e : 0 ≡ at = omega (arith, early) in (road, subst (λ k. IsRoadAt seed sheet k road) e here)
+road_before seed sheet at (suc step) road early here =
+    elim (cases_lt step at) [
+      | inl now ↦ let e : suc step ≡ at = omega (arith, early, now) in (road, subst (λ k. IsRoadAt seed sheet k road) e here)
+      | inr before ↦ let comes = here.1 in road_before seed sheet at step comes.0 before (comes.1, comes.4)
+    ]
+
+-- lanes keep their lengths under any rule
+change_length : (rule : Programs) (dice : Dice) (old new : Cells) (tally : StepTally) (l : ℕ) → StaysInLane rule → IsNext rule dice old new tally → length (lane_of new l) ≡ length (lane_of old l)
+change_length rule dice old new tally l none is =
+    let phase = motion_alone rule dice old new tally none is in
+    (any_lane phase.0 old new l phase.2).same_length
+
+run_length : (seed : Seed) (sheet : Sheet) (step : ℕ) (road : Cells) (sum : StepTally) (l : ℕ) → EachRule StaysInLane sheet → ComesTo seed sheet step road sum → length (lane_of road l) ≡ length (lane_of seed.road l)
+run_length seed sheet zero road sum l nobody comes = ap (λ (r : Cells). length (lane_of r l)) comes.1
+run_length seed sheet (suc step) road sum l nobody comes =
+    let on = comes.5 in
+    let none = force_all StaysInLane sheet step comes.2 nobody on.under in
+    change_length comes.2 (dice_at seed step) comes.0 road comes.3 l none on.next ∙ run_length seed sheet step comes.0 comes.1 l nobody comes.4
+
+pub run_is_continuous : RunIsContinuous
+run_is_continuous seed sheet zero start road l x k first second nobody late begins here both =
+    let one = both.here in
+    let two = both.there in
+    let e : seed.warm ≡ 0 = omega (arith, late) in
+    let same = road_at_is_one seed sheet 0 road start here (subst (λ j. IsRoadAt seed sheet j start) e begins) in
+    let f : cars_ahead_of (lane_of road l) x k ≡ cars_ahead_of (lane_of start l) x k = ap (λ (r : Cells). cars_ahead_of (lane_of r l) x k) same in
+    omega (arith, f, one, two)
+run_is_continuous seed sheet (suc step) start road l x k first second nobody late begins here both =
+    let low = both.is_cell in
+    let one = both.here in
+    let two = both.there in
+    let n = length (lane_of seed.road l) in
+    let comes = here.1 in
+    elim (cases_lt step seed.warm) [
+      | inl early ↦
+          let e : seed.warm ≡ suc step = omega (arith, late, early) in
+          let same = road_at_is_one seed sheet (suc step) road start here (subst (λ j. IsRoadAt seed sheet j start) e begins) in
+          let f : cars_ahead_of (lane_of road l) x k ≡ cars_ahead_of (lane_of start l) x k = ap (λ (r : Cells). cars_ahead_of (lane_of r l) x k) same in
+          let a = none_counted seed sheet l x (suc step) first (omega (arith, early)) one in
+          let b = none_counted seed sheet l (ahead n x k) (suc step) second (omega (arith, early)) two in
+          omega (arith, f, a, b)
+      | inr on_count ↦
+          let before = comes.0 in
+          let on = comes.5 in
+          let none = force_all StaysInLane sheet step comes.2 nobody on.under in
+          let size = run_length seed sheet step before comes.1 l nobody comes.4 in
+          let a = counts_on seed sheet step road l x first here one in
+          let b = counts_on seed sheet step road l (ahead n x k) second here two in
+          let so_far = run_is_continuous seed sheet step start before l x k a.0 b.0 nobody on_count begins (comes.1, comes.4) (record { is_cell = low; here = a.1.0; there = b.1.0 }) in
+          let now = step_is_continuous comes.2 (dice_at seed step) before road comes.3 l x k none on.next (omega (arith, low, size)) in
+          let place : passages (lane_of road l) (ahead (length (lane_of before l)) x k) ≡ passages (lane_of road l) (ahead n x k) = ap (λ j. passages (lane_of road l) (ahead j x k)) size in
+          let counted = le-leb seed.warm step on_count in
+          let c = counted_so (nat_le seed.warm step) first a.0 (passages (lane_of road l) x) a.1.1 counted in
+          let d = counted_so (nat_le seed.warm step) second b.0 (passages (lane_of road l) (ahead n x k)) b.1.1 counted in
+          omega (arith, so_far, now, place, c, d)
+    ]
+
+-- no more cars than cells
+digit_most : (f : ℕ → ℕ) (s k : ℕ) → ((j : ℕ) → f j ≤ 1) → sum_by f (range_with_len s k) ≤ k
+digit_most f s zero each = omega arith
+digit_most f s (suc k) each =
+    let split = sum_by-cons f s (range_with_len (s + 1) k) in
+    let first = each s in
+    let rest = digit_most f (s + 1) k each in
+    omega (arith, split, first, rest)
+
+one_most : (b : Bool) → cond b 1 0 ≤ 1
+one_most true = omega arith
+one_most false = omega arith
+
+few_cars : (lane : Lane) (x k : ℕ) → cars_ahead_of lane x k ≤ k
+few_cars lane x k = digit_most (λ j. cond (is_taken lane (ahead (length lane) x j)) 1 0) 1 k (λ j. one_most (is_taken lane (ahead (length lane) x j)))
+
+pub detectors_agree : DetectorsAgree
+detectors_agree seed sheet step road sum l x k first second nobody comes both =
+    let n = length (lane_of seed.road l) in
+    elim (cases_lt step seed.warm) [
+      | inl early ↦
+          let a = none_counted seed sheet l x step first (omega (arith, early)) both.here in
+          let b = none_counted seed sheet l (ahead n x k) step second (omega (arith, early)) both.there in
+          record { no_less = omega (arith, a, b); no_more = omega (arith, a, b) }
+      | inr late ↦
+          let start = road_before seed sheet seed.warm step road late (sum, comes) in
+          let all = run_is_continuous seed sheet step start.0 road l x k first second nobody late start.1 (sum, comes) both in
+          let a = few_cars (lane_of road l) x k in
+          let b = few_cars (lane_of start.0 l) x k in
+          record { no_less = omega (arith, all, a, b); no_more = omega (arith, all, a, b) }
+    ]
+
+-- sums of what detectors count
+sum_both : (f g h : ℕ → ℕ) (s k : ℕ) → ((x : ℕ) → f x ≡ g x + h x) → sum_by f (range_with_len s k) ≡ sum_by g (range_with_len s k) + sum_by h (range_with_len s k)
+sum_both f g h s k each =
+    let same = total_same (λ x. f (s + x)) (λ x. g (s + x) + h (s + x)) k (λ x low. each (s + x)) in
+    let split = total_add (λ x. g (s + x)) (λ x. h (s + x)) k in
+    let a = sum_range f s k in
+    let b = sum_range g s k in
+    let c = sum_range h s k in
+    omega (arith, same, split, a, b, c)
+
+sum_zero : (f : ℕ → ℕ) (s k : ℕ) → ((x : ℕ) → f x ≡ 0) → sum_by f (range_with_len s k) ≡ 0
+sum_zero f s k each = sum_range f s k ∙ total_none (λ x. f (s + x)) k (λ x low. each (s + x))
+
+pub detectors_count_run : DetectorsCountRun
+detectors_count_run seed sheet zero road sum count one comes counts =
+    sum_zero count 0 (length (lane_of seed.road 0)) counts ∙ sym (ap (λ (t : StepTally). t.distance) comes.2)
+detectors_count_run seed sheet (suc step) road sum count one comes counts =
+    let n = length (lane_of seed.road 0) in
+    let on = comes.5 in
+    let tally = comes.3 in
+    let before : (x : ℕ) → (b : ℕ) × (Counts seed sheet 0 x step b × (count x ≡ (if nat_le seed.warm step then b + passages (lane_of road 0) x else b))) =
+    λ x. counts_on seed sheet step road 0 x (count x) (sum, comes) (counts x) in
+    let so_far = detectors_count_run seed sheet step comes.0 comes.1 (λ x. (before x).0) one comes.4 (λ x. (before x).1.0) in
+    elim (cases_lt step seed.warm) [
+      | inl early ↦
+          let not_yet = lt-leb seed.warm step early in
+          let split = sum_both count (λ x. (before x).0) (λ x. 0) 0 n
+          (λ x. let e = uncounted_so (nat_le seed.warm step) (count x) (before x).0 (passages (lane_of road 0) x) (before x).1.1 not_yet in omega (arith, e)) in
+          let nothing = sum_zero (λ x. 0) 0 n (λ x. refl) in
+          let total = distance_uncounted (nat_le seed.warm step) sum comes.1 tally on.counted not_yet in
+          omega (arith, so_far, split, nothing, total)
+      | inr late ↦
+          let counted = le-leb seed.warm step late in
+          let split = sum_both count (λ x. (before x).0) (passages (lane_of road 0)) 0 n
+          (λ x. counted_so (nat_le seed.warm step) (count x) (before x).0 (passages (lane_of road 0) x) (before x).1.1 counted) in
+          let lanes = run_lanes seed sheet (suc step) road sum comes in
+          let here = one_sum all_passages road.lanes (lanes.count ∙ one) in
+          let size : sum_by (passages (lane_of road 0)) (range_with_len 0 (length (lane_of road 0))) ≡ sum_by (passages (lane_of road 0)) (range_with_len 0 n) =
+          ap (λ k. sum_by (passages (lane_of road 0)) (range_with_len 0 k)) (lanes.size 0 (omega (arith, one))) in
+          let now = detectors_count_distance comes.2 (dice_at seed step) comes.0 road tally on.next in
+          let total = distance_counted (nat_le seed.warm step) sum comes.1 tally on.counted counted in
+          omega (arith, so_far, split, here, size, now, total)
+    ]
+
+-- numbers about a value, and their sum
+sum_no_more : (f : ℕ → ℕ) (c d s k : ℕ) → ((y : ℕ) → y < s + k → f y ≤ c + d) → sum_by f (range_with_len s k) ≤ k * c + k * d
+sum_no_more f c d s zero each = omega arith
+sum_no_more f c d s (suc k) each =
+    let first = each s (omega arith) in
+    let rest = sum_no_more f c d (s + 1) k (λ y low. each y (omega (arith, low))) in
+    let a = sum_by-cons f s (range_with_len (s + 1) k) in
+    omega (arith, first, rest, a)
+
+sum_no_less : (f : ℕ → ℕ) (c d s k : ℕ) → ((y : ℕ) → y < s + k → c ≤ f y + d) → k * c ≤ sum_by f (range_with_len s k) + k * d
+sum_no_less f c d s zero each = omega arith
+sum_no_less f c d s (suc k) each =
+    let first = each s (omega arith) in
+    let rest = sum_no_less f c d (s + 1) k (λ y low. each y (omega (arith, low))) in
+    let a = sum_by-cons f s (range_with_len (s + 1) k) in
+    omega (arith, first, rest, a)
+
+pub detector_measures_flow : DetectorMeasuresFlow
+detector_measures_flow seed sheet step road sum x count nobody one comes low counted =
+    let n = length (lane_of seed.road 0) in
+    let counts : (y : ℕ) → (c : ℕ) × Counts seed sheet 0 y step c = λ y. count_exists seed sheet step road sum 0 y comes in
+    let all = detectors_count_run seed sheet step road sum (λ y. (counts y).0) one comes (λ y. (counts y).1) in
+    let near : (y : ℕ) → y < n → AreWithin (way n x y) count (counts y).0 = λ y high.
+    detectors_agree seed sheet step road sum 0 x (way n x y) count (counts y).0 nobody comes (record {
+      is_cell = low;
+      here = counted;
+      there = subst (λ z. Counts seed sheet 0 z step (counts y).0) (sym (way_reaches n x y low high)) (counts y).1;
+    }) in
+    let short : (y : ℕ) → way n x y < n = λ y. ahead_below n y (n - x) (omega (arith, low)) in
+    let most = sum_no_more (λ y. (counts y).0) count n 0 n (λ y high. let a = (near y (omega (arith, high))).no_more in let b = short y in omega (arith, a, b)) in
+    let least = sum_no_less (λ y. (counts y).0) count n 0 n (λ y high. let a = (near y (omega (arith, high))).no_less in let b = short y in omega (arith, a, b)) in
+    record { no_less = omega (arith, least, all); no_more = omega (arith, most, all) }

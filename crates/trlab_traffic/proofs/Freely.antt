@@ -1,0 +1,209 @@
+-- Free flow goes on for ever where no car brakes by chance.
+use Rattle.std.proofs.Common.{◌≡◌, ℕ, zero, suc, ◌+◌, ◌-◌, ◌*◌, ◌<◌, ◌≤◌, min, Some, None, List, [], ◌∷◌, length, get_or, refl, sym, ◌∙◌, ap, subst, inl, inr, arith, mul_comm}
+use Rattle.std.specs.Prelude.{All, nat_le, sum_by}
+use Rattle.std.proofs.lemmas.Bool.{cases_lt, le-leb, lt-leb}
+use Rattle.std.proofs.lemmas.List.Sums.{sum_by-cons}
+use Rattle.trlab_machine.specs.declared.dice.Dice.{Dice}
+use Rattle.trlab_road.specs.declared.car.Car.{Car}
+use Rattle.trlab_road.specs.Cells.{Cell, Cells, IsAt, Lane, at, cars, lane_of}
+use Rattle.trlab_road.specs.Gaps.{ahead, gap}
+use Rattle.trlab_road.specs.Legal.{IsLegal}
+use Rattle.trlab_road.specs.Motion.{LaneMoves, Moves}
+use Rattle.trlab_road.specs.Standing.{standing}
+use Rattle.trlab_road.proofs.MotionLaws.{on_lane}
+use Rattle.trlab_road.proofs.Ring.{car_in, clear_within_gap, inside}
+use Rattle.trlab_road.proofs.StandingOrder.{length-standing_lanes, standing_cell}
+use Rattle.trlab_rules.specs.Rules.{Programs}
+use Rattle.trlab_rules.specs.StandardRules.{IsNasch}
+use Rattle.trlab_rules.specs.Published.{safe_speed}
+use Rattle.trlab_step.specs.declared.tally.StepTally.{StepTally}
+use Rattle.trlab_step.specs.Laws.{IsLegalLike}
+use Rattle.trlab_step.specs.Next.{IsNext, total_speed}
+use Rattle.trlab_step.specs.Published.{AllGo, car_ahead}
+use Rattle.trlab_step.specs.Run.{ComesTo, Seed, dice_at, in_force}
+use Rattle.trlab_step.proofs.NextLaws.{like_itself, like_next}
+use Rattle.trlab_traffic.specs.FreeFlow.{FreeFlowGoesOn, FreeFlowStaysFree, IsFree}
+use Rattle.trlab_traffic.proofs.AnyRule.{next_legal_like}
+use Rattle.trlab_traffic.proofs.Capacities.{distance_counted, distance_uncounted}
+use Rattle.trlab_traffic.proofs.NaschMoves.{safe_motion}
+use Rattle.trlab_traffic.proofs.Places.{ahead_below, ahead_once, ahead_swap, clear_is_gap, gap_below}
+
+-- the safe speed of a car at the limit, with room for it
+at_limit_safe : (limit gap : ℕ) → limit ≤ gap → min (min (limit + 1) limit) gap ≡ limit
+at_limit_safe limit gap h = omega (arith, h)
+
+-- a lane all of whose cars have so much room, and go so far
+module _ (v : ℕ) (answer : ℕ → ℕ) (old new : Lane) (m : LaneMoves answer old new)
+    (goes : (x number speed : ℕ) → at old x ≡ Some (number, speed) → answer x ≡ v)
+    (room : (x number speed : ℕ) → at old x ≡ Some (number, speed) → v ≤ gap old x) where
+  -- the cells ahead of a car are empty afterwards too
+  clear_after : (x number before j y : ℕ) → at old x ≡ Some (number, before) → y ≡ ahead (length old) x v → 1 ≤ j → j ≤ v → at new (ahead (length new) y j) ≡ None
+  clear_after x number before j y here reach some most = of_cell (at new (ahead (length new) y j)) refl
+    where
+      low : x < length old
+      low = inside old x (number, before) here
+
+      of_cell : (c : Cell) → at new (ahead (length new) y j) ≡ c → at new (ahead (length new) y j) ≡ None
+      of_cell None is = is
+      of_cell (Some car) is =
+          let n = length old in
+          let came = m.nothing_else (ahead (length new) y j) car.0 car.1 is in
+          let z = came.0 in
+          let was = came.1.1.was in
+          let there : ahead (length new) y j ≡ ahead n (ahead n x j) v = ap (λ k. ahead k y j) m.same_length ∙ ap (λ k. ahead n k j) reach ∙ ahead_swap n x v j in
+          let from : ahead n z v ≡ ahead n (ahead n x j) v = sym (came.1.1.reaches ∙ ap (ahead n z) (goes z car.0 came.1.0 was)) ∙ there in
+          let same = ahead_once n z (ahead n x j) v (inside old z (car.0, came.1.0) was) (ahead_below n x j (omega (arith, low))) from in
+          let e = sym was ∙ ap (at old) same ∙ (clear_within_gap old x v (room x number before here)).clear j some most in
+          absurd cc
+
+  -- so each has room again
+  room_after : (y number speed : ℕ) → at new y ≡ Some (number, speed) → v ≤ gap new y
+  room_after y number speed there =
+      let came = m.nothing_else y number speed there in
+      let x = came.0 in
+      let was = came.1.1.was in
+      let reach : y ≡ ahead (length old) x v = came.1.1.reaches ∙ ap (ahead (length old) x) (goes x number came.1.0 was) in
+      let fits = room x number came.1.0 was in
+      let short = gap_below old x x (number, came.1.0) was in
+      let size = m.same_length in
+      clear_is_gap new y v (omega (arith, fits, short, size)) (record { clear = λ j some most. clear_after x number came.1.0 j y was reach some most })
+
+  -- and has gone so far
+  speed_after : (y number speed : ℕ) → at new y ≡ Some (number, speed) → speed ≡ v
+  speed_after y number speed there =
+      let came = m.nothing_else y number speed there in
+      came.1.1.at_speed ∙ goes came.0 number came.1.0 came.1.1.was
+
+-- the safe speed of a car in free flow
+pub free_speed : (road : Cells) (car : Car) → IsFree road → IsAt road car → safe_speed car.speed road.limit (gap (lane_of road car.lane) car.place) ≡ road.limit
+free_speed road car free here =
+    ap (λ (speed : ℕ). min (min (speed + 1) road.limit) (gap (lane_of road car.lane) car.place)) (free.at_limit car here)
+    ∙ at_limit_safe road.limit (gap (lane_of road car.lane) car.place) (free.room car here)
+
+-- a motion in which each car goes by the limit
+pub record FreeMotion (old new : Cells) : Type 0 where
+  pub speeds : ℕ → ℕ → ℕ
+  pub goes : (car : Car) → IsAt old car → speeds car.lane car.place ≡ old.limit
+  pub moves : Moves speeds old new
+
+pub free_after : (old new : Cells) → FreeMotion old new → IsFree old → IsFree new
+free_after old new motion free = record {
+  at_limit = λ car here.
+      let l = car.lane in
+      let on = lane_below car here in
+      speed_after old.limit (motion.speeds l) (lane_of old l) (lane_of new l) (motion.moves.each_lane l on)
+      (λ x number speed there. motion.goes (car_in l x number speed) there) (λ x number speed there. free.room (car_in l x number speed) there)
+      car.place car.number car.speed here
+      ∙ sym motion.moves.same_limit;
+  room = λ car here.
+      let l = car.lane in
+      let on = lane_below car here in
+      subst (λ v. v ≤ gap (lane_of new l) car.place) (sym motion.moves.same_limit)
+      (room_after old.limit (motion.speeds l) (lane_of old l) (lane_of new l) (motion.moves.each_lane l on)
+      (λ x number speed there. motion.goes (car_in l x number speed) there) (λ x number speed there. free.room (car_in l x number speed) there)
+      car.place car.number car.speed here);
+}
+  where
+    lane_below : (car : Car) → IsAt new car → car.lane < length old.lanes
+    lane_below car here =
+        let on = on_lane new car.lane car.place (car.number, car.speed) here in
+        let size = motion.moves.same_lanes in
+        omega (arith, on, size)
+
+free_go : (old new : Cells) → FreeMotion old new → AllGo (λ car. old.limit) old new
+free_go old new motion car here =
+    let l = car.lane in
+    let on = on_lane old l car.place (car.number, car.speed) here in
+    subst (λ (v : ℕ). IsAt new (car_ahead old car v)) (motion.goes car here)
+    ((motion.moves.each_lane l on).arrives car.place car.number car.speed here)
+
+free_motion : (rule : Programs) (dice : Dice) (old new : Cells) (tally : StepTally) → IsNasch 0 rule → IsLegal old → IsFree old → IsNext rule dice old new tally → FreeMotion old new
+free_motion rule dice old new tally is legal free next =
+    let motion = safe_motion rule dice old new tally is legal next in
+    record { speeds = motion.speeds; goes = λ car here. motion.safe car here ∙ free_speed old car free here; moves = motion.moves }
+
+pub free_flow_goes_on : FreeFlowGoesOn
+free_flow_goes_on rule dice old new tally is legal free next =
+    let motion = free_motion rule dice old new tally is legal free next in
+    (free_go old new motion, free_after old new motion free)
+
+-- cars of one speed
+pub sum_by-same : (f : Car → ℕ) (v : ℕ) (xs : List Car) → All (λ car. f car ≡ v) xs → sum_by f xs ≡ length xs * v
+sum_by-same f v [] all = omega arith
+sum_by-same f v (x ∷ xs) all =
+    let first : f x ≡ v = all 0 x (omega arith) in
+    let rest = sum_by-same f v xs (λ k d below. all (suc k) d (omega arith)) in
+    let split = sum_by-cons f x xs in
+    omega (arith, first, rest, split)
+
+pub free_total : (road : Cells) → IsFree road → total_speed road ≡ road.limit * cars road
+free_total road free =
+    let count = length-standing_lanes 0 road.lanes in
+    sum_by-same (λ (car : Car). car.speed) road.limit (standing road)
+    (λ k d below. free.at_limit (get_or (standing road) k d) (standing_cell road k d (omega (arith, below, count))))
+    ∙ ap (λ k. k * road.limit) count ∙ mul_comm (cars road) road.limit
+
+-- a sheet of one rule has it in force at each step
+pub in_force_one : (rule : Programs) (step : ℕ) → in_force ((0, rule) ∷ []) step ≡ Some rule
+in_force_one rule step = rw (le-leb 0 step (omega arith)) refl
+
+pub one_rule : (rule other : Programs) (step : ℕ) → in_force ((0, rule) ∷ []) step ≡ Some other → rule ≡ other
+one_rule rule other step is = let e = sym (in_force_one rule step) ∙ is in cc
+
+-- a run in free flow
+pub record FreelyOn (seed : Seed) (step : ℕ) (road : Cells) (sum : StepTally) : Type 0 where
+  like : IsLegalLike seed.road road
+  pub free : IsFree road
+  pub gone : sum.distance ≡ (step - seed.warm) * (seed.road.limit * cars seed.road)
+
+pub one_more : (m n most step warm : ℕ) → m ≡ (step - warm) * most → n ≡ most → warm ≤ step → m + n ≡ (suc step - warm) * most
+one_more m n most step warm before now counted =
+    let e : suc step - warm ≡ suc (step - warm) = omega arith in
+    rw e (omega (arith, before, now))
+
+none_more : (m most step warm : ℕ) → m ≡ (step - warm) * most → step < warm → m ≡ (suc step - warm) * most
+none_more m most step warm before early =
+    let e : suc step - warm ≡ step - warm = omega arith in
+    rw e before
+
+none_yet : (most warm : ℕ) → 0 ≡ (0 - warm) * most
+none_yet most warm = let e : 0 - warm ≡ 0 = omega arith in rw e (omega arith)
+
+-- under a rule by which free flow goes on
+pub run_freely : (rule : Programs) (seed : Seed) (step : ℕ) (road : Cells) (sum : StepTally)
+    → ((dice : Dice) (old new : Cells) (tally : StepTally) → IsLegal old → IsFree old → IsNext rule dice old new tally → IsFree new)
+    → IsLegal seed.road → IsFree seed.road → ComesTo seed ((0, rule) ∷ []) step road sum → FreelyOn seed step road sum
+run_freely rule seed zero road sum goes_on legal free comes = record {
+  like = subst (IsLegalLike seed.road) (sym comes.1) (like_itself seed.road legal);
+  free = subst IsFree (sym comes.1) free;
+  gone = subst (λ (t : StepTally). t.distance ≡ (0 - seed.warm) * (seed.road.limit * cars seed.road)) (sym comes.2) (none_yet (seed.road.limit * cars seed.road) seed.warm);
+}
+run_freely rule seed (suc step) road sum goes_on legal free comes =
+    let before = comes.0 in
+    let so_far = comes.1 in
+    let tally = comes.3 in
+    let on = comes.5 in
+    let way = run_freely rule seed step before so_far goes_on legal free comes.4 in
+    let same = one_rule rule comes.2 step on.under in
+    let next = subst (λ (r : Programs). IsNext r (dice_at seed step) before road tally) (sym same) on.next in
+    let like = like_next seed.road before road way.like (next_legal_like rule (dice_at seed step) before road tally way.like.legal next) in
+    let again = goes_on (dice_at seed step) before road tally way.like.legal way.free next in
+    let most : road.limit * cars road ≡ seed.road.limit * cars seed.road = ap (λ k. k * cars road) like.same_limit ∙ ap (λ k. seed.road.limit * k) like.same_count in
+    let now : tally.distance ≡ seed.road.limit * cars seed.road = next.1.distance ∙ free_total road again ∙ most in
+    record {
+      like = like;
+      free = again;
+      gone = elim (cases_lt step seed.warm) [
+        | inl early ↦
+            distance_uncounted (nat_le seed.warm step) sum so_far tally on.counted (lt-leb seed.warm step early)
+            ∙ none_more so_far.distance (seed.road.limit * cars seed.road) step seed.warm way.gone early
+        | inr late ↦
+            distance_counted (nat_le seed.warm step) sum so_far tally on.counted (le-leb seed.warm step late)
+            ∙ one_more so_far.distance tally.distance (seed.road.limit * cars seed.road) step seed.warm way.gone now late
+      ];
+    }
+
+pub free_flow_stays_free : FreeFlowStaysFree
+free_flow_stays_free rule seed step road sum is legal free comes =
+    let way = run_freely rule seed step road sum (λ dice old new tally fine flows next. (free_flow_goes_on rule dice old new tally is fine flows next).1) legal free comes in
+    (way.free, way.gone)

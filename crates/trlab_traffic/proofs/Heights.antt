@@ -1,0 +1,202 @@
+-- Heights: how many cars stand before a place, as one sees it who goes ahead by a cell a step, and has counted the
+-- steps too. Where cars go up to a limit in a step, a height becomes in a step the greater of its own and one, and
+-- that so many cells ahead. So it is, after some steps, the greatest over the places that could reach it.
+use Rattle.std.proofs.Common.{◌≡◌, ℕ, zero, suc, ◌+◌, ◌-◌, ◌*◌, ◌<◌, ◌≤◌, max, refl, sym, ◌∙◌, ap, subst, inl, inr, arith, mul-add, mul-suc, suc-mul}
+use Rattle.std.proofs.lemmas.Bool.{cases_lt}
+use Rattle.trlab_traffic.proofs.Sums.{total, total_last, total_same}
+
+-- the heights after some steps, by the cells that were taken at first, as digits
+abbrev pub height : (ℕ → ℕ) → ℕ → ℕ → ℕ → ℕ
+height w s zero x = total w x
+height w s (suc t) x = max (height w s t x + 1) (height w s t (x + s))
+
+-- a height is no less than any that could reach it
+pub no_less : (w : ℕ → ℕ) (s t x j : ℕ) → j ≤ t → total w (x + s * j) + (t - j) ≤ height w s t x
+no_less w s zero x j low =
+    let none : j ≡ 0 = omega (arith, low) in
+    let e : x + s * j ≡ x = ap (λ k. x + s * k) none ∙ (let k : x + s * 0 ≡ x = omega arith in k) in
+    rw e (omega (arith, low))
+no_less w s (suc t) x zero low =
+    let rest = no_less w s t x 0 (omega arith) in
+    let e : x + s * 0 ≡ x = omega arith in
+    let rest_here : total w x + (t - 0) ≤ height w s t x = subst (λ k. total w k + (t - 0) ≤ height w s t x) e rest in
+    rw e (omega (arith, rest_here))
+no_less w s (suc t) x (suc i) low =
+    let rest = no_less w s t (x + s) i (omega (arith, low)) in
+    let more = mul-suc s i in
+    let e : x + s * suc i ≡ x + s + s * i = omega (arith, more) in
+    rw e (omega (arith, rest))
+
+-- and is one of them
+pub record Reaches (w : ℕ → ℕ) (s t x j : ℕ) : Type 0 where
+  pub low : j ≤ t
+  pub is : height w s t x ≡ total w (x + s * j) + (t - j)
+
+pub reached : (w : ℕ → ℕ) (s t x : ℕ) → (j : ℕ) × Reaches w s t x j
+reached w s zero x =
+    let e : x + s * 0 ≡ x = omega arith in
+    (0, record { low = omega arith; is = rw e (let k : total w x ≡ total w x + (0 - 0) = omega arith in k) })
+reached w s (suc t) x =
+    elim (cases_lt (height w s t (x + s)) (height w s t x + 1)) [
+      | inl less ↦
+          let from = reached w s t x in
+          let j = from.0 in
+          let low = from.1.low in
+          let is = from.1.is in
+          (j, record { low = omega (arith, low); is = (let k : max (height w s t x + 1) (height w s t (x + s)) ≡ total w (x + s * j) + (suc t - j) = omega (arith, less, low, is) in k) })
+      | inr more ↦
+          let from = reached w s t (x + s) in
+          let j = from.0 in
+          let low = from.1.low in
+          let step = mul-suc s j in
+          let e : x + s + s * j ≡ x + s * suc j = omega (arith, step) in
+          let is : height w s t (x + s) ≡ total w (x + s * suc j) + (t - j) = from.1.is ∙ ap (λ k. total w k + (t - j)) e in
+          (suc j, record { low = omega (arith, low); is = (let k : max (height w s t x + 1) (height w s t (x + s)) ≡ total w (x + s * suc j) + (suc t - suc j) = omega (arith, more, low, is) in k) })
+    ]
+
+-- sums of what comes again each round
+module _ (w : ℕ → ℕ) (n : ℕ) (again : (x : ℕ) → w (x + n) ≡ w x) where
+  one_round : (x : ℕ) → total w (x + n) ≡ total w x + total w n
+  one_round zero = let e : 0 + n ≡ n = omega arith in ap (total w) e ∙ (let k : total w n ≡ 0 + total w n = omega arith in k)
+  one_round (suc x) =
+      let e : suc x + n ≡ suc (x + n) = omega arith in
+      let a = total_last w (x + n) in
+      let b = total_last w x in
+      let rest = one_round x in
+      let same = again x in
+      ap (total w) e ∙ (let k : total w (suc (x + n)) ≡ total w (suc x) + total w n = omega (arith, a, b, rest, same) in k)
+
+  rounds : (k x : ℕ) → total w (x + k * n) ≡ total w x + k * total w n
+  rounds zero x =
+      let e : x + 0 * n ≡ x = omega arith in
+      ap (total w) e ∙ (let g : total w x ≡ total w x + 0 * total w n = omega arith in g)
+  rounds (suc k) x =
+      let more = suc-mul k n in
+      let more_all = suc-mul k (total w n) in
+      let e : x + suc k * n ≡ x + k * n + n = omega (arith, more) in
+      let a = one_round (x + k * n) in
+      let b = rounds k x in
+      ap (total w) e ∙ (let g : total w (x + k * n + n) ≡ total w x + suc k * total w n = omega (arith, a, b, more_all) in g)
+
+  -- where there is room for so many cells a car, heights rise by no more than one over so many cells
+  pub rises_slowly : (s t x : ℕ) → s * total w n ≤ n → n ≤ t + 1 → 0 < n → height w s t (x + s) ≤ height w s t x + 1
+  rises_slowly s t x few round some =
+      let from = reached w s t (x + s) in
+      let j = from.0 in
+      let low = from.1.low in
+      let is = from.1.is in
+      elim (cases_lt j t) [
+        | inl less ↦
+            let least = no_less w s t x (suc j) less in
+            let step = mul-suc s j in
+            let e : x + s * suc j ≡ x + s + s * j = omega (arith, step) in
+            let there : total w (x + s + s * j) + (t - suc j) ≤ height w s t x = subst (λ k. total w k + (t - suc j) ≤ height w s t x) e least in
+            omega (arith, is, there, less)
+        | inr last ↦
+            let i = t + 1 - n in
+            let least = no_less w s t x i (omega (arith, round, some)) in
+            let all = rounds s (x + s * i) in
+            let whole : i + n ≡ suc j = omega (arith, low, last, round) in
+            let a = mul-add s i n in
+            let b = ap (λ k. s * k) whole in
+            let step = mul-suc s j in
+            let e : x + s * i + s * n ≡ x + s + s * j = omega (arith, a, b, step) in
+            let there : total w (x + s + s * j) ≡ total w (x + s * i) + s * total w n = sym (ap (total w) e) ∙ all in
+            omega (arith, is, there, least, last, low, few, round)
+      ]
+
+  -- and where there is no more room, by no less than one
+  pub rises_fast : (s t x : ℕ) → n ≤ s * total w n → n ≤ t + 1 → 0 < n → height w s t x + 1 ≤ height w s t (x + s)
+  rises_fast s t x many round some =
+      let from = reached w s t x in
+      let j = from.0 in
+      let low = from.1.low in
+      let is = from.1.is in
+      elim (cases_lt 0 j) [
+        | inl more ↦
+            let least = no_less w s t (x + s) (j - 1) (omega (arith, low)) in
+            let whole : suc (j - 1) ≡ j = omega (arith, more) in
+            let a = mul-suc s (j - 1) in
+            let b = ap (λ k. s * k) whole in
+            let e : x + s + s * (j - 1) ≡ x + s * j = omega (arith, a, b) in
+            let there : total w (x + s * j) + (t - (j - 1)) ≤ height w s t (x + s) = subst (λ k. total w k + (t - (j - 1)) ≤ height w s t (x + s)) e least in
+            omega (arith, is, there, more, low)
+        | inr first ↦
+            let i = n - 1 in
+            let least = no_less w s t (x + s) i (omega (arith, round, some)) in
+            let all = rounds s x in
+            let whole : suc i ≡ n = omega (arith, some) in
+            let a = mul-suc s i in
+            let b = ap (λ k. s * k) whole in
+            let e : x + s + s * i ≡ x + s * n = omega (arith, a, b) in
+            let there : total w (x + s * n) + (t - i) ≤ height w s t (x + s) = subst (λ k. total w k + (t - i) ≤ height w s t (x + s)) e least in
+            let none : j ≡ 0 = omega (arith, first) in
+            let f : x + s * j ≡ x = ap (λ k. x + s * k) none ∙ (let g : x + s * 0 ≡ x = omega arith in g) in
+            let here : height w s t x ≡ total w x + (t - j) = is ∙ ap (λ k. total w k + (t - j)) f in
+            omega (arith, here, there, all, first, many, round, some)
+      ]
+
+-- sums over some cells on
+abbrev pub window : (ℕ → ℕ) → ℕ → ℕ → ℕ
+window w p k = total (λ i. w (p + i)) k
+
+pub window_last : (w : ℕ → ℕ) (p k : ℕ) → window w p (suc k) ≡ window w p k + w (p + k)
+window_last w p k = total_last (λ i. w (p + i)) k
+
+-- one cell further on
+pub window_slides : (w : ℕ → ℕ) (p k : ℕ) → window w (suc p) k + w p ≡ window w p k + w (p + k)
+window_slides w p k =
+    let zeroth : p + 0 ≡ p = omega arith in
+    let first = ap w zeroth in
+    let same = total_same (λ i. w (p + suc i)) (λ i. w (suc p + i)) k (λ i low. let e : p + suc i ≡ suc p + i = omega arith in ap w e) in
+    let last = window_last w p k in
+    omega (arith, first, same, last)
+
+pub window_has : (w : ℕ → ℕ) (p k i : ℕ) → i < k → w (p + i) ≤ window w p k
+window_has w p zero i low = absurd (omega (arith, low))
+window_has w p (suc k) i low =
+    let last = window_last w p k in
+    elim (cases_lt i k) [
+      | inl less ↦ let rest = window_has w p k i less in omega (arith, rest, last)
+      | inr more ↦
+          let same : i ≡ k = omega (arith, low, more) in
+          let e = ap (λ j. w (p + j)) same in
+          omega (arith, last, e)
+    ]
+
+pub window_none : (w : ℕ → ℕ) (p k : ℕ) → ((i : ℕ) → i < k → w (p + i) ≡ 0) → window w p k ≡ 0
+window_none w p zero none = refl
+window_none w p (suc k) none =
+    let last = window_last w p k in
+    let rest = window_none w p k (λ i low. none i (omega (arith, low))) in
+    let end = none k (omega arith) in
+    omega (arith, last, rest, end)
+
+-- the last that is not 0
+pub record IsLast (w : ℕ → ℕ) (p k i : ℕ) : Type 0 where
+  pub low : i < k
+  pub some : 1 ≤ w (p + i)
+  pub none : (j : ℕ) → i < j → j < k → w (p + j) ≡ 0
+
+pub last_of : (w : ℕ → ℕ) (p k : ℕ) → 1 ≤ window w p k → (i : ℕ) × IsLast w p k i
+last_of w p zero some = absurd (omega (arith, some))
+last_of w p (suc k) some =
+    elim (cases_lt 0 (w (p + k))) [
+      | inl here ↦ (k, record { low = omega arith; some = here; none = λ j past low. absurd (omega (arith, past, low)) })
+      | inr empty ↦
+          let last = window_last w p k in
+          let rest = last_of w p k (omega (arith, some, last, empty)) in
+          let i = rest.0 in
+          let low = rest.1.low in
+          (i, record { low = omega (arith, low); some = rest.1.some; none = none_of k i empty rest.1.none })
+    ]
+  where
+    none_of : (k i : ℕ) → w (p + k) ≤ 0 → ((j : ℕ) → i < j → j < k → w (p + j) ≡ 0) → (j : ℕ) → i < j → j < suc k → w (p + j) ≡ 0
+    none_of k i empty rest j past low =
+        elim (cases_lt j k) [
+          | inl less ↦ rest j past less
+          | inr more ↦
+              let same : j ≡ k = omega (arith, low, more) in
+              let e = ap (λ m. w (p + m)) same in
+              omega (arith, e, empty)
+        ]

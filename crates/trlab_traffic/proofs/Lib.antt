@@ -1,0 +1,40 @@
+-- places, sums and lanes
+pub mod Places
+pub mod Sums
+pub mod OneLane
+pub mod RunLanes
+-- any rule, and the rule of 1992
+pub mod AnyRule
+pub mod NaschMoves
+-- how far cars go
+pub mod RoomAhead
+pub mod Capacities
+pub mod Freely
+pub mod SlowStarts
+pub mod Slower
+-- cars that follow one another
+pub mod GapsAfter
+pub mod Jamming
+pub mod NextCars
+-- what makes no difference
+pub mod Turning
+pub mod TurnedSums
+pub mod Homogeneity
+pub mod LaneUnread
+pub mod Exchanging
+pub mod LanesApart
+pub mod Certainties
+-- rules that go as others
+pub mod Reductions
+pub mod Wolfram
+-- the fundamental diagram without randomization
+pub mod EvenGaps
+pub mod EvenFlows
+pub mod Digits
+pub mod Heights
+pub mod Leaping
+pub mod Readiness
+-- what detectors count
+pub mod Detecting
+pub mod OnePassage
+pub mod DetectingRuns

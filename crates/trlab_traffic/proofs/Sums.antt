@@ -1,0 +1,195 @@
+-- Sums: of the first values of a function, and over the cars of a lane, cell by cell.
+use Rattle.std.proofs.Common.{◌≡◌, ◌≢◌, ℕ, zero, suc, ◌+◌, ◌%◌, ◌<◌, ◌≤◌, ◌⊎◌, min, cond, Some, None, [], ◌∷◌, length, refl, sym, ◌∙◌, ap, inl, inr, arith, mod-eq_of_lt}
+use Rattle.std.specs.Prelude.{nat_eq, nat_lt, sum_by}
+use Rattle.std.specs.List.{range_with_len}
+use Rattle.std.proofs.Math.Nat.{mod_self}
+use Rattle.std.proofs.lemmas.Bool.{cases_lt, eq-eqb, le-ltb, lt-ltb, ne_eqb}
+use Rattle.std.proofs.lemmas.List.Sums.{sum_by-cons}
+use Rattle.trlab_road.specs.declared.car.Car.{Car}
+use Rattle.trlab_road.specs.Cells.{Cell, Lane, at}
+use Rattle.trlab_road.specs.Gaps.{ahead}
+use Rattle.trlab_road.specs.Standing.{standing_from}
+use Rattle.trlab_road.proofs.Ring.{car_in}
+use Rattle.trlab_traffic.proofs.Places.{ahead_more, ahead_none}
+
+-- tests as numbers
+abbrev pub is : ℕ → ℕ → ℕ
+is a b = cond (nat_eq a b) 1 0
+
+abbrev pub below : ℕ → ℕ → ℕ
+below a b = cond (nat_lt a b) 1 0
+
+pub is_so : (a b : ℕ) → a ≡ b → is a b ≡ 1
+is_so a b h = ap (λ t. cond t 1 0) (eq-eqb a b h)
+
+pub is_not : (a b : ℕ) → a ≢ b → is a b ≡ 0
+is_not a b h = ap (λ t. cond t 1 0) (ne_eqb a b h)
+
+pub below_so : (a b : ℕ) → a < b → below a b ≡ 1
+below_so a b h = ap (λ t. cond t 1 0) (lt-ltb a b h)
+
+pub below_not : (a b : ℕ) → b ≤ a → below a b ≡ 0
+below_not a b h = ap (λ t. cond t 1 0) (le-ltb a b h)
+
+pub below_cases : (a b : ℕ) → (below a b ≡ 0) ⊎ (below a b ≡ 1)
+below_cases a b =
+    elim (cases_lt a b) [
+      | inl less ↦ inr (below_so a b less)
+      | inr more ↦ inl (below_not a b more)
+    ]
+
+pub below_is : (a b : ℕ) → below a b ≡ 1 → a < b
+below_is a b h =
+    elim (cases_lt a b) [
+      | inl less ↦ less
+      | inr more ↦ let e = below_not a b more in absurd (omega (arith, e, h))
+    ]
+
+-- the sum of the first values of a function
+abbrev pub total : (ℕ → ℕ) → ℕ → ℕ
+total w zero = 0
+total w (suc n) = w 0 + total (λ x. w (suc x)) n
+
+pub total_same : (v w : ℕ → ℕ) (n : ℕ) → ((x : ℕ) → x < n → v x ≡ w x) → total v n ≡ total w n
+total_same v w zero same = refl
+total_same v w (suc n) same =
+    let first = same 0 (omega arith) in
+    let rest = total_same (λ x. v (suc x)) (λ x. w (suc x)) n (λ x low. same (suc x) (omega arith)) in
+    omega (arith, first, rest)
+
+-- the last value by itself
+pub total_last : (w : ℕ → ℕ) (n : ℕ) → total w (suc n) ≡ total w n + w n
+total_last w zero = let e : w 0 + 0 ≡ 0 + w 0 = omega arith in e
+total_last w (suc n) = let rest = total_last (λ x. w (suc x)) n in omega (arith, rest)
+
+-- a sum over the ring may begin one cell further on
+pub total_next : (w : ℕ → ℕ) (n : ℕ) → total (λ x. w (ahead n x 1)) n ≡ total w n
+total_next w zero = refl
+total_next w (suc m) =
+    let n = suc m in
+    let v : ℕ → ℕ = λ x. w (ahead n x 1) in
+    let last = total_last v m in
+    let end : m + 1 ≡ n = omega arith in
+    let first : v m ≡ w 0 = ap (λ k. w (k % n)) end ∙ ap w (mod_self n) in
+    let rest : total v m ≡ total (λ x. w (suc x)) m = total_same v (λ x. w (suc x)) m
+    (λ x low. let e : x + 1 ≡ suc x = omega arith in ap w (ap (λ k. k % n) e ∙ mod-eq_of_lt (let k : suc x < n = omega arith in k))) in
+    omega (arith, last, first, rest)
+
+-- and anywhere
+pub total_turned : (w : ℕ → ℕ) (n r : ℕ) → total (λ x. w (ahead n x r)) n ≡ total w n
+total_turned w n zero = total_same (λ x. w (ahead n x 0)) w n (λ x low. ap w (ahead_none n x low))
+total_turned w n (suc r) =
+    let v : ℕ → ℕ = λ y. w (ahead n y r) in
+    let one : 1 + r ≡ suc r = omega arith in
+    total_same (λ x. w (ahead n x (suc r))) (λ x. v (ahead n x 1)) n (λ x low. ap w (sym (ahead_more n x 1 r ∙ ap (ahead n x) one)))
+    ∙ total_next v n
+    ∙ total_turned w n r
+
+-- a sum of zeros
+pub total_none : (w : ℕ → ℕ) (n : ℕ) → ((y : ℕ) → y < n → w y ≡ 0) → total w n ≡ 0
+total_none w zero none = refl
+total_none w (suc n) none =
+    let first = none 0 (omega arith) in
+    let rest = total_none (λ y. w (suc y)) n (λ y low. none (suc y) (omega (arith, low))) in
+    omega (arith, first, rest)
+
+-- a sum of which all values but one are 0
+pub total_at : (w : ℕ → ℕ) (n c : ℕ) → c < n → ((y : ℕ) → y < n → y ≢ c → w y ≡ 0) → total w n ≡ w c
+total_at w zero c low others = absurd (omega (arith, low))
+total_at w (suc n) zero low others =
+    let rest = total_none (λ y. w (suc y)) n (λ y less. others (suc y) (omega (arith, less)) (λ e. omega (arith, e))) in
+    omega (arith, rest)
+total_at w (suc n) (suc c) low others =
+    let first = others 0 (omega arith) (λ e. omega (arith, e)) in
+    let rest = total_at (λ y. w (suc y)) n c (omega (arith, low)) (λ y less apart. others (suc y) (omega (arith, less)) (λ e. apart (omega (arith, e)))) in
+    omega (arith, first, rest)
+
+-- sums of values that balance
+pub total_balance : (a b c d : ℕ → ℕ) (n : ℕ) → ((y : ℕ) → y < n → a y + b y ≡ c y + d y) → total a n + total b n ≡ total c n + total d n
+total_balance a b c d zero each = refl
+total_balance a b c d (suc n) each =
+    let first = each 0 (omega arith) in
+    let rest = total_balance (λ y. a (suc y)) (λ y. b (suc y)) (λ y. c (suc y)) (λ y. d (suc y)) n (λ y low. each (suc y) (omega (arith, low))) in
+    omega (arith, first, rest)
+
+pub total_add : (a b : ℕ → ℕ) (n : ℕ) → total (λ x. a x + b x) n ≡ total a n + total b n
+total_add a b zero = refl
+total_add a b (suc n) = let rest = total_add (λ x. a (suc x)) (λ x. b (suc x)) n in omega (arith, rest)
+
+-- in either order
+pub total_swap : (f : ℕ → ℕ → ℕ) (m n : ℕ) → total (λ x. total (λ y. f x y) n) m ≡ total (λ y. total (λ x. f x y) m) n
+total_swap f m zero = total_none (λ x. 0) m (λ x low. refl)
+total_swap f m (suc n) =
+    let split = total_add (λ x. f x 0) (λ x. total (λ y. f x (suc y)) n) m in
+    let rest = total_swap (λ x y. f x (suc y)) m n in
+    omega (arith, split, rest)
+
+-- how many numbers are below another
+pub total_below : (v n : ℕ) → total (λ z. below z v) n ≡ min v n
+total_below v zero = omega arith
+total_below v (suc n) =
+    let last = total_last (λ z. below z v) n in
+    let rest = total_below v n in
+    elim (cases_lt n v) [
+      | inl less ↦ let e = below_so n v less in omega (arith, last, rest, e, less)
+      | inr more ↦ let e = below_not n v more in omega (arith, last, rest, e, more)
+    ]
+
+-- a sum over a range
+pub sum_range : (f : ℕ → ℕ) (s n : ℕ) → sum_by f (range_with_len s n) ≡ total (λ x. f (s + x)) n
+sum_range f s zero = refl
+sum_range f s (suc n) =
+    let split = sum_by-cons f s (range_with_len (s + 1) n) in
+    let rest = sum_range f (s + 1) n in
+    let same = total_same (λ x. f (s + 1 + x)) (λ x. f (s + suc x)) n (λ x low. let e : s + 1 + x ≡ s + suc x = omega arith in ap f e) in
+    let zeroth : s ≡ s + 0 = omega arith in
+    let first = ap f zeroth in
+    omega (arith, split, rest, same, first)
+
+-- a sum of ones and zeros of which one is 1 at most
+pub single : (w : ℕ → ℕ) (n : ℕ) → ((y : ℕ) → y < n → (w y ≡ 0) ⊎ (w y ≡ 1)) → ((y z : ℕ) → y < n → z < n → w y ≡ 1 → w z ≡ 1 → y ≡ z) → total w n ≤ 1
+single w zero each one = omega arith
+single w (suc n) each one =
+    elim (each 0 (omega arith)) [
+      | inl none ↦
+          let rest = single (λ y. w (suc y)) n (λ y low. each (suc y) (omega (arith, low)))
+          (λ y z low high a b. let e = one (suc y) (suc z) (omega (arith, low)) (omega (arith, high)) a b in omega (arith, e)) in
+          omega (arith, none, rest)
+      | inr here ↦
+          let rest = total_none (λ y. w (suc y)) n (λ y low. elim (each (suc y) (omega (arith, low))) [
+            | inl none ↦ none
+            | inr there ↦ let e = one 0 (suc y) (omega arith) (omega (arith, low)) here there in absurd (omega (arith, e))
+          ]) in
+          omega (arith, here, rest)
+    ]
+
+-- what the car of a cell weighs
+abbrev pub weight : (Car → ℕ) → ℕ → ℕ → Cell → ℕ
+weight f l x None = 0
+weight f l x (Some car) = f (car_in l x car.0 car.1)
+
+-- a sum over the cars of a lane is one over its cells
+pub sum_of_cells : (f : Car → ℕ) (l s : ℕ) (lane : Lane) → sum_by f (standing_from l s lane) ≡ total (λ x. weight f l (s + x) (at lane x)) (length lane)
+sum_of_cells f l s [] = refl
+sum_of_cells f l s (None ∷ cells) =
+    let rest = sum_of_cells f l (suc s) cells in
+    let same = total_same (λ x. weight f l (suc s + x) (at cells x)) (λ x. weight f l (s + suc x) (at cells x)) (length cells)
+    (λ x low. let e : suc s + x ≡ s + suc x = omega arith in ap (λ k. weight f l k (at cells x)) e) in
+    omega (arith, rest, same)
+sum_of_cells f l s (Some here ∷ cells) =
+    let rest = sum_of_cells f l (suc s) cells in
+    let same = total_same (λ x. weight f l (suc s + x) (at cells x)) (λ x. weight f l (s + suc x) (at cells x)) (length cells)
+    (λ x low. let e : suc s + x ≡ s + suc x = omega arith in ap (λ k. weight f l k (at cells x)) e) in
+    let split = sum_by-cons f (car_in l s here.0 here.1) (standing_from l (suc s) cells) in
+    let zeroth : s ≡ s + 0 = omega arith in
+    let first = ap (λ k. f (car_in l k here.0 here.1)) zeroth in
+    omega (arith, rest, same, split, first)
+
+-- a sum over the cars of a lane, cell by cell
+abbrev pub in_cell : (Car → ℕ) → Lane → ℕ → ℕ
+in_cell f lane y = weight f 0 y (at lane y)
+
+pub cell_sum : (f : Car → ℕ) (lane : Lane) → sum_by f (standing_from 0 0 lane) ≡ total (in_cell f lane) (length lane)
+cell_sum f lane =
+    sum_of_cells f 0 0 lane
+    ∙ total_same (λ y. weight f 0 (0 + y) (at lane y)) (in_cell f lane) (length lane) (λ y low. let e : 0 + y ≡ y = omega arith in ap (λ k. weight f 0 k (at lane y)) e)

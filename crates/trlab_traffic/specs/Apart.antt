@@ -1,0 +1,29 @@
+-- Lanes that do not see each other: where nobody changes lanes, a lane goes on as if it were alone.
+use Rattle.std.specs.Prelude.{◌≡◌, ℕ}
+use Rattle.trlab_road.specs.Cells.{Cells, lane_of}
+use Rattle.trlab_rules.specs.Rules.{Programs}
+use Rattle.trlab_machine.specs.declared.dice.Dice.{Dice}
+use Rattle.trlab_step.specs.declared.tally.StepTally.{StepTally}
+use Rattle.trlab_step.specs.Next.{IsNext}
+use Rattle.trlab_step.specs.Run.{Seed, Sheet, ComesTo}
+use Rattle.trlab_traffic.specs.Runs.{EachRule, StaysInLane}
+
+-- two roads of one limit have a lane in common, the same cars in its cells, whatever is on their other lanes
+pub record ShareLane (l : ℕ) (road other : Cells) : Type 0 where
+  pub same_limit : other.limit ≡ road.limit
+  pub same_lane : lane_of other l ≡ lane_of road l
+
+-- under any rule without lane changes their next roads, by the same dice, have it in common too
+abbrev pub StepKeepsLanesApart : Type 0
+StepKeepsLanesApart =
+    (rule : Programs) (dice : Dice) (road other next beside : Cells) (tally count : StepTally) (l : ℕ)
+    → StaysInLane rule → IsNext rule dice road next tally → IsNext rule dice other beside count
+    → ShareLane l road other → ShareLane l next beside
+
+-- and so it is for ever, under any sheet of such rules
+abbrev pub RunKeepsLanesApart : Type 0
+RunKeepsLanesApart =
+    (seed : Seed) (start : Cells) (sheet : Sheet) (step : ℕ) (road other : Cells) (sum count : StepTally)
+    (l : ℕ) → EachRule StaysInLane sheet → ComesTo seed sheet step road sum
+    → ComesTo (record seed { road = start }) sheet step other count
+    → ShareLane l seed.road start → ShareLane l road other

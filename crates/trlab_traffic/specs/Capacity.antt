@@ -1,0 +1,60 @@
+-- Capacity: how far the cars of a road can go in a step, under any rule. They go over empty cells alone, no
+-- two over the same, and none is faster than the limit. So the flow is at most that of a triangle over the
+-- density, whose sides are the limit times the density, and one less the density.
+use Rattle.std.specs.Prelude.{◌≡◌, ℕ, ◌+◌, ◌*◌, ◌≤◌, count_by, is_none, length, min, sum_by}
+use Rattle.trlab_road.specs.Cells.{Cells, Lane, cars}
+use Rattle.trlab_road.specs.Legal.{IsLegal}
+use Rattle.trlab_rules.specs.Rules.{Programs}
+use Rattle.trlab_machine.specs.declared.dice.Dice.{Dice}
+use Rattle.trlab_step.specs.declared.tally.StepTally.{StepTally}
+use Rattle.trlab_step.specs.Next.{IsNext}
+use Rattle.trlab_step.specs.Run.{Seed, Sheet, ComesTo}
+use Rattle.trlab_traffic.specs.Runs.{counted_steps}
+
+-- the cells of a lane
+abbrev pub lane_cells : Lane → ℕ
+lane_cells lane = length lane
+
+-- those of them that are empty
+abbrev pub lane_empty_cells : Lane → ℕ
+lane_empty_cells lane = count_by is_none lane
+
+-- the cells of a road
+abbrev pub all_cells : Cells → ℕ
+all_cells road = sum_by lane_cells road.lanes
+
+-- those of them that are empty
+abbrev pub empty_cells : Cells → ℕ
+empty_cells road = sum_by lane_empty_cells road.lanes
+
+-- a cell has one car, or is empty
+abbrev pub CellsAreTakenOrEmpty : Type 0
+CellsAreTakenOrEmpty = (road : Cells) → cars road + empty_cells road ≡ all_cells road
+
+-- the distance of a step in which each car goes by the limit
+abbrev pub distance_at_limit : Cells → ℕ
+distance_at_limit road = road.limit * cars road
+
+-- the capacity of a road, the greatest distance of a step: each car goes by the limit, or each empty cell
+-- is gone onto
+abbrev pub capacity : Cells → ℕ
+capacity road = min (distance_at_limit road) (empty_cells road)
+
+-- a distance is within the capacity of a road for so many steps
+pub record IsWithinCapacity (road : Cells) (steps distance : ℕ) : Type 0 where
+  pub by_empty_cells : distance ≤ steps * empty_cells road
+  pub by_limit : distance ≤ steps * distance_at_limit road
+
+-- the distance of a step, under any rule
+abbrev pub StepKeepsToCapacity : Type 0
+StepKeepsToCapacity =
+    (rule : Programs) (dice : Dice) (road next : Cells) (tally : StepTally)
+    → IsLegal road → IsNext rule dice road next tally → IsWithinCapacity road 1 tally.distance
+
+-- and of the steps of a run that are counted, under any sheet of rules: it is measured by the road of the
+-- start
+abbrev pub RunKeepsToCapacity : Type 0
+RunKeepsToCapacity =
+    (seed : Seed) (sheet : Sheet) (step : ℕ) (road : Cells) (sum : StepTally)
+    → IsLegal seed.road → ComesTo seed sheet step road sum
+    → IsWithinCapacity seed.road (counted_steps seed step) sum.distance

@@ -1,0 +1,40 @@
+-- Rules that leave nothing to chance: the key of a run does not matter.
+use Rattle.std.specs.Prelude.{◌≡◌, ℕ, ◌⊎◌, All, IfSome, List}
+use Rattle.trlab_bounds.specs.declared.programs.TheConstants.{CERTAIN}
+use Rattle.trlab_code.specs.declared.instruction.Instr.{Instr}
+use Rattle.trlab_code.specs.declared.instruction.Instr.TheVariants.{Draw}
+use Rattle.trlab_road.specs.Cells.{Cells}
+use Rattle.trlab_rules.specs.Rules.{Programs}
+use Rattle.trlab_rules.specs.StandardRules.{IsNasch}
+use Rattle.trlab_machine.specs.declared.dice.Dice.{Dice}
+use Rattle.trlab_step.specs.declared.tally.StepTally.{StepTally}
+use Rattle.trlab_step.specs.Next.{IsNext}
+use Rattle.trlab_step.specs.Run.{Seed, Sheet, ComesTo}
+use Rattle.trlab_traffic.specs.Runs.{EachRule}
+
+-- an instruction has one outcome: where it is a draw, its chance is 0 or certainty
+abbrev pub HasOneOutcome : Instr → Type 0
+HasOneOutcome (Draw d k chance) = (chance ≡ 0) ⊎ (chance ≡ CERTAIN)
+HasOneOutcome _ = Unit {0}
+
+-- the programs of a rule leave nothing to chance
+pub record IsCertain (rule : Programs) : Type 0 where
+  pub motion : All HasOneOutcome rule.motion.program.instrs
+  pub change : IfSome rule.change (λ change. All HasOneOutcome change.program.instrs)
+
+-- nor does the rule of 1992 without randomization
+abbrev pub NaschWithoutRandomization : Type 0
+NaschWithoutRandomization = (rule : Programs) → IsNasch 0 rule → IsCertain rule
+
+-- the next road, and what is counted, are the same for all dice, so for all keys, numbers of roads and steps
+abbrev pub StepIsDeterministic : Type 0
+StepIsDeterministic =
+    (rule : Programs) (dice other : Dice) (road next : Cells) (tally : StepTally)
+    → IsCertain rule → IsNext rule dice road next tally → IsNext rule other road next tally
+
+-- and so is a run under any sheet of such rules, for all keys and numbers of its road
+abbrev pub RunIsDeterministic : Type 0
+RunIsDeterministic =
+    (seed : Seed) (key : List ℕ) (number : ℕ) (sheet : Sheet) (step : ℕ) (road : Cells) (sum : StepTally)
+    → EachRule IsCertain sheet → ComesTo seed sheet step road sum
+    → ComesTo (record seed { key = key; number = number }) sheet step road sum

@@ -1,0 +1,66 @@
+-- Detectors: how many cars pass the end of a cell in a step, and what that says of the cars between two of
+-- them.
+use Rattle.std.specs.Prelude.{◌≡◌, ℕ, ◌+◌, ◌-◌, ◌<◌, ◌≤◌, Bool, count_by, length, nat_lt, sum_by}
+use Rattle.std.specs.List.{range_with_len}
+use Rattle.trlab_road.specs.declared.car.Car.{Car}
+use Rattle.trlab_road.specs.Cells.{Cells, Lane, lane_of}
+use Rattle.trlab_road.specs.Gaps.{ahead, behind}
+use Rattle.trlab_road.specs.Standing.{standing_from}
+use Rattle.trlab_rules.specs.Rules.{Programs}
+use Rattle.trlab_machine.specs.declared.dice.Dice.{Dice}
+use Rattle.trlab_step.specs.declared.tally.StepTally.{StepTally}
+use Rattle.trlab_step.specs.Next.{IsNext}
+use Rattle.trlab_traffic.specs.Rule184.{is_taken}
+use Rattle.trlab_traffic.specs.Runs.{StaysInLane}
+
+-- how many cells ahead of one place another is, on a ring of n cells
+abbrev pub way : ℕ → ℕ → ℕ → ℕ
+way n from to = ahead n to (n - from)
+
+-- where a car stood before it came to where it is by its speed
+abbrev pub start_of : ℕ → Car → ℕ
+start_of n car = behind n car.place car.speed
+
+-- on the way from there a car passes the end of cell x, and so the detector there: it goes further than to x
+abbrev pub passes : ℕ → ℕ → Car → Bool
+passes n x car = nat_lt (way n (start_of n car) x) car.speed
+
+-- the passages at a detector of a lane in the step that led to the lane: how many cars passed it
+abbrev pub passages : Lane → ℕ → ℕ
+passages lane x = count_by (passes (length lane) x) (standing_from 0 0 lane)
+
+-- those at the detectors of all its cells, together
+abbrev pub all_passages : Lane → ℕ
+all_passages lane = sum_by (passages lane) (range_with_len 0 (length lane))
+
+-- under any rule all detectors of a road together count the distance of a step: the mean of their counts is
+-- the flow
+abbrev pub DetectorsCountDistance : Type 0
+DetectorsCountDistance =
+    (rule : Programs) (dice : Dice) (road next : Cells) (tally : StepTally)
+    → IsNext rule dice road next tally → sum_by all_passages next.lanes ≡ tally.distance
+
+-- and none counts more than one car in a step: of two cars the one behind stops before where the other stood
+abbrev pub DetectorCountsOne : Type 0
+DetectorCountsOne =
+    (rule : Programs) (dice : Dice) (road next : Cells) (tally : StepTally) (l x : ℕ)
+    → IsNext rule dice road next tally → x < length (lane_of next l) → passages (lane_of next l) x ≤ 1
+
+-- how many cars stand in the k cells ahead of a detector
+abbrev pub cars_ahead_of : Lane → ℕ → ℕ → ℕ
+cars_ahead_of lane x k = count_by (λ j. is_taken lane (ahead (length lane) x j)) (range_with_len 1 k)
+
+-- continuity: the cars in the k cells between two detectors of a lane have become more by those that passed
+-- the first, and fewer by those that passed the second
+abbrev pub IsContinuous : Lane → Lane → ℕ → ℕ → ℕ → ℕ → Type 0
+IsContinuous old new x k first second =
+    cars_ahead_of new x k + second ≡ cars_ahead_of old x k + first
+
+-- a step is so, under any rule without lane changes
+abbrev pub StepIsContinuous : Type 0
+StepIsContinuous =
+    (rule : Programs) (dice : Dice) (old new : Cells) (tally : StepTally) (l x k : ℕ)
+    → StaysInLane rule → IsNext rule dice old new tally → x < length (lane_of old l)
+    → let passed = passages (lane_of new l) in
+    let end = ahead (length (lane_of old l)) x k in
+    IsContinuous (lane_of old l) (lane_of new l) x k (passed x) (passed end)

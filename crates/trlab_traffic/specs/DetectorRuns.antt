@@ -1,0 +1,71 @@
+-- What detectors count in the steps of a run, from the step on from which its tally counts.
+use Rattle.std.specs.Prelude.{◌≡◌, ℕ, zero, suc, ◌+◌, ◌*◌, ◌<◌, ◌≤◌, if◌then◌else◌, length, nat_le, sum_by}
+use Rattle.std.specs.List.{range_with_len}
+use Rattle.trlab_road.specs.Cells.{Cells, lane_of}
+use Rattle.trlab_road.specs.Gaps.{ahead}
+use Rattle.trlab_step.specs.declared.tally.StepTally.{StepTally}
+use Rattle.trlab_step.specs.Run.{Seed, Sheet, ComesTo, IsRoadAt}
+use Rattle.trlab_traffic.specs.Detector.{IsContinuous, passages}
+use Rattle.trlab_traffic.specs.Runs.{EachRule, StaysInLane}
+
+-- the detector of cell x on lane l counts so many cars in those of the first steps of a run that are counted
+abbrev pub Counts : Seed → Sheet → ℕ → ℕ → ℕ → ℕ → Type 0
+Counts seed sheet l x zero count = count ≡ 0
+Counts seed sheet l x (suc step) count =
+    (road : Cells) × (before : ℕ) × IsRoadAt seed sheet (suc step) road × Counts seed sheet l x step before
+    × (count ≡ (if nat_le seed.warm step then before + passages (lane_of road l) x else before))
+
+-- each detector of a run has a count
+abbrev pub CountExists : Type 0
+CountExists =
+    (seed : Seed) (sheet : Sheet) (step : ℕ) (road : Cells) (sum : StepTally) (l x : ℕ)
+    → ComesTo seed sheet step road sum → (count : ℕ) × Counts seed sheet l x step count
+
+-- the counts of two detectors on lane l: that of cell x, and that of the cell k cells ahead
+pub record CountBoth (seed : Seed) (sheet : Sheet) (step l x k first second : ℕ) : Type 0 where
+  pub is_cell : x < length (lane_of seed.road l)
+  pub here : Counts seed sheet l x step first
+  pub there : Counts seed sheet l (ahead (length (lane_of seed.road l)) x k) step second
+
+-- continuity of runs, from the road on at which the count begins, under any sheet of rules without lane
+-- changes. The count may begin at any step, so these are any steps of a run
+abbrev pub RunIsContinuous : Type 0
+RunIsContinuous =
+    (seed : Seed) (sheet : Sheet) (step : ℕ) (start road : Cells) (l x k first second : ℕ)
+    → EachRule StaysInLane sheet → seed.warm ≤ step → IsRoadAt seed sheet seed.warm start
+    → IsRoadAt seed sheet step road → CountBoth seed sheet step l x k first second
+    → IsContinuous (lane_of start l) (lane_of road l) x k first second
+
+-- two counts differ by no more than k
+pub record AreWithin (k first second : ℕ) : Type 0 where
+  pub no_less : first ≤ second + k
+  pub no_more : second ≤ first + k
+
+-- however many steps a run has, what two detectors count differs by no more than the cells between them
+abbrev pub DetectorsAgree : Type 0
+DetectorsAgree =
+    (seed : Seed) (sheet : Sheet) (step : ℕ) (road : Cells) (sum : StepTally) (l x k first second : ℕ)
+    → EachRule StaysInLane sheet → ComesTo seed sheet step road sum
+    → CountBoth seed sheet step l x k first second → AreWithin k first second
+
+-- the detectors of a run on one lane together count its distance, under any sheet of rules
+abbrev pub DetectorsCountRun : Type 0
+DetectorsCountRun =
+    (seed : Seed) (sheet : Sheet) (step : ℕ) (road : Cells) (sum : StepTally) (count : ℕ → ℕ)
+    → length seed.road.lanes ≡ 1 → ComesTo seed sheet step road sum
+    → ((x : ℕ) → Counts seed sheet 0 x step (count x))
+    → sum_by count (range_with_len 0 (length (lane_of seed.road 0))) ≡ sum.distance
+
+-- the count of one detector of a ring, taken once for each cell, differs from the distance by no more than
+-- the square of the cells
+abbrev pub Measures : ℕ → ℕ → ℕ → Type 0
+Measures cells count distance = AreWithin (cells * cells) (cells * count) distance
+
+-- so in a run on one lane, under any sheet of rules without lane changes, each detector by itself measures
+-- the flow: the more steps, the better
+abbrev pub DetectorMeasuresFlow : Type 0
+DetectorMeasuresFlow =
+    (seed : Seed) (sheet : Sheet) (step : ℕ) (road : Cells) (sum : StepTally) (x count : ℕ)
+    → EachRule StaysInLane sheet → length seed.road.lanes ≡ 1 → ComesTo seed sheet step road sum
+    → x < length (lane_of seed.road 0) → Counts seed sheet 0 x step count
+    → Measures (length (lane_of seed.road 0)) count sum.distance

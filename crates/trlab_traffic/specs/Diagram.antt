@@ -1,0 +1,42 @@
+-- The fundamental diagram without randomization, on one lane: a run comes to the capacity of its road, and
+-- stays at it. So the diagram is a triangle: its flow is the lesser of the limit times the density, and one
+-- less the density.
+use Rattle.std.specs.Prelude.{◌≡◌, ℕ, ◌+◌, ◌*◌, ◌≤◌, length}
+use Rattle.trlab_road.specs.Legal.{IsLegal}
+use Rattle.trlab_road.specs.Cells.{Cells}
+use Rattle.trlab_road.specs.Spreading.{CanSpread, IsEven}
+use Rattle.trlab_rules.specs.Rules.{Programs}
+use Rattle.trlab_rules.specs.StandardRules.{IsNasch}
+use Rattle.trlab_step.specs.declared.tally.StepTally.{StepTally}
+use Rattle.trlab_step.specs.Run.{Seed, ComesTo}
+use Rattle.trlab_traffic.specs.Capacity.{all_cells, capacity}
+use Rattle.trlab_traffic.specs.Runs.{always, counted_steps}
+
+-- the distance of the steps of a run that are counted is the capacity of its road for each of them
+abbrev pub FlowsAtCapacity : Seed → ℕ → StepTally → Type 0
+FlowsAtCapacity seed step sum = sum.distance ≡ counted_steps seed step * capacity seed.road
+
+-- from any start, wherever the cars stand and however fast they are: where no step is counted before cars
+-- have had time to come to the limit, and then to go round the ring
+abbrev pub NaschComesToCapacity : Type 0
+NaschComesToCapacity =
+    (rule : Programs) (seed : Seed) (step : ℕ) (road : Cells) (sum : StepTally)
+    → IsNasch 0 rule → IsLegal seed.road → length seed.road.lanes ≡ 1
+    → seed.road.limit + all_cells seed.road ≤ seed.warm + 1 → ComesTo seed (always rule) step road sum
+    → FlowsAtCapacity seed step sum
+
+-- with the limit 1, which is rule 184, the time to go round the ring is enough
+abbrev pub Rule184ComesToCapacity : Type 0
+Rule184ComesToCapacity =
+    (rule : Programs) (seed : Seed) (step : ℕ) (road : Cells) (sum : StepTally)
+    → IsNasch 0 rule → IsLegal seed.road → length seed.road.lanes ≡ 1 → seed.road.limit ≡ 1
+    → all_cells seed.road ≤ seed.warm + 1 → ComesTo seed (always rule) step road sum
+    → FlowsAtCapacity seed step sum
+
+-- where n cars stand evenly spread at the start, the time to come to the limit is enough
+abbrev pub EvenCarsFlowAtCapacity : Type 0
+EvenCarsFlowAtCapacity =
+    (cells limit n : ℕ) (rule : Programs) (seed : Seed) (step : ℕ) (road : Cells) (sum : StepTally)
+    → IsNasch 0 rule → CanSpread 1 cells limit n → IsEven 1 cells limit n seed.road
+    → limit ≤ seed.warm + 1 → ComesTo seed (always rule) step road sum
+    → FlowsAtCapacity seed step sum

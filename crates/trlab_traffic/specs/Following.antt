@@ -1,0 +1,27 @@
+-- Cars that follow one another: how gaps change.
+use Rattle.std.specs.Prelude.{◌≡◌, ℕ, ◌+◌}
+use Rattle.trlab_road.specs.declared.car.Car.{Car}
+use Rattle.trlab_road.specs.Cells.{Cells, IsAt, lane_of}
+use Rattle.trlab_road.specs.Gaps.{gap, next_place}
+use Rattle.trlab_road.specs.Legal.{IsLegal}
+use Rattle.trlab_rules.specs.Rules.{Programs}
+use Rattle.trlab_machine.specs.declared.dice.Dice.{Dice}
+use Rattle.trlab_step.specs.declared.tally.StepTally.{StepTally}
+use Rattle.trlab_step.specs.Next.{IsNext}
+use Rattle.trlab_step.specs.Published.{AllGo, car_ahead}
+use Rattle.trlab_traffic.specs.Runs.{StaysInLane}
+
+-- the second car is the next one ahead of the first on its lane, the same car where it is alone there
+pub record IsNextAhead (road : Cells) (car next : Car) : Type 0 where
+  pub same_lane : next.lane ≡ car.lane
+  pub ahead : next.place ≡ next_place (lane_of road car.lane) car.place
+
+-- under any rule without lane changes the gap of a car grows by what the next car ahead goes, and shrinks
+-- by what it goes itself
+abbrev pub GapsFollow : Type 0
+GapsFollow =
+    (rule : Programs) (dice : Dice) (old new : Cells) (tally : StepTally) (goes : Car → ℕ) (car next : Car)
+    → StaysInLane rule → IsLegal old → IsNext rule dice old new tally → AllGo goes old new
+    → IsAt old car → IsAt old next → IsNextAhead old car next
+    → gap (lane_of new car.lane) (car_ahead old car (goes car)).place + goes car
+    ≡ gap (lane_of old car.lane) car.place + goes next

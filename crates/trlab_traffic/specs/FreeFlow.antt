@@ -1,0 +1,40 @@
+-- Free flow: each car has the speed of the limit, and a gap that allows it.
+use Rattle.std.specs.Prelude.{◌≡◌, ℕ, ◌*◌, ◌≤◌}
+use Rattle.trlab_road.specs.declared.car.Car.{Car}
+use Rattle.trlab_road.specs.Cells.{Cells, IsAt, lane_of}
+use Rattle.trlab_road.specs.Gaps.{gap}
+use Rattle.trlab_road.specs.Legal.{IsLegal}
+use Rattle.trlab_rules.specs.Rules.{Programs}
+use Rattle.trlab_rules.specs.StandardRules.{IsNasch}
+use Rattle.trlab_machine.specs.declared.dice.Dice.{Dice}
+use Rattle.trlab_step.specs.declared.tally.StepTally.{StepTally}
+use Rattle.trlab_step.specs.Next.{IsNext}
+use Rattle.trlab_step.specs.Published.{AllGo}
+use Rattle.trlab_step.specs.Run.{Seed, ComesTo}
+use Rattle.trlab_traffic.specs.Capacity.{distance_at_limit}
+use Rattle.trlab_traffic.specs.Runs.{always, counted_steps}
+
+-- a road in free flow
+pub record IsFree (road : Cells) : Type 0 where
+  pub at_limit : (car : Car) → IsAt road car → car.speed ≡ road.limit
+  pub room : (car : Car) → IsAt road car → road.limit ≤ gap (lane_of road car.lane) car.place
+
+-- without randomization each car goes on by the limit, and the next road is in free flow again
+abbrev pub FreeFlowGoesOn : Type 0
+FreeFlowGoesOn =
+    (rule : Programs) (dice : Dice) (old new : Cells) (tally : StepTally)
+    → IsNasch 0 rule → IsLegal old → IsFree old → IsNext rule dice old new tally
+    → AllGo (λ car. old.limit) old new × IsFree new
+
+-- a run has come to a road in free flow, and the distance of the steps that are counted is that of all cars
+-- at the limit in each of them: the flow is the limit times the density
+abbrev pub FlowsFreely : Seed → ℕ → Cells → StepTally → Type 0
+FlowsFreely seed step road sum =
+    IsFree road × (sum.distance ≡ counted_steps seed step * distance_at_limit seed.road)
+
+-- and so it goes on for ever
+abbrev pub FreeFlowStaysFree : Type 0
+FreeFlowStaysFree =
+    (rule : Programs) (seed : Seed) (step : ℕ) (road : Cells) (sum : StepTally)
+    → IsNasch 0 rule → IsLegal seed.road → IsFree seed.road → ComesTo seed (always rule) step road sum
+    → FlowsFreely seed step road sum

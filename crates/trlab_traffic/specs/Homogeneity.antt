@@ -1,0 +1,35 @@
+-- Homogeneity: no place of a ring is another than the others. A road goes on the same, seen from whichever
+-- place.
+use Rattle.std.specs.Prelude.{ℕ, length, map}
+use Rattle.std.specs.List.{range_with_len}
+use Rattle.trlab_road.specs.Cells.{Cells, Lane, at}
+use Rattle.trlab_road.specs.Gaps.{ahead}
+use Rattle.trlab_road.specs.Legal.{IsLegal}
+use Rattle.trlab_rules.specs.Rules.{Programs}
+use Rattle.trlab_machine.specs.declared.dice.Dice.{Dice}
+use Rattle.trlab_step.specs.declared.tally.StepTally.{StepTally}
+use Rattle.trlab_step.specs.Next.{IsNext}
+use Rattle.trlab_step.specs.Run.{Seed, Sheet, ComesTo}
+
+-- a lane that is turned by r cells: each place has what the place r cells ahead of it had
+abbrev pub turned_lane : ℕ → Lane → Lane
+turned_lane r lane = map (λ x. at lane (ahead (length lane) x r)) (range_with_len 0 (length lane))
+
+-- a road all of whose lanes are turned by r cells; the cars keep their lanes, numbers and speeds
+abbrev pub turned : ℕ → Cells → Cells
+turned r road = record { limit = road.limit; lanes = map (turned_lane r) road.lanes }
+
+-- the next road of a road that is turned is its next road, turned as far, with the same tally, whatever the
+-- rule and the dice
+abbrev pub StepIsHomogeneous : Type 0
+StepIsHomogeneous =
+    (rule : Programs) (dice : Dice) (road next : Cells) (tally : StepTally) (r : ℕ)
+    → IsLegal road → IsNext rule dice road next tally
+    → IsNext rule dice (turned r road) (turned r next) tally
+
+-- and so is a run from a road that is turned, step by step
+abbrev pub RunIsHomogeneous : Type 0
+RunIsHomogeneous =
+    (seed : Seed) (sheet : Sheet) (step : ℕ) (road : Cells) (sum : StepTally) (r : ℕ)
+    → IsLegal seed.road → ComesTo seed sheet step road sum
+    → ComesTo (record seed { road = turned r seed.road }) sheet step (turned r road) sum

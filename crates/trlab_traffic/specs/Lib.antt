@@ -1,0 +1,24 @@
+-- words for rules and runs
+pub mod Runs
+-- how far cars go
+pub mod Capacity
+pub mod FreeFlow
+pub mod Metastable
+pub mod Randomization
+-- cars that follow one another
+pub mod Following
+pub mod Jams
+pub mod Overtaking
+-- what makes no difference
+pub mod Homogeneity
+pub mod Symmetry
+pub mod Apart
+pub mod Certainty
+-- rules that go as others
+pub mod Reduction
+pub mod Rule184
+-- the fundamental diagram without randomization
+pub mod Diagram
+-- what detectors count
+pub mod Detector
+pub mod DetectorRuns

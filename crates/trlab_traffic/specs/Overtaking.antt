@@ -1,0 +1,45 @@
+-- Nobody overtakes on a lane: the next car ahead of a car stays the same.
+use Rattle.std.specs.Prelude.{◌≡◌, ℕ}
+use Rattle.trlab_road.specs.declared.car.Car.{Car}
+use Rattle.trlab_road.specs.Cells.{Cells, IsAt}
+use Rattle.trlab_road.specs.Legal.{IsLegal}
+use Rattle.trlab_rules.specs.Rules.{Programs}
+use Rattle.trlab_machine.specs.declared.dice.Dice.{Dice}
+use Rattle.trlab_step.specs.declared.tally.StepTally.{StepTally}
+use Rattle.trlab_step.specs.Next.{IsNext}
+use Rattle.trlab_step.specs.Run.{Seed, Sheet, ComesTo}
+use Rattle.trlab_traffic.specs.Following.{IsNextAhead}
+use Rattle.trlab_traffic.specs.Runs.{EachRule, StaysInLane}
+
+-- the car with the second number is the next one ahead of that with the first
+pub record IsNextOf (road : Cells) (number next : ℕ) : Type 0 where
+  pub car : Car
+  pub next_car : Car
+  pub stands : IsAt road car
+  pub next_stands : IsAt road next_car
+  pub numbered : car.number ≡ number
+  pub next_numbered : next_car.number ≡ next
+  pub follows : IsNextAhead road car next_car
+
+-- each car has a next one
+abbrev pub EachCarHasNext : Type 0
+EachCarHasNext = (road : Cells) (car : Car) → IsAt road car → (next : ℕ) × IsNextOf road car.number next
+
+-- and one only
+abbrev pub NextCarIsOne : Type 0
+NextCarIsOne = (road : Cells) (number next other : ℕ) → IsLegal road
+    → IsNextOf road number next → IsNextOf road number other → next ≡ other
+
+-- under any rule without lane changes the next car ahead of a car is so after the step too
+abbrev pub StepKeepsNextCar : Type 0
+StepKeepsNextCar =
+    (rule : Programs) (dice : Dice) (old new : Cells) (tally : StepTally) (number next : ℕ)
+    → StaysInLane rule → IsNext rule dice old new tally
+    → IsNextOf old number next → IsNextOf new number next
+
+-- and so it is for ever, under any sheet of such rules
+abbrev pub RunKeepsNextCar : Type 0
+RunKeepsNextCar =
+    (seed : Seed) (sheet : Sheet) (step : ℕ) (road : Cells) (sum : StepTally) (number next : ℕ)
+    → EachRule StaysInLane sheet → ComesTo seed sheet step road sum
+    → IsNextOf seed.road number next → IsNextOf road number next

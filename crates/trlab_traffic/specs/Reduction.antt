@@ -1,0 +1,35 @@
+-- Rules that go as another does.
+use Rattle.std.specs.Prelude.{◌≡◌, ◌↔◌, ℕ, length}
+use Rattle.trlab_road.specs.Cells.{Cells}
+use Rattle.trlab_road.specs.Legal.{IsLegal}
+use Rattle.trlab_rules.specs.Rules.{Programs}
+use Rattle.trlab_rules.specs.StandardRules.{IsNasch, IsVdr, IsRickert}
+use Rattle.trlab_machine.specs.declared.dice.Dice.{Dice}
+use Rattle.trlab_step.specs.declared.tally.StepTally.{StepTally}
+use Rattle.trlab_step.specs.Next.{IsNext}
+use Rattle.trlab_step.specs.Run.{Seed, ComesTo}
+use Rattle.trlab_traffic.specs.Runs.{always}
+
+-- by the same dice two rules lead from each legal road of so many lanes to the same next road, with the
+-- same tally
+abbrev pub GoAlike : ℕ → Programs → Programs → Type 0
+GoAlike lanes rule other =
+    (dice : Dice) (road next : Cells) (tally : StepTally) → IsLegal road → length road.lanes ≡ lanes
+    → IsNext rule dice road next tally ↔ IsNext other dice road next tally
+
+-- the rule of 1998, where a car that is stopped brakes with the chance of all others, goes as that of 1992
+abbrev pub VdrOfOneChance : Type 0
+VdrOfOneChance =
+    (p lanes : ℕ) (rule other : Programs) → IsVdr p p rule → IsNasch p other → GoAlike lanes rule other
+
+-- the rule of 1996 with the chance 0 of a lane change goes as that of 1992
+abbrev pub RickertWithoutChange : Type 0
+RickertWithoutChange =
+    (p : ℕ) (rule other : Programs) → IsRickert p 0 rule → IsNasch p other → GoAlike 2 rule other
+
+-- a run of a road under one of two rules that go alike is a run of it under the other
+abbrev pub RunsAlike : Type 0
+RunsAlike =
+    (rule other : Programs) (seed : Seed) (step : ℕ) (road : Cells) (sum : StepTally)
+    → IsLegal seed.road → GoAlike (length seed.road.lanes) rule other
+    → ComesTo seed (always rule) step road sum → ComesTo seed (always other) step road sum

@@ -1,0 +1,46 @@
+-- Symmetry of lanes: of two lanes none is another than the other, under rules that do not ask on which a
+-- car is.
+use Rattle.std.specs.Prelude.{◌≡◌, ℕ, Bool, true, false, All, IfSome, [], ◌∷◌, length}
+use Rattle.trlab_code.specs.declared.instruction.Input.TheVariants.{Lane}
+use Rattle.trlab_code.specs.declared.instruction.Instr.{Instr}
+use Rattle.trlab_code.specs.declared.instruction.Instr.TheVariants.{Get}
+use Rattle.trlab_road.specs.Cells.{Cells, lane_of}
+use Rattle.trlab_rules.specs.Rules.{Programs}
+use Rattle.trlab_rules.specs.StandardRules.{IsRickert}
+use Rattle.trlab_machine.specs.declared.dice.Dice.{Dice}
+use Rattle.trlab_step.specs.declared.tally.StepTally.{StepTally}
+use Rattle.trlab_step.specs.Next.{IsNext}
+use Rattle.trlab_step.specs.Run.{Seed, Sheet, ComesTo}
+use Rattle.trlab_traffic.specs.Runs.{EachRule}
+
+-- a road of two lanes with its lanes exchanged; the cars keep their places, numbers and speeds
+abbrev pub exchanged : Cells → Cells
+exchanged road = record { limit = road.limit; lanes = lane_of road 1 ∷ lane_of road 0 ∷ [] }
+
+-- an instruction that reads on which lane the car is
+abbrev pub reads_lane : Instr → Bool
+reads_lane (Get d Lane) = true
+reads_lane _ = false
+
+-- the programs of a rule do not read it; a motion program never does
+abbrev pub IgnoresLane : Programs → Type 0
+IgnoresLane rule =
+    IfSome rule.change (λ change. All (λ instr. reads_lane instr ≡ false) change.program.instrs)
+
+-- nor does the rule of 1996
+abbrev pub RickertIgnoresLane : Type 0
+RickertIgnoresLane = (p c : ℕ) (rule : Programs) → IsRickert p c rule → IgnoresLane rule
+
+-- the next road of a road whose lanes are exchanged is its next road, exchanged, with the same tally
+abbrev pub StepIsSymmetric : Type 0
+StepIsSymmetric =
+    (rule : Programs) (dice : Dice) (road next : Cells) (tally : StepTally)
+    → IgnoresLane rule → length road.lanes ≡ 2 → IsNext rule dice road next tally
+    → IsNext rule dice (exchanged road) (exchanged next) tally
+
+-- and so is a run from a road whose lanes are exchanged, under any sheet of such rules
+abbrev pub RunIsSymmetric : Type 0
+RunIsSymmetric =
+    (seed : Seed) (sheet : Sheet) (step : ℕ) (road : Cells) (sum : StepTally)
+    → EachRule IgnoresLane sheet → length seed.road.lanes ≡ 2 → ComesTo seed sheet step road sum
+    → ComesTo (record seed { road = exchanged seed.road }) sheet step (exchanged road) sum

@@ -1,0 +1,156 @@
+//! Laws of traffic, whichever code asks the cars and moves them.
+//!
+//! Each law is the contract of a function with nothing to do.
+
+ghost use Rattle.trlab_traffic.specs.Apart.{RunKeepsLanesApart, StepKeepsLanesApart};
+ghost use Rattle.trlab_traffic.specs.Capacity.{CellsAreTakenOrEmpty, RunKeepsToCapacity, StepKeepsToCapacity};
+ghost use Rattle.trlab_traffic.specs.Certainty.{NaschWithoutRandomization, RunIsDeterministic, StepIsDeterministic};
+ghost use Rattle.trlab_traffic.specs.Detector.{DetectorCountsOne, DetectorsCountDistance, StepIsContinuous};
+ghost use Rattle.trlab_traffic.specs.DetectorRuns.{CountExists, DetectorMeasuresFlow, DetectorsAgree, DetectorsCountRun, RunIsContinuous};
+ghost use Rattle.trlab_traffic.specs.Diagram.{EvenCarsFlowAtCapacity, NaschComesToCapacity, Rule184ComesToCapacity};
+ghost use Rattle.trlab_traffic.specs.Following.{GapsFollow};
+ghost use Rattle.trlab_traffic.specs.FreeFlow.{FreeFlowGoesOn, FreeFlowStaysFree};
+ghost use Rattle.trlab_traffic.specs.Homogeneity.{RunIsHomogeneous, StepIsHomogeneous};
+ghost use Rattle.trlab_traffic.specs.Jams.{CarWithoutGapStands};
+ghost use Rattle.trlab_traffic.specs.Metastable.{SlowStartsKeepFreeFlow, SlowStartsKeepJams};
+ghost use Rattle.trlab_traffic.specs.Overtaking.{EachCarHasNext, NextCarIsOne, RunKeepsNextCar, StepKeepsNextCar};
+ghost use Rattle.trlab_traffic.specs.Randomization.{RandomizationSlows, SlowStartsSlow};
+ghost use Rattle.trlab_traffic.specs.Reduction.{RickertWithoutChange, RunsAlike, VdrOfOneChance};
+ghost use Rattle.trlab_traffic.specs.Rule184.{EmptyCellsGoBack, NaschIsRule184};
+ghost use Rattle.trlab_traffic.specs.Symmetry.{RickertIgnoresLane, RunIsSymmetric, StepIsSymmetric};
+
+/// In a step under any rule the cars of a legal road go, all together, over no more cells than are empty, and no
+/// further than the limit each.
+pub fn step_keeps_to_capacity()
+    ensures { StepKeepsToCapacity }
+{}
+
+/// So do they in each step of a run that is counted, under any sheet of rules. A road has as many cells as cars and
+/// empty cells together.
+pub fn run_keeps_to_capacity()
+    ensures cells { CellsAreTakenOrEmpty }
+    ensures run { RunKeepsToCapacity }
+{}
+
+/// Free flow stays free for ever under the rule of 1992 without randomization: all cars go by the limit (Nagel and
+/// Schreckenberg 1992, J. Phys. I France 2, 2221).
+pub fn free_flow_stays_free()
+    ensures step { FreeFlowGoesOn }
+    ensures run { FreeFlowStaysFree }
+{}
+
+/// Slow starts make free flow metastable: at one density free flow goes on for ever, and so does a jam (Barlovic,
+/// Santen, Schadschneider and Schreckenberg 1998, Eur. Phys. J. B 5, 793).
+pub fn slow_starts_are_metastable()
+    ensures free { SlowStartsKeepFreeFlow }
+    ensures jam { SlowStartsKeepJams }
+{}
+
+/// With a greater chance of braking the cars of a road go less far in a step, by a cell each at most, and no fewer of
+/// them stop: under the rules of 1992 and of 1998.
+pub fn randomization_slows()
+    ensures nasch { RandomizationSlows }
+    ensures vdr { SlowStartsSlow }
+{}
+
+/// The gap of a car changes by what the next car ahead goes and what it goes itself, under any rule without lane
+/// changes.
+pub fn gaps_follow()
+    ensures { GapsFollow }
+{}
+
+/// A car that has no gap stands, under any rule without lane changes.
+pub fn car_without_gap_stands()
+    ensures { CarWithoutGapStands }
+{}
+
+/// Nobody overtakes on a lane: each car has one next car ahead, and keeps it in each step and run without lane
+/// changes.
+pub fn nobody_overtakes()
+    ensures next { EachCarHasNext }
+    ensures one { NextCarIsOne }
+    ensures step { StepKeepsNextCar }
+    ensures run { RunKeepsNextCar }
+{}
+
+/// No place of a ring is another than the others: under any rule a legal road that is turned goes on to its next road,
+/// turned as far, with the same tally; and so does a run.
+pub fn ring_is_homogeneous()
+    ensures step { StepIsHomogeneous }
+    ensures run { RunIsHomogeneous }
+{}
+
+/// Of two lanes none is another than the other: under rules whose programs do not read the lane, as that of 1996, a
+/// road whose lanes are exchanged goes on to its next road, exchanged, with the same tally; and so does a run.
+pub fn lanes_are_symmetric()
+    ensures rickert { RickertIgnoresLane }
+    ensures step { StepIsSymmetric }
+    ensures run { RunIsSymmetric }
+{}
+
+/// Without lane changes the lanes of a road do not see each other: each goes on the same, whatever is on the others.
+pub fn lanes_are_apart()
+    ensures step { StepKeepsLanesApart }
+    ensures run { RunKeepsLanesApart }
+{}
+
+/// Where programs leave nothing to chance the key does not matter: a road has one next road for all dice, and a run
+/// is the same under all keys. The rule of 1992 without randomization is such a rule.
+pub fn certain_rules_are_deterministic()
+    ensures nasch { NaschWithoutRandomization }
+    ensures step { StepIsDeterministic }
+    ensures run { RunIsDeterministic }
+{}
+
+/// Two rules go as that of Nagel and Schreckenberg (1992): that of 1998 where a car that is stopped brakes with the
+/// chance of all others (Barlovic and others), and that of 1996 on two lanes where the chance of a lane change is 0
+/// (Rickert, Nagel, Schreckenberg and Latour 1996, Physica A 231, 534). Rules that go alike have the same runs.
+pub fn rules_reduce_to_nasch()
+    ensures vdr { VdrOfOneChance }
+    ensures rickert { RickertWithoutChange }
+    ensures runs { RunsAlike }
+{}
+
+/// With the limit 1 and without randomization the rule of 1992 is rule 184 (Wolfram 1983, Rev. Mod. Phys. 55, 601), in
+/// which empty cells go back as cars go ahead.
+pub fn nasch_is_rule_184()
+    ensures rule { NaschIsRule184 }
+    ensures holes { EmptyCellsGoBack }
+{}
+
+/// Without randomization a run on one lane comes to the capacity of its road from any start, whatever the limit: the
+/// fundamental diagram is a triangle (Fukui and Ishibashi 1996, J. Phys. Soc. Japan 65, 1868, of cars that come to
+/// their speed at once).
+pub fn nasch_comes_to_capacity()
+    ensures { NaschComesToCapacity }
+{}
+
+/// With the limit 1 it does so a step sooner: rule 184 relaxes while a run goes round the ring (Krug and Spohn 1988,
+/// Phys. Rev. A 38, 4271).
+pub fn rule_184_comes_to_capacity()
+    ensures { Rule184ComesToCapacity }
+{}
+
+/// Cars that start evenly spread come to the capacity of their road as soon as they could have come to the limit.
+pub fn even_cars_flow_at_capacity()
+    ensures { EvenCarsFlowAtCapacity }
+{}
+
+/// What detectors count is the flow: all those of a road together count the distance of a step, under any rule, and
+/// each counts one car at most. Between two of a lane no car is lost or made, where nobody changes lanes: continuity
+/// (Lighthill and Whitham 1955, Proc. R. Soc. London A 229, 317).
+pub fn detectors_count_flow()
+    ensures distance { DetectorsCountDistance }
+    ensures one { DetectorCountsOne }
+    ensures step { StepIsContinuous }
+{}
+
+/// So it is in the steps of a run that are counted, and the counts of two detectors never differ by more than the cells
+/// between them. On one lane all detectors together count the distance, and each by itself measures the flow.
+pub fn detectors_count_runs()
+    ensures exists { CountExists }
+    ensures run { RunIsContinuous }
+    ensures agree { DetectorsAgree }
+    ensures distance { DetectorsCountRun }
+    ensures flow { DetectorMeasuresFlow }
+{}
