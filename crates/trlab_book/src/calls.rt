@@ -1,4 +1,5 @@
-//! Calls of a shared book through a desk: each takes the lock once, and is one event.
+//! Calls of a shared book through a desk: each takes the lock once, and is one event of the desk's
+//! subhistory: this call, as it was made, with the reply that its caller has.
 
 ghost use Rattle.std.specs.Prelude.{◌≡◌, Bool, IfErr};
 ghost use Rattle.trlab_leases.specs.Answers.{back_reply, done_reply, lease_reply};
@@ -13,9 +14,9 @@ use std::alloc::Global;
 use std::sync::Wait;
 use trlab_leases::{BookFault, Lease, Order, Seed, Snapshot};
 use trlab_rules::Rule;
-use trlab_strands::Room;
+use trlab_strands::Ledger;
 
-impl<L: Room> SharedBook<L> {
+impl<L: Ledger> SharedBook<L> {
     /// Submits a job, and answers its number. What the history keeps is copied before the lock is taken.
     ///
     /// # Errors
@@ -54,7 +55,9 @@ impl<L: Room> SharedBook<L> {
         ensures { Makes desk.old (Replace job rule) (number_reply result) desk.new }
     {
         let copied = copied_replace(alloc, job, &rule);
-        self.lock.lock(rt).replace(&self.strands, desk, job, rule, copied)
+        self.lock
+            .lock(rt)
+            .replace(&self.strands, desk, job, rule, copied)
     }
 
     /// Leases the least job that is free, or answers that there is none.

@@ -1,4 +1,4 @@
-//! Calls of a desk while the lock is held: each is noted as an event of the desk.
+//! Calls of a desk while the lock is held: each that is an event is put into the desk's subhistory.
 
 ghost use Rattle.std.specs.Prelude.{◌≡◌, ◌++◌, ◌∷◌, [], Bool, IfOk, IfErr, MatchBool};
 ghost use Rattle.trlab_leases.specs.Answers.{back_reply, done_reply, is_event, lease_reply};
@@ -18,10 +18,10 @@ use crate::replies::{
 use std::alloc::{AllocError, Global};
 use trlab_leases::{BookFault, Call, Event, Lease, Order, Reply, Seed, Snapshot};
 use trlab_rules::Rule;
-use trlab_strands::{Keeper, Room, Strands};
+use trlab_strands::{Keeper, Ledger, Strands};
 
-/// Notes the last event of the history, where this reply is of one, as an event of the desk.
-fn note_event<L: Room>(
+/// Puts the last event of the history into the desk's subhistory, where this reply is of an event.
+fn note_event<L: Ledger>(
     keeper: &mut Keeper<L, Event>,
     strands: &Strands<L, Event>,
     desk: &mut Desk<L>,
@@ -41,7 +41,7 @@ fn note_event<L: Room>(
     }
 }
 
-impl<L: Room> Locked<L> {
+impl<L: Ledger> Locked<L> {
     pub(crate) fn submit(
         &mut self,
         strands: &Strands<L, Event>,

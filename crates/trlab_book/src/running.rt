@@ -13,10 +13,11 @@ use std::alloc::Global;
 use std::sync::Wait;
 use std::thread::{Threads, join};
 use trlab_segments::Gate;
-use trlab_strands::Room;
+use trlab_strands::Ledger;
 
-/// Runs the jobs of a book by 1 to 16 runners, until none is free, and gives the desk back, which has
-/// counted all their calls. Each step is taken by 1 to 16 workers, who pass the gate.
+/// Runs the jobs of a book by 1 to 16 runners, until none is free, and gives the desk back, with all their
+/// calls behind its own, those of one runner after those of another. Each step is taken by 1 to 16 workers,
+/// who pass the gate.
 ///
 /// The desk has a part for each runner. The calling thread is runner 0; it begins once the others were
 /// started, and does the work of those that can't be started.
@@ -24,7 +25,7 @@ use trlab_strands::Room;
 /// # Errors
 ///
 /// The fault that a runner met, `HistoryFull` before `Memory`, with the desk.
-pub fn run_jobs<L: Room + Send + Sync, R: Threads + Wait + Sync, G: Gate + Sync>(
+pub fn run_jobs<L: Ledger + Send + Sync, R: Threads + Wait + Sync, G: Gate + Sync>(
     rt: &R,
     alloc: Global,
     book: &SharedBook<L>,
@@ -45,7 +46,7 @@ pub fn run_jobs<L: Room + Send + Sync, R: Threads + Wait + Sync, G: Gate + Sync>
 }
 
 /// Gives one part to each other runner, and the rest to this thread.
-fn run_all<L: Room + Send + Sync, R: Threads + Wait + Sync, G: Gate + Sync>(
+fn run_all<L: Ledger + Send + Sync, R: Threads + Wait + Sync, G: Gate + Sync>(
     rt: &R,
     alloc: Global,
     book: &SharedBook<L>,

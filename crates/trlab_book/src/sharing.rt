@@ -1,28 +1,28 @@
 //! Books are shared: they start with one desk of all parts, desks are split and gathered, and a desk
-//! that has all calls closes the book.
+//! that has all calls closes the book, and knows of each event of its history whose it is.
 
 ghost use Rattle.std.specs.Prelude.{◌≡◌, ◌+◌, ◌<◌, ◌++◌, [], max, IfOk, IfErr, IsOk};
 ghost use Rattle.trlab_leases.specs.Replay.{Replays};
-ghost use Rattle.trlab_book.specs.Desks.{IsSame, entries_of, least_of, parts_of};
-ghost use Rattle.trlab_book.specs.declared.limits.TheConstants.{ALL_PARTS};
-ghost use Rattle.trlab_strands.specs.Stocks.{IsOrderOf};
+ghost use Rattle.trlab_book.specs.Desks.{IsSame, subhistory_of, least_of, parts_of};
+ghost use Rattle.trlab_strands.specs.Stocks.{IsLinearization};
+ghost use Rattle.trlab_strands.specs.Tokens.{name_of};
+ghost use Rattle.trlab_strands.specs.declared.limits.TheConstants.{ALL_PARTS};
 
 use crate::desk::{Desk, Locked, SharedBook};
 use crate::kept::Kept;
-use crate::limits::ALL_PARTS;
 use std::alloc::Global;
 use std::sync::Mutex;
 use trlab_leases::{Book, Event};
-use trlab_strands::{Opening, Room};
+use trlab_strands::{ALL_PARTS, Blank, Ledger};
 
-impl<L: Room> SharedBook<L> {
-    /// An empty book, and the desk with all 1024 parts. It takes no memory.
-    pub fn start(alloc: Global, opening: Opening<Event>) -> (SharedBook<L>, Desk<L>)
-        requires { opening.table.shared.table_id ≡ L.table }
+impl<L: Ledger> SharedBook<L> {
+    /// An empty book, and the desk with all 1024 parts. It takes no memory but the blank's.
+    pub fn start(alloc: Global, blank: Blank<Event>) -> (SharedBook<L>, Desk<L>)
+        requires { name_of blank ≡ L.name }
         ensures parts { parts_of result.1 ≡ ALL_PARTS }
-        ensures entries { (entries_of result.1 ≡ []) × (least_of result.1 ≡ 0) }
+        ensures events { (subhistory_of result.1 ≡ []) × (least_of result.1 ≡ 0) }
     {
-        let (strands, keeper, strand) = opening.named::<L>();
+        let (strands, keeper, strand) = blank.open::<L>();
         let lock = Mutex::new(Locked {
             kept: Kept::new(alloc),
             keeper,
@@ -35,14 +35,14 @@ impl<L: Room> SharedBook<L> {
         (SharedBook { lock, strands }, desk)
     }
 
-    /// Ends the sharing, and gives the book with its history.
+    /// Ends the sharing, and gives the book with its history, a linearization of the desk's subhistory.
     ///
     /// # Errors
     ///
     /// Where events were made at other desks, which were not gathered into this one: the book and the
     /// desk come back. With all parts it never fails.
     pub fn close(self, desk: Desk<L>) -> Result<(Book, Vec<Event>), (SharedBook<L>, Desk<L>)>
-        ensures order { IfOk result (λ r. IsOrderOf r.1.items (entries_of desk)) }
+        ensures order { IfOk result (λ r. IsLinearization r.1.items (subhistory_of desk)) }
         ensures replays { IfOk result (λ r. ∥ Replays r.1.items r.0 ∥₁) }
         ensures err { IfErr result (λ r. IsSame desk r.1) }
         ensures whole { parts_of desk ≡ ALL_PARTS → IsOk result }
@@ -63,7 +63,7 @@ impl<L: Room> SharedBook<L> {
     pub fn split(&self, desk: &mut Desk<L>) -> Desk<L>
         requires { 1 < parts_of desk.old }
         ensures parts { (parts_of desk.new + 1 ≡ parts_of desk.old) × (parts_of result ≡ 1) }
-        ensures entries { (entries_of desk.new ≡ entries_of desk.old) × (entries_of result ≡ []) }
+        ensures events { (subhistory_of desk.new ≡ subhistory_of desk.old) × (subhistory_of result ≡ []) }
         ensures least { (least_of desk.new ≡ least_of desk.old) × (least_of result ≡ least_of desk.old) }
     {
         let strand = self.strands.split(&mut desk.strand);
@@ -75,10 +75,10 @@ impl<L: Room> SharedBook<L> {
         }
     }
 
-    /// The parts and the events of both desks together.
+    /// The parts of both desks together, and the events of the one, then those of the other.
     pub fn gather(&self, one: Desk<L>, other: Desk<L>) -> Desk<L>
         ensures parts { parts_of result ≡ parts_of one + parts_of other }
-        ensures entries { entries_of result ≡ entries_of one ++ entries_of other }
+        ensures events { subhistory_of result ≡ subhistory_of one ++ subhistory_of other }
         ensures least { least_of result ≡ max (least_of one) (least_of other) }
     {
         let Desk {
@@ -100,7 +100,7 @@ impl<L: Room> SharedBook<L> {
     }
 }
 
-impl<L: Room> Desk<L> {
+impl<L: Ledger> Desk<L> {
     /// How many parts it has, from 1 to 1024.
     pub fn parts(&self) -> u32
         ensures { result ≡ parts_of self.now }

@@ -12,13 +12,13 @@ use std::sync::Wait;
 use std::thread::Threads;
 use trlab_leases::{BookFault, Lease, LeaseFault};
 use trlab_segments::Gate;
-use trlab_strands::Room;
+use trlab_strands::Ledger;
 
 /// How many steps a runner takes at most before it gives a lease back.
 const STEPS_A_TURN: u32 = 32;
 
 /// Takes leases until no job is free. The workers live as long as the runner.
-pub fn run_one<L: Room, R: Threads + Wait + Sync, G: Gate + Sync>(
+pub fn run_one<L: Ledger, R: Threads + Wait + Sync, G: Gate + Sync>(
     rt: &R,
     alloc: Global,
     book: &SharedBook<L>,
@@ -39,7 +39,7 @@ pub fn run_one<L: Room, R: Threads + Wait + Sync, G: Gate + Sync>(
 }
 
 /// Takes leases until no job is free.
-fn take_leases<L: Room, R: Threads + Wait + Sync, G: Gate + Sync>(
+fn take_leases<L: Ledger, R: Threads + Wait + Sync, G: Gate + Sync>(
     rt: &R,
     alloc: Global,
     book: &SharedBook<L>,
@@ -57,7 +57,7 @@ fn take_leases<L: Room, R: Threads + Wait + Sync, G: Gate + Sync>(
 }
 
 /// Leases a free job for one turn. Where none is free, or after a fault, it answers how the runner ends.
-fn take_free<L: Room, R: Threads + Wait + Sync, G: Gate + Sync>(
+fn take_free<L: Ledger, R: Threads + Wait + Sync, G: Gate + Sync>(
     rt: &R,
     alloc: Global,
     book: &SharedBook<L>,
@@ -78,7 +78,7 @@ fn take_free<L: Room, R: Threads + Wait + Sync, G: Gate + Sync>(
 }
 
 /// Runs a lease for some steps and gives it back.
-fn take_turn<L: Room, R: Threads + Wait + Sync, G: Gate + Sync>(
+fn take_turn<L: Ledger, R: Threads + Wait + Sync, G: Gate + Sync>(
     rt: &R,
     alloc: Global,
     book: &SharedBook<L>,
@@ -99,7 +99,7 @@ fn take_turn<L: Room, R: Threads + Wait + Sync, G: Gate + Sync>(
 }
 
 /// Orders a step and runs it, over and over. The lock is free while it runs.
-fn run_steps<L: Room, R: Threads + Wait + Sync, G: Gate + Sync>(
+fn run_steps<L: Ledger, R: Threads + Wait + Sync, G: Gate + Sync>(
     rt: &R,
     alloc: Global,
     book: &SharedBook<L>,
@@ -127,7 +127,7 @@ fn run_steps<L: Room, R: Threads + Wait + Sync, G: Gate + Sync>(
 
 /// Drops a lease after a fault. Where memory ran out it is revoked, so that others can take the job; where
 /// the book no longer takes it, the runner goes on.
-fn end_lease<L: Room, R: Wait>(
+fn end_lease<L: Ledger, R: Wait>(
     rt: &R,
     book: &SharedBook<L>,
     desk: &mut Desk<L>,

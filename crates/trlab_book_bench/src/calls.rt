@@ -1,6 +1,7 @@
 //! A shared book of one job, and the calls that are timed.
 
 ghost use Rattle.std.specs.Prelude.{◌≡◌};
+ghost use Rattle.trlab_strands.specs.Tokens.{name_of};
 
 use std::alloc::Global;
 use std::sync::Wait;
@@ -8,7 +9,7 @@ use trlab_book::SharedBook;
 use trlab_leases::{BookFault, Event, Seed};
 use trlab_road::Road;
 use trlab_rules::nasch;
-use trlab_strands::{Opening, Room};
+use trlab_strands::{Blank, Ledger};
 use trlab_words::{Chance, Key};
 
 /// How many cells the lane has, a car in each.
@@ -26,16 +27,16 @@ fn full_lane(alloc: Global) -> Option<Seed> {
 
 /// Makes so many calls of a book with one job: reads of the job, or else revokes of a lease that is not
 /// out. None where a call was not answered so.
-pub fn make_calls<L: Room, R: Wait>(
+pub fn make_calls<L: Ledger, R: Wait>(
     rt: &R,
     alloc: Global,
-    opening: Opening<Event>,
+    blank: Blank<Event>,
     reads: bool,
     count: u32,
 ) -> Option<()>
-    requires opening { opening.table.shared.table_id ≡ L.table }
+    requires name { name_of blank ≡ L.name }
 {
-    let (book, mut desk) = SharedBook::<L>::start(alloc, opening);
+    let (book, mut desk) = SharedBook::<L>::start(alloc, blank);
     let rule = nasch(alloc, Chance::new(0)?).ok()?;
     book.submit(rt, alloc, &mut desk, full_lane(alloc)?, rule, 1)
         .ok()?;

@@ -9,7 +9,7 @@ use std::marker::Brand;
 use std::process::ExitCode;
 use std::rt::Env;
 use std::{env, io};
-use trlab_strands::Opening;
+use trlab_strands::Blank;
 
 fn main(rt: HostRuntime) -> ExitCode {
     let Ok(words) = given_words(&rt) else {
@@ -22,10 +22,10 @@ fn main(rt: HostRuntime) -> ExitCode {
     let Ok(count) = words[1].parse::<u32>() else {
         return ExitCode::FAILURE;
     };
-    let Ok(opening) = Opening::new(rt.alloc()) else {
+    let Ok(blank) = Blank::new(rt.alloc()) else {
         return ExitCode::FAILURE;
     };
-    match make_calls::<Brand, HostRuntime>(&rt, rt.alloc(), opening, reads, count) {
+    match make_calls::<Brand, HostRuntime>(&rt, rt.alloc(), blank, reads, count) {
         Some(()) => ExitCode::SUCCESS,
         None => ExitCode::FAILURE,
     }

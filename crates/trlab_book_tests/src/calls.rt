@@ -2,6 +2,7 @@
 //! reads among them show.
 
 ghost use Rattle.std.specs.Prelude.{◌≡◌};
+ghost use Rattle.trlab_strands.specs.Tokens.{name_of};
 
 use crate::replies::{ordered, own, seen, went_out};
 use crate::shown::{Shown, is_rule, show};
@@ -12,7 +13,7 @@ use std::sync::Wait;
 use trlab_book_trials::histories::{Made, is_history};
 use trlab_book_trials::jobs::{ALWAYS, NEVER, shows};
 use trlab_leases::{BookFault, Call, Event, Offered, Reply};
-use trlab_strands::{Opening, Room};
+use trlab_strands::{Blank, Ledger};
 
 /// Whether a submission is of the two cars under the rule by which no car brakes, and a replacement by the
 /// one by which each does.
@@ -45,16 +46,16 @@ fn is_as_made(alloc: Global, history: &[Event], calls: &[(Made, Reply)]) -> bool
 
 /// Whether calls of a new book answer the replies beside them, read this, and leave these calls and these
 /// replies as its history.
-fn leave_in<L: Room, R: Wait>(
+fn leave_in<L: Ledger, R: Wait>(
     rt: &R,
     alloc: Global,
-    opening: Opening<Event>,
+    blank: Blank<Event>,
     calls: &[(Made, Reply)],
     wanted: &[Shown],
 ) -> bool
-    requires opening { opening.table.shared.table_id ≡ L.table }
+    requires name { name_of blank ≡ L.name }
 {
-    let mut table = Table::<L>::start(alloc, opening, b"0.0.......", 0);
+    let mut table = Table::<L>::start(alloc, blank, b"0.0.......", 0);
     let made = table.make_all(rt, alloc, calls) && show(alloc, &table.reads, wanted);
     match table.close() {
         Some(history) => made && is_as_made(alloc, &history, calls),
@@ -64,10 +65,10 @@ fn leave_in<L: Room, R: Wait>(
 
 /// The same, of a book with one desk.
 fn leave(rt: &(impl AllocGlobal + Wait), calls: &[(Made, Reply)], wanted: &[Shown]) -> bool {
-    let Ok(opening) = Opening::new(rt.alloc()) else {
+    let Ok(blank) = Blank::new(rt.alloc()) else {
         return false;
     };
-    leave_in::<Brand, _>(rt, rt.alloc(), opening, calls, wanted)
+    leave_in::<Brand, _>(rt, rt.alloc(), blank, calls, wanted)
 }
 
 const REPLACED: [(Made, Reply); 11] = [

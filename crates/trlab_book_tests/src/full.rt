@@ -1,6 +1,7 @@
 //! Full books: a sheet that has had all its rules, and a history that has had all its events.
 
 ghost use Rattle.std.specs.Prelude.{◌≡◌, ◌<◌, ◌≤◌};
+ghost use Rattle.trlab_strands.specs.Tokens.{name_of};
 
 use crate::replies::{ordered, own, seen, went_out};
 use crate::table::Table;
@@ -10,12 +11,12 @@ use std::sync::Wait;
 use std::thread::Threads;
 use trlab_book::{Desk, RunFault, SharedBook, run_jobs};
 use trlab_book_trials::histories::Made;
-use trlab_leases::{Event, BookFault, Offered, Reply};
+use trlab_leases::{BookFault, Event, Offered, Reply};
 use trlab_segments::OpenGate;
-use trlab_strands::{Opening, Room};
+use trlab_strands::{Blank, Ledger};
 
 /// Whether so many calls of a job that there is not are events.
-fn hears<L: Room, R: Wait>(rt: &R, alloc: Global, table: &mut Table<L>, calls: u32) -> bool {
+fn hears<L: Ledger, R: Wait>(rt: &R, alloc: Global, table: &mut Table<L>, calls: u32) -> bool {
     let refused = Reply::Refused(BookFault::NoSuchJob);
     for _ in 0..calls {
         if !table.answers(rt, alloc, Made::Revoke(7), refused) {
@@ -38,7 +39,7 @@ const EACH: [Made; 8] = [
 ];
 
 /// Whether each call of a book is told that its history is full.
-fn is_full<L: Room, R: Wait>(rt: &R, alloc: Global, table: &mut Table<L>) -> bool {
+fn is_full<L: Ledger, R: Wait>(rt: &R, alloc: Global, table: &mut Table<L>) -> bool {
     let refused = Reply::Refused(BookFault::HistoryFull);
     for call in &EACH {
         if !table.answers(rt, alloc, *call, refused) {
@@ -49,7 +50,7 @@ fn is_full<L: Room, R: Wait>(rt: &R, alloc: Global, table: &mut Table<L>) -> boo
 }
 
 /// Lets so many runners take the jobs of a book, and says whether they ended since the history was full.
-fn run<L: Room + Send + Sync, R: Threads + Wait + Sync>(
+fn run<L: Ledger + Send + Sync, R: Threads + Wait + Sync>(
     rt: &R,
     alloc: Global,
     book: &SharedBook<L>,
@@ -74,20 +75,20 @@ const BEFORE: [(Made, Reply); 3] = [
 ];
 
 /// Fills the history of a book but for its last event; whether it has.
-fn fills<L: Room, R: Wait>(rt: &R, alloc: Global, table: &mut Table<L>) -> bool {
+fn fills<L: Ledger, R: Wait>(rt: &R, alloc: Global, table: &mut Table<L>) -> bool {
     table.make_all(rt, alloc, &BEFORE) && hears(rt, alloc, table, 999995)
 }
 
 /// The length of the history of a book in which a runner has come to the last event, by the first order of
 /// a lease, and each call behind that is refused, those of three runners too.
-fn full_history<L: Room + Send + Sync, R: Threads + Wait + Sync>(
+fn full_history<L: Ledger + Send + Sync, R: Threads + Wait + Sync>(
     rt: &R,
     alloc: Global,
-    opening: Opening<Event>,
+    blank: Blank<Event>,
 ) -> Option<usize>
-    requires opening { opening.table.shared.table_id ≡ L.table }
+    requires name { name_of blank ≡ L.name }
 {
-    let mut table = Table::<L>::start(alloc, opening, b"0.0.......", 0);
+    let mut table = Table::<L>::start(alloc, blank, b"0.0.......", 0);
     let filled = fills(rt, alloc, &mut table);
     let desk = table.desk;
     let (desk, ended) = run(rt, alloc, &table.book, desk, 1);
@@ -100,12 +101,16 @@ fn full_history<L: Room + Send + Sync, R: Threads + Wait + Sync>(
 
 #[test]
 fn a_full_history_closes(rt: HostRuntime) {
-    let found = full_history::<Brand, HostRuntime>(&rt, rt.alloc(), Opening::new(rt.alloc()).expect(&rt, "memory"));
+    let found = full_history::<Brand, HostRuntime>(
+        &rt,
+        rt.alloc(),
+        Blank::new(rt.alloc()).expect(&rt, "memory"),
+    );
     assert!(rt; found == Some(1000000));
 }
 
 /// Whether the rule of a job is replaced behind each of its first ordered steps.
-fn replaces<L: Room, R: Wait>(rt: &R, alloc: Global, table: &mut Table<L>, steps: u32) -> bool {
+fn replaces<L: Ledger, R: Wait>(rt: &R, alloc: Global, table: &mut Table<L>, steps: u32) -> bool {
     for step in 0..steps {
         let calls = [
             (Made::Order(own!(0, 0, step)), ordered!(0, step, step)),
@@ -134,10 +139,10 @@ const END: [(Made, Reply); 3] = [
 ];
 
 /// Whether a sheet has 1024 entries, and no more.
-fn has_full_sheet<L: Room, R: Wait>(rt: &R, alloc: Global, opening: Opening<Event>) -> bool
-    requires opening { opening.table.shared.table_id ≡ L.table }
+fn has_full_sheet<L: Ledger, R: Wait>(rt: &R, alloc: Global, blank: Blank<Event>) -> bool
+    requires name { name_of blank ≡ L.name }
 {
-    let mut table = Table::<L>::start(alloc, opening, b"0", 0);
+    let mut table = Table::<L>::start(alloc, blank, b"0", 0);
     table.make_all(rt, alloc, &FRONT)
         && replaces(rt, alloc, &mut table, 1023)
         && table.make_all(rt, alloc, &END)
@@ -145,5 +150,11 @@ fn has_full_sheet<L: Room, R: Wait>(rt: &R, alloc: Global, opening: Opening<Even
 
 #[test]
 fn a_sheet_has_1024_entries(rt: HostRuntime) {
-    assert!(rt; has_full_sheet::<Brand, HostRuntime>(&rt, rt.alloc(), Opening::new(rt.alloc()).expect(&rt, "memory")));
+    assert!(rt;
+        has_full_sheet::<Brand, HostRuntime>(
+            &rt,
+            rt.alloc(),
+            Blank::new(rt.alloc()).expect(&rt, "memory")
+        )
+    );
 }

@@ -6,7 +6,7 @@ use std::sync::Wait;
 use trlab_book::{Desk, SharedBook};
 use trlab_leases::{Lease, Offered, Order, Reply};
 use trlab_step::Caller;
-use trlab_strands::Room;
+use trlab_strands::Ledger;
 
 /// By their places the leases that are not back, and the orders for them.
 #[derive(Drop)]
@@ -41,7 +41,7 @@ impl Held {
     }
 
     /// Leases a job, and lays the lease at the next place.
-    pub fn lease<L: Room, R: Wait>(
+    pub fn lease<L: Ledger, R: Wait>(
         &mut self,
         rt: &R,
         alloc: Global,
@@ -61,7 +61,7 @@ impl Held {
     }
 
     /// Orders the next step of the lease of a place.
-    pub fn order<L: Room, R: Wait>(
+    pub fn order<L: Ledger, R: Wait>(
         &mut self,
         rt: &R,
         alloc: Global,
@@ -83,7 +83,7 @@ impl Held {
     }
 
     /// Gives the lease of a place back; where it is refused it is laid back there.
-    pub fn give_back<L: Room, R: Wait>(
+    pub fn give_back<L: Ledger, R: Wait>(
         &mut self,
         rt: &R,
         alloc: Global,

@@ -2,6 +2,7 @@
 //! as soon as its step is ordered.
 
 ghost use Rattle.std.specs.Prelude.{◌≡◌};
+ghost use Rattle.trlab_strands.specs.Tokens.{name_of};
 
 use crate::replies::{ordered, own, seen, went_out};
 use crate::shown::{Shown, show};
@@ -10,8 +11,8 @@ use std::alloc::Global;
 use std::marker::Brand;
 use std::sync::Wait;
 use trlab_book_trials::histories::Made;
-use trlab_leases::{Event, BookFault, Offered, Reply};
-use trlab_strands::{Opening, Room};
+use trlab_leases::{BookFault, Event, Offered, Reply};
+use trlab_strands::{Blank, Ledger};
 
 /// What is done with two books.
 #[derive(Clone, Copy)]
@@ -27,7 +28,7 @@ enum Deed {
 }
 
 /// Whether a deed is done.
-fn is_done<P: Room, Q: Room, R: Wait>(
+fn is_done<P: Ledger, Q: Ledger, R: Wait>(
     rt: &R,
     alloc: Global,
     own: &mut Table<P>,
@@ -43,7 +44,7 @@ fn is_done<P: Room, Q: Room, R: Wait>(
 }
 
 /// Whether all of some deeds are done.
-fn are_done<P: Room, Q: Room, R: Wait>(
+fn are_done<P: Ledger, Q: Ledger, R: Wait>(
     rt: &R,
     alloc: Global,
     own: &mut Table<P>,
@@ -60,17 +61,17 @@ fn are_done<P: Room, Q: Room, R: Wait>(
 
 /// Whether deeds are done with two new books, the jobs of the other under the key of a byte, reads of the
 /// other show this, and both close behind that.
-fn are_done_anew<P: Room, Q: Room, R: Wait>(
+fn are_done_anew<P: Ledger, Q: Ledger, R: Wait>(
     rt: &R,
     alloc: Global,
-    first: Opening<Event>,
-    second: Opening<Event>,
+    first: Blank<Event>,
+    second: Blank<Event>,
     byte: u8,
     deeds: &[Deed],
     wanted: &[Shown],
 ) -> bool
-    requires first { first.table.shared.table_id ≡ P.table }
-    requires second { second.table.shared.table_id ≡ Q.table }
+    requires first { name_of first ≡ P.name }
+    requires second { name_of second ≡ Q.name }
 {
     let mut own = Table::<P>::start(alloc, first, b"0.0.......", 0);
     let mut other = Table::<Q>::start(alloc, second, b"0.0.......", byte);
@@ -96,8 +97,8 @@ const ANOTHER_KEY: [Deed; 8] = [
 #[test]
 fn a_lease_of_a_job_under_another_key_is_a_stranger(rt: HostRuntime) {
     let (first, second) = (
-        Opening::new(rt.alloc()).expect(&rt, "memory"),
-        Opening::new(rt.alloc()).expect(&rt, "memory"),
+        Blank::new(rt.alloc()).expect(&rt, "memory"),
+        Blank::new(rt.alloc()).expect(&rt, "memory"),
     );
     assert!(rt;
         are_done_anew::<Brand, Brand, _>(&rt, rt.alloc(), first, second, 255, &ANOTHER_KEY, &[])
@@ -123,8 +124,8 @@ const SAME_RUN_READS: [Shown; 1] = [(1, b".1.1......", &[(0, false)])];
 #[test]
 fn a_lease_of_the_same_run_is_taken(rt: HostRuntime) {
     let (first, second) = (
-        Opening::new(rt.alloc()).expect(&rt, "memory"),
-        Opening::new(rt.alloc()).expect(&rt, "memory"),
+        Blank::new(rt.alloc()).expect(&rt, "memory"),
+        Blank::new(rt.alloc()).expect(&rt, "memory"),
     );
     assert!(rt;
         are_done_anew::<Brand, Brand, _>(

@@ -6,6 +6,7 @@
 //! refused, whichever it is.
 
 ghost use Rattle.std.specs.Prelude.{◌≡◌};
+ghost use Rattle.trlab_strands.specs.Tokens.{name_of};
 
 use crate::answers::{done_told, number_told, snapshot_told};
 use crate::held::Held;
@@ -16,12 +17,12 @@ use trlab_book_trials::calls::{replace, submit};
 use trlab_book_trials::histories::Made;
 use trlab_book_trials::jobs::{ALWAYS, Job, NEVER};
 use trlab_leases::{BookFault, Event, Reply, Snapshot};
-use trlab_strands::{Opening, Room};
+use trlab_strands::{Blank, Ledger};
 
 /// A shared book with its desk, the leases that are not back, and what was read. Each job is of the cars of
 /// one picture, under the key of one byte.
 #[derive(Drop)]
-pub struct Table<L: Room> {
+pub struct Table<L: Ledger> {
     pub book: SharedBook<L>,
     pub desk: Desk<L>,
     pub held: Held,
@@ -30,12 +31,12 @@ pub struct Table<L: Room> {
     pub byte: u8,
 }
 
-impl<L: Room> Table<L> {
+impl<L: Ledger> Table<L> {
     /// A table with a new book.
-    pub fn start(alloc: Global, opening: Opening<Event>, picture: &'static [u8], byte: u8) -> Table<L>
-        requires opening { opening.table.shared.table_id ≡ L.table }
+    pub fn start(alloc: Global, blank: Blank<Event>, picture: &'static [u8], byte: u8) -> Table<L>
+        requires name { name_of blank ≡ L.name }
     {
-        let (book, desk) = SharedBook::<L>::start(alloc, opening);
+        let (book, desk) = SharedBook::<L>::start(alloc, blank);
         Table {
             book,
             desk,

@@ -5,10 +5,10 @@ use std::alloc::Global;
 use std::sync::Wait;
 use trlab_book::{Desk, SharedBook};
 use trlab_leases::{BookFault, Snapshot};
-use trlab_strands::Room;
+use trlab_strands::Ledger;
 
 /// Submits a job.
-pub fn submit<L: Room, R: Wait>(
+pub fn submit<L: Ledger, R: Wait>(
     rt: &R,
     alloc: Global,
     book: &SharedBook<L>,
@@ -25,7 +25,7 @@ pub fn submit<L: Room, R: Wait>(
 }
 
 /// Has the cars of a job brake with a chance from now on.
-pub fn replace<L: Room, R: Wait>(
+pub fn replace<L: Ledger, R: Wait>(
     rt: &R,
     alloc: Global,
     book: &SharedBook<L>,
@@ -43,7 +43,7 @@ pub fn replace<L: Room, R: Wait>(
 pub type Wanted = (u32, usize, &'static [u8]);
 
 /// Whether a read of a job shows what is wanted.
-pub fn reads<L: Room, R: Wait>(
+pub fn reads<L: Ledger, R: Wait>(
     rt: &R,
     alloc: Global,
     book: &SharedBook<L>,

@@ -3,6 +3,7 @@
 ghost use Rattle.std.specs.Prelude.{◌≡◌, ◌<◌, ◌≤◌};
 ghost use Rattle.std.specs.Thread.{IsSend, IsSync};
 ghost use Rattle.trlab_book.specs.Desks.{parts_of};
+ghost use Rattle.trlab_strands.specs.Tokens.{name_of};
 
 use crate::ends::{events_of, history_of};
 use std::alloc::Global;
@@ -14,7 +15,7 @@ use trlab_book_trials::calls::{reads, replace, submit};
 use trlab_book_trials::histories::{Made, is_event};
 use trlab_book_trials::jobs::{NEVER, two_cars};
 use trlab_leases::{Call, Event, Reply};
-use trlab_strands::{Opening, Room};
+use trlab_strands::{Blank, Ledger};
 
 /// How many calls each of four threads makes.
 const CALLS: u32 = 50;
@@ -38,7 +39,7 @@ fn wanted(number: u32, job: u32) -> (Made, Reply) {
 }
 
 /// Makes the call with a number, behind the first, on the job of a thread.
-fn makes<L: Room, R: Wait>(
+fn makes<L: Ledger, R: Wait>(
     rt: &R,
     alloc: Global,
     book: &SharedBook<L>,
@@ -54,7 +55,7 @@ fn makes<L: Room, R: Wait>(
 }
 
 /// Makes the calls of one thread.
-fn makes_all<L: Room, R: Wait>(
+fn makes_all<L: Ledger, R: Wait>(
     rt: &R,
     alloc: Global,
     book: &SharedBook<L>,
@@ -72,7 +73,7 @@ fn makes_all<L: Room, R: Wait>(
 }
 
 /// Makes the calls of one thread at its own desk.
-fn at_desk<L: Room, R: Wait>(
+fn at_desk<L: Ledger, R: Wait>(
     rt: &R,
     alloc: Global,
     book: &SharedBook<L>,
@@ -83,7 +84,7 @@ fn at_desk<L: Room, R: Wait>(
 }
 
 /// Makes the calls of so many threads, each at its own desk, and gathers the desks.
-fn at_desks<L: Room + Send + Sync, R: Threads + Wait + Sync>(
+fn at_desks<L: Ledger + Send + Sync, R: Threads + Wait + Sync>(
     rt: &R,
     alloc: Global,
     book: &SharedBook<L>,
@@ -109,14 +110,14 @@ fn at_desks<L: Room + Send + Sync, R: Threads + Wait + Sync>(
 }
 
 /// Whether four threads leave a history of their calls, in order.
-fn four_threads<L: Room + Send + Sync, R: Threads + Wait + Sync>(
+fn four_threads<L: Ledger + Send + Sync, R: Threads + Wait + Sync>(
     rt: &R,
     alloc: Global,
-    opening: Opening<Event>,
+    blank: Blank<Event>,
 ) -> bool
-    requires opening { opening.table.shared.table_id ≡ L.table }
+    requires name { name_of blank ≡ L.name }
 {
-    let (book, desk) = SharedBook::<L>::start(alloc, opening);
+    let (book, desk) = SharedBook::<L>::start(alloc, blank);
     let (desk, made) = at_desks(rt, alloc, &book, desk, 4);
     match history_of(book, desk) {
         Some(history) => made && has_threads(&history),
@@ -158,16 +159,21 @@ fn has_thread(history: &[Event], job: u32) -> bool {
 
 #[test]
 fn four_threads_have_their_calls_in_order(rt: HostRuntime) {
-    assert!(rt; four_threads::<Brand, HostRuntime>(&rt, rt.alloc(), Opening::new(rt.alloc()).expect(&rt, "memory")));
+    assert!(rt;
+        four_threads::<Brand, HostRuntime>(
+            &rt,
+            rt.alloc(),
+            Blank::new(rt.alloc()).expect(&rt, "memory")
+        )
+    );
 }
 
 /// The parts of two desks, and how many events the history has when both close the book.
-fn closed_by_both<L: Room>(
+fn closed_by_both<L: Ledger>(
     book: SharedBook<L>,
     mine: Desk<L>,
     theirs: Desk<L>,
-) -> (u32, u32, Option<usize>)
-{
+) -> (u32, u32, Option<usize>) {
     let (some, one) = (mine.parts(), theirs.parts());
     let desk = book.gather(mine, theirs);
     (some, one, events_of(book, desk))
@@ -175,14 +181,14 @@ fn closed_by_both<L: Room>(
 
 /// The parts of two desks that can't close the book alone, and how many events the history has when it
 /// closes.
-fn half_a_desk<L: Room, R: Wait>(
+fn half_a_desk<L: Ledger, R: Wait>(
     rt: &R,
     alloc: Global,
-    opening: Opening<Event>,
+    blank: Blank<Event>,
 ) -> Option<(u32, u32, Option<usize>)>
-    requires opening { opening.table.shared.table_id ≡ L.table }
+    requires name { name_of blank ≡ L.name }
 {
-    let (book, mut mine) = SharedBook::<L>::start(alloc, opening);
+    let (book, mut mine) = SharedBook::<L>::start(alloc, blank);
     let mut theirs = book.split(&mut mine);
     let _ = book.revoke(rt, &mut theirs, 0);
     match book.close(mine) {
@@ -193,16 +199,24 @@ fn half_a_desk<L: Room, R: Wait>(
 
 #[test]
 fn half_a_desk_does_not_close_the_book(rt: HostRuntime) {
-    let closed = half_a_desk::<Brand, HostRuntime>(&rt, rt.alloc(), Opening::new(rt.alloc()).expect(&rt, "memory"));
+    let closed = half_a_desk::<Brand, HostRuntime>(
+        &rt,
+        rt.alloc(),
+        Blank::new(rt.alloc()).expect(&rt, "memory"),
+    );
     assert!(rt; closed == Some((1023, 1, Some(1))));
 }
 
 /// The parts of a desk without a call, and how many events the history has when another desk, which has
 /// made all calls, closes the book.
-fn a_quiet_desk<L: Room, R: Wait>(rt: &R, alloc: Global, opening: Opening<Event>) -> (u32, Option<usize>)
-    requires opening { opening.table.shared.table_id ≡ L.table }
+fn a_quiet_desk<L: Ledger, R: Wait>(
+    rt: &R,
+    alloc: Global,
+    blank: Blank<Event>,
+) -> (u32, Option<usize>)
+    requires name { name_of blank ≡ L.name }
 {
-    let (book, mut mine) = SharedBook::<L>::start(alloc, opening);
+    let (book, mut mine) = SharedBook::<L>::start(alloc, blank);
     let parts = book.split(&mut mine).parts();
     let _ = book.revoke(rt, &mut mine, 0);
     (parts, events_of(book, mine))
@@ -210,6 +224,10 @@ fn a_quiet_desk<L: Room, R: Wait>(rt: &R, alloc: Global, opening: Opening<Event>
 
 #[test]
 fn a_desk_of_all_calls_closes_the_book(rt: HostRuntime) {
-    let closed = a_quiet_desk::<Brand, HostRuntime>(&rt, rt.alloc(), Opening::new(rt.alloc()).expect(&rt, "memory"));
+    let closed = a_quiet_desk::<Brand, HostRuntime>(
+        &rt,
+        rt.alloc(),
+        Blank::new(rt.alloc()).expect(&rt, "memory"),
+    );
     assert!(rt; closed == (1, Some(1)));
 }

@@ -2,10 +2,10 @@
 
 use trlab_book::{Desk, RunFault, SharedBook};
 use trlab_leases::Event;
-use trlab_strands::Room;
+use trlab_strands::Ledger;
 
 /// The desk of runners, and whether all went well.
-pub fn ended<L: Room>(ran: Result<Desk<L>, (Desk<L>, RunFault)>) -> (Desk<L>, bool) {
+pub fn ended<L: Ledger>(ran: Result<Desk<L>, (Desk<L>, RunFault)>) -> (Desk<L>, bool) {
     match ran {
         Ok(desk) => (desk, true),
         Err((desk, _)) => (desk, false),
@@ -13,7 +13,7 @@ pub fn ended<L: Room>(ran: Result<Desk<L>, (Desk<L>, RunFault)>) -> (Desk<L>, bo
 }
 
 /// The history of a book, if a desk closes it.
-pub fn history_of<L: Room>(book: SharedBook<L>, desk: Desk<L>) -> Option<Vec<Event>> {
+pub fn history_of<L: Ledger>(book: SharedBook<L>, desk: Desk<L>) -> Option<Vec<Event>> {
     match book.close(desk) {
         Ok((_, history)) => Some(history),
         Err(_) => None,
@@ -21,7 +21,7 @@ pub fn history_of<L: Room>(book: SharedBook<L>, desk: Desk<L>) -> Option<Vec<Eve
 }
 
 /// How many events the history of a book has, if a desk closes it.
-pub fn events_of<L: Room>(book: SharedBook<L>, desk: Desk<L>) -> Option<usize> {
+pub fn events_of<L: Ledger>(book: SharedBook<L>, desk: Desk<L>) -> Option<usize> {
     match history_of(book, desk) {
         Some(history) => Some(history.len()),
         None => None,

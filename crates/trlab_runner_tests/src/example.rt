@@ -2,6 +2,7 @@
 
 ghost use Rattle.std.specs.Prelude.{◌≡◌, ◌≤◌};
 ghost use Rattle.trlab_book.specs.Desks.{parts_of};
+ghost use Rattle.trlab_strands.specs.Tokens.{name_of};
 
 use crate::ends::{ended, history_of};
 use std::alloc::Global;
@@ -13,11 +14,11 @@ use trlab_book_trials::calls::{replace, submit};
 use trlab_book_trials::jobs::{ALWAYS, is_road_alone, two_cars};
 use trlab_leases::{Event, Reply, Snapshot};
 use trlab_segments::OpenGate;
-use trlab_strands::{Opening, Room};
+use trlab_strands::{Blank, Ledger};
 
 /// Replaces the rule of job 0, whose steps are perhaps all ordered by then: the step from which the rule
 /// holds, if it entered.
-fn replace_late<L: Room, R: Wait>(
+fn replace_late<L: Ledger, R: Wait>(
     rt: &R,
     alloc: Global,
     book: &SharedBook<L>,
@@ -28,7 +29,7 @@ fn replace_late<L: Room, R: Wait>(
 }
 
 /// Submits two jobs of 100 steps.
-fn submit_two<L: Room, R: Wait>(
+fn submit_two<L: Ledger, R: Wait>(
     rt: &R,
     alloc: Global,
     book: &SharedBook<L>,
@@ -39,7 +40,7 @@ fn submit_two<L: Room, R: Wait>(
 }
 
 /// Runs the jobs of a book by two runners, and says whether all went well.
-fn run_two<L: Room + Send + Sync, R: Threads + Wait + Sync>(
+fn run_two<L: Ledger + Send + Sync, R: Threads + Wait + Sync>(
     rt: &R,
     alloc: Global,
     book: &SharedBook<L>,
@@ -52,13 +53,12 @@ fn run_two<L: Room + Send + Sync, R: Threads + Wait + Sync>(
 
 /// Runs the jobs of a book by two runners, while the rule of job 0 is replaced: whether all went well, and
 /// the step from which the rule holds, if it entered.
-fn run_and_replace<L: Room + Send + Sync, R: Threads + Wait + Sync>(
+fn run_and_replace<L: Ledger + Send + Sync, R: Threads + Wait + Sync>(
     rt: &R,
     alloc: Global,
     book: &SharedBook<L>,
     mut mine: Desk<L>,
-) -> (Desk<L>, bool, Option<u32>)
-{
+) -> (Desk<L>, bool, Option<u32>) {
     if mine.parts() < 3 {
         return (mine, false, None);
     }
@@ -96,7 +96,7 @@ fn told(seen: &Snapshot) -> Reply {
 }
 
 /// Reads job 0, and answers what this is in the history, if the job has come to its end.
-fn read_end<L: Room, R: Wait>(
+fn read_end<L: Ledger, R: Wait>(
     rt: &R,
     alloc: Global,
     book: &SharedBook<L>,
@@ -119,14 +119,14 @@ fn is_last(history: &[Event], reply: Option<Reply>) -> bool {
 
 /// Whether a replaced rule is in the sheet of a job that two runners have run meanwhile, and the read of it
 /// is the last event.
-fn is_in_the_sheet<L: Room + Send + Sync, R: Threads + Wait + Sync>(
+fn is_in_the_sheet<L: Ledger + Send + Sync, R: Threads + Wait + Sync>(
     rt: &R,
     alloc: Global,
-    opening: Opening<Event>,
+    blank: Blank<Event>,
 ) -> bool
-    requires opening { opening.table.shared.table_id ≡ L.table }
+    requires name { name_of blank ≡ L.name }
 {
-    let (book, mut desk) = SharedBook::<L>::start(alloc, opening);
+    let (book, mut desk) = SharedBook::<L>::start(alloc, blank);
     let submitted = submit_two(rt, alloc, &book, &mut desk);
     let (mut desk, ran, entered) = run_and_replace(rt, alloc, &book, desk);
     let reply = read_end(rt, alloc, &book, &mut desk, entered);
@@ -138,5 +138,11 @@ fn is_in_the_sheet<L: Room + Send + Sync, R: Threads + Wait + Sync>(
 
 #[test]
 fn a_replaced_rule_is_in_the_sheet(rt: HostRuntime) {
-    assert!(rt; is_in_the_sheet::<Brand, HostRuntime>(&rt, rt.alloc(), Opening::new(rt.alloc()).expect(&rt, "memory")));
+    assert!(rt;
+        is_in_the_sheet::<Brand, HostRuntime>(
+            &rt,
+            rt.alloc(),
+            Blank::new(rt.alloc()).expect(&rt, "memory")
+        )
+    );
 }

@@ -1,6 +1,7 @@
 //! A runner that is held by a gate: its book can be called meanwhile.
 
 ghost use Rattle.std.specs.Prelude.{◌≡◌};
+ghost use Rattle.trlab_strands.specs.Tokens.{name_of};
 
 use crate::ends::{ended, history_of};
 use crate::meeting::waits_for;
@@ -14,7 +15,7 @@ use trlab_book_trials::calls::{Wanted, reads, replace, submit};
 use trlab_book_trials::jobs::{ALWAYS, two_cars};
 use trlab_leases::{BookFault, Call, Event, Reply};
 use trlab_segments::Gate;
-use trlab_strands::{Opening, Room};
+use trlab_strands::{Blank, Ledger};
 
 /// Tells that a segment has come, and holds it until it may go on.
 #[derive(Drop)]
@@ -40,7 +41,7 @@ enum Ending {
 }
 
 /// Ends the lease of job 0.
-fn end_lease<L: Room, R: Wait>(
+fn end_lease<L: Ledger, R: Wait>(
     rt: &R,
     alloc: Global,
     book: &SharedBook<L>,
@@ -56,7 +57,7 @@ fn end_lease<L: Room, R: Wait>(
 }
 
 /// Ends the lease of a runner that stands at the barrier, and lets it go on.
-fn end_held<L: Room, R: Wait>(
+fn end_held<L: Ledger, R: Wait>(
     rt: &R,
     alloc: Global,
     book: &SharedBook<L>,
@@ -71,27 +72,25 @@ fn end_held<L: Room, R: Wait>(
 }
 
 /// Runs the jobs of a book by one runner, who passes the barrier.
-fn run_one<L: Room + Send + Sync, R: Threads + Wait + Sync>(
+fn run_one<L: Ledger + Send + Sync, R: Threads + Wait + Sync>(
     rt: &R,
     alloc: Global,
     book: &SharedBook<L>,
     desk: Desk<L>,
     gate: &Barrier,
-) -> (Desk<L>, bool)
-{
+) -> (Desk<L>, bool) {
     ended(run_jobs(rt, alloc, book, desk, 1, 1, gate))
 }
 
 /// Runs the jobs of a book by a runner who is held while its lease ends, and says whether the runner and
 /// the calls meanwhile are answered as they have to be.
-fn run_held<L: Room + Send + Sync, R: Threads + Wait + Sync>(
+fn run_held<L: Ledger + Send + Sync, R: Threads + Wait + Sync>(
     rt: &R,
     alloc: Global,
     book: &SharedBook<L>,
     mut mine: Desk<L>,
     ending: Ending,
-) -> (Desk<L>, bool)
-{
+) -> (Desk<L>, bool) {
     if mine.parts() < 2 {
         return (mine, false);
     }
@@ -103,8 +102,7 @@ fn run_held<L: Room + Send + Sync, R: Threads + Wait + Sync>(
     let ((theirs, ended), (mine, ran)) = join(
         rt,
         || end_held(rt, alloc, book, theirs, &gate, ending),
-        || -> (Desk<L>, bool)
-        { run_one(rt, alloc, book, mine, &gate) },
+        || -> (Desk<L>, bool) { run_one(rt, alloc, book, mine, &gate) },
     );
     (book.gather(mine, theirs), ended && ran)
 }
@@ -119,14 +117,13 @@ fn end_of(ending: Ending) -> Wanted {
 }
 
 /// Has a runner be held while the lease of a job ends, and says whether all is as it has to be.
-fn hold<L: Room + Send + Sync, R: Threads + Wait + Sync>(
+fn hold<L: Ledger + Send + Sync, R: Threads + Wait + Sync>(
     rt: &R,
     alloc: Global,
     book: &SharedBook<L>,
     mut desk: Desk<L>,
     ending: Ending,
-) -> (Desk<L>, bool)
-{
+) -> (Desk<L>, bool) {
     let submitted = submit(rt, alloc, book, &mut desk, &two_cars(0, 4)) == Ok(0);
     let (mut desk, ended) = run_held(rt, alloc, book, desk, ending);
     let right = reads(rt, alloc, book, &mut desk, 0, end_of(ending));
@@ -135,15 +132,15 @@ fn hold<L: Room + Send + Sync, R: Threads + Wait + Sync>(
 
 /// How many orders are refused to a runner whose lease ends while it takes the first step, where all else
 /// is as it has to be.
-fn refused_to_held<L: Room + Send + Sync, R: Threads + Wait + Sync>(
+fn refused_to_held<L: Ledger + Send + Sync, R: Threads + Wait + Sync>(
     rt: &R,
     alloc: Global,
-    opening: Opening<Event>,
+    blank: Blank<Event>,
     ending: Ending,
 ) -> Option<u32>
-    requires opening { opening.table.shared.table_id ≡ L.table }
+    requires name { name_of blank ≡ L.name }
 {
-    let (book, desk) = SharedBook::<L>::start(alloc, opening);
+    let (book, desk) = SharedBook::<L>::start(alloc, blank);
     let (desk, held) = hold(rt, alloc, &book, desk, ending);
     match history_of(book, desk) {
         Some(history) => held.then_some(refused_orders(&history, ending)),
@@ -170,8 +167,8 @@ fn refused_orders(history: &[Event], ending: Ending) -> u32 {
 #[test]
 fn a_lease_ends_while_its_runner_is_held(rt: HostRuntime) {
     for ending in &[Ending::Revoked, Ending::Cancelled] {
-        let opening = Opening::new(rt.alloc()).expect(&rt, "memory");
-        let found = refused_to_held::<Brand, HostRuntime>(&rt, rt.alloc(), opening, *ending);
+        let blank = Blank::new(rt.alloc()).expect(&rt, "memory");
+        let found = refused_to_held::<Brand, HostRuntime>(&rt, rt.alloc(), blank, *ending);
         assert!(rt; found == Some(1));
     }
 }

@@ -5,6 +5,7 @@
 //! whichever it is. A lease that a runner had dropped without a revoke would stay out, and its job unfinished.
 
 ghost use Rattle.std.specs.Prelude.{◌≡◌, ◌<◌, ◌≤◌};
+ghost use Rattle.trlab_strands.specs.Tokens.{name_of};
 
 use crate::ends::{ended, events_of};
 use crate::meeting::Meeting;
@@ -15,9 +16,9 @@ use std::thread::Threads;
 use trlab_book::{Desk, RunFault, SharedBook, run_jobs};
 use trlab_book_trials::calls::{reads, submit};
 use trlab_book_trials::jobs::{BY_HALF, Job, is_road_alone, two_cars};
-use trlab_segments::{Gate, OpenGate};
-use trlab_strands::{Opening, Room};
 use trlab_leases::Event;
+use trlab_segments::{Gate, OpenGate};
+use trlab_strands::{Blank, Ledger};
 
 /// What is tried on a new book.
 #[derive(Clone, Copy)]
@@ -58,7 +59,7 @@ fn jobs_of(trial: Trial) -> u32 {
 }
 
 /// Submits the jobs of a trial.
-fn fill<L: Room, R: Wait>(
+fn fill<L: Ledger, R: Wait>(
     rt: &R,
     alloc: Global,
     book: &SharedBook<L>,
@@ -78,7 +79,7 @@ fn fill<L: Room, R: Wait>(
 
 /// Runs the jobs of a book by so many runners, with so many workers each, who pass a gate, and says
 /// whether all went well. Where memory runs out they are sent once more.
-fn run_by<L: Room + Send + Sync, R: Threads + Wait + Sync, G: Gate + Sync>(
+fn run_by<L: Ledger + Send + Sync, R: Threads + Wait + Sync, G: Gate + Sync>(
     rt: &R,
     alloc: Global,
     book: &SharedBook<L>,
@@ -102,14 +103,13 @@ fn run_by<L: Room + Send + Sync, R: Threads + Wait + Sync, G: Gate + Sync>(
 }
 
 /// Runs the jobs of a trial, and says whether all went well and its runners met where they have to.
-fn run<L: Room + Send + Sync, R: Threads + Wait + Sync>(
+fn run<L: Ledger + Send + Sync, R: Threads + Wait + Sync>(
     rt: &R,
     alloc: Global,
     book: &SharedBook<L>,
     desk: Desk<L>,
     trial: Trial,
-) -> (Desk<L>, bool)
-{
+) -> (Desk<L>, bool) {
     match trial {
         Trial::ManyJobs => run_by(rt, alloc, book, desk, 4, 2, &OpenGate),
         Trial::FewCars => run_by(rt, alloc, book, desk, 16, 16, &OpenGate),
@@ -122,7 +122,7 @@ fn run<L: Room + Send + Sync, R: Threads + Wait + Sync>(
 }
 
 /// Whether a read of a job shows step 40 and the road of one worker.
-fn reads_alone<L: Room, R: Wait>(
+fn reads_alone<L: Ledger, R: Wait>(
     rt: &R,
     alloc: Global,
     book: &SharedBook<L>,
@@ -136,7 +136,7 @@ fn reads_alone<L: Room, R: Wait>(
 }
 
 /// Whether a job of a trial has come to its end.
-fn is_right<L: Room, R: Wait>(
+fn is_right<L: Ledger, R: Wait>(
     rt: &R,
     alloc: Global,
     book: &SharedBook<L>,
@@ -151,7 +151,7 @@ fn is_right<L: Room, R: Wait>(
 }
 
 /// Whether all jobs of a trial have come to their ends.
-fn are_right<L: Room, R: Wait>(
+fn are_right<L: Ledger, R: Wait>(
     rt: &R,
     alloc: Global,
     book: &SharedBook<L>,
@@ -169,15 +169,15 @@ fn are_right<L: Room, R: Wait>(
 }
 
 /// Whether the jobs of a trial come to their ends, and the gathered desk closes the book.
-fn passes<L: Room + Send + Sync, R: Threads + Wait + Sync>(
+fn passes<L: Ledger + Send + Sync, R: Threads + Wait + Sync>(
     rt: &R,
     alloc: Global,
-    opening: Opening<Event>,
+    blank: Blank<Event>,
     trial: Trial,
 ) -> bool
-    requires opening { opening.table.shared.table_id ≡ L.table }
+    requires name { name_of blank ≡ L.name }
 {
-    let (book, mut desk) = SharedBook::<L>::start(alloc, opening);
+    let (book, mut desk) = SharedBook::<L>::start(alloc, blank);
     let filled = fill(rt, alloc, &book, &mut desk, trial);
     let (mut desk, ran) = run(rt, alloc, &book, desk, trial);
     let right = are_right(rt, alloc, &book, &mut desk, trial);
@@ -186,15 +186,36 @@ fn passes<L: Room + Send + Sync, R: Threads + Wait + Sync>(
 
 #[test]
 fn runners_run_all_jobs(rt: HostRuntime) {
-    assert!(rt; passes::<Brand, HostRuntime>(&rt, rt.alloc(), Opening::new(rt.alloc()).expect(&rt, "memory"), Trial::ManyJobs));
+    assert!(rt;
+        passes::<Brand, HostRuntime>(
+            &rt,
+            rt.alloc(),
+            Blank::new(rt.alloc()).expect(&rt, "memory"),
+            Trial::ManyJobs
+        )
+    );
 }
 
 #[test]
 fn many_runners_come_to_the_roads_of_one(rt: HostRuntime) {
-    assert!(rt; passes::<Brand, HostRuntime>(&rt, rt.alloc(), Opening::new(rt.alloc()).expect(&rt, "memory"), Trial::FewCars));
+    assert!(rt;
+        passes::<Brand, HostRuntime>(
+            &rt,
+            rt.alloc(),
+            Blank::new(rt.alloc()).expect(&rt, "memory"),
+            Trial::FewCars
+        )
+    );
 }
 
 #[test]
 fn two_runners_run_at_once(rt: HostRuntime) {
-    assert!(rt; passes::<Brand, HostRuntime>(&rt, rt.alloc(), Opening::new(rt.alloc()).expect(&rt, "memory"), Trial::AtOnce));
+    assert!(rt;
+        passes::<Brand, HostRuntime>(
+            &rt,
+            rt.alloc(),
+            Blank::new(rt.alloc()).expect(&rt, "memory"),
+            Trial::AtOnce
+        )
+    );
 }

@@ -12,7 +12,7 @@ use Rattle.atomic_table.specs.Table.{State, Me, Step, step, Act, keeps, stepped,
 use Rattle.atomic_table.proofs.Lists.{at_set, at_snoc, set_again, set_else}
 use Rattle.trlab_strands.specs.declared.limits.TheConstants.{ALL_PARTS}
 use Rattle.trlab_strands.specs.declared.stock.Stock.{Stock}
-use Rattle.trlab_strands.specs.Stocks.{times, once_below, StandIn, IsOrderOf, stock, nothing, opening_stock, without_list, list_alone, less_a_part, one_part, union, with_event}
+use Rattle.trlab_strands.specs.Stocks.{times, once_below, StandIn, stock, nothing, opening_stock, without_list, list_alone, less_a_part, one_part, union, with_event}
 use Rattle.trlab_strands.specs.Rule.{IsStock, AreStocks, KeepsStrands, NotesEvent, Learns, Looks}
 
 off : false ≡ true → ⊥
@@ -75,7 +75,7 @@ module _ {E : Type 0} where
   later events e u another r = record {
     idle = r.idle;
     rises = let l = length-append events (e ∷ []) in let p = r.rises in omega arith;
-    stand = All-weaker (λ (x : ℕ × E). slice_get events x.0 ≡ Some x.1) (λ (x : ℕ × E). slice_get (events ++ e ∷ []) x.0 ≡ Some x.1) (λ x stands. stands_on events (e ∷ []) x.0 x.1 stands) u.entries r.stand;
+    stand = All-weaker (λ (x : ℕ × E). slice_get events x.0 ≡ Some x.1) (λ (x : ℕ × E). slice_get (events ++ e ∷ []) x.0 ≡ Some x.1) (λ x stands. stands_on events (e ∷ []) x.0 x.1 stands) u.own r.stand;
     list = λ has. absurd (another has);
   }
 
@@ -106,11 +106,11 @@ module _ {E : Type 0} where
       record {
         parts = let t = total_set (λ u. u.parts) views id v w at in let p = r.parts in omega arith;
         keepers = let t = total_set (λ u. cond u.keeps 1 0) views id v w at in let p = r.keepers in omega arith;
-        count = let t = total_set (λ u. length u.entries) views id v w at in let p = r.count in let q = length-append v.entries ((length v.all, e) ∷ []) in omega arith;
+        count = let t = total_set (λ u. length u.own) views id v w at in let p = r.count in let q = length-append v.own ((length v.all, e) ∷ []) in omega arith;
         once = λ k.
-            let t = total_set (λ u. times k u.entries) views id v w at in
+            let t = total_set (λ u. times k u.own) views id v w at in
             let p = r.once k in
-            let q = times_push k v.entries (length v.all, e) in
+            let q = times_push k v.own (length v.all, e) in
             let n : once_below k (length (events ++ e ∷ [])) ≡ once_below k (length v.all) + cond (eqb (length v.all) k) 1 0 = ap (once_below k) (longer ∙ ap (λ (x : ℕ). x + 1) (sym long)) ∙ once_next k (length v.all) in
             let m : once_below k (length v.all) ≡ once_below k (length events) = ap (once_below k) long in
             omega arith;
@@ -118,8 +118,8 @@ module _ {E : Type 0} where
             (record {
               idle = λ z. absurd (omega arith);
               rises = omega arith;
-              stand = All-push (λ (x : ℕ × E). slice_get (events ++ e ∷ []) x.0 ≡ Some x.1) v.entries (length v.all, e)
-                  (All-weaker (λ (x : ℕ × E). slice_get events x.0 ≡ Some x.1) (λ (x : ℕ × E). slice_get (events ++ e ∷ []) x.0 ≡ Some x.1) (λ x stands. stands_on events (e ∷ []) x.0 x.1 stands) v.entries mine.stand)
+              stand = All-push (λ (x : ℕ × E). slice_get (events ++ e ∷ []) x.0 ≡ Some x.1) v.own (length v.all, e)
+                  (All-weaker (λ (x : ℕ × E). slice_get events x.0 ≡ Some x.1) (λ (x : ℕ × E). slice_get (events ++ e ∷ []) x.0 ≡ Some x.1) (λ x stands. stands_on events (e ∷ []) x.0 x.1 stands) v.own mine.stand)
                   (subst (λ (n : ℕ). slice_get (events ++ e ∷ []) n ≡ Some e) (sym long) (stands_last events e));
               list = λ _. ap (λ (l : List E). l ++ e ∷ []) known;
             })
@@ -139,8 +139,8 @@ module _ {E : Type 0} where
         record {
           parts = let t = total_set (λ u. u.parts) s.views id v l at in let n = sum_by_push (λ (u : Stock E). u.parts) views o in let p = k.parts in omega arith;
           keepers = let t = total_set (λ u. cond u.keeps 1 0) s.views id v l at in let n = sum_by_push (λ (u : Stock E). cond u.keeps 1 0) views o in let p = k.keepers in omega arith;
-          count = let t = total_set (λ u. length u.entries) s.views id v l at in let n = sum_by_push (λ (u : Stock E). length u.entries) views o in let p = k.count in omega arith;
-          once = λ x. let t = total_set (λ u. times x u.entries) s.views id v l at in let n = sum_by_push (λ (u : Stock E). times x u.entries) views o in let p = k.once x in omega arith;
+          count = let t = total_set (λ u. length u.own) s.views id v l at in let n = sum_by_push (λ (u : Stock E). length u.own) views o in let p = k.count in omega arith;
+          once = λ x. let t = total_set (λ u. times x u.own) s.views id v l at in let n = sum_by_push (λ (u : Stock E). times x u.own) views o in let p = k.once x in omega arith;
           each = each_snoc events views o
               (record { idle = λ _. refl; rises = zero-le; stand = All-nil _; list = mine.list })
               (each_set events s.views id l (record { idle = mine.idle; rises = mine.rises; stand = mine.stand; list = λ e. absurd (off e) }) (λ j u _ there. k.each j u there));
@@ -160,8 +160,8 @@ module _ {E : Type 0} where
         record {
           parts = let t = total_set (λ u. u.parts) s.views id v l at in let n = sum_by_push (λ (u : Stock E). u.parts) views o in let p = k.parts in omega arith;
           keepers = let t = total_set (λ u. cond u.keeps 1 0) s.views id v l at in let n = sum_by_push (λ (u : Stock E). cond u.keeps 1 0) views o in let p = k.keepers in omega arith;
-          count = let t = total_set (λ u. length u.entries) s.views id v l at in let n = sum_by_push (λ (u : Stock E). length u.entries) views o in let p = k.count in omega arith;
-          once = λ x. let t = total_set (λ u. times x u.entries) s.views id v l at in let n = sum_by_push (λ (u : Stock E). times x u.entries) views o in let p = k.once x in omega arith;
+          count = let t = total_set (λ u. length u.own) s.views id v l at in let n = sum_by_push (λ (u : Stock E). length u.own) views o in let p = k.count in omega arith;
+          once = λ x. let t = total_set (λ u. times x u.own) s.views id v l at in let n = sum_by_push (λ (u : Stock E). times x u.own) views o in let p = k.once x in omega arith;
           each = each_snoc events views o
               (record { idle = λ _. refl; rises = mine.rises; stand = All-nil _; list = λ e. absurd (off e) })
               (each_set events s.views id l (record { idle = λ z. absurd (omega arith); rises = mine.rises; stand = mine.stand; list = mine.list }) (λ j u _ there. k.each j u there));
@@ -185,16 +185,16 @@ module _ {E : Type 0} where
         record {
           parts = let t = total_set (λ u. u.parts) s.views id v b at in let n = total_set (λ u. u.parts) views other w nothing there in let p = k.parts in omega arith;
           keepers = let t = total_set (λ u. cond u.keeps 1 0) s.views id v b at in let n = total_set (λ u. cond u.keeps 1 0) views other w nothing there in let p = k.keepers in omega arith;
-          count = let t = total_set (λ u. length u.entries) s.views id v b at in let n = total_set (λ u. length u.entries) views other w nothing there in let p = k.count in let q = length-append v.entries w.entries in omega arith;
-          once = λ x. let t = total_set (λ u. times x u.entries) s.views id v b at in let n = total_set (λ u. times x u.entries) views other w nothing there in let p = k.once x in let q = times_append x v.entries w.entries in omega arith;
+          count = let t = total_set (λ u. length u.own) s.views id v b at in let n = total_set (λ u. length u.own) views other w nothing there in let p = k.count in let q = length-append v.own w.own in omega arith;
+          once = λ x. let t = total_set (λ u. times x u.own) s.views id v b at in let n = total_set (λ u. times x u.own) views other w nothing there in let p = k.once x in let q = times_append x v.own w.own in omega arith;
           each = each_set events views other nothing (record { idle = λ _. refl; rises = zero-le; stand = All-nil _; list = λ e. absurd (off e) })
               (λ j u _ here. each_set events s.views id b
-              (record { idle = λ z. absurd (omega arith); rises = let p = mine.rises in let q = theirs.rises in omega arith; stand = All-append (λ (x : ℕ × E). slice_get events x.0 ≡ Some x.1) v.entries w.entries mine.stand theirs.stand; list = theirs.list })
+              (record { idle = λ z. absurd (omega arith); rises = let p = mine.rises in let q = theirs.rises in omega arith; stand = All-append (λ (x : ℕ × E). slice_get events x.0 ≡ Some x.1) v.own w.own mine.stand theirs.stand; list = theirs.list })
               (λ i y _ was. k.each i y was) j u here);
         },
       )
 
-  -- where all that the stocks have of a kind is one's, and who has none of it has no entry, the others have no entry
+  -- where all that the stocks have of a kind is one's, and who has none of it has no event, the others have no event
   all_spent : (f g : Stock E → ℕ) → (views : List (Stock E)) → ((j : ℕ) (u : Stock E) → get_elem? views j ≡ some u → f u ≡ 0 → g u ≡ 0) → sum_by f views ≡ 0 → sum_by g views ≡ 0
   all_spent f g [] idle none_left = omega arith
   all_spent f g (v ∷ vs) idle none_left =
@@ -220,15 +220,15 @@ module _ {E : Type 0} where
       let mine = k.each id v at in
       record {
         few = let t = total_set (λ u. u.parts) s.views id v nothing at in let p = k.parts in omega arith;
-        stand = λ has. subst (λ (l : List E). StandIn l v.entries) (sym (mine.list has)) mine.stand;
+        stand = λ has. subst (λ (l : List E). StandIn l v.own) (sym (mine.list has)) mine.stand;
         whole = λ has every.
-            let a = alone (λ u. u.parts) (λ u. length u.entries) refl refl s.views id v at (λ j u e z. ap length ((k.each j u e).idle z)) (k.parts ∙ sym every) in
+            let a = alone (λ u. u.parts) (λ u. length u.own) refl refl s.views id v at (λ j u e z. ap length ((k.each j u e).idle z)) (k.parts ∙ sym every) in
             let p = k.count in
             let long = ap length (mine.list has) in
             omega arith;
         once = λ has every x.
             let long = ap length (mine.list has) in
-            let a = alone (λ u. length u.entries) (λ u. times x u.entries) refl refl s.views id v at (λ j u e z. ap (times x) (empty u.entries z)) (k.count ∙ sym long ∙ sym every) in
+            let a = alone (λ u. length u.own) (λ u. times x u.own) refl refl s.views id v at (λ j u e z. ap (times x) (empty u.own z)) (k.count ∙ sym long ∙ sym every) in
             sym a ∙ k.once x ∙ ap (once_below x) (sym long);
       }
 
@@ -271,10 +271,10 @@ module _ {E : Type 0} where
       one (suc seat) s e = absurd (some-ne-none s (sym e))
 
   -- a strand that meets the list
-  pub meets : (v k : Stock E) → k.keeps ≡ true → union v (list_alone k) ≡ stock v.parts v.entries v.least true k.all
+  pub meets : (v k : Stock E) → k.keeps ≡ true → union v (list_alone k) ≡ stock v.parts v.own v.least true k.all
   meets v k keeping =
       let a : v.parts + 0 ≡ v.parts = omega arith in
-      let b : v.entries ++ [] ≡ v.entries = append-nil v.entries in
+      let b : v.own ++ [] ≡ v.own = append-nil v.own in
       let c : max v.least 0 ≡ v.least = omega arith in
       λ i. stock (a i) (b i) (c i) (keeping i) k.all
 
@@ -287,7 +287,7 @@ pub record Noted {E : Type 0} (v k : Stock E) (e : E) (left right : Me E (Stock 
   pub right_list : right.0.keeps ≡ true
   pub parts : left.0.parts ≡ v.parts
   pub least : v.least ≤ length k.all
-  pub entries : left.0.entries ≡ v.entries ++ (length k.all, e) ∷ []
+  pub own : left.0.own ≡ v.own ++ (length k.all, e) ∷ []
   pub next : left.0.least ≡ length k.all + 1
 
 module _ {E : Type 0} where
@@ -297,10 +297,10 @@ module _ {E : Type 0} where
       → left ≡ (without_list new.0, new.1) → right ≡ (list_alone new.0, []) → Noted v k e left right
   noting v k c e list met new left right keeping free some_part from joined noted left_is right_is =
       let M : Type 0 = Me E (Stock E) in
-      let both : met ≡ (stock v.parts v.entries v.least true k.all, c) = joined ∙ (ap (λ (l : M). (union v l.0, c)) from ∙ ap (λ (u : Stock E). (u, c)) (meets v k keeping)) in
-      let now : new ≡ (with_event (stock v.parts v.entries v.least true k.all) e, c) = noted.0 ∙ ap (λ (m : M). (with_event m.0 e, m.1)) both in
-      let l : left ≡ (without_list (with_event (stock v.parts v.entries v.least true k.all) e), c) = left_is ∙ ap (λ (m : M). (without_list m.0, m.1)) now in
-      let r : right ≡ (list_alone (with_event (stock v.parts v.entries v.least true k.all) e), []) = right_is ∙ ap (λ (m : M). (list_alone m.0, [])) now in
+      let both : met ≡ (stock v.parts v.own v.least true k.all, c) = joined ∙ (ap (λ (l : M). (union v l.0, c)) from ∙ ap (λ (u : Stock E). (u, c)) (meets v k keeping)) in
+      let now : new ≡ (with_event (stock v.parts v.own v.least true k.all) e, c) = noted.0 ∙ ap (λ (m : M). (with_event m.0 e, m.1)) both in
+      let l : left ≡ (without_list (with_event (stock v.parts v.own v.least true k.all) e), c) = left_is ∙ ap (λ (m : M). (without_list m.0, m.1)) now in
+      let r : right ≡ (list_alone (with_event (stock v.parts v.own v.least true k.all) e), []) = right_is ∙ ap (λ (m : M). (list_alone m.0, [])) now in
       record {
         left_slot = ap (λ (m : M). m.1) l ∙ free;
         left_list = ap (λ (m : M). m.0.keeps) l;
@@ -309,7 +309,7 @@ module _ {E : Type 0} where
         right_list = ap (λ (m : M). m.0.keeps) r;
         parts = ap (λ (m : M). m.0.parts) l;
         least = subst (λ (m : M). m.0.least ≤ length m.0.all) both noted.1;
-        entries = ap (λ (m : M). m.0.entries) l;
+        own = ap (λ (m : M). m.0.own) l;
         next = ap (λ (m : M). m.0.least) l;
       }
 
@@ -318,7 +318,7 @@ module _ {E : Type 0} where
       → (met.0.keeps ≡ true) × (0 < met.0.parts)
   met_list v k c list met keeping some_part from joined =
       let M : Type 0 = Me E (Stock E) in
-      let both : met ≡ (stock v.parts v.entries v.least true k.all, c) = joined ∙ (ap (λ (l : M). (union v l.0, c)) from ∙ ap (λ (u : Stock E). (u, c)) (meets v k keeping)) in
+      let both : met ≡ (stock v.parts v.own v.least true k.all, c) = joined ∙ (ap (λ (l : M). (union v l.0, c)) from ∙ ap (λ (u : Stock E). (u, c)) (meets v k keeping)) in
       (ap (λ (m : M). m.0.keeps) both, subst (λ (m : M). 0 < m.0.parts) (sym both) some_part)
 
   -- a list that is alone holds no slot

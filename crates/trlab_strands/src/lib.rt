@@ -1,17 +1,19 @@
-//! Strands: what each of several threads put into one list, which lies under a lock. Who has a strand knows
-//! which events are its own, and at which numbers they stand in the list; who has all strands has all events.
+//! What each of several threads adds to one list, which lies under a lock. A strand is what one of them
+//! added, each event with its number in the list; all strands together have each event of it, once.
 //!
+//! So whoever has all strands knows of a whole history which of its events are whose, and in which order.
 //! Strands take no memory but one word that all of them share, and that no thread reads.
 #![tactic(auto)]
 
+mod blank;
 mod calls;
+pub mod laws;
+mod ledger;
 mod limits;
-mod opening;
-mod room;
 mod stock;
 mod tokens;
 
+pub use blank::Blank;
+pub use ledger::Ledger;
 pub use limits::ALL_PARTS;
-pub use opening::Opening;
-pub use room::Room;
 pub use tokens::{Keeper, Strand, Strands};

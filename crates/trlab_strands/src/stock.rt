@@ -1,21 +1,21 @@
-//! What who has a strand knows, and the rule that holds of it in each atomic step. All of this is for
-//! contracts: at run time there is one word.
+//! What strands and their keeper know, and the rule that holds of it in each atomic step. All of this is
+//! for contracts: at run time there is one word.
 
 use atomic_table::{Join, Play, Split, TableRule};
 use std::collections::LinkedList;
 use std::marker::PhantomData;
 
-/// What a strand has: its parts, its events with their numbers, and no event that it notes from now on has a
-/// number below the least. The keeper's has the whole list. No value of it is made.
+/// What is known at a seat: of a strand its parts, its events with their numbers, and the least number that
+/// its next event may have; of the keeper the whole list. No value of it is made.
 pub struct Stock<E> {
     pub parts: u32,
-    pub entries: LinkedList<(u64, E)>,
+    pub own: LinkedList<(u64, E)>,
     pub least: u64,
     pub keeps: bool,
     pub all: LinkedList<E>,
 }
 
-/// Each event of the list is in one strand.
+/// Each event of the list is in one strand, once.
 pub struct OncePerEvent<E> {
     marker: PhantomData<E>,
 }

@@ -1,38 +1,38 @@
-//! The tokens of strands. None takes memory but the word that all strands share.
+//! What threads hold of a list: its strands, their keeper, and what all of them share.
 
 ghost use Rattle.std.specs.Prelude.{◌≡◌, ◌<◌, true, false, []};
 
-use crate::room::Room;
+use crate::ledger::Ledger;
 use crate::stock::{OncePerEvent, Stock};
 use atomic_table::{Seat, Table};
 use std::alloc::Global;
 use std::marker::PhantomData;
 
-/// What all strands of one list share, by reference.
+/// What all strands of one list share, by reference: one word.
 #[derive(Drop)]
-pub struct Strands<L: Room, E> {
+pub struct Strands<L: Ledger, E> {
     pub(crate) table: Table<E, Stock<E>, (), OncePerEvent<E>, Global>,
-    pub(crate) room: PhantomData<L>,
-    ghost at: { table.shared.table_id ≡ L.table },
+    pub(crate) ledger: PhantomData<L>,
+    ghost at: { table.shared.table_id ≡ L.name },
     ghost one_word: { table.shared.table_id.words ≡ 1 },
 }
 
-/// Who knows the whole list, and lies beside it.
+/// Knows the whole list, and lies beside it.
 #[derive(Drop)]
-pub struct Keeper<L: Room, E> {
+pub struct Keeper<L: Ledger, E> {
     pub(crate) seat: Seat<E, Stock<E>>,
-    pub(crate) room: PhantomData<L>,
-    ghost at: { seat.table_id ≡ L.table },
+    pub(crate) ledger: PhantomData<L>,
+    ghost at: { seat.table_id ≡ L.name },
     ghost no_slot: { seat.me.1 ≡ [] },
     ghost keeps: { seat.me.0.keeps ≡ true },
 }
 
-/// What one thread put into the list, and the right to put more into it.
+/// What one thread added to the list, and the right to add more, in one part or more of 1024.
 #[derive(Drop)]
-pub struct Strand<L: Room, E> {
+pub struct Strand<L: Ledger, E> {
     pub(crate) seat: Seat<E, Stock<E>>,
-    pub(crate) room: PhantomData<L>,
-    ghost at: { seat.table_id ≡ L.table },
+    pub(crate) ledger: PhantomData<L>,
+    ghost at: { seat.table_id ≡ L.name },
     ghost no_slot: { seat.me.1 ≡ [] },
     ghost no_list: { seat.me.0.keeps ≡ false },
     ghost some: { 0 < seat.me.0.parts },

@@ -6,6 +6,7 @@ ghost use Rattle.trlab_road.specs.Spreading.{IsEven};
 ghost use Rattle.trlab_bounds.specs.declared.runs.TheConstants.{MOST_RUNNERS, MOST_WORKERS};
 ghost use Rattle.trlab_book.specs.Desks.{parts_of};
 ghost use Rattle.trlab_campaign.specs.SweepOutput.{ArePoints, IsPoint};
+ghost use Rattle.trlab_strands.specs.Tokens.{name_of};
 
 use crate::sweep::points::{even_road, run_point};
 use crate::sweep::snapshots::point_seen;
@@ -18,11 +19,11 @@ use trlab_jobs::Sweep;
 use trlab_leases::{Event, Seed};
 use trlab_road::Road;
 use trlab_segments::OpenGate;
-use trlab_strands::{Opening, Room};
+use trlab_strands::{Blank, Ledger};
 
 /// Submits the road of each point, so that a job has the number of its point. Where the book takes no
 /// more, the roads that are left have no job.
-fn submit_roads<L: Room, R: Wait>(
+fn submit_roads<L: Ledger, R: Wait>(
     rt: &R,
     alloc: Global,
     book: &SharedBook<L>,
@@ -49,7 +50,7 @@ fn submit_roads<L: Room, R: Wait>(
 
 /// The point of the book's job with this number, whose road starts so, where that has come to its last
 /// step.
-fn point_in_book<L: Room, R: Wait>(
+fn point_in_book<L: Ledger, R: Wait>(
     rt: &R,
     alloc: Global,
     book: &SharedBook<L>,
@@ -73,7 +74,7 @@ fn point_in_book<L: Room, R: Wait>(
 
 /// The point with this number and so many cars: that of the book's job, or where the job has not come
 /// to its last step, that of a run by the caller.
-fn point_of_job<L: Room, R: Wait>(
+fn point_of_job<L: Ledger, R: Wait>(
     rt: &R,
     alloc: Global,
     book: &SharedBook<L>,
@@ -95,7 +96,7 @@ fn point_of_job<L: Room, R: Wait>(
 }
 
 /// The points of a sweep whose roads were run.
-fn collect_points<L: Room, R: Wait>(
+fn collect_points<L: Ledger, R: Wait>(
     rt: &R,
     alloc: Global,
     book: &SharedBook<L>,
@@ -118,21 +119,21 @@ fn collect_points<L: Room, R: Wait>(
 /// # Errors
 ///
 /// Want of memory.
-pub fn points_by_runners<L: Room + Send + Sync, R: Threads + Wait + Sync>(
+pub fn points_by_runners<L: Ledger + Send + Sync, R: Threads + Wait + Sync>(
     rt: &R,
     alloc: Global,
-    opening: Opening<Event>,
+    blank: Blank<Event>,
     sweep: &Sweep,
     runners: u32,
     workers: u32,
 ) -> Result<Vec<Point>, AllocError>
-    requires opening { opening.table.shared.table_id ≡ L.table }
+    requires name { name_of blank ≡ L.name }
     requires runners { (0 < runners) × (runners ≤ MOST_RUNNERS) }
     requires workers { (0 < workers) × (workers ≤ MOST_WORKERS) }
     ensures are { IfOk result (λ points. ArePoints sweep.now points.items) }
     ensures measured { IfOk result (λ points. All IsMeasured points.items) }
 {
-    let (book, mut desk) = SharedBook::<L>::start(alloc, opening);
+    let (book, mut desk) = SharedBook::<L>::start(alloc, blank);
     submit_roads(rt, alloc, &book, &mut desk, sweep)?;
     let mut desk = match run_jobs(rt, alloc, &book, desk, runners, workers, &OpenGate) {
         Ok(desk) => desk,

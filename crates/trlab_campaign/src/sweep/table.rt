@@ -11,7 +11,7 @@ use std::sync::Wait;
 use std::thread::Threads;
 use trlab_diagram::points_text;
 use trlab_jobs::Sweep;
-use trlab_strands::Opening;
+use trlab_strands::Blank;
 
 /// The table of the points of a sweep, which is made once all of them are there.
 ///
@@ -32,7 +32,7 @@ pub fn table<R: Threads + Wait + Sync>(
     let points = points_by_runners::<Brand, R>(
         rt,
         alloc,
-        Opening::new(alloc)?,
+        Blank::new(alloc)?,
         sweep,
         runners,
         workers,

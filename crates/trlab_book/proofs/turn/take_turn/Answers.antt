@@ -1,3 +1,4 @@
+use Rattle.std.proofs.Common.{refl}
 use Rattle.trlab_leases.specs.Answers.{back_reply}
 use Rattle.trlab_leases.specs.Comparison.{offered}
 use Rattle.trlab_leases.specs.declared.event.Call.TheVariants.{GiveBack}
@@ -9,4 +10,4 @@ returns-in-Err-give_back g c =
     let given = c.give_back.ensures.made in
     goes_on c.args.desk.now c.run_steps.new.desk c.end_lease.new.desk c.run_steps.ensures
     (goes_on c.run_steps.new.desk c.give_back.new.desk c.end_lease.new.desk
-    (makes_goes c.run_steps.new.desk c.give_back.new.desk (GiveBack (offered c.run_steps.new.lease given.0)) (back_reply c.give_back.result) given.1) c.end_lease.ensures)
+    (makes_goes c.run_steps.new.desk c.give_back.new.desk (GiveBack (offered c.run_steps.new.lease given.0)) (back_reply c.give_back.result) given.1 refl) c.end_lease.ensures)

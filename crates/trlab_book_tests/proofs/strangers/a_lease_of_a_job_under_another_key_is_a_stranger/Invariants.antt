@@ -1,7 +1,8 @@
+use Rattle.trlab_strands.specs.Tokens.{name_of}
 use Rattle.trlab_book_tests.proofs.strangers.a_lease_of_a_job_under_another_key_is_a_stranger.Given as goal
 
-abbrev pub ghosts-are_done_anew-P-Room : goal.ghosts-are_done_anew-P-Room
-ghosts-are_done_anew-P-Room g a = record { table = a.first.table.shared.table_id }
+abbrev pub ghosts-are_done_anew-P-Ledger : goal.ghosts-are_done_anew-P-Ledger
+ghosts-are_done_anew-P-Ledger g a = record { name = name_of a.first }
 
-abbrev pub ghosts-are_done_anew-Q-Room : goal.ghosts-are_done_anew-Q-Room
-ghosts-are_done_anew-Q-Room g a = record { table = a.second.table.shared.table_id }
+abbrev pub ghosts-are_done_anew-Q-Ledger : goal.ghosts-are_done_anew-Q-Ledger
+ghosts-are_done_anew-Q-Ledger g a = record { name = name_of a.second }

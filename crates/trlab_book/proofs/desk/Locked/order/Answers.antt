@@ -18,7 +18,9 @@ invariant_of-self-2 g c =
 pub returns : goal.returns
 returns g c =
     let same = c.order-answer.ensures.noted.0 in
-    let call = OrderCall (offered c.args.lease.now same) in
-    (same, subst (λ (told : Reply). Makes c.args.desk.now call told c.note_event.new.desk) c.reply_to_order.ensures
-    (c.note_event.ensures call (next_event c.args.self.now.kept c.order-answer.new.self call (order_reply c.order-answer.result) c.reply_to_order.result _
-    c.order-answer.ensures.noted.1 c.reply_to_order.ensures c.args.self.now.noted)).1)
+    let call = OrderCall (offered c.args.lease.now same) in (
+      same,
+      subst (λ (told : Reply). Makes c.args.desk.now call told c.note_event.new.desk) c.reply_to_order.ensures
+          (c.note_event.ensures call (next_event c.args.self.now.kept c.order-answer.new.self call (order_reply c.order-answer.result) c.reply_to_order.result _
+          c.order-answer.ensures.noted.1 c.reply_to_order.ensures c.args.self.now.noted)).1,
+    )

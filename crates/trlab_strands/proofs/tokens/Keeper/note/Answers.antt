@@ -53,4 +53,4 @@ returns-clause-strand g c =
     let k = c.args.self.now in
     let n = noting s.seat.me.0 k.seat.me.0 s.seat.me.1 c.args.event.now c.split_seat-list.result.me c.join_seat.new.seat.me c.compare_exchange_with.new.seat.me c.split_seat.new.seat.me c.split_seat.result.me k.keeps s.no_slot s.some
     c.split_seat-list.ensures.4 c.join_seat.ensures.2 (c.compare_exchange_with.ensures.2 c.args.event.now refl) c.split_seat.ensures.2 c.split_seat.ensures.4 in
-    (n.parts, n.least, n.entries, n.next)
+    (n.parts, n.least, n.own, n.next)

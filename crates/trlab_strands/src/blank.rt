@@ -2,19 +2,19 @@
 
 ghost use Rattle.std.specs.Prelude.{◌≡◌, [], IfOk};
 ghost use Rattle.trlab_strands.specs.Stocks.{opening_stock};
-ghost use Rattle.trlab_strands.specs.Tokens.{entries_of, least_of, list_of, parts_of};
+ghost use Rattle.trlab_strands.specs.Tokens.{subhistory_of, least_of, list_of, name_of, parts_of};
 ghost use Rattle.trlab_strands.specs.declared.limits.TheConstants.{ALL_PARTS};
 
-use crate::room::Room;
+use crate::ledger::Ledger;
 use crate::stock::{Apart, OncePerEvent, Stock};
 use crate::tokens::{Keeper, Strand, Strands};
 use atomic_table::{Seat, Table};
 use std::alloc::{AllocError, Global};
 use std::marker::PhantomData;
 
-/// Strands that no room has a name for yet.
+/// The strands of an empty list, before a ledger has their name.
 #[derive(Drop)]
-pub struct Opening<E> {
+pub struct Blank<E> {
     pub(crate) table: Table<E, Stock<E>, (), OncePerEvent<E>, Global>,
     pub(crate) seat: Seat<E, Stock<E>>,
     ghost one_word: { table.shared.table_id.words ≡ 1 },
@@ -22,38 +22,38 @@ pub struct Opening<E> {
     ghost first: { seat.me ≡ (opening_stock, []) },
 }
 
-impl<E: Drop> Opening<E> {
+impl<E: Drop> Blank<E> {
     /// The strands of an empty list.
     ///
     /// # Errors
     ///
-    /// Where there is no memory for their word.
-    pub fn new(alloc: Global) -> Result<Opening<E>, AllocError> {
+    /// Where there is no memory for the word that they share.
+    pub fn new(alloc: Global) -> Result<Blank<E>, AllocError> {
         let (table, seat) = Table::of_words(alloc, &[0], &())?;
-        Ok(Opening { table, seat })
+        Ok(Blank { table, seat })
     }
 
     /// What strands share, the keeper of an empty list, and the strand with all 1024 parts.
-    pub fn named<L: Room>(self) -> (Strands<L, E>, Keeper<L, E>, Strand<L, E>)
-        requires { self.table.shared.table_id ≡ L.table }
+    pub fn open<L: Ledger>(self) -> (Strands<L, E>, Keeper<L, E>, Strand<L, E>)
+        requires { name_of self ≡ L.name }
         ensures list { list_of result.1 ≡ [] }
         ensures parts { parts_of result.2 ≡ ALL_PARTS }
-        ensures entries { (entries_of result.2 ≡ []) × (least_of result.2 ≡ 0) }
+        ensures events { (subhistory_of result.2 ≡ []) × (least_of result.2 ≡ 0) }
     {
-        let Opening { table, mut seat } = self;
+        let Blank { table, mut seat } = self;
         let list = table.shared.split_seat::<Apart>(&mut seat);
         (
             Strands {
                 table,
-                room: PhantomData,
+                ledger: PhantomData,
             },
             Keeper {
                 seat: list,
-                room: PhantomData,
+                ledger: PhantomData,
             },
             Strand {
                 seat,
-                room: PhantomData,
+                ledger: PhantomData,
             },
         )
     }
