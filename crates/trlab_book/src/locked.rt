@@ -20,7 +20,8 @@ use trlab_leases::{BookFault, Call, Event, Lease, Order, Reply, Seed, Snapshot};
 use trlab_rules::Rule;
 use trlab_strands::{Keeper, Ledger, Strands};
 
-/// Puts the last event of the history into the desk's subhistory, where this reply is of an event.
+/// Puts the last event of the history into the desk's subhistory, where this reply is of an event. What
+/// `Locked` keeps is broken by a call and holds again behind this, so it is handed in by its parts.
 fn note_event<L: Ledger>(
     keeper: &mut Keeper<L, Event>,
     strands: &Strands<L, Event>,
