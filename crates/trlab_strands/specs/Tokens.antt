@@ -1,7 +1,7 @@
 -- What callers see of strands and their keeper.
 use Rattle.std.specs.Prelude.{◌≡◌, ℕ, ◌+◌, ◌≤◌, List, [], ◌∷◌, ◌++◌}
 use Rattle.atomic_table.specs.Seated.{TableId}
-use Rattle.trlab_strands.specs.declared.blank.Blank.{Blank}
+use Rattle.trlab_strands.specs.declared.tokens.Blank.{Blank}
 use Rattle.trlab_strands.specs.declared.ledger.Ledger.{Ghosts}
 use Rattle.trlab_strands.specs.declared.tokens.Keeper.{Keeper}
 use Rattle.trlab_strands.specs.declared.tokens.Strand.{Strand}

@@ -5,15 +5,14 @@
 //! Strands take no memory but one word that all of them share, and that no thread reads.
 #![tactic(auto)]
 
-mod blank;
 mod calls;
 pub mod laws;
 mod ledger;
 mod limits;
+mod opening;
 mod stock;
 mod tokens;
 
-pub use blank::Blank;
 pub use ledger::Ledger;
 pub use limits::ALL_PARTS;
-pub use tokens::{Keeper, Strand, Strands};
+pub use tokens::{Blank, Keeper, Strand, Strands};

@@ -1,12 +1,23 @@
 //! What threads hold of a list: its strands, their keeper, and what all of them share.
 
 ghost use Rattle.std.specs.Prelude.{◌≡◌, ◌<◌, true, false, []};
+ghost use Rattle.trlab_strands.specs.Stocks.{opening_stock};
 
 use crate::ledger::Ledger;
 use crate::stock::{OncePerEvent, Stock};
 use atomic_table::{Seat, Table};
 use std::alloc::Global;
 use std::marker::PhantomData;
+
+/// The strands of an empty list, before a ledger has their name.
+#[derive(Drop)]
+pub struct Blank<E> {
+    pub(crate) table: Table<E, Stock<E>, (), OncePerEvent<E>, Global>,
+    pub(crate) seat: Seat<E, Stock<E>>,
+    ghost one_word: { table.shared.table_id.words ≡ 1 },
+    ghost from: { seat.table_id ≡ table.shared.table_id },
+    ghost first: { seat.me ≡ (opening_stock, []) },
+}
 
 /// What all strands of one list share, by reference: one word.
 #[derive(Drop)]

@@ -1,26 +1,15 @@
-//! Strands of an empty list.
+//! How the strands of an empty list begin.
 
 ghost use Rattle.std.specs.Prelude.{◌≡◌, [], IfOk};
-ghost use Rattle.trlab_strands.specs.Stocks.{opening_stock};
 ghost use Rattle.trlab_strands.specs.Tokens.{subhistory_of, least_of, list_of, name_of, parts_of};
 ghost use Rattle.trlab_strands.specs.declared.limits.TheConstants.{ALL_PARTS};
 
 use crate::ledger::Ledger;
-use crate::stock::{Apart, OncePerEvent, Stock};
-use crate::tokens::{Keeper, Strand, Strands};
-use atomic_table::{Seat, Table};
+use crate::stock::Apart;
+use crate::tokens::{Blank, Keeper, Strand, Strands};
+use atomic_table::Table;
 use std::alloc::{AllocError, Global};
 use std::marker::PhantomData;
-
-/// The strands of an empty list, before a ledger has their name.
-#[derive(Drop)]
-pub struct Blank<E> {
-    pub(crate) table: Table<E, Stock<E>, (), OncePerEvent<E>, Global>,
-    pub(crate) seat: Seat<E, Stock<E>>,
-    ghost one_word: { table.shared.table_id.words ≡ 1 },
-    ghost from: { seat.table_id ≡ table.shared.table_id },
-    ghost first: { seat.me ≡ (opening_stock, []) },
-}
 
 impl<E: Drop> Blank<E> {
     /// The strands of an empty list.
