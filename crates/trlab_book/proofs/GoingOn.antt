@@ -5,6 +5,8 @@ use Rattle.trlab_leases.specs.declared.event.Call.{Call}
 use Rattle.trlab_leases.specs.declared.event.Event.{Event}
 use Rattle.trlab_leases.specs.declared.event.Reply.{Reply}
 use Rattle.trlab_leases.specs.Answers.{is_event}
+use Rattle.trlab_leases.specs.Comparison.{OrderCall, offered}
+use Rattle.trlab_leases.specs.Leases.{LeaseState}
 use Rattle.trlab_leases.specs.Replay.{event}
 use Rattle.trlab_strands.specs.declared.ledger.Ledger.{Ghosts}
 use Rattle.trlab_strands.specs.Tokens as strand
@@ -60,6 +62,11 @@ module _ {L : Type 0} {ledger : Ghosts L} where
         subhistory = kept.1 ∙ sym (append-nil (subhistory_of a));
         runners = All-nil _;
       }
+
+  -- so does an order, whatever is said of its lease
+  pub orders_on : (a b c : Desk L ledger) (lease : LeaseState) (told : Reply) → GoesOn a b
+      → (same : Bool) × Makes b (OrderCall (offered lease same)) told c → GoesOn a c
+  orders_on a b c lease told on made = goes_on a b c on (makes_goes b c (OrderCall (offered lease made.0)) told made.1 refl)
 
   -- a desk of which a part was split off, through both of which runners have called, is gathered again
   pub gathers : (old kept given mine theirs new : Desk L ledger) → parts_of kept + 1 ≡ parts_of old → parts_of given ≡ 1
