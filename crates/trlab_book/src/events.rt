@@ -9,7 +9,7 @@ ghost use Rattle.trlab_leases.specs.Machine.{is_full, start};
 ghost use Rattle.trlab_leases.specs.declared.fault.BookFault.TheVariants.{HistoryFull};
 ghost use Rattle.trlab_leases.specs.declared.event.Call.TheVariants.{Cancel, GiveBack, Read, Replace, Revoke, Submit};
 ghost use Rattle.trlab_leases.specs.declared.event.Reply.TheVariants.{Refused};
-ghost use Rattle.trlab_book.specs.Events.{IsUnchanged, Lengthens, Makes, TellsFull};
+ghost use Rattle.trlab_book.specs.Events.{IsUnchanged, Makes, TellsFull};
 
 use crate::kept::Kept;
 use crate::replies::{
@@ -175,7 +175,7 @@ impl Kept {
             → Makes self.old (OrderCall (offered lease.now same)) (order_reply result) self.new }
         ensures rule { IfOk result (λ o. IsRuleAt self.old.book.jobs o) }
         ensures full { TellsFull self.old (order_reply result) }
-        ensures length { Lengthens self.old (order_reply result) self.new }
+        ensures noted { (same : Bool) × Makes self.old (OrderCall (offered lease.now same)) (order_reply result) self.new }
     {
         self.make_room()?;
         let same = self.book.is_same(lease);
@@ -200,7 +200,7 @@ impl Kept {
             → Makes self.old (GiveBack (offered lease same)) (back_reply result) self.new }
         ensures err { IfErr result (λ e. e.0 ≡ lease) }
         ensures full { TellsFull self.old (back_reply result) }
-        ensures length { Lengthens self.old (back_reply result) self.new }
+        ensures noted { (same : Bool) × Makes self.old (GiveBack (offered lease same)) (back_reply result) self.new }
     {
         if let Err(fault) = self.make_room() {
             return Err((lease, fault));

@@ -1,8 +1,8 @@
 //! How runners end, and what a book leaves when it closes.
 
-use std::sync::ledger::Ledger;
 use trlab_book::{Desk, RunFault, SharedBook};
 use trlab_leases::Event;
+use trlab_strands::Ledger;
 
 /// The desk of runners, and whether all went well.
 pub fn ended<L: Ledger>(ran: Result<Desk<L>, (Desk<L>, RunFault)>) -> (Desk<L>, bool) {
