@@ -1,6 +1,8 @@
 pub mod AnswersExist
+pub mod SafeCalls
 pub mod NextLaws
 pub mod RunLaws
+pub mod CallLaws
 pub mod Sheets
 pub mod Totals
 pub mod Parts

@@ -1,5 +1,6 @@
 pub mod Answers
 pub mod Block
+pub mod Calls
 pub mod Next
 pub mod Run
 pub mod Laws
