@@ -2,3 +2,4 @@ pub mod InForce
 pub mod Entering
 pub mod LeaseRuns
 pub mod Booking
+pub mod Submitting
