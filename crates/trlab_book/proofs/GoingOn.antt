@@ -7,24 +7,27 @@ use Rattle.trlab_leases.specs.declared.event.Reply.{Reply}
 use Rattle.trlab_leases.specs.Answers.{is_event}
 use Rattle.trlab_leases.specs.Comparison.{OrderCall, offered}
 use Rattle.trlab_leases.specs.Leases.{LeaseState}
+use Rattle.trlab_leases.specs.Machine.{State}
 use Rattle.trlab_leases.specs.Replay.{event}
 use Rattle.trlab_strands.specs.declared.ledger.Ledger.{Ghosts}
+use Rattle.trlab_strands.specs.declared.stock.Noted.{Noted}
+use Rattle.trlab_strands.specs.Stocks.{noted, number_of}
 use Rattle.trlab_strands.specs.Tokens as strand
 use Rattle.trlab_book.specs.declared.desk.Desk.{Desk}
-use Rattle.trlab_book.specs.Desks.{AreOfRunners, GoesOn, Makes, subhistory_of, is_of_runner, least_of, parts_of}
+use Rattle.trlab_book.specs.Desks.{AreOfRunners, GoesOn, IsOneEvent, MakesOf, subhistory_of, is_of_runner, least_of, parts_of}
 
 -- calls within a span are within a wider one
-wider : (from to below above : ℕ) (numbered : List (ℕ × Event)) → below ≤ from → to ≤ above → AreOfRunners from to numbered → AreOfRunners below above numbered
+wider : (from to below above : ℕ) (numbered : List (Noted Event)) → below ≤ from → to ≤ above → AreOfRunners from to numbered → AreOfRunners below above numbered
 wider from to below above numbered low high are = All-weaker
-    (λ (x : ℕ × Event). (from ≤ x.0) × (x.0 < to) × (is_of_runner x.1.call ≡ true))
-    (λ (x : ℕ × Event). (below ≤ x.0) × (x.0 < above) × (is_of_runner x.1.call ≡ true))
+    (λ (x : Noted Event). (from ≤ number_of x) × (number_of x < to) × (is_of_runner x.event.call ≡ true))
+    (λ (x : Noted Event). (below ≤ number_of x) × (number_of x < above) × (is_of_runner x.event.call ≡ true))
     (λ x is. (omega (arith, is.0), omega (arith, is.1), is.2))
     numbered are
 
 -- the calls of two lists within one span
-both : (from to : ℕ) (xs ys : List (ℕ × Event)) → AreOfRunners from to xs → AreOfRunners from to ys → AreOfRunners from to (xs ++ ys)
+both : (from to : ℕ) (xs ys : List (Noted Event)) → AreOfRunners from to xs → AreOfRunners from to ys → AreOfRunners from to (xs ++ ys)
 both from to xs ys first second =
-    All-append (λ (x : ℕ × Event). (from ≤ x.0) × (x.0 < to) × (is_of_runner x.1.call ≡ true)) xs ys first second
+    All-append (λ (x : Noted Event). (from ≤ number_of x) × (number_of x < to) × (is_of_runner x.event.call ≡ true)) xs ys first second
 
 module _ {L : Type 0} {ledger : Ghosts L} where
   pub stays : (d : Desk L ledger) → GoesOn d d
@@ -35,26 +38,29 @@ module _ {L : Type 0} {ledger : Ghosts L} where
     parts = second.parts ∙ first.parts;
     least = let p = first.least in let q = second.least in omega arith;
     more = first.more ++ second.more;
-    subhistory = second.subhistory ∙ (ap (λ (l : List (ℕ × Event)). l ++ second.more) first.subhistory ∙ append_assoc (subhistory_of a) first.more second.more);
+    subhistory = second.subhistory ∙ (ap (λ (l : List (Noted Event)). l ++ second.more) first.subhistory ∙ append_assoc (subhistory_of a) first.more second.more);
     runners = both (least_of a) (least_of c) first.more second.more
         (wider (least_of a) (least_of b) (least_of a) (least_of c) first.more (omega arith) second.least first.runners)
         (wider (least_of b) (least_of c) (least_of a) (least_of c) second.more first.least (omega arith) second.runners);
   }
 
   -- a call of a runner goes on
-  pub makes_goes : (a b : Desk L ledger) (call : Call) (told : Reply) → Makes a call told b → is_of_runner call ≡ true → GoesOn a b
-  makes_goes a b call told made of_runner = by_event (is_event told) made.0 made.1
+  pub makes_goes : (Holds : State → Type 0) (a b : Desk L ledger) (call : Call) (told : Reply) → MakesOf Holds a call told b → is_of_runner call ≡ true → GoesOn a b
+  makes_goes Holds a b call told made of_runner = by_event (is_event told) made.0 made.1
     where
       by_event : (one : Bool) → parts_of b ≡ parts_of a
-          → MatchBool one ((number : ℕ) × strand.Adds a.strand number (event call told) b.strand) (strand.IsSame a.strand b.strand) → GoesOn a b
-      by_event true same adds = record {
-        parts = same;
-        least = let p = adds.1.1 in let q = adds.1.3 in omega arith;
-        more = (adds.0, event call told) ∷ [];
-        subhistory = adds.1.2;
-        runners = All-push (λ (x : ℕ × Event). (least_of a ≤ x.0) × (x.0 < least_of b) × (is_of_runner x.1.call ≡ true)) [] (adds.0, event call told) (All-nil _)
-            (adds.1.1, omega (arith, adds.1.3), of_runner);
-      }
+          → MatchBool one ((book : State) × IsOneEvent a call told b book × Holds book) (strand.IsSame a.strand b.strand) → GoesOn a b
+      by_event true same one =
+          let before = one.1.0.before in
+          let adds = one.1.0.noted in
+          record {
+            parts = same;
+            least = let p = adds.1 in let q = adds.3 in omega arith;
+            more = noted before (event call told) ∷ [];
+            subhistory = adds.2;
+            runners = All-push (λ (x : Noted Event). (least_of a ≤ number_of x) × (number_of x < least_of b) × (is_of_runner x.event.call ≡ true)) [] (noted before (event call told)) (All-nil _)
+                (adds.1, omega (arith, adds.3), of_runner);
+          }
       by_event false same kept = record {
         parts = same;
         least = let q = kept.2 in omega arith;
@@ -64,9 +70,9 @@ module _ {L : Type 0} {ledger : Ghosts L} where
       }
 
   -- so does an order, whatever is said of its lease
-  pub orders_on : (a b c : Desk L ledger) (lease : LeaseState) (told : Reply) → GoesOn a b
-      → (same : Bool) × Makes b (OrderCall (offered lease same)) told c → GoesOn a c
-  orders_on a b c lease told on made = goes_on a b c on (makes_goes b c (OrderCall (offered lease made.0)) told made.1 refl)
+  pub orders_on : (Holds : Bool → State → Type 0) (a b c : Desk L ledger) (lease : LeaseState) (told : Reply) → GoesOn a b
+      → (same : Bool) × MakesOf (Holds same) b (OrderCall (offered lease same)) told c → GoesOn a c
+  orders_on Holds a b c lease told on made = goes_on a b c on (makes_goes (Holds made.0) b c (OrderCall (offered lease made.0)) told made.1 refl)
 
   -- a desk of which a part was split off, through both of which runners have called, is gathered again
   pub gathers : (old kept given mine theirs new : Desk L ledger) → parts_of kept + 1 ≡ parts_of old → parts_of given ≡ 1
@@ -77,13 +83,13 @@ module _ {L : Type 0} {ledger : Ghosts L} where
   gathers old kept given mine theirs new fewer one was free low least first second parts joined greater =
       let a = first.least in
       let b = second.least in
-      let behind : subhistory_of theirs ≡ second.more = second.subhistory ∙ ap (λ (l : List (ℕ × Event)). l ++ second.more) free in
+      let behind : subhistory_of theirs ≡ second.more = second.subhistory ∙ ap (λ (l : List (Noted Event)). l ++ second.more) free in
       record {
         parts = let p = first.parts in let q = second.parts in omega arith;
         least = omega arith;
         more = first.more ++ second.more;
-        subhistory = joined ∙ (ap (λ (l : List (ℕ × Event)). subhistory_of mine ++ l) behind
-            ∙ (ap (λ (l : List (ℕ × Event)). l ++ second.more) (first.subhistory ∙ ap (λ (l : List (ℕ × Event)). l ++ first.more) was)
+        subhistory = joined ∙ (ap (λ (l : List (Noted Event)). subhistory_of mine ++ l) behind
+            ∙ (ap (λ (l : List (Noted Event)). l ++ second.more) (first.subhistory ∙ ap (λ (l : List (Noted Event)). l ++ first.more) was)
             ∙ append_assoc (subhistory_of old) first.more second.more));
         runners = both (least_of old) (least_of new) first.more second.more
             (wider (least_of kept) (least_of mine) (least_of old) (least_of new) first.more (omega arith) (omega arith) first.runners)

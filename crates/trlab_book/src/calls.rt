@@ -6,7 +6,7 @@ ghost use Rattle.trlab_leases.specs.Answers.{back_reply, done_reply, lease_reply
 ghost use Rattle.trlab_leases.specs.Answers.{number_reply, order_reply, seen_reply};
 ghost use Rattle.trlab_leases.specs.Comparison.{LeaseCall, OrderCall, offered};
 ghost use Rattle.trlab_leases.specs.declared.event.Call.TheVariants.{Cancel, GiveBack, Read, Replace, Revoke, Submit};
-ghost use Rattle.trlab_book.specs.Desks.{Makes};
+ghost use Rattle.trlab_book.specs.Desks.{IsOfLease, IsOfOrder, IsOfRead, Makes, MakesOf, TellsSame};
 
 use crate::desk::{Desk, SharedBook};
 use crate::events::{copied_replace, copied_submit};
@@ -71,7 +71,7 @@ impl<L: Ledger> SharedBook<L> {
         alloc: Global,
         desk: &mut Desk<L>,
     ) -> Result<Option<Lease>, BookFault>
-        ensures { Makes desk.old LeaseCall (lease_reply result) desk.new }
+        ensures { MakesOf (IsOfLease result) desk.old LeaseCall (lease_reply result) desk.new }
     {
         self.lock.lock(rt).lease(&self.strands, desk, alloc)
     }
@@ -88,7 +88,8 @@ impl<L: Ledger> SharedBook<L> {
         desk: &mut Desk<L>,
         lease: &Lease,
     ) -> Result<Order, BookFault>
-        ensures { (same : Bool) × Makes desk.old (OrderCall (offered lease.now same)) (order_reply result) desk.new }
+        ensures { (same : Bool)
+            × MakesOf (IsOfOrder lease.now same result) desk.old (OrderCall (offered lease.now same)) (order_reply result) desk.new }
     {
         self.lock.lock(rt).order(&self.strands, desk, alloc, lease)
     }
@@ -104,7 +105,8 @@ impl<L: Ledger> SharedBook<L> {
         desk: &mut Desk<L>,
         lease: Lease,
     ) -> Result<(), (Lease, BookFault)>
-        ensures made { (same : Bool) × Makes desk.old (GiveBack (offered lease same)) (back_reply result) desk.new }
+        ensures made { (same : Bool)
+            × MakesOf (TellsSame lease same) desk.old (GiveBack (offered lease same)) (back_reply result) desk.new }
         ensures err { IfErr result (λ e. e.0 ≡ lease) }
     {
         self.lock.lock(rt).give_back(&self.strands, desk, lease)
@@ -144,7 +146,7 @@ impl<L: Ledger> SharedBook<L> {
         desk: &mut Desk<L>,
         job: u32,
     ) -> Result<Snapshot, BookFault>
-        ensures { Makes desk.old (Read job) (seen_reply result) desk.new }
+        ensures { MakesOf (IsOfRead job result) desk.old (Read job) (seen_reply result) desk.new }
     {
         self.lock.lock(rt).read(&self.strands, desk, alloc, job)
     }

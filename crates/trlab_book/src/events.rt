@@ -1,6 +1,6 @@
 //! Calls of a book with its history: each appends one event, or changes nothing.
 
-ghost use Rattle.std.specs.Prelude.{◌≡◌, ◌↔◌, ◌<◌, Bool, true, false, IsTrue, IfOk, IfErr, OnOk, [], vec_len};
+ghost use Rattle.std.specs.Prelude.{◌≡◌, ◌↔◌, ◌<◌, Bool, true, false, IsTrue, IfOk, IfErr, OnOk, OnTrue, [], vec_len};
 ghost use Rattle.std.specs.Vec.{vec_capacity};
 ghost use Rattle.trlab_leases.specs.Answers.{back_reply, done_reply, is_event, lease_reply};
 ghost use Rattle.trlab_leases.specs.Answers.{number_reply, order_reply, seen_reply};
@@ -175,7 +175,9 @@ impl Kept {
             → Makes self.old (OrderCall (offered lease.now same)) (order_reply result) self.new }
         ensures rule { IfOk result (λ o. IsRuleAt self.old.book.jobs o) }
         ensures full { TellsFull self.old (order_reply result) }
-        ensures noted { (same : Bool) × Makes self.old (OrderCall (offered lease.now same)) (order_reply result) self.new }
+        ensures noted { (same : Bool)
+            × OnTrue (is_event (order_reply result)) (IsTrue same ↔ IsSame self.old.book.jobs lease.now)
+            × Makes self.old (OrderCall (offered lease.now same)) (order_reply result) self.new }
     {
         self.make_room()?;
         let same = self.book.is_same(lease);
@@ -200,7 +202,9 @@ impl Kept {
             → Makes self.old (GiveBack (offered lease same)) (back_reply result) self.new }
         ensures err { IfErr result (λ e. e.0 ≡ lease) }
         ensures full { TellsFull self.old (back_reply result) }
-        ensures noted { (same : Bool) × Makes self.old (GiveBack (offered lease same)) (back_reply result) self.new }
+        ensures noted { (same : Bool)
+            × OnTrue (is_event (back_reply result)) (IsTrue same ↔ IsSame self.old.book.jobs lease)
+            × Makes self.old (GiveBack (offered lease same)) (back_reply result) self.new }
     {
         if let Err(fault) = self.make_room() {
             return Err((lease, fault));

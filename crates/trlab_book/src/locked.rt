@@ -7,7 +7,7 @@ ghost use Rattle.trlab_leases.specs.Comparison.{LeaseCall, OrderCall, offered};
 ghost use Rattle.trlab_leases.specs.Replay.{event};
 ghost use Rattle.trlab_leases.specs.declared.event.Call.{Call};
 ghost use Rattle.trlab_leases.specs.declared.event.Call.TheVariants.{Cancel, GiveBack, Read, Replace, Revoke, Submit};
-ghost use Rattle.trlab_book.specs.Desks.{Makes};
+ghost use Rattle.trlab_book.specs.Desks.{IsOfLease, IsOfOrder, IsOfRead, Makes, MakesOf, PutsDown, TellsSame};
 ghost use Rattle.trlab_strands.specs.Tokens.{list_of};
 
 use crate::desk::{Desk, Locked};
@@ -31,7 +31,7 @@ fn note_event<L: Ledger>(
 )
     ensures { (call : Call)
         → MatchBool (is_event reply) (history.now.items ≡ list_of keeper.old ++ event call reply ∷ []) (history.now.items ≡ list_of keeper.old)
-        → (history.now.items ≡ list_of keeper.new) × Makes desk.old call reply desk.new }
+        → (history.now.items ≡ list_of keeper.new) × PutsDown desk.old (list_of keeper.old) call reply desk.new }
 {
     if !is_event(reply) {
         return;
@@ -95,7 +95,7 @@ impl<L: Ledger> Locked<L> {
         desk: &mut Desk<L>,
         alloc: Global,
     ) -> Result<Option<Lease>, BookFault>
-        ensures { Makes desk.old LeaseCall (lease_reply result) desk.new }
+        ensures { MakesOf (IsOfLease result) desk.old LeaseCall (lease_reply result) desk.new }
     {
         let answer = self.kept.lease(alloc);
         note_event(
@@ -115,7 +115,8 @@ impl<L: Ledger> Locked<L> {
         alloc: Global,
         lease: &Lease,
     ) -> Result<Order, BookFault>
-        ensures { (same : Bool) × Makes desk.old (OrderCall (offered lease.now same)) (order_reply result) desk.new }
+        ensures { (same : Bool)
+            × MakesOf (IsOfOrder lease.now same result) desk.old (OrderCall (offered lease.now same)) (order_reply result) desk.new }
     {
         let answer = self.kept.order(alloc, lease);
         note_event(
@@ -134,7 +135,8 @@ impl<L: Ledger> Locked<L> {
         desk: &mut Desk<L>,
         lease: Lease,
     ) -> Result<(), (Lease, BookFault)>
-        ensures made { (same : Bool) × Makes desk.old (GiveBack (offered lease same)) (back_reply result) desk.new }
+        ensures made { (same : Bool)
+            × MakesOf (TellsSame lease same) desk.old (GiveBack (offered lease same)) (back_reply result) desk.new }
         ensures err { IfErr result (λ e. e.0 ≡ lease) }
     {
         let answer = self.kept.give_back(lease);
@@ -193,7 +195,7 @@ impl<L: Ledger> Locked<L> {
         alloc: Global,
         job: u32,
     ) -> Result<Snapshot, BookFault>
-        ensures { Makes desk.old (Read job) (seen_reply result) desk.new }
+        ensures { MakesOf (IsOfRead job result) desk.old (Read job) (seen_reply result) desk.new }
     {
         let answer = self.kept.read(alloc, job);
         note_event(

@@ -1,13 +1,12 @@
 //! Runners that share a book.
 
-ghost use Rattle.std.specs.Prelude.{◌≡◌, ◌<◌, ◌≤◌, ◌↔◌, ◌⊎◌, Err, IsOk, MatchResult};
+ghost use Rattle.std.specs.Prelude.{◌<◌, ◌≤◌, MatchResult};
 ghost use Rattle.std.specs.Thread.{IsSend, IsSync};
 ghost use Rattle.trlab_bounds.specs.declared.runs.TheConstants.{MOST_RUNNERS, MOST_WORKERS};
 ghost use Rattle.trlab_book.specs.Desks.{GoesOn, parts_of};
-ghost use Rattle.trlab_book.specs.declared.fault.RunFault.TheVariants.{HistoryFull};
 
 use crate::desk::{Desk, SharedBook};
-use crate::fault::RunFault;
+use crate::fault::{RunFault, first_fault};
 use crate::turn::run_one;
 use std::alloc::Global;
 use std::sync::Wait;
@@ -82,18 +81,4 @@ fn run_all<L: Ledger + Send + Sync, R: Threads + Wait + Sync, G: Gate + Sync>(
         { run_all(rt, alloc, book, desk, others, workers, gate) },
     );
     (book.gather(mine, theirs), first_fault(one, other))
-}
-
-/// The fault of two runners that is told: `HistoryFull` before `Memory`.
-fn first_fault(one: Result<(), RunFault>, other: Result<(), RunFault>) -> Result<(), RunFault>
-    ensures fine { IsOk result ↔ (IsOk one × IsOk other) }
-    ensures full { (result ≡ Err HistoryFull) ↔ ((one ≡ Err HistoryFull) ⊎ (other ≡ Err HistoryFull)) }
-{
-    match (one, other) {
-        (Err(RunFault::HistoryFull), _) | (_, Err(RunFault::HistoryFull)) => {
-            Err(RunFault::HistoryFull)
-        }
-        (Err(fault), _) | (_, Err(fault)) => Err(fault),
-        (Ok(()), Ok(())) => Ok(()),
-    }
 }

@@ -12,9 +12,9 @@ use std::sync::Wait;
 use std::thread::{Threads, join};
 use trlab_book::{Desk, SharedBook};
 use trlab_book_trials::calls::{reads, replace, submit};
-use trlab_book_trials::histories::{Made, is_event};
+use trlab_book_trials::histories::{Made, is_event, is_history};
 use trlab_book_trials::jobs::{NEVER, two_cars};
-use trlab_leases::{Call, Event, Reply};
+use trlab_leases::{BookFault, Call, Event, Reply};
 use trlab_strands::{Blank, Ledger};
 
 /// How many calls each of four threads makes.
@@ -168,43 +168,63 @@ fn four_threads_have_their_calls_in_order(rt: HostRuntime) {
     );
 }
 
-/// The parts of two desks, and how many events the history has when both close the book.
-fn closed_by_both<L: Ledger>(
+/// The parts of two desks, and the history when both close the book, which one of them could not close; before
+/// that, a job is read.
+fn closed_by_both<L: Ledger, R: Wait>(
+    rt: &R,
+    alloc: Global,
     book: SharedBook<L>,
-    mine: Desk<L>,
+    mut mine: Desk<L>,
     theirs: Desk<L>,
-) -> (u32, u32, Option<usize>) {
+) -> Option<(u32, u32, Vec<Event>)> {
+    if !reads(rt, alloc, &book, &mut mine, 0, (0, 1, b"0.0.......")) {
+        return None;
+    }
     let (some, one) = (mine.parts(), theirs.parts());
     let desk = book.gather(mine, theirs);
-    (some, one, events_of(book, desk))
+    Some((some, one, history_of(book, desk)?))
 }
 
-/// The parts of two desks that can't close the book alone, and how many events the history has when it
-/// closes.
+/// A job is submitted at one desk and revoked at another, and the first tries to close the book: the parts of
+/// the two, and the history when both close it.
 fn half_a_desk<L: Ledger, R: Wait>(
     rt: &R,
     alloc: Global,
     blank: Blank<Event>,
-) -> Option<(u32, u32, Option<usize>)>
+) -> Option<(u32, u32, Vec<Event>)>
     requires name { name_of blank ≡ L.name }
 {
     let (book, mut mine) = SharedBook::<L>::start(alloc, blank);
+    submit(rt, alloc, &book, &mut mine, &two_cars(0, 4)).ok()?;
     let mut theirs = book.split(&mut mine);
     let _ = book.revoke(rt, &mut theirs, 0);
     match book.close(mine) {
         Ok(_) => None,
-        Err((book, mine)) => Some(closed_by_both(book, mine, theirs)),
+        Err((book, mine)) => closed_by_both(rt, alloc, book, mine, theirs),
     }
 }
 
 #[test]
-fn half_a_desk_does_not_close_the_book(rt: HostRuntime) {
+fn a_book_that_does_not_close_stays_as_it_was(rt: HostRuntime) {
     let closed = half_a_desk::<Brand, HostRuntime>(
         &rt,
         rt.alloc(),
         Blank::new(rt.alloc()).expect(&rt, "memory"),
     );
-    assert!(rt; closed == Some((1023, 1, Some(1))));
+    let read = Reply::Seen {
+        step: 0,
+        entries: 1,
+    };
+    let wanted = [
+        (Made::Submit(4), Reply::Number(0)),
+        (Made::Revoke(0), Reply::Refused(BookFault::StrangerLease)),
+        (Made::Read(0), read),
+    ];
+    let stays = match closed {
+        Some((1023, 1, history)) => is_history(&history, &wanted),
+        _ => false,
+    };
+    assert!(rt; stays);
 }
 
 /// The parts of a desk without a call, and how many events the history has when another desk, which has

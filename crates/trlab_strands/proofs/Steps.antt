@@ -1,5 +1,5 @@
 -- Each step keeps the rule of the strands.
-use Rattle.std.proofs.Common.{◌≡◌, ℕ, zero, suc, ◌+◌, ◌-◌, ◌<◌, ◌≤◌, ◌≢◌, ◌⊎◌, max, eqb, ltb, Bool, true, false, cond, List, [], ◌∷◌, ◌++◌, length, get_or, set, Some, All, slice_get, slice_index, refl, sym, ap, ◌∙◌, subst, inl, inr, ⊎_elim, zero-le, true≢false, arith, length-append}
+use Rattle.std.proofs.Common.{◌≡◌, ℕ, zero, suc, ◌+◌, ◌-◌, ◌<◌, ◌≤◌, ◌≢◌, ◌⊎◌, max, eqb, ltb, Bool, true, false, cond, List, [], ◌∷◌, ◌++◌, length, get_or, set, All, slice_index, refl, sym, ap, ◌∙◌, subst, inl, inr, ⊎_elim, zero-le, true≢false, arith, length-append, append_assoc}
 use Rattle.std.specs.Prelude.{sum_by}
 use Rattle.std.proofs.lemmas.List.{append-nil}
 use Rattle.std.proofs.lemmas.List.Sums.{sum_by-set, sum_by-cons, sum_by_push, sum_by-append}
@@ -11,8 +11,9 @@ use prog.Atomic.{either}
 use Rattle.atomic_table.specs.Table.{State, Me, Step, step, Act, keeps, stepped, opening, Allows, Splits, Joins}
 use Rattle.atomic_table.proofs.Lists.{at_set, at_snoc, set_again, set_else}
 use Rattle.trlab_strands.specs.declared.limits.TheConstants.{ALL_PARTS}
+use Rattle.trlab_strands.specs.declared.stock.Noted.{Noted}
 use Rattle.trlab_strands.specs.declared.stock.Stock.{Stock}
-use Rattle.trlab_strands.specs.Stocks.{times, once_below, StandIn, stock, nothing, opening_stock, without_list, list_alone, less_a_part, one_part, union, with_event}
+use Rattle.trlab_strands.specs.Stocks.{noted, number_of, times, once_below, StandsIn, StandIn, stock, nothing, opening_stock, without_list, list_alone, less_a_part, one_part, union, with_event}
 use Rattle.trlab_strands.specs.Rule.{IsStock, AreStocks, KeepsStrands, NotesEvent, Learns, Looks}
 
 off : false ≡ true → ⊥
@@ -24,15 +25,8 @@ at_get (x ∷ xs) zero a d e = (omega arith, some-injective x a e)
 at_get (x ∷ xs) (suc i) a d e = let r = at_get xs i a d e in let p = r.0 in (omega arith, r.1)
 
 -- what stands in a list stands in it where it is longer
-stands_on : {E : Type 0} (xs ys : List E) (k : ℕ) (x : E) → slice_get xs k ≡ Some x → slice_get (xs ++ ys) k ≡ Some x
-stands_on [] ys k x e = absurd cc
-stands_on (z ∷ xs) ys zero x e = e
-stands_on (z ∷ xs) ys (suc k) x e = stands_on xs ys k x e
-
--- a new element stands behind the others
-stands_last : {E : Type 0} (xs : List E) (x : E) → slice_get (xs ++ x ∷ []) (length xs) ≡ Some x
-stands_last [] x = refl
-stands_last (y ∷ xs) x = stands_last xs x
+stands_on : {E : Type 0} (events more : List E) (n : Noted E) → StandsIn events n → StandsIn (events ++ more) n
+stands_on events more n stands = (stands.0 ++ more, ap (λ l. l ++ more) stands.1 ∙ append_assoc n.before (n.event ∷ stands.0) more)
 
 once_next : (k n : ℕ) → once_below k (n + 1) ≡ once_below k n + cond (eqb n k) 1 0
 once_next k n = grind (arith, nat_tests)
@@ -45,11 +39,11 @@ kept : (b : Bool) → b ≡ true → ◌≡◌ {A = ℕ} (cond b 1 0) 1
 kept b e = ap (λ (x : Bool). cond {A = ℕ} x 1 0) e
 
 module _ {E : Type 0} where
-  times_push : (k : ℕ) (xs : List (ℕ × E)) (x : ℕ × E) → times k (xs ++ x ∷ []) ≡ times k xs + cond (eqb x.0 k) 1 0
-  times_push k xs x = sum_by_push (λ (y : ℕ × E). cond (eqb y.0 k) 1 0) xs x
+  times_push : (k : ℕ) (xs : List (Noted E)) (x : Noted E) → times k (xs ++ x ∷ []) ≡ times k xs + cond (eqb (number_of x) k) 1 0
+  times_push k xs x = sum_by_push (λ (y : Noted E). cond (eqb (number_of y) k) 1 0) xs x
 
-  times_append : (k : ℕ) (xs ys : List (ℕ × E)) → times k (xs ++ ys) ≡ times k xs + times k ys
-  times_append k xs ys = sum_by-append (λ (y : ℕ × E). cond (eqb y.0 k) 1 0) xs ys
+  times_append : (k : ℕ) (xs ys : List (Noted E)) → times k (xs ++ ys) ≡ times k xs + times k ys
+  times_append k xs ys = sum_by-append (λ (y : Noted E). cond (eqb (number_of y) k) 1 0) xs ys
 
   total_set : (f : Stock E → ℕ) (views : List (Stock E)) (i : ℕ) (v w : Stock E) → get_elem? views i ≡ some v → sum_by f (set views i w) + f v ≡ sum_by f views + f w
   total_set f views i v w at = let g = at_get views i v v at in subst (λ (u : Stock E). sum_by f (set views i w) + f u ≡ sum_by f views + f w) g.1 (sum_by-set f views i w v g.0)
@@ -75,7 +69,7 @@ module _ {E : Type 0} where
   later events e u another r = record {
     idle = r.idle;
     rises = let l = length-append events (e ∷ []) in let p = r.rises in omega arith;
-    stand = All-weaker (λ (x : ℕ × E). slice_get events x.0 ≡ Some x.1) (λ (x : ℕ × E). slice_get (events ++ e ∷ []) x.0 ≡ Some x.1) (λ x stands. stands_on events (e ∷ []) x.0 x.1 stands) u.own r.stand;
+    stand = All-weaker (StandsIn events) (StandsIn (events ++ e ∷ [])) (stands_on events (e ∷ [])) u.own r.stand;
     list = λ has. absurd (another has);
   }
 
@@ -106,11 +100,11 @@ module _ {E : Type 0} where
       record {
         parts = let t = total_set (λ u. u.parts) views id v w at in let p = r.parts in omega arith;
         keepers = let t = total_set (λ u. cond u.keeps 1 0) views id v w at in let p = r.keepers in omega arith;
-        count = let t = total_set (λ u. length u.own) views id v w at in let p = r.count in let q = length-append v.own ((length v.all, e) ∷ []) in omega arith;
+        count = let t = total_set (λ u. length u.own) views id v w at in let p = r.count in let q = length-append v.own (noted v.all e ∷ []) in omega arith;
         once = λ k.
             let t = total_set (λ u. times k u.own) views id v w at in
             let p = r.once k in
-            let q = times_push k v.own (length v.all, e) in
+            let q = times_push k v.own (noted v.all e) in
             let n : once_below k (length (events ++ e ∷ [])) ≡ once_below k (length v.all) + cond (eqb (length v.all) k) 1 0 = ap (once_below k) (longer ∙ ap (λ (x : ℕ). x + 1) (sym long)) ∙ once_next k (length v.all) in
             let m : once_below k (length v.all) ≡ once_below k (length events) = ap (once_below k) long in
             omega arith;
@@ -118,9 +112,9 @@ module _ {E : Type 0} where
             (record {
               idle = λ z. absurd (omega arith);
               rises = omega arith;
-              stand = All-push (λ (x : ℕ × E). slice_get (events ++ e ∷ []) x.0 ≡ Some x.1) v.own (length v.all, e)
-                  (All-weaker (λ (x : ℕ × E). slice_get events x.0 ≡ Some x.1) (λ (x : ℕ × E). slice_get (events ++ e ∷ []) x.0 ≡ Some x.1) (λ x stands. stands_on events (e ∷ []) x.0 x.1 stands) v.own mine.stand)
-                  (subst (λ (n : ℕ). slice_get (events ++ e ∷ []) n ≡ Some e) (sym long) (stands_last events e));
+              stand = All-push (StandsIn (events ++ e ∷ [])) v.own (noted v.all e)
+                  (All-weaker (StandsIn events) (StandsIn (events ++ e ∷ [])) (stands_on events (e ∷ [])) v.own mine.stand)
+                  ([], ap (λ (l : List E). l ++ e ∷ []) (sym known));
               list = λ _. ap (λ (l : List E). l ++ e ∷ []) known;
             })
             (λ j u apart there. later events e u (λ theirs. one_keeper events views id j v u r apart at there keeping theirs) (r.each j u there));
@@ -189,7 +183,7 @@ module _ {E : Type 0} where
           once = λ x. let t = total_set (λ u. times x u.own) s.views id v b at in let n = total_set (λ u. times x u.own) views other w nothing there in let p = k.once x in let q = times_append x v.own w.own in omega arith;
           each = each_set events views other nothing (record { idle = λ _. refl; rises = zero-le; stand = All-nil _; list = λ e. absurd (off e) })
               (λ j u _ here. each_set events s.views id b
-              (record { idle = λ z. absurd (omega arith); rises = let p = mine.rises in let q = theirs.rises in omega arith; stand = All-append (λ (x : ℕ × E). slice_get events x.0 ≡ Some x.1) v.own w.own mine.stand theirs.stand; list = theirs.list })
+              (record { idle = λ z. absurd (omega arith); rises = let p = mine.rises in let q = theirs.rises in omega arith; stand = All-append (StandsIn events) v.own w.own mine.stand theirs.stand; list = theirs.list })
               (λ i y _ was. k.each i y was) j u here);
         },
       )
@@ -279,7 +273,7 @@ module _ {E : Type 0} where
       λ i. stock (a i) (b i) (c i) (keeping i) k.all
 
 -- a strand that has noted an event, and the list behind it
-pub record Noted {E : Type 0} (v k : Stock E) (e : E) (left right : Me E (Stock E)) : Type 0 where
+pub record HasNoted {E : Type 0} (v k : Stock E) (e : E) (left right : Me E (Stock E)) : Type 0 where
   pub left_slot : left.1 ≡ []
   pub left_list : left.0.keeps ≡ false
   pub left_some : 0 < left.0.parts
@@ -287,14 +281,14 @@ pub record Noted {E : Type 0} (v k : Stock E) (e : E) (left right : Me E (Stock 
   pub right_list : right.0.keeps ≡ true
   pub parts : left.0.parts ≡ v.parts
   pub least : v.least ≤ length k.all
-  pub own : left.0.own ≡ v.own ++ (length k.all, e) ∷ []
+  pub own : left.0.own ≡ v.own ++ noted k.all e ∷ []
   pub next : left.0.least ≡ length k.all + 1
 
 module _ {E : Type 0} where
   -- a strand meets the list, notes an event, and the list leaves it again
   pub noting : (v k : Stock E) (c : List (ℕ × E)) (e : E) (list met new left right : Me E (Stock E)) → k.keeps ≡ true → c ≡ [] → 0 < v.parts
       → list ≡ (list_alone k, []) → met ≡ (union v list.0, c) → (new ≡ (with_event met.0 e, met.1)) × (met.0.least ≤ length met.0.all)
-      → left ≡ (without_list new.0, new.1) → right ≡ (list_alone new.0, []) → Noted v k e left right
+      → left ≡ (without_list new.0, new.1) → right ≡ (list_alone new.0, []) → HasNoted v k e left right
   noting v k c e list met new left right keeping free some_part from joined noted left_is right_is =
       let M : Type 0 = Me E (Stock E) in
       let both : met ≡ (stock v.parts v.own v.least true k.all, c) = joined ∙ (ap (λ (l : M). (union v l.0, c)) from ∙ ap (λ (u : Stock E). (u, c)) (meets v k keeping)) in

@@ -7,8 +7,8 @@ use Rattle.trlab_strands.specs.declared.limits.TheConstants.{ALL_PARTS}
 use Rattle.trlab_strands.specs.declared.stock.Stock.{Stock}
 use Rattle.trlab_strands.specs.Stocks.{times, once_below, StandIn, with_event}
 
--- a stock without parts has no event, its clock is not ahead of the list, each of its events stands in the list at
--- its number, and where it keeps the list this is the one
+-- a stock without parts has no event, its clock is not ahead of the list, each of its events stands in the
+-- list, and where it keeps the list this is the one
 pub record IsStock {E : Type 0} (events : List E) (s : Stock E) : Type 0 where
   pub idle : s.parts ≡ 0 → s.own ≡ []
   pub rises : s.least ≤ length events

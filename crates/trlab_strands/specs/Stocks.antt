@@ -1,30 +1,43 @@
--- The subhistory of a strand is its own events, each with its number in the one list. The stock of a seat is
--- all that it knows: how many parts it has, which events are its own, and, for the keeper, the list.
-use Rattle.std.specs.Prelude.{◌≡◌, ℕ, ◌+◌, ◌-◌, max, Bool, true, false, cond, eqb, ltb, List, [], ◌∷◌, ◌++◌, length, count_by, All, Some, slice_get}
+-- The subhistory of a strand is its own events, each with all that stood before it in the one list. The stock of a
+-- seat is all that it knows: how many parts it has, which events are its own, and, for the keeper, the list.
+use Rattle.std.specs.Prelude.{◌≡◌, ℕ, ◌+◌, ◌-◌, max, Bool, true, false, cond, eqb, ltb, List, [], ◌∷◌, ◌++◌, length, count_by, All}
 use Rattle.trlab_strands.specs.declared.limits.TheConstants.{ALL_PARTS}
+use Rattle.trlab_strands.specs.declared.stock.Noted.{Noted}
 use Rattle.trlab_strands.specs.declared.stock.Stock.{Stock}
 
 -- how often a number is to be had: once where it is below the count, else never
 abbrev pub once_below : ℕ → ℕ → ℕ
 once_below k count = cond (ltb k count) 1 0
 
--- how often this number stands among them
-abbrev pub times : {E : Type 0} → ℕ → List (ℕ × E) → ℕ
-times k numbered = count_by (λ x. eqb x.0 k) numbered
+-- an event by what stood before it
+abbrev pub noted : {E : Type 0} → List E → E → Noted E
+noted before event = record { before = before; event = event }
 
--- each event stands in the list, at its number
-abbrev pub StandIn : {E : Type 0} → List E → List (ℕ × E) → Type 0
-StandIn events numbered = All (λ x. slice_get events x.0 ≡ Some x.1) numbered
+-- its number in the list: how many stood before it
+abbrev pub number_of : {E : Type 0} → Noted E → ℕ
+number_of n = length n.before
+
+-- how often this number is among theirs
+abbrev pub times : {E : Type 0} → ℕ → List (Noted E) → ℕ
+times k own = count_by (λ n. eqb (number_of n) k) own
+
+-- the list begins with what stood before the event, and goes on with it
+abbrev pub StandsIn : {E : Type 0} → List E → Noted E → Type 0
+StandsIn {E} events n = (later : List E) × (events ≡ n.before ++ n.event ∷ later)
+
+-- each of these events stands in the list
+abbrev pub StandIn : {E : Type 0} → List E → List (Noted E) → Type 0
+StandIn events own = All (StandsIn events) own
 
 -- the list is a linearization of these events, that is, all of them in the order of their numbers: there are as
--- many, each stands in the list at its number, and each place of the list is the number of exactly one
-pub record IsLinearization {E : Type 0} (events : List E) (numbered : List (ℕ × E)) : Type 0 where
-  pub count : length numbered ≡ length events
-  pub stand : StandIn events numbered
-  pub once : (k : ℕ) → times k numbered ≡ once_below k (length events)
+-- many, each stands in the list behind what stood before it, and each place of the list is the number of exactly one
+pub record IsLinearization {E : Type 0} (events : List E) (own : List (Noted E)) : Type 0 where
+  pub count : length own ≡ length events
+  pub stand : StandIn events own
+  pub once : (k : ℕ) → times k own ≡ once_below k (length events)
 
 -- a stock by its parts
-abbrev pub stock : {E : Type 0} → ℕ → List (ℕ × E) → ℕ → Bool → List E → Stock E
+abbrev pub stock : {E : Type 0} → ℕ → List (Noted E) → ℕ → Bool → List E → Stock E
 stock parts own least keeps all =
     record { parts = parts; own = own; least = least; keeps = keeps; all = all }
 
@@ -59,4 +72,4 @@ union s t = stock (s.parts + t.parts) (s.own ++ t.own) (max s.least t.least) t.k
 -- one event more, behind the list
 abbrev pub with_event : {E : Type 0} → Stock E → E → Stock E
 with_event s e =
-    stock s.parts (s.own ++ (length s.all, e) ∷ []) (length s.all + 1) s.keeps (s.all ++ e ∷ [])
+    stock s.parts (s.own ++ noted s.all e ∷ []) (length s.all + 1) s.keeps (s.all ++ e ∷ [])

@@ -5,11 +5,17 @@ use atomic_table::{Join, Play, Split, TableRule};
 use std::collections::LinkedList;
 use std::marker::PhantomData;
 
-/// What is known at a seat: of a strand its parts, its events with their numbers, and the least number that
-/// its next event may have; of the keeper the whole list. No value of it is made.
+/// An event that was noted, with all that stood in the list before it. No value of it is made.
+pub struct Noted<E> {
+    pub before: LinkedList<E>,
+    pub event: E,
+}
+
+/// What is known at a seat: of a strand its parts, the events that it noted, and the least number that its next
+/// one may have; of the keeper the whole list. No value of it is made.
 pub struct Stock<E> {
     pub parts: u32,
-    pub own: LinkedList<(u64, E)>,
+    pub own: LinkedList<Noted<E>>,
     pub least: u64,
     pub keeps: bool,
     pub all: LinkedList<E>,

@@ -1,19 +1,19 @@
-use Rattle.std.proofs.Common.{subst}
-use Rattle.trlab_leases.specs.declared.event.Reply.{Reply}
 use Rattle.trlab_leases.specs.declared.event.Call.TheVariants.{Cancel}
 use Rattle.trlab_leases.specs.Answers.{done_reply}
-use Rattle.trlab_book.specs.Desks.{Makes}
-use Rattle.trlab_book.proofs.Noting.{next_event}
+use Rattle.trlab_book.proofs.Noting.{is_made, next_event}
 use Rattle.trlab_book.proofs.desk.Locked.cancel.Goals as goal
 
 pub invariant_of-self-2 : goal.invariant_of-self-2
-invariant_of-self-2 g c = record {
-  noted = (c.note_event.ensures (Cancel c.args.job) (next_event c.args.self.now.kept c.cancel-answer.new.self (Cancel c.args.job) (done_reply c.cancel-answer.result) c.reply_to_done.result _
-      c.cancel-answer.ensures.made c.reply_to_done.ensures c.args.self.now.noted)).0;
-}
+invariant_of-self-2 g c =
+    let kept = c.args.self.now.kept in
+    let call = Cancel c.args.job in
+    let told = done_reply c.cancel-answer.result in
+    record { noted = (c.note_event.ensures call (next_event kept c.cancel-answer.new.self call told c.reply_to_done.result _ c.cancel-answer.ensures.made c.reply_to_done.ensures c.args.self.now.noted)).0; }
 
 pub returns : goal.returns
 returns g c =
-    subst (λ (told : Reply). Makes c.args.desk.now (Cancel c.args.job) told c.note_event.new.desk) c.reply_to_done.ensures
-    (c.note_event.ensures (Cancel c.args.job) (next_event c.args.self.now.kept c.cancel-answer.new.self (Cancel c.args.job) (done_reply c.cancel-answer.result) c.reply_to_done.result _
-    c.cancel-answer.ensures.made c.reply_to_done.ensures c.args.self.now.noted)).1
+    let kept = c.args.self.now.kept in
+    let call = Cancel c.args.job in
+    let told = done_reply c.cancel-answer.result in
+    is_made (λ book. Unit {0}) kept c.cancel-answer.new.self call told c.reply_to_done.result _ c.args.desk.now c.note_event.new.desk c.cancel-answer.ensures.made c.reply_to_done.ensures c.args.self.now.noted (λ is. tt)
+    (c.note_event.ensures call (next_event kept c.cancel-answer.new.self call told c.reply_to_done.result _ c.cancel-answer.ensures.made c.reply_to_done.ensures c.args.self.now.noted)).1

@@ -1,4 +1,5 @@
 use Rattle.std.proofs.Common.{[], ◌∷◌, ◌++◌, ◌↔◌, IsTrue, ap, subst, sym, ◌∙◌}
+use Rattle.std.proofs.lemmas.Bool.{OnTrue_from}
 use Rattle.trlab_leases.specs.Answers.{back_reply, is_event}
 use Rattle.trlab_leases.specs.Comparison.{IsSame, offered}
 use Rattle.trlab_leases.specs.Machine.{State, is_full}
@@ -30,7 +31,7 @@ pub returns-clause-noted : goal.returns-clause-noted
 returns-clause-noted c =
     let same = c.is_same-same.result in
     let is = subst (λ (b : State). IsTrue same ↔ IsSame b.jobs c.args.lease) c.make_room.ensures.same.book c.is_same-same.ensures in
-    (same, returns-clause-made c same is)
+    (same, OnTrue_from _ _ (λ _. is), returns-clause-made c same is)
 
 pub returns-clause-err : goal.returns-clause-err
 returns-clause-err c = c.give_back_as-answer.ensures.handed

@@ -1,5 +1,5 @@
 use Rattle.std.proofs.Common.{◌≡◌, [], ◌∷◌, ◌++◌, ◌↔◌, IsTrue, IfOk, false, subst, sym, ap, ◌∙◌}
-use Rattle.std.proofs.lemmas.Bool.{MatchBool-at_false}
+use Rattle.std.proofs.lemmas.Bool.{MatchBool-at_false, OnTrue_from}
 use Rattle.trlab_leases.specs.Answers.{is_event, is_memory, order_reply}
 use Rattle.trlab_leases.specs.Comparison.{IsRuleAt, IsSame, OrderCall, offered}
 use Rattle.trlab_leases.specs.Machine.{State, is_full}
@@ -46,4 +46,4 @@ pub returns-clause-noted : goal.returns-clause-noted
 returns-clause-noted c =
     let same = c.is_same-same.result in
     let is = subst (λ (b : State). IsTrue same ↔ IsSame b.jobs c.args.lease.now) c.make_room.ensures.same.book c.is_same-same.ensures in
-    (same, returns-clause-made c same is)
+    (same, OnTrue_from _ _ (λ _. is), returns-clause-made c same is)
