@@ -3,3 +3,4 @@ pub mod Entering
 pub mod LeaseRuns
 pub mod Booking
 pub mod Submitting
+pub mod Reading

@@ -1,7 +1,9 @@
 -- Which event of a history a job of the book comes from.
 use Rattle.std.specs.Prelude.{◌≡◌, ℕ, List, Some, slice_get}
+use Rattle.trlab_road.specs.Cells.{Cells}
 use Rattle.trlab_rules.specs.Rules.{Programs}
-use Rattle.trlab_run.specs.Progress.{Progress}
+use Rattle.trlab_run.specs.Progress.{Progress, IsUnderway}
+use Rattle.trlab_step.specs.Driven.{IsDriven}
 use Rattle.trlab_leases.specs.declared.seed.Seed.{Seed}
 use Rattle.trlab_leases.specs.declared.event.Event.{Event}
 use Rattle.trlab_leases.specs.declared.event.Call.TheVariants as call
@@ -41,3 +43,19 @@ SnapshotsAreOfSubmits =
     (history : List Event) (book : State) (number : ℕ) (seen : Progress) → Replays history book
     → IsSeen book.jobs number seen
     → (job : JobState) × IsSubmitted history number job × IsSnapshotOf job seen
+
+-- what is read of a job: the road to which one worker drives, in the steps done, from where the job's submit starts
+-- and under the job's sheet
+pub record IsReadOf (history : List Event) (number : ℕ) (seen : Progress) : Type 0 where
+  pub job : JobState
+  pub submitted : IsSubmitted history number job
+  pub snapshot : IsSnapshotOf job seen
+  pub roads : ℕ → Cells
+  pub driven : IsDriven seen.seed seen.sheet seen.step roads
+  pub road : roads seen.step ≡ seen.road
+
+-- each snapshot of a job is so
+abbrev pub ReadsAreDriven : Type 0
+ReadsAreDriven =
+    (history : List Event) (book : State) (number : ℕ) (seen : Progress) → Replays history book
+    → IsSeen book.jobs number seen → IsUnderway seen → IsReadOf history number seen

@@ -3,7 +3,8 @@
 //! Each law is the contract of a function with nothing to do.
 
 ghost use Rattle.std.specs.Prelude.{◌≡◌};
-ghost use Rattle.trlab_leases.specs.Submits.{JobsAreSubmitted, SnapshotsAreOfSubmits, SubmitsHaveTheirNumbers};
+ghost use Rattle.trlab_leases.specs.Submits.{JobsAreSubmitted, ReadsAreDriven, SnapshotsAreOfSubmits};
+ghost use Rattle.trlab_leases.specs.Submits.{SubmitsHaveTheirNumbers};
 
 use crate::limits::{MOST_ENTRIES, MOST_EVENTS, MOST_JOBS};
 
@@ -20,4 +21,11 @@ pub fn jobs_are_of_submits()
     ensures submitted { JobsAreSubmitted }
     ensures one { SubmitsHaveTheirNumbers }
     ensures seen { SnapshotsAreOfSubmits }
+{}
+
+/// What is read of a job, whichever calls were made before and in whatever order, is the road to which one worker
+/// drives from where the job's submit starts, under the job's sheet: each step is clean, its programs ending within
+/// their budgets, and no car is lost.
+pub fn reads_are_driven()
+    ensures { ReadsAreDriven }
 {}

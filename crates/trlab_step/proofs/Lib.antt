@@ -3,6 +3,7 @@ pub mod SafeCalls
 pub mod NextLaws
 pub mod RunLaws
 pub mod CallLaws
+pub mod Driving
 pub mod Sheets
 pub mod Totals
 pub mod Parts

@@ -5,3 +5,4 @@ pub mod Next
 pub mod Run
 pub mod Laws
 pub mod Published
+pub mod Driven

@@ -7,6 +7,7 @@ ghost use Rattle.trlab_step.specs.Laws.{AnswersLeadOn, CrossingsAreOne, Crossing
 ghost use Rattle.trlab_step.specs.Laws.{NextRoadExists, NextRoadIsOne, RoadExists, RoadIsOne, RunGoesOn};
 ghost use Rattle.trlab_step.specs.Laws.{CrossingsComeInTime, RunsCallSafely, SpeedsComeInTime};
 ghost use Rattle.trlab_step.specs.Laws.{StepsCallSafely, ViewsAreInRange};
+ghost use Rattle.trlab_step.specs.Driven.{RunsAreDriven};
 
 /// The cars of a part of the standing order have one list of speeds, and the lists of parts make up
 /// that of the whole: it is all one who asks the cars, and in which order.
@@ -73,6 +74,12 @@ pub fn road_is_one()
 /// added from the step on where the count begins.
 pub fn run_goes_on()
     ensures { RunGoesOn }
+{}
+
+/// One worker drives each run from a legal road under a sheet for its lanes: the road at each step is legal, with
+/// the lanes, the limit and the cars of the start, and each step is clean, its programs ending within their budgets.
+pub fn runs_are_driven()
+    ensures { RunsAreDriven }
 {}
 
 /// In a step under `nasch` each car goes ahead by its speed of Nagel and Schreckenberg (1992).
