@@ -42,7 +42,7 @@ step_is_driven seed sheet step road next legal is here at =
       rule = rule;
       tally = last.3;
       under = goes.under;
-      accepted = for_lanes;
+      suits = for_lanes;
       clean = next_is_clean rule (dice_at seed step) road next last.3 for_lanes like.legal comes;
     }
 
