@@ -18,10 +18,7 @@ pub enum RunFault {
 }
 
 /// How two runners ended, told as one: well where both did, else by a fault, `HistoryFull` before `Memory`.
-pub fn first_fault(
-    one: Result<(), RunFault>,
-    other: Result<(), RunFault>,
-) -> Result<(), RunFault>
+pub fn first_fault(one: Result<(), RunFault>, other: Result<(), RunFault>) -> Result<(), RunFault>
     ensures fine { IsOk result ↔ (IsOk one × IsOk other) }
     ensures full { (result ≡ Err HistoryFull) ↔ ((one ≡ Err HistoryFull) ⊎ (other ≡ Err HistoryFull)) }
 {

@@ -9,7 +9,7 @@ invariant_of-self-2 g c =
     let kept = c.args.self.now.kept in
     let call = Read c.args.job in
     let told = seen_reply c.read-answer.result in
-    record { noted = (c.note_event.ensures call (next_event kept c.read-answer.new.self call told c.reply_to_read.result _ c.read-answer.ensures.made c.reply_to_read.ensures c.args.self.now.noted)).0; }
+    record { noted = (c.note_event.ensures call (next_event kept c.read-answer.new.self call told c.reply_to_read.result _ c.read-answer.ensures.made c.reply_to_read.ensures c.args.self.now.noted)).0 }
 
 pub returns : goal.returns
 returns g c =
