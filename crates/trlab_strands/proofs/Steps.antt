@@ -1,5 +1,5 @@
 -- Each step keeps the rule of the strands.
-use Rattle.std.proofs.Common.{◌≡◌, ℕ, zero, suc, ◌+◌, ◌-◌, ◌<◌, ◌≤◌, ◌≢◌, ◌⊎◌, max, eqb, ltb, Bool, true, false, cond, List, [], ◌∷◌, ◌++◌, length, get_or, set, All, slice_index, refl, sym, ap, ◌∙◌, subst, inl, inr, ⊎_elim, zero-le, true≢false, arith, length-append, append_assoc}
+use Rattle.std.proofs.Common.{◌≡◌, ℕ, zero, suc, ◌+◌, ◌<◌, ◌≤◌, ◌≢◌, max, eqb, Bool, true, false, cond, List, [], ◌∷◌, ◌++◌, length, get_or, set, slice_index, refl, sym, ap, ◌∙◌, subst, ⊎_elim, zero-le, true≢false, arith, length-append, append_assoc}
 use Rattle.std.specs.Prelude.{sum_by}
 use Rattle.std.proofs.lemmas.List.{append-nil}
 use Rattle.std.proofs.lemmas.List.Sums.{sum_by-set, sum_by-cons, sum_by_push, sum_by-append}
@@ -8,9 +8,8 @@ use Rattle.std.proofs.lemmas.Bool.Decides.{nat_tests}
 use mathlib.Core.Option.{some, none, some-injective, some-ne-none}
 use lib.ListN.{get_elem?}
 use prog.Atomic.{either}
-use Rattle.atomic_table.specs.Table.{State, Me, Step, step, Act, keeps, stepped, opening, Allows, Splits, Joins}
+use Rattle.atomic_table.specs.Table.{State, Me, step, keeps, opening, Allows, Splits, Joins}
 use Rattle.atomic_table.proofs.Lists.{at_set, at_snoc, set_again, set_else}
-use Rattle.trlab_strands.specs.declared.limits.TheConstants.{ALL_PARTS}
 use Rattle.trlab_strands.specs.declared.stock.Noted.{Noted}
 use Rattle.trlab_strands.specs.declared.stock.Stock.{Stock}
 use Rattle.trlab_strands.specs.Stocks.{noted, number_of, times, once_below, StandsIn, StandIn, stock, nothing, opening_stock, without_list, list_alone, less_a_part, one_part, union, with_event}
@@ -314,6 +313,14 @@ module _ {E : Type 0} where
       let M : Type 0 = Me E (Stock E) in
       let both : met ≡ (stock v.parts v.own v.least true k.all, c) = joined ∙ (ap (λ (l : M). (union v l.0, c)) from ∙ ap (λ (u : Stock E). (u, c)) (meets v k keeping)) in
       (ap (λ (m : M). m.0.keeps) both, subst (λ (m : M). 0 < m.0.parts) (sym both) some_part)
+
+  -- what a strand that has met the list learns by a look
+  pub learns_met : (v k : Stock E) (c : List (ℕ × E)) (list met : Me E (Stock E)) → k.keeps ≡ true → list ≡ (list_alone k, []) → met ≡ (union v list.0, c)
+      → Learns met.0 → Learns (stock v.parts v.own v.least true k.all)
+  learns_met v k c list met keeping from joined learnt =
+      let M : Type 0 = Me E (Stock E) in
+      let both : met ≡ (stock v.parts v.own v.least true k.all, c) = joined ∙ (ap (λ (l : M). (union v l.0, c)) from ∙ ap (λ (u : Stock E). (u, c)) (meets v k keeping)) in
+      subst Learns (ap (λ (m : M). m.0) both) learnt
 
   -- a list that is alone holds no slot
   pub no_slot : (v : Stock E) (m : Me E (Stock E)) → m ≡ (v, []) → m.1 ≡ []

@@ -1,4 +1,5 @@
 use Rattle.std.proofs.Common.{sym, refl, ◌∙◌, arith}
+use mathlib.Core.Option.{some}
 use Rattle.trlab_strands.proofs.Steps.{apart, joins, met_list, no_slot, noting, writes}
 use Rattle.trlab_strands.proofs.tokens.Keeper.note.Goals as goal
 
@@ -27,7 +28,7 @@ invariant_of-strand g c =
     let s = c.args.strand.now in
     let k = c.args.self.now in
     let n = noting s.seat.me.0 k.seat.me.0 s.seat.me.1 c.args.event.now c.split_seat-list.result.me c.join_seat.new.seat.me c.compare_exchange_with.new.seat.me c.split_seat.new.seat.me c.split_seat.result.me k.keeps s.no_slot s.some
-    c.split_seat-list.ensures.4 c.join_seat.ensures.2 (c.compare_exchange_with.ensures.2 c.args.event.now refl) c.split_seat.ensures.2 c.split_seat.ensures.4 in
+    c.split_seat-list.ensures.4 c.join_seat.ensures.2 (c.compare_exchange_with.ensures.2 c.args.event.now (refl {a = some c.args.event.now})) c.split_seat.ensures.2 c.split_seat.ensures.4 in
     record {
       at = c.split_seat.ensures.0 ∙ (c.compare_exchange_with.ensures.0 ∙ (c.join_seat.ensures.0 ∙ s.at));
       no_slot = n.left_slot;
@@ -40,7 +41,7 @@ invariant_of-self g c =
     let s = c.args.strand.now in
     let k = c.args.self.now in
     let n = noting s.seat.me.0 k.seat.me.0 s.seat.me.1 c.args.event.now c.split_seat-list.result.me c.join_seat.new.seat.me c.compare_exchange_with.new.seat.me c.split_seat.new.seat.me c.split_seat.result.me k.keeps s.no_slot s.some
-    c.split_seat-list.ensures.4 c.join_seat.ensures.2 (c.compare_exchange_with.ensures.2 c.args.event.now refl) c.split_seat.ensures.2 c.split_seat.ensures.4 in
+    c.split_seat-list.ensures.4 c.join_seat.ensures.2 (c.compare_exchange_with.ensures.2 c.args.event.now (refl {a = some c.args.event.now})) c.split_seat.ensures.2 c.split_seat.ensures.4 in
     record {
       at = c.split_seat.ensures.3 ∙ (c.compare_exchange_with.ensures.0 ∙ (c.join_seat.ensures.0 ∙ s.at));
       no_slot = n.right_slot;
@@ -52,5 +53,5 @@ returns-clause-strand g c =
     let s = c.args.strand.now in
     let k = c.args.self.now in
     let n = noting s.seat.me.0 k.seat.me.0 s.seat.me.1 c.args.event.now c.split_seat-list.result.me c.join_seat.new.seat.me c.compare_exchange_with.new.seat.me c.split_seat.new.seat.me c.split_seat.result.me k.keeps s.no_slot s.some
-    c.split_seat-list.ensures.4 c.join_seat.ensures.2 (c.compare_exchange_with.ensures.2 c.args.event.now refl) c.split_seat.ensures.2 c.split_seat.ensures.4 in
+    c.split_seat-list.ensures.4 c.join_seat.ensures.2 (c.compare_exchange_with.ensures.2 c.args.event.now (refl {a = some c.args.event.now})) c.split_seat.ensures.2 c.split_seat.ensures.4 in
     (n.parts, n.least, n.own, n.next)
