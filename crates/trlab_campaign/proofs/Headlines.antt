@@ -59,11 +59,11 @@ drives_point setup number cars point rule fits is =
     let sheet = sweep.sheet_of setup in
     let legal = even_is_legal setup cars is.start fits is.even in
     let for_lanes = suits (length is.start.lanes) setup (subst (λ (lanes : ℕ). IsRuleFor lanes setup.rule) (sym is.even.same_lanes) rule) in
-    let at = λ step. run_comes_to_road seed sheet step legal for_lanes in
+    let at = λ (step : ℕ). run_comes_to_road seed sheet step legal for_lanes in
     record {
       start = is.start;
       tally = is.tally;
-      roads = λ step. (at step).0;
+      roads = λ (step : ℕ). (at step).0;
       even = is.even;
       driven = runs_are_driven seed sheet (all_steps setup.span) (λ step. (at step).0) legal for_lanes (λ step _. ((at step).1, (at step).2));
       counted = is.counted;
