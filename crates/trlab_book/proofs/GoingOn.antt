@@ -51,8 +51,8 @@ module _ {L : Type 0} {ledger : Ghosts L} where
       by_event : (one : Bool) → parts_of b ≡ parts_of a
           → MatchBool one ((book : State) × IsOneEvent a call told b book × Holds book) (strand.IsSame a.strand b.strand) → GoesOn a b
       by_event true same one =
-          let before = one.1.0.before in
-          let adds = one.1.0.noted in
+          let before = one.1.before in
+          let adds = one.1.noted in
           record {
             parts = same;
             least = let p = adds.1 in let q = adds.3 in omega arith;
