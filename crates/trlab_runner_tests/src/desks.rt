@@ -195,8 +195,8 @@ fn half_a_desk<L: Ledger, R: Wait>(
     requires name { name_of blank ≡ L.name }
 {
     let (book, mut mine) = SharedBook::<L>::start(alloc, blank);
-    submit(rt, alloc, &book, &mut mine, &two_cars(0, 4)).ok()?;
     let mut theirs = book.split(&mut mine);
+    submit(rt, alloc, &book, &mut mine, &two_cars(0, 4)).ok()?;
     let _ = book.revoke(rt, &mut theirs, 0);
     match book.close(mine) {
         Ok(_) => None,
