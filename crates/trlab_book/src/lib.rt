@@ -2,6 +2,7 @@
 //! threads call it, each of which knows its own of these calls, and runners that take its jobs.
 #![tactic(auto)]
 
+mod alone;
 mod calls;
 mod desk;
 mod events;
