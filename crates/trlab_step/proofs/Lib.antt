@@ -10,4 +10,5 @@ pub mod Stepped
 pub mod PartLaws
 pub mod Blocks
 pub mod AskedCars
+pub mod InLine
 pub mod PublishedLaws
