@@ -1,12 +1,14 @@
 //! A road as callers see it: its cells. It is kept as the list of the cars of each lane, by rising place.
 
-ghost use Rattle.std.specs.Prelude.{◌≡◌, ◌≢◌, ◌⊎◌, ◌*◌, ◌<◌, ◌≤◌, ◌↔◌, ℕ, Bool, length, slice_index, slice_index_or, false, ◌++◌, IfOk, OnErr, OnOk, IsTrue, MatchResult};
+ghost use Rattle.std.specs.Prelude.{◌≡◌, ◌≢◌, ◌⊎◌, ◌+◌, ◌*◌, ◌<◌, ◌≤◌, ◌↔◌, ℕ, Bool, length, slice_index, slice_index_or, false, ◌++◌, IfOk, OnErr, OnOk, IsTrue, MatchResult};
 ghost use Rattle.trlab_bounds.specs.declared.roads.TheConstants.{GREATEST_LENGTH, MOST_LANES};
 ghost use Rattle.trlab_road.specs.declared.car.Car.{Car};
 ghost use Rattle.trlab_road.specs.declared.fault.RoadFault.{RoadFault};
 ghost use Rattle.trlab_road.specs.Cells.{Cells, IsAt, cars, cars_before, lane_of};
 ghost use Rattle.trlab_road.specs.Gaps.{gap, headspeed, side, sideback, sidegap};
+ghost use Rattle.trlab_road.specs.InLine.{IsFollowed};
 ghost use Rattle.trlab_road.specs.Standing.{IsStanding};
+ghost use Rattle.trlab_road.specs.Stored.{no_car};
 ghost use Rattle.trlab_road.specs.Legal.{IsLegal};
 ghost use Rattle.trlab_road.specs.Pictures.{IsFirstFault, Shows, picture, pictures_of};
 ghost use Rattle.trlab_road.specs.LaneChange.{CleanLaneChange, Crosses, IsBeside, IsGapBeside, MayCross, sides};
@@ -239,6 +241,18 @@ impl Road {
     {
         let (lane, index) = find(&self.lanes, k);
         look_ahead(list_of(&self.lanes, lane), self.cells as usize, index)
+    }
+
+    /// The line from the k-th car in standing order on to the last one of its lane, as the lane keeps it: each car
+    /// but that last one is followed by the next car ahead of it.
+    pub fn line_from(&self, k: u32) -> &[LaneCar]
+        requires { k < cars self.now }
+        ensures { (j : ℕ) → j + 1 < length result.now → IsFollowed self.now (k + j)
+            (slice_index_or result.now j no_car) (slice_index_or result.now (j + 1) no_car) }
+    {
+        let (lane, index) = find(&self.lanes, k);
+        let (_, line) = list_of(&self.lanes, lane).split_at(index);
+        line
     }
 
     /// Is the side cell of the k-th car in standing order, the cell beside it on the other lane,

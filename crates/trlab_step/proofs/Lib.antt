@@ -11,4 +11,5 @@ pub mod Stepped
 pub mod PartLaws
 pub mod Blocks
 pub mod AskedCars
+pub mod InLine
 pub mod PublishedLaws
