@@ -1,5 +1,5 @@
 -- One worker drives the roads of each text that is not refused.
-use Rattle.std.proofs.Common.{◌≡◌, ℕ, List, true, false, true≢false, sym, subst, length}
+use Rattle.std.proofs.Common.{ℕ, List, false, true≢false, sym, subst, length}
 use Rattle.std.specs.Prelude.{Result, Ok, Err, IfOk}
 use Rattle.trlab_diagram.specs.declared.point.Point.{Point}
 use Rattle.trlab_road.specs.Cells.{Cells}

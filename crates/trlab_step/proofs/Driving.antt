@@ -1,11 +1,11 @@
 -- The roads of a run are driven by one worker.
-use Rattle.std.proofs.Common.{◌≡◌, ◌<◌, ◌≤◌, ℕ, suc, length, subst, zero-le, arith}
+use Rattle.std.proofs.Common.{ℕ, suc, length, subst, zero-le, arith}
 use Rattle.trlab_machine.specs.declared.dice.Dice.{Dice}
 use Rattle.trlab_road.specs.Cells.{Cells}
 use Rattle.trlab_road.specs.Legal.{IsLegal}
 use Rattle.trlab_rules.specs.Rules.{Programs}
 use Rattle.trlab_step.specs.declared.tally.StepTally.{StepTally}
-use Rattle.trlab_step.specs.Driven.{IsDriven, IsDrivenStep, RunsAreDriven}
+use Rattle.trlab_step.specs.Driven.{IsDrivenStep, RunsAreDriven}
 use Rattle.trlab_step.specs.Laws.{IsLegalLike, IsRuleFor, IsSheetFor}
 use Rattle.trlab_step.specs.Next.{IsCleanNext, IsNext}
 use Rattle.trlab_step.specs.Run.{Seed, Sheet, IsRoadAt, dice_at}
