@@ -50,11 +50,7 @@ fn main(rt: HostRuntime) -> ExitCode {
 /// A writer that gathers its output before it is written; at a terminal, where each step may be watched, it
 /// gathers nothing. It fails only where memory runs out.
 fn gathered<W: Write + IsTerminal + Drop>(alloc: Global, out: W) -> io::Result<BufWriter<W>> {
-    let most = if out.is_terminal() {
-        0
-    } else {
-        MOST_GATHERED
-    };
+    let most = if out.is_terminal() { 0 } else { MOST_GATHERED };
     BufWriter::with_capacity(alloc, most, out)
 }
 
