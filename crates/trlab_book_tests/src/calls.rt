@@ -10,6 +10,7 @@ use crate::table::Table;
 use std::alloc::Global;
 use std::marker::Brand;
 use std::sync::Wait;
+use trlab_book_trials::blanks::new_blank;
 use trlab_book_trials::histories::{Made, is_history};
 use trlab_book_trials::jobs::{ALWAYS, NEVER, shows};
 use trlab_leases::{BookFault, Call, Event, Offered, Reply};
@@ -65,7 +66,7 @@ fn leave_in<L: Ledger, R: Wait>(
 
 /// The same, of a book with one desk.
 fn leave(rt: &(impl AllocGlobal + Wait), calls: &[(Made, Reply)], wanted: &[Shown]) -> bool {
-    let Ok(blank) = Blank::new(rt.alloc()) else {
+    let Ok(blank) = new_blank(rt.alloc()) else {
         return false;
     };
     leave_in::<Brand, _>(rt, rt.alloc(), blank, calls, wanted)

@@ -10,6 +10,7 @@ use std::marker::Brand;
 use std::sync::Wait;
 use std::thread::Threads;
 use trlab_book::{Desk, RunFault, SharedBook, run_jobs};
+use trlab_book_trials::blanks::new_blank;
 use trlab_book_trials::histories::Made;
 use trlab_leases::{BookFault, Event, Offered, Reply};
 use trlab_segments::OpenGate;
@@ -104,7 +105,7 @@ fn a_full_history_closes(rt: HostRuntime) {
     let found = full_history::<Brand, HostRuntime>(
         &rt,
         rt.alloc(),
-        Blank::new(rt.alloc()).expect(&rt, "memory"),
+        new_blank(rt.alloc()).expect(&rt, "memory"),
     );
     assert!(rt; found == Some(1000000));
 }
@@ -154,7 +155,7 @@ fn a_sheet_has_1024_entries(rt: HostRuntime) {
         has_full_sheet::<Brand, HostRuntime>(
             &rt,
             rt.alloc(),
-            Blank::new(rt.alloc()).expect(&rt, "memory")
+            new_blank(rt.alloc()).expect(&rt, "memory")
         )
     );
 }

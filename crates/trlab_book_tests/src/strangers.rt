@@ -10,6 +10,7 @@ use crate::table::Table;
 use std::alloc::Global;
 use std::marker::Brand;
 use std::sync::Wait;
+use trlab_book_trials::blanks::new_blank;
 use trlab_book_trials::histories::Made;
 use trlab_leases::{BookFault, Event, Offered, Reply};
 use trlab_strands::{Blank, Ledger};
@@ -97,8 +98,8 @@ const ANOTHER_KEY: [Deed; 8] = [
 #[test]
 fn a_lease_of_a_job_under_another_key_is_a_stranger(rt: HostRuntime) {
     let (first, second) = (
-        Blank::new(rt.alloc()).expect(&rt, "memory"),
-        Blank::new(rt.alloc()).expect(&rt, "memory"),
+        new_blank(rt.alloc()).expect(&rt, "memory"),
+        new_blank(rt.alloc()).expect(&rt, "memory"),
     );
     assert!(rt;
         are_done_anew::<Brand, Brand, _>(&rt, rt.alloc(), first, second, 255, &ANOTHER_KEY, &[])
@@ -124,8 +125,8 @@ const SAME_RUN_READS: [Shown; 1] = [(1, b".1.1......", &[(0, false)])];
 #[test]
 fn a_lease_of_the_same_run_is_taken(rt: HostRuntime) {
     let (first, second) = (
-        Blank::new(rt.alloc()).expect(&rt, "memory"),
-        Blank::new(rt.alloc()).expect(&rt, "memory"),
+        new_blank(rt.alloc()).expect(&rt, "memory"),
+        new_blank(rt.alloc()).expect(&rt, "memory"),
     );
     assert!(rt;
         are_done_anew::<Brand, Brand, _>(

@@ -11,6 +11,7 @@ use std::marker::Brand;
 use std::sync::Wait;
 use std::thread::{Threads, join};
 use trlab_book::{Desk, SharedBook};
+use trlab_book_trials::blanks::new_blank;
 use trlab_book_trials::calls::{reads, replace, submit};
 use trlab_book_trials::histories::{Made, is_event, is_history};
 use trlab_book_trials::jobs::{NEVER, two_cars};
@@ -163,7 +164,7 @@ fn four_threads_have_their_calls_in_order(rt: HostRuntime) {
         four_threads::<Brand, HostRuntime>(
             &rt,
             rt.alloc(),
-            Blank::new(rt.alloc()).expect(&rt, "memory")
+            new_blank(rt.alloc()).expect(&rt, "memory")
         )
     );
 }
@@ -224,7 +225,7 @@ fn a_book_that_does_not_close_stays_as_it_was(rt: HostRuntime) {
     let closed = half_a_desk::<Brand, HostRuntime>(
         &rt,
         rt.alloc(),
-        Blank::new(rt.alloc()).expect(&rt, "memory"),
+        new_blank(rt.alloc()).expect(&rt, "memory"),
     );
     let stays = match closed {
         Some((some, one, history)) => stayed(some, one, &history),
@@ -253,7 +254,7 @@ fn a_desk_of_all_calls_closes_the_book(rt: HostRuntime) {
     let closed = a_quiet_desk::<Brand, HostRuntime>(
         &rt,
         rt.alloc(),
-        Blank::new(rt.alloc()).expect(&rt, "memory"),
+        new_blank(rt.alloc()).expect(&rt, "memory"),
     );
     assert!(rt; closed == (1, Some(1)));
 }

@@ -10,6 +10,7 @@ use std::marker::Brand;
 use std::sync::Wait;
 use std::thread::{Threads, join};
 use trlab_book::{Desk, SharedBook, run_jobs};
+use trlab_book_trials::blanks::new_blank;
 use trlab_book_trials::calls::{replace, submit};
 use trlab_book_trials::jobs::{ALWAYS, is_road_alone, two_cars};
 use trlab_leases::{Event, Reply, Snapshot};
@@ -142,7 +143,7 @@ fn a_replaced_rule_is_in_the_sheet(rt: HostRuntime) {
         is_in_the_sheet::<Brand, HostRuntime>(
             &rt,
             rt.alloc(),
-            Blank::new(rt.alloc()).expect(&rt, "memory")
+            new_blank(rt.alloc()).expect(&rt, "memory")
         )
     );
 }

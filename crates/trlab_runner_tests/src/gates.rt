@@ -11,6 +11,7 @@ use std::sync::Wait;
 use std::sync::atomic::{AtomicBool, Ordering};
 use std::thread::{Threads, join};
 use trlab_book::{Desk, SharedBook, run_jobs};
+use trlab_book_trials::blanks::new_blank;
 use trlab_book_trials::calls::{Wanted, reads, replace, submit};
 use trlab_book_trials::jobs::{ALWAYS, two_cars};
 use trlab_leases::{BookFault, Call, Event, Reply};
@@ -167,7 +168,7 @@ fn refused_orders(history: &[Event], ending: Ending) -> u32 {
 #[test]
 fn a_lease_ends_while_its_runner_is_held(rt: HostRuntime) {
     for ending in &[Ending::Revoked, Ending::Cancelled] {
-        let blank = Blank::new(rt.alloc()).expect(&rt, "memory");
+        let blank = new_blank(rt.alloc()).expect(&rt, "memory");
         let found = refused_to_held::<Brand, HostRuntime>(&rt, rt.alloc(), blank, *ending);
         assert!(rt; found == Some(1));
     }

@@ -14,6 +14,7 @@ use std::marker::Brand;
 use std::sync::Wait;
 use std::thread::Threads;
 use trlab_book::{Desk, RunFault, SharedBook, run_jobs};
+use trlab_book_trials::blanks::new_blank;
 use trlab_book_trials::calls::{reads, submit};
 use trlab_book_trials::jobs::{BY_HALF, Job, is_road_alone, two_cars};
 use trlab_leases::Event;
@@ -190,7 +191,7 @@ fn runners_run_all_jobs(rt: HostRuntime) {
         passes::<Brand, HostRuntime>(
             &rt,
             rt.alloc(),
-            Blank::new(rt.alloc()).expect(&rt, "memory"),
+            new_blank(rt.alloc()).expect(&rt, "memory"),
             Trial::ManyJobs
         )
     );
@@ -202,7 +203,7 @@ fn many_runners_come_to_the_roads_of_one(rt: HostRuntime) {
         passes::<Brand, HostRuntime>(
             &rt,
             rt.alloc(),
-            Blank::new(rt.alloc()).expect(&rt, "memory"),
+            new_blank(rt.alloc()).expect(&rt, "memory"),
             Trial::FewCars
         )
     );
@@ -214,7 +215,7 @@ fn two_runners_run_at_once(rt: HostRuntime) {
         passes::<Brand, HostRuntime>(
             &rt,
             rt.alloc(),
-            Blank::new(rt.alloc()).expect(&rt, "memory"),
+            new_blank(rt.alloc()).expect(&rt, "memory"),
             Trial::AtOnce
         )
     );
