@@ -1,7 +1,8 @@
 """What the benchmarks share: the programs that are measured, job texts, timed and compared runs.
 
-Build the proved program first by a run of ./trlab at the top; or name another one in TRLAB."""
+The proved program is the one that ./trlab runs, once it has been run; or name another one in TRLAB."""
 import filecmp
+import glob
 import os
 import random
 import subprocess
@@ -14,9 +15,16 @@ PLAIN = os.path.join(BENCH, "target", "release", "plain")
 BUILT = os.path.join(TOP, "crates", "trlab_program", "out", "trlab_program")
 
 
+def kept():
+    """The program of these sources that ./trlab keeps in out/, of two the one for the newer processors; or the one
+    that rt built last."""
+    told = subprocess.run([os.path.join(TOP, "release", "sources")], capture_output=True, check=True, text=True).stdout
+    return max(glob.glob(os.path.join(TOP, "out", f"trlab-{told[:16]}-*")), default=BUILT)
+
+
 def trlab():
     """The path of the proved program."""
-    path = os.environ.get("TRLAB", BUILT)
+    path = os.environ.get("TRLAB") or kept()
     if not os.access(path, os.X_OK):
         sys.exit(f"{path} is not there; build it first (./trlab --prove), or name one in TRLAB")
     return path

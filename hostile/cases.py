@@ -17,6 +17,13 @@ def line_of(text, number):
     return escaped[:-1] if ends_open else escaped + "\n"
 
 
+def lines_of(text, count):
+    """So many lines of a part, of which only those with a number differ."""
+    if "\\k" in text:
+        return "".join(line_of(text, number) for number in range(count))
+    return count * line_of(text, 0)
+
+
 def parts_of(path):
     """The words and the text of each part of a case file."""
     words, text = None, ""
@@ -30,8 +37,7 @@ def parts_of(path):
                 if words:
                     yield words, text
                 words, text = name, ""
-            for number in range(int(name) if name.isdigit() else 1):
-                text += line_of(more, number)
+            text += lines_of(more, int(name) if name.isdigit() else 1)
     if words:
         yield words, text
 

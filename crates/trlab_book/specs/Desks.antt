@@ -1,18 +1,108 @@
--- What callers see of a desk.
-use Rattle.std.specs.Prelude.{◌≡◌, ℕ, ◌+◌, cond}
+-- What callers see of a desk: the calls that were made through it, each with all that stood before it in the history.
+use Rattle.std.specs.Prelude.{◌≡◌, ◌↔◌, ℕ, ◌<◌, ◌≤◌, Bool, true, false, IsTrue, Result, Option, IfOk, List, ◌++◌, length, All, MatchBool}
+use Rattle.trlab_run.specs.Progress.{Progress}
+use Rattle.trlab_leases.specs.declared.fault.BookFault.{BookFault}
+use Rattle.trlab_leases.specs.declared.order.Order.{Order}
+use Rattle.trlab_leases.specs.Leases.{LeaseState}
+use Rattle.trlab_leases.specs.Comparison.{IsLent, IsRuleAt, IsSeen}
+use Rattle.trlab_leases.specs.Comparison as comparison
+use Rattle.trlab_leases.specs.declared.event.Call.{Call}
+use Rattle.trlab_leases.specs.declared.event.Call.TheVariants as call
+use Rattle.trlab_leases.specs.declared.event.Event.{Event}
 use Rattle.trlab_leases.specs.declared.event.Reply.{Reply}
+use Rattle.trlab_leases.specs.Machine.{State, reply_of}
 use Rattle.trlab_leases.specs.Answers.{is_event}
+use Rattle.trlab_leases.specs.Replay.{Replays, event}
+use Rattle.trlab_strands.specs.declared.stock.Noted.{Noted}
+use Rattle.trlab_strands.specs.Stocks.{number_of}
+use Rattle.trlab_strands.specs.declared.ledger.Ledger.{Ghosts}
+use Rattle.trlab_strands.specs.Tokens as strand
 use Rattle.trlab_book.specs.declared.desk.Desk.{Desk}
 
 -- how many parts of the right to call it has
-abbrev pub parts_of : {L : Type 0} → Desk L → ℕ
+abbrev pub parts_of : {L : Type 0} {ledger : Ghosts L} → Desk L ledger → ℕ
 parts_of d = d.parts
 
--- how many events were made through it
-abbrev pub count_of : {L : Type 0} → Desk L → ℕ
-count_of d = d.share.amount
+-- the subhistory of a desk: the events that were made through it, each with all that stood before it in the history
+abbrev pub subhistory_of : {L : Type 0} {ledger : Ghosts L} → Desk L ledger → List (Noted Event)
+subhistory_of d = strand.subhistory_of d.strand
 
--- the same parts, and one event more where the call with this reply is one
-abbrev pub Counts : {L : Type 0} → Desk L → Reply → Desk L → Type 0
-Counts old told new =
-    (parts_of new ≡ parts_of old) × (count_of new ≡ count_of old + cond (is_event told) 1 0)
+-- the clock of a desk: no event that is made through it from now on has a number below this
+abbrev pub least_of : {L : Type 0} {ledger : Ghosts L} → Desk L ledger → ℕ
+least_of d = strand.least_of d.strand
+
+-- how many events were made through it
+abbrev pub count_of : {L : Type 0} {ledger : Ghosts L} → Desk L ledger → ℕ
+count_of d = length (subhistory_of d)
+
+-- a desk as it was
+abbrev pub IsSame : {L : Type 0} {ledger : Ghosts L} → Desk L ledger → Desk L ledger → Type 0
+IsSame old new = (parts_of new ≡ parts_of old) × strand.IsSame old.strand new.strand
+
+-- a call is one event: the book, as all events before replay to it, gave this reply, and the desk has noted the event
+-- behind them
+pub record IsOneEvent {L : Type 0} {ledger : Ghosts L} (old : Desk L ledger) (call : Call) (told : Reply)
+    (new : Desk L ledger) (book : State) : Type 0 where
+  pub before : List Event
+  pub replays : ∥ Replays before book ∥₁
+  pub reply : told ≡ reply_of book call
+  pub noted : strand.Adds old.strand before (event call told) new.strand
+
+-- what a call does to the desk through which it is made: the same parts, and, where the reply to it is an event, just
+-- this event more, of a book of which something holds; else nothing
+abbrev pub MakesOf : {L : Type 0} {ledger : Ghosts L} → (State → Type 0) → Desk L ledger → Call → Reply → Desk L ledger → Type 0
+MakesOf Holds old call told new =
+    (parts_of new ≡ parts_of old)
+    × MatchBool (is_event told)
+    ((book : State) × IsOneEvent old call told new book × Holds book)
+    (strand.IsSame old.strand new.strand)
+
+-- the same, of whatever book
+abbrev pub Makes : {L : Type 0} {ledger : Ghosts L} → Desk L ledger → Call → Reply → Desk L ledger → Type 0
+Makes old call told new = MakesOf (λ book. Unit {0}) old call told new
+
+-- what is put down at a desk behind these events: the call, where its reply is an event, else nothing
+abbrev pub PutsDown : {L : Type 0} {ledger : Ghosts L} → Desk L ledger → List Event → Call → Reply → Desk L ledger → Type 0
+PutsDown old before call told new =
+    (parts_of new ≡ parts_of old)
+    × MatchBool (is_event told)
+    (strand.Adds old.strand before (event call told) new.strand)
+    (strand.IsSame old.strand new.strand)
+
+-- it is told whether the lease runs its job's road
+abbrev pub TellsSame : LeaseState → Bool → State → Type 0
+TellsSame lease same book = IsTrue same ↔ comparison.IsSame book.jobs lease
+
+-- the lease that is answered is one of the book's jobs, if one went out
+abbrev pub IsOfLease : Result (Option LeaseState) BookFault → State → Type 0
+IsOfLease answer book = IfOk answer (λ lent. IsLent book.jobs book.next lent)
+
+-- the order that is answered has the rule that is in force at its step
+abbrev pub IsOfOrder : LeaseState → Bool → Result Order BookFault → State → Type 0
+IsOfOrder lease same answer book = TellsSame lease same book × IfOk answer (λ order. IsRuleAt book.jobs order)
+
+-- the snapshot that is answered is one of this job of the book
+abbrev pub IsOfRead : ℕ → Result Progress BookFault → State → Type 0
+IsOfRead job answer book = IfOk answer (λ seen. IsSeen book.jobs job seen)
+
+-- runners lease jobs, have steps ordered, and give leases back or end them
+abbrev pub is_of_runner : Call → Bool
+is_of_runner call.Lease = true
+is_of_runner (call.Order lease) = true
+is_of_runner (call.GiveBack lease) = true
+is_of_runner (call.Revoke job) = true
+is_of_runner _ = false
+
+-- calls of runners, at numbers from one up to below another
+abbrev pub AreOfRunners : ℕ → ℕ → List (Noted Event) → Type 0
+AreOfRunners from to calls =
+    All (λ n. (from ≤ number_of n) × (number_of n < to) × (is_of_runner n.event.call ≡ true)) calls
+
+-- a desk through which runners have called: the same parts, and behind its events those of the runners, which stand in
+-- the history behind all that the desk had seen, and before all that is made through it from now on
+pub record GoesOn {L : Type 0} {ledger : Ghosts L} (old new : Desk L ledger) : Type 0 where
+  pub parts : parts_of new ≡ parts_of old
+  pub least : least_of old ≤ least_of new
+  pub more : List (Noted Event)
+  pub subhistory : subhistory_of new ≡ subhistory_of old ++ more
+  pub runners : AreOfRunners (least_of old) (least_of new) more

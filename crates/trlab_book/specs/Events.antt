@@ -1,5 +1,5 @@
 -- What a call does to a book with its history.
-use Rattle.std.specs.Prelude.{◌≡◌, ◌↔◌, ◌+◌, true, cond, ◌++◌, ◌∷◌, [], MatchBool, vec_len}
+use Rattle.std.specs.Prelude.{◌≡◌, ◌↔◌, true, ◌++◌, ◌∷◌, [], MatchBool}
 use Rattle.trlab_leases.specs.declared.fault.BookFault.TheVariants.{HistoryFull}
 use Rattle.trlab_leases.specs.declared.event.Call.{Call}
 use Rattle.trlab_leases.specs.declared.event.Reply.{Reply}
@@ -27,7 +27,3 @@ Makes old c told new = MatchBool (is_event told) (Appends old c told new) (IsUnc
 -- the answer says that the history is full exactly where it is
 abbrev pub TellsFull : Kept → Reply → Type 0
 TellsFull old told = (told ≡ Refused HistoryFull) ↔ (is_full old.book ≡ true)
-
--- the history is longer by one event, or as long where the answer is no event
-abbrev pub Lengthens : Kept → Reply → Kept → Type 0
-Lengthens old told new = vec_len new.history ≡ vec_len old.history + cond (is_event told) 1 0

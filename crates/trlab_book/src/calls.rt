@@ -1,17 +1,20 @@
-//! Calls of a shared book through a desk: each takes the lock once, and is one event.
+//! Calls of a shared book through a desk: each takes the lock once, and is one event of the desk's
+//! subhistory: this call, as it was made, with the reply that its caller has.
 
-ghost use Rattle.std.specs.Prelude.{◌≡◌, IfErr};
+ghost use Rattle.std.specs.Prelude.{◌≡◌, Bool, IfErr};
 ghost use Rattle.trlab_leases.specs.Answers.{back_reply, done_reply, lease_reply};
 ghost use Rattle.trlab_leases.specs.Answers.{number_reply, order_reply, seen_reply};
-ghost use Rattle.trlab_book.specs.Desks.{Counts};
+ghost use Rattle.trlab_leases.specs.Comparison.{LeaseCall, OrderCall, offered};
+ghost use Rattle.trlab_leases.specs.declared.event.Call.TheVariants.{Cancel, GiveBack, Read, Replace, Revoke, Submit};
+ghost use Rattle.trlab_book.specs.Desks.{IsOfLease, IsOfOrder, IsOfRead, Makes, MakesOf, TellsSame};
 
 use crate::desk::{Desk, SharedBook};
 use crate::events::{copied_replace, copied_submit};
 use std::alloc::Global;
 use std::sync::Wait;
-use std::sync::ledger::Ledger;
 use trlab_leases::{BookFault, Lease, Order, Seed, Snapshot};
 use trlab_rules::Rule;
+use trlab_strands::Ledger;
 
 impl<L: Ledger> SharedBook<L> {
     /// Submits a job, and answers its number. What the history keeps is copied before the lock is taken.
@@ -28,12 +31,12 @@ impl<L: Ledger> SharedBook<L> {
         rule: Rule,
         steps: u32,
     ) -> Result<u32, BookFault>
-        ensures { Counts desk.old (number_reply result) desk.new }
+        ensures { Makes desk.old (Submit seed rule steps) (number_reply result) desk.new }
     {
         let copied = copied_submit(alloc, &seed, &rule, steps);
         self.lock
             .lock(rt)
-            .submit(desk, alloc, seed, rule, steps, copied)
+            .submit(&self.strands, desk, alloc, seed, rule, steps, copied)
     }
 
     /// Puts a rule in force from the first step on that was never ordered, and answers that step.
@@ -49,10 +52,12 @@ impl<L: Ledger> SharedBook<L> {
         job: u32,
         rule: Rule,
     ) -> Result<u32, BookFault>
-        ensures { Counts desk.old (number_reply result) desk.new }
+        ensures { Makes desk.old (Replace job rule) (number_reply result) desk.new }
     {
         let copied = copied_replace(alloc, job, &rule);
-        self.lock.lock(rt).replace(desk, job, rule, copied)
+        self.lock
+            .lock(rt)
+            .replace(&self.strands, desk, job, rule, copied)
     }
 
     /// Leases the least job that is free, or answers that there is none.
@@ -66,9 +71,9 @@ impl<L: Ledger> SharedBook<L> {
         alloc: Global,
         desk: &mut Desk<L>,
     ) -> Result<Option<Lease>, BookFault>
-        ensures { Counts desk.old (lease_reply result) desk.new }
+        ensures { MakesOf (IsOfLease result) desk.old LeaseCall (lease_reply result) desk.new }
     {
-        self.lock.lock(rt).lease(desk, alloc)
+        self.lock.lock(rt).lease(&self.strands, desk, alloc)
     }
 
     /// The order for the step at which a lease stands.
@@ -83,9 +88,10 @@ impl<L: Ledger> SharedBook<L> {
         desk: &mut Desk<L>,
         lease: &Lease,
     ) -> Result<Order, BookFault>
-        ensures { Counts desk.old (order_reply result) desk.new }
+        ensures { (same : Bool)
+            × MakesOf (IsOfOrder lease.now same result) desk.old (OrderCall (offered lease.now same)) (order_reply result) desk.new }
     {
-        self.lock.lock(rt).order(desk, alloc, lease)
+        self.lock.lock(rt).order(&self.strands, desk, alloc, lease)
     }
 
     /// Gives a lease back: the job's steps and road become the lease's.
@@ -99,10 +105,11 @@ impl<L: Ledger> SharedBook<L> {
         desk: &mut Desk<L>,
         lease: Lease,
     ) -> Result<(), (Lease, BookFault)>
-        ensures counted { Counts desk.old (back_reply result) desk.new }
+        ensures made { (same : Bool)
+            × MakesOf (TellsSame lease same) desk.old (GiveBack (offered lease same)) (back_reply result) desk.new }
         ensures err { IfErr result (λ e. e.0 ≡ lease) }
     {
-        self.lock.lock(rt).give_back(desk, lease)
+        self.lock.lock(rt).give_back(&self.strands, desk, lease)
     }
 
     /// Ends the lease of a job.
@@ -111,9 +118,9 @@ impl<L: Ledger> SharedBook<L> {
     ///
     /// `NoSuchJob`, `StrangerLease` where none is out, `HistoryFull` or `Memory`.
     pub fn revoke<R: Wait>(&self, rt: &R, desk: &mut Desk<L>, job: u32) -> Result<(), BookFault>
-        ensures { Counts desk.old (done_reply result) desk.new }
+        ensures { Makes desk.old (Revoke job) (done_reply result) desk.new }
     {
-        self.lock.lock(rt).revoke(desk, job)
+        self.lock.lock(rt).revoke(&self.strands, desk, job)
     }
 
     /// Ends a job, and its lease.
@@ -122,9 +129,9 @@ impl<L: Ledger> SharedBook<L> {
     ///
     /// `NoSuchJob`, `Ended`, `HistoryFull` or `Memory`.
     pub fn cancel<R: Wait>(&self, rt: &R, desk: &mut Desk<L>, job: u32) -> Result<(), BookFault>
-        ensures { Counts desk.old (done_reply result) desk.new }
+        ensures { Makes desk.old (Cancel job) (done_reply result) desk.new }
     {
-        self.lock.lock(rt).cancel(desk, job)
+        self.lock.lock(rt).cancel(&self.strands, desk, job)
     }
 
     /// A snapshot of a job, also of one that was cancelled.
@@ -139,8 +146,8 @@ impl<L: Ledger> SharedBook<L> {
         desk: &mut Desk<L>,
         job: u32,
     ) -> Result<Snapshot, BookFault>
-        ensures { Counts desk.old (seen_reply result) desk.new }
+        ensures { MakesOf (IsOfRead job result) desk.old (Read job) (seen_reply result) desk.new }
     {
-        self.lock.lock(rt).read(desk, alloc, job)
+        self.lock.lock(rt).read(&self.strands, desk, alloc, job)
     }
 }

@@ -1,6 +1,7 @@
 //! Calls of a book with its history: each appends one event, or changes nothing.
 
 ghost use Rattle.std.specs.Prelude.{◌≡◌, ◌↔◌, ◌<◌, Bool, true, false, IsTrue, IfOk, IfErr, OnOk, [], vec_len};
+ghost use Rattle.std.specs.Bool.{OnTrue};
 ghost use Rattle.std.specs.Vec.{vec_capacity};
 ghost use Rattle.trlab_leases.specs.Answers.{back_reply, done_reply, is_event, lease_reply};
 ghost use Rattle.trlab_leases.specs.Answers.{number_reply, order_reply, seen_reply};
@@ -9,7 +10,7 @@ ghost use Rattle.trlab_leases.specs.Machine.{is_full, start};
 ghost use Rattle.trlab_leases.specs.declared.fault.BookFault.TheVariants.{HistoryFull};
 ghost use Rattle.trlab_leases.specs.declared.event.Call.TheVariants.{Cancel, GiveBack, Read, Replace, Revoke, Submit};
 ghost use Rattle.trlab_leases.specs.declared.event.Reply.TheVariants.{Refused};
-ghost use Rattle.trlab_book.specs.Events.{IsUnchanged, Lengthens, Makes, TellsFull};
+ghost use Rattle.trlab_book.specs.Events.{IsUnchanged, Makes, TellsFull};
 
 use crate::kept::Kept;
 use crate::replies::{
@@ -175,7 +176,9 @@ impl Kept {
             → Makes self.old (OrderCall (offered lease.now same)) (order_reply result) self.new }
         ensures rule { IfOk result (λ o. IsRuleAt self.old.book.jobs o) }
         ensures full { TellsFull self.old (order_reply result) }
-        ensures length { Lengthens self.old (order_reply result) self.new }
+        ensures noted { (same : Bool)
+            × OnTrue (is_event (order_reply result)) (IsTrue same ↔ IsSame self.old.book.jobs lease.now)
+            × Makes self.old (OrderCall (offered lease.now same)) (order_reply result) self.new }
     {
         self.make_room()?;
         let same = self.book.is_same(lease);
@@ -200,7 +203,9 @@ impl Kept {
             → Makes self.old (GiveBack (offered lease same)) (back_reply result) self.new }
         ensures err { IfErr result (λ e. e.0 ≡ lease) }
         ensures full { TellsFull self.old (back_reply result) }
-        ensures length { Lengthens self.old (back_reply result) self.new }
+        ensures noted { (same : Bool)
+            × OnTrue (is_event (back_reply result)) (IsTrue same ↔ IsSame self.old.book.jobs lease)
+            × Makes self.old (GiveBack (offered lease same)) (back_reply result) self.new }
     {
         if let Err(fault) = self.make_room() {
             return Err((lease, fault));

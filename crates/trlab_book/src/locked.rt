@@ -1,10 +1,14 @@
-//! Calls of a desk while the lock is held: each adds its event to the desk's count.
+//! Calls of a desk while the lock is held: each that is an event is put into the desk's subhistory.
 
-ghost use Rattle.std.specs.Prelude.{◌≡◌, ◌+◌, cond, IfOk, IfErr};
+ghost use Rattle.std.specs.Prelude.{◌≡◌, ◌++◌, ◌∷◌, [], Bool, IfOk, IfErr, MatchBool};
 ghost use Rattle.trlab_leases.specs.Answers.{back_reply, done_reply, is_event, lease_reply};
 ghost use Rattle.trlab_leases.specs.Answers.{number_reply, order_reply, seen_reply};
-ghost use Rattle.trlab_leases.specs.declared.event.Call.TheVariants.{Replace, Submit};
-ghost use Rattle.trlab_book.specs.Desks.{Counts};
+ghost use Rattle.trlab_leases.specs.Comparison.{LeaseCall, OrderCall, offered};
+ghost use Rattle.trlab_leases.specs.Replay.{event};
+ghost use Rattle.trlab_leases.specs.declared.event.Call.{Call};
+ghost use Rattle.trlab_leases.specs.declared.event.Call.TheVariants.{Cancel, GiveBack, Read, Replace, Revoke, Submit};
+ghost use Rattle.trlab_book.specs.Desks.{IsOfLease, IsOfOrder, IsOfRead, Makes, MakesOf, PutsDown, TellsSame};
+ghost use Rattle.trlab_strands.specs.Tokens.{list_of};
 
 use crate::desk::{Desk, Locked};
 use crate::replies::{
@@ -12,17 +16,28 @@ use crate::replies::{
     reply_to_read,
 };
 use std::alloc::{AllocError, Global};
-use std::sync::ledger::{self, Ledger};
-use trlab_leases::{BookFault, Call, Lease, Order, Reply, Seed, Snapshot};
+use trlab_leases::{BookFault, Call, Event, Lease, Order, Reply, Seed, Snapshot};
 use trlab_rules::Rule;
+use trlab_strands::{Keeper, Ledger, Strands};
 
-/// Adds the event of a call, where its reply is of one, to the ledger and to the desk.
-fn count_event<L: Ledger>(events: &mut ledger::Book<L>, desk: &mut Desk<L>, reply: Reply)
-    ensures total { events.new.total ≡ events.old.total + cond (is_event reply) 1 0 }
-    ensures counted { Counts desk.old reply desk.new }
+/// Puts the last event of the history into the desk's subhistory, where this reply is of an event. What
+/// `Locked` keeps is broken by a call and holds again behind this, so it is handed in by its parts.
+fn note_event<L: Ledger>(
+    keeper: &mut Keeper<L, Event>,
+    strands: &Strands<L, Event>,
+    desk: &mut Desk<L>,
+    history: &Vec<Event>,
+    reply: Reply,
+)
+    ensures { (call : Call)
+        → MatchBool (is_event reply) (history.now.items ≡ list_of keeper.old ++ event call reply ∷ []) (history.now.items ≡ list_of keeper.old)
+        → (history.now.items ≡ list_of keeper.new) × PutsDown desk.old (list_of keeper.old) call reply desk.new }
 {
-    if is_event(reply) {
-        events.add(&mut desk.share, 1);
+    if !is_event(reply) {
+        return;
+    }
+    if let Some(event) = history.last() {
+        keeper.note(strands, &mut desk.strand, event);
         desk.count = desk.count.saturating_add(1);
     }
 }
@@ -30,6 +45,7 @@ fn count_event<L: Ledger>(events: &mut ledger::Book<L>, desk: &mut Desk<L>, repl
 impl<L: Ledger> Locked<L> {
     pub(crate) fn submit(
         &mut self,
+        strands: &Strands<L, Event>,
         desk: &mut Desk<L>,
         alloc: Global,
         seed: Seed,
@@ -38,92 +54,157 @@ impl<L: Ledger> Locked<L> {
         copied: Result<Call, AllocError>,
     ) -> Result<u32, BookFault>
         requires { IfOk copied (λ call. call ≡ Submit seed rule steps) }
-        ensures { Counts desk.old (number_reply result) desk.new }
+        ensures { Makes desk.old (Submit seed rule steps) (number_reply result) desk.new }
     {
         let answer = self.kept.submit_copied(alloc, seed, rule, steps, copied);
-        count_event(&mut self.events, desk, reply_to_number(&answer));
+        note_event(
+            &mut self.keeper,
+            strands,
+            desk,
+            &self.kept.history,
+            reply_to_number(&answer),
+        );
         answer
     }
 
     pub(crate) fn replace(
         &mut self,
+        strands: &Strands<L, Event>,
         desk: &mut Desk<L>,
         job: u32,
         rule: Rule,
         copied: Result<Call, AllocError>,
     ) -> Result<u32, BookFault>
         requires { IfOk copied (λ call. call ≡ Replace job rule) }
-        ensures { Counts desk.old (number_reply result) desk.new }
+        ensures { Makes desk.old (Replace job rule) (number_reply result) desk.new }
     {
         let answer = self.kept.replace_copied(job, rule, copied);
-        count_event(&mut self.events, desk, reply_to_number(&answer));
+        note_event(
+            &mut self.keeper,
+            strands,
+            desk,
+            &self.kept.history,
+            reply_to_number(&answer),
+        );
         answer
     }
 
     pub(crate) fn lease(
         &mut self,
+        strands: &Strands<L, Event>,
         desk: &mut Desk<L>,
         alloc: Global,
     ) -> Result<Option<Lease>, BookFault>
-        ensures { Counts desk.old (lease_reply result) desk.new }
+        ensures { MakesOf (IsOfLease result) desk.old LeaseCall (lease_reply result) desk.new }
     {
         let answer = self.kept.lease(alloc);
-        count_event(&mut self.events, desk, reply_to_lease(&answer));
+        note_event(
+            &mut self.keeper,
+            strands,
+            desk,
+            &self.kept.history,
+            reply_to_lease(&answer),
+        );
         answer
     }
 
     pub(crate) fn order(
         &mut self,
+        strands: &Strands<L, Event>,
         desk: &mut Desk<L>,
         alloc: Global,
         lease: &Lease,
     ) -> Result<Order, BookFault>
-        ensures { Counts desk.old (order_reply result) desk.new }
+        ensures { (same : Bool)
+            × MakesOf (IsOfOrder lease.now same result) desk.old (OrderCall (offered lease.now same)) (order_reply result) desk.new }
     {
         let answer = self.kept.order(alloc, lease);
-        count_event(&mut self.events, desk, reply_to_order(&answer));
+        note_event(
+            &mut self.keeper,
+            strands,
+            desk,
+            &self.kept.history,
+            reply_to_order(&answer),
+        );
         answer
     }
 
     pub(crate) fn give_back(
         &mut self,
+        strands: &Strands<L, Event>,
         desk: &mut Desk<L>,
         lease: Lease,
     ) -> Result<(), (Lease, BookFault)>
-        ensures counted { Counts desk.old (back_reply result) desk.new }
+        ensures made { (same : Bool)
+            × MakesOf (TellsSame lease same) desk.old (GiveBack (offered lease same)) (back_reply result) desk.new }
         ensures err { IfErr result (λ e. e.0 ≡ lease) }
     {
         let answer = self.kept.give_back(lease);
-        count_event(&mut self.events, desk, reply_to_back(&answer));
+        note_event(
+            &mut self.keeper,
+            strands,
+            desk,
+            &self.kept.history,
+            reply_to_back(&answer),
+        );
         answer
     }
 
-    pub(crate) fn revoke(&mut self, desk: &mut Desk<L>, job: u32) -> Result<(), BookFault>
-        ensures { Counts desk.old (done_reply result) desk.new }
+    pub(crate) fn revoke(
+        &mut self,
+        strands: &Strands<L, Event>,
+        desk: &mut Desk<L>,
+        job: u32,
+    ) -> Result<(), BookFault>
+        ensures { Makes desk.old (Revoke job) (done_reply result) desk.new }
     {
         let answer = self.kept.revoke(job);
-        count_event(&mut self.events, desk, reply_to_done(&answer));
+        note_event(
+            &mut self.keeper,
+            strands,
+            desk,
+            &self.kept.history,
+            reply_to_done(&answer),
+        );
         answer
     }
 
-    pub(crate) fn cancel(&mut self, desk: &mut Desk<L>, job: u32) -> Result<(), BookFault>
-        ensures { Counts desk.old (done_reply result) desk.new }
+    pub(crate) fn cancel(
+        &mut self,
+        strands: &Strands<L, Event>,
+        desk: &mut Desk<L>,
+        job: u32,
+    ) -> Result<(), BookFault>
+        ensures { Makes desk.old (Cancel job) (done_reply result) desk.new }
     {
         let answer = self.kept.cancel(job);
-        count_event(&mut self.events, desk, reply_to_done(&answer));
+        note_event(
+            &mut self.keeper,
+            strands,
+            desk,
+            &self.kept.history,
+            reply_to_done(&answer),
+        );
         answer
     }
 
     pub(crate) fn read(
         &mut self,
+        strands: &Strands<L, Event>,
         desk: &mut Desk<L>,
         alloc: Global,
         job: u32,
     ) -> Result<Snapshot, BookFault>
-        ensures { Counts desk.old (seen_reply result) desk.new }
+        ensures { MakesOf (IsOfRead job result) desk.old (Read job) (seen_reply result) desk.new }
     {
         let answer = self.kept.read(alloc, job);
-        count_event(&mut self.events, desk, reply_to_read(&answer));
+        note_event(
+            &mut self.keeper,
+            strands,
+            desk,
+            &self.kept.history,
+            reply_to_read(&answer),
+        );
         answer
     }
 }

@@ -1,23 +1,22 @@
 //! Runners that share a book.
 
-ghost use Rattle.std.specs.Prelude.{◌≡◌, ◌<◌, ◌≤◌, ◌↔◌, ◌⊎◌, Err, IsOk, MatchResult};
+ghost use Rattle.std.specs.Prelude.{◌<◌, ◌≤◌, MatchResult};
 ghost use Rattle.std.specs.Thread.{IsSend, IsSync};
 ghost use Rattle.trlab_bounds.specs.declared.runs.TheConstants.{MOST_RUNNERS, MOST_WORKERS};
-ghost use Rattle.trlab_book.specs.Desks.{parts_of};
-ghost use Rattle.trlab_book.specs.declared.fault.RunFault.TheVariants.{HistoryFull};
-ghost use Rattle.trlab_book.specs.declared.limits.TheConstants.{ALL_PARTS};
+ghost use Rattle.trlab_book.specs.Desks.{GoesOn, parts_of};
 
 use crate::desk::{Desk, SharedBook};
-use crate::fault::RunFault;
+use crate::fault::{RunFault, first_fault};
 use crate::turn::run_one;
 use std::alloc::Global;
 use std::sync::Wait;
-use std::sync::ledger::Ledger;
 use std::thread::{Threads, join};
 use trlab_segments::Gate;
+use trlab_strands::Ledger;
 
-/// Runs the jobs of a book by 1 to 16 runners, until none is free, and gives the desk back, which has
-/// counted all their calls. Each step is taken by 1 to 16 workers, who pass the gate.
+/// Runs the jobs of a book by 1 to 16 runners, until none is free, and gives the desk back, with all their
+/// calls behind its own, those of one runner after those of another. Each step is taken by 1 to 16 workers,
+/// who pass the gate.
 ///
 /// The desk has a part for each runner. The calling thread is runner 0; it begins once the others were
 /// started, and does the work of those that can't be started.
@@ -34,10 +33,9 @@ pub fn run_jobs<L: Ledger + Send + Sync, R: Threads + Wait + Sync, G: Gate + Syn
     workers: u32,
     gate: &G,
 ) -> Result<Desk<L>, (Desk<L>, RunFault)>
-    requires ledger { L.parts ≡ ALL_PARTS }
     requires workers { (0 < workers) × (workers ≤ MOST_WORKERS) }
     requires runners { (0 < runners) × (runners ≤ MOST_RUNNERS) × (runners ≤ parts_of desk) }
-    ensures { MatchResult result (λ d. parts_of d ≡ parts_of desk) (λ e. parts_of e.0 ≡ parts_of desk) }
+    ensures { MatchResult result (λ d. GoesOn desk d) (λ e. GoesOn desk e.0) }
 {
     let (desk, ended) = run_all(rt, alloc, book, desk, runners, workers, gate);
     match ended {
@@ -56,10 +54,9 @@ fn run_all<L: Ledger + Send + Sync, R: Threads + Wait + Sync, G: Gate + Sync>(
     workers: u32,
     gate: &G,
 ) -> (Desk<L>, Result<(), RunFault>)
-    requires ledger { L.parts ≡ ALL_PARTS }
     requires workers { (0 < workers) × (workers ≤ MOST_WORKERS) }
     requires runners { (0 < runners) × (runners ≤ parts_of desk) }
-    ensures { parts_of result.0 ≡ parts_of desk }
+    ensures { GoesOn desk result.0 }
 {
     let mut desk = desk;
     let others = runners - 1;
@@ -67,35 +64,21 @@ fn run_all<L: Ledger + Send + Sync, R: Threads + Wait + Sync, G: Gate + Sync>(
         let ended = run_one(rt, alloc, book, &mut desk, workers, gate);
         return (desk, ended);
     }
-    let mut theirs = desk.split();
+    let mut theirs = book.split(&mut desk);
     let ((theirs, one), (mine, other)) = join(
         rt,
         move || -> (Desk<L>, Result<(), RunFault>)
             requires { IsSync R.row × IsSync G.row × (0 < workers) × (workers ≤ MOST_WORKERS) }
-            ensures { parts_of result.0 ≡ parts_of theirs }
+            ensures { GoesOn theirs result.0 }
         {
             let ended = run_one(rt, alloc, book, &mut theirs, workers, gate);
             (theirs, ended)
         },
         move || -> (Desk<L>, Result<(), RunFault>)
-            requires { IsSync R.row × IsSync G.row × IsSend L.row × IsSync L.row × (L.parts ≡ ALL_PARTS)
+            requires { IsSync R.row × IsSync G.row × IsSend L.row × IsSync L.row
                 × (0 < workers) × (workers ≤ MOST_WORKERS) × (0 < others) × (others ≤ parts_of desk) }
-            ensures { parts_of result.0 ≡ parts_of desk }
+            ensures { GoesOn desk result.0 }
         { run_all(rt, alloc, book, desk, others, workers, gate) },
     );
-    (theirs.gather(mine), first_fault(one, other))
-}
-
-/// The fault of two runners that is told: `HistoryFull` before `Memory`.
-fn first_fault(one: Result<(), RunFault>, other: Result<(), RunFault>) -> Result<(), RunFault>
-    ensures fine { IsOk result ↔ (IsOk one × IsOk other) }
-    ensures full { (result ≡ Err HistoryFull) ↔ ((one ≡ Err HistoryFull) ⊎ (other ≡ Err HistoryFull)) }
-{
-    match (one, other) {
-        (Err(RunFault::HistoryFull), _) | (_, Err(RunFault::HistoryFull)) => {
-            Err(RunFault::HistoryFull)
-        }
-        (Err(fault), _) | (_, Err(fault)) => Err(fault),
-        (Ok(()), Ok(())) => Ok(()),
-    }
+    (book.gather(mine, theirs), first_fault(one, other))
 }

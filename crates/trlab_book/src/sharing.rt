@@ -1,60 +1,102 @@
 //! Books are shared: they start with one desk of all parts, desks are split and gathered, and a desk
-//! that has all calls closes the book.
+//! that has all calls closes the book, and knows of each event of its history whose it is.
 
-ghost use Rattle.std.specs.Prelude.{◌≡◌, ◌+◌, ◌<◌, IfOk, IfErr, IsOk, vec_len};
+ghost use Rattle.std.specs.Prelude.{◌≡◌, ◌+◌, ◌<◌, ◌++◌, [], max, IfOk, IfErr, IsOk};
 ghost use Rattle.trlab_leases.specs.Replay.{Replays};
-ghost use Rattle.trlab_book.specs.Desks.{parts_of, count_of};
-ghost use Rattle.trlab_book.specs.declared.limits.TheConstants.{ALL_PARTS};
+ghost use Rattle.trlab_book.specs.Desks.{IsSame, subhistory_of, least_of, parts_of};
+ghost use Rattle.trlab_strands.specs.Stocks.{IsLinearization};
+ghost use Rattle.trlab_strands.specs.Tokens.{name_of};
+ghost use Rattle.trlab_strands.specs.declared.limits.TheConstants.{ALL_PARTS};
 
 use crate::desk::{Desk, Locked, SharedBook};
 use crate::kept::Kept;
-use crate::limits::ALL_PARTS;
 use std::alloc::Global;
 use std::sync::Mutex;
-use std::sync::ledger::{Blank, Ledger};
 use trlab_leases::{Book, Event};
+use trlab_strands::{ALL_PARTS, Blank, Ledger};
 
 impl<L: Ledger> SharedBook<L> {
-    /// An empty book, and the desk with all 1024 parts. It takes no memory.
-    pub fn start(alloc: Global, blank: Blank) -> (SharedBook<L>, Desk<L>)
-        requires name { blank.name ≡ L.name }
-        requires parts { (blank.parts ≡ L.parts) × (blank.parts ≡ ALL_PARTS) }
-        ensures { (parts_of result.1 ≡ ALL_PARTS) × (count_of result.1 ≡ 0) }
+    /// An empty book, and the desk with all 1024 parts. It takes no memory but the blank's.
+    pub fn start(alloc: Global, blank: Blank<Event>) -> (SharedBook<L>, Desk<L>)
+        requires { name_of blank ≡ L.name }
+        ensures parts { parts_of result.1 ≡ ALL_PARTS }
+        ensures events { (subhistory_of result.1 ≡ []) × (least_of result.1 ≡ 0) }
     {
-        let (events, share) = blank.open::<L>();
+        let (strands, keeper, strand) = blank.open::<L>();
         let lock = Mutex::new(Locked {
             kept: Kept::new(alloc),
-            events,
+            keeper,
         });
         let desk = Desk {
             parts: ALL_PARTS,
             count: 0,
-            share,
+            strand,
         };
-        (SharedBook { lock }, desk)
+        (SharedBook { lock, strands }, desk)
     }
 
-    /// Ends the sharing, and gives the book with its history.
+    /// Ends the sharing, and gives the book with its history, a linearization of the desk's subhistory.
     ///
     /// # Errors
     ///
-    /// Where events were made at other desks, which were not gathered into this one: the book and the
-    /// desk come back. With all parts it never fails.
+    /// Where events were made at other desks, which were not gathered into this one: the book with its history
+    /// and the desk come back as they were. With all parts it never fails.
     pub fn close(self, desk: Desk<L>) -> Result<(Book, Vec<Event>), (SharedBook<L>, Desk<L>)>
-        ensures ok { IfOk result (λ r. (vec_len r.1 ≡ count_of desk) × ∥ Replays r.1.items r.0 ∥₁) }
-        ensures err { IfErr result (λ r. (parts_of r.1 ≡ parts_of desk) × (count_of r.1 ≡ count_of desk)) }
-        ensures whole { parts_of desk ≡ L.parts → IsOk result }
+        ensures order { IfOk result (λ r. IsLinearization r.1.items (subhistory_of desk)) }
+        ensures replays { IfOk result (λ r. ∥ Replays r.1.items r.0 ∥₁) }
+        ensures err { IfErr result (λ r. IsSame desk r.1) }
+        ensures whole { parts_of desk ≡ ALL_PARTS → IsOk result }
     {
-        let SharedBook { lock } = self;
-        let Locked { kept, mut events } = lock.into_inner();
+        let SharedBook { lock, strands } = self;
+        let Locked { kept, mut keeper } = lock.into_inner();
         let mut desk = desk;
-        events.audit(&mut desk.share);
+        keeper.audit(&strands, &mut desk.strand);
         if kept.history.len() as u64 == desk.count {
             let Kept { book, history } = kept;
             return Ok((book, history));
         }
-        let lock = Mutex::new(Locked { kept, events });
-        Err((SharedBook { lock }, desk))
+        let lock = Mutex::new(Locked { kept, keeper });
+        Err((SharedBook { lock, strands }, desk))
+    }
+
+    /// Takes one part out of a desk of two or more, for another thread.
+    pub fn split(&self, desk: &mut Desk<L>) -> Desk<L>
+        requires { 1 < parts_of desk.old }
+        ensures parts { (parts_of desk.new + 1 ≡ parts_of desk.old) × (parts_of result ≡ 1) }
+        ensures events { (subhistory_of desk.new ≡ subhistory_of desk.old) × (subhistory_of result ≡ []) }
+        ensures least { (least_of desk.new ≡ least_of desk.old) × (least_of result ≡ least_of desk.old) }
+    {
+        let strand = self.strands.split(&mut desk.strand);
+        desk.parts -= 1;
+        Desk {
+            parts: 1,
+            count: 0,
+            strand,
+        }
+    }
+
+    /// The parts of both desks together, and the events of the one, then those of the other.
+    pub fn gather(&self, one: Desk<L>, other: Desk<L>) -> Desk<L>
+        ensures parts { parts_of result ≡ parts_of one + parts_of other }
+        ensures events { subhistory_of result ≡ subhistory_of one ++ subhistory_of other }
+        ensures least { least_of result ≡ max (least_of one) (least_of other) }
+    {
+        let Desk {
+            parts,
+            count,
+            strand,
+        } = one;
+        let Desk {
+            parts: more,
+            count: others,
+            strand: joined,
+        } = other;
+        let strand = self.strands.gather(strand, joined);
+        Desk {
+            parts: parts + more,
+            count: count.saturating_add(others),
+            strand,
+        }
     }
 }
 
@@ -64,44 +106,5 @@ impl<L: Ledger> Desk<L> {
         ensures { result ≡ parts_of self.now }
     {
         self.parts
-    }
-
-    /// Takes one part out of two or more, for another thread.
-    pub fn split(&mut self) -> Desk<L>
-        requires { 1 < parts_of self.old }
-        ensures parts { (parts_of self.new + 1 ≡ parts_of self.old) × (parts_of result ≡ 1) }
-        ensures count { (count_of self.new ≡ count_of self.old) × (count_of result ≡ 0) }
-    {
-        let Desk { parts, share, .. } = self;
-        *parts -= 1;
-        Desk {
-            parts: 1,
-            count: 0,
-            share: share.split_off(1, 0),
-        }
-    }
-
-    /// The parts and the counts of both desks together.
-    pub fn gather(self, other: Desk<L>) -> Desk<L>
-        requires { L.parts ≡ ALL_PARTS }
-        ensures parts { parts_of result ≡ parts_of self + parts_of other }
-        ensures count { count_of result ≡ count_of self + count_of other }
-    {
-        let Desk {
-            parts,
-            count,
-            mut share,
-        } = self;
-        let Desk {
-            parts: more,
-            count: others,
-            share: joined,
-        } = other;
-        share.merge(joined);
-        Desk {
-            parts: parts + more,
-            count: count.saturating_add(others),
-            share,
-        }
     }
 }

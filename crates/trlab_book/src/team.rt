@@ -3,7 +3,7 @@
 ghost use Rattle.std.specs.Prelude.{◌<◌, ◌≤◌};
 ghost use Rattle.trlab_bounds.specs.declared.runs.TheConstants.{MOST_WORKERS};
 
-use crate::ordered::advance;
+use crate::alone::Alone;
 use std::alloc::Global;
 use std::sync::Wait;
 use std::thread::Threads;
@@ -14,7 +14,6 @@ use trlab_segments::Gate;
 /// 1 to 16 workers and their gate.
 #[derive(Drop)]
 pub struct Team<'a, R, G> {
-    rt: &'a R,
     gate: &'a G,
     /// Its helpers wait for the phases of the steps while a run is driven by it.
     pub pool: Pool<'a, R, G>,
@@ -27,7 +26,6 @@ impl<'a, R: Threads + Wait + Sync, G: Gate + Sync> Team<'a, R, G> {
         requires { (0 < workers) × (workers ≤ MOST_WORKERS) }
     {
         Team {
-            rt,
             gate,
             pool: Pool::new(rt, workers, gate),
             is_one: workers == 1,
@@ -47,7 +45,7 @@ impl<'a, R: Threads + Wait + Sync, G: Gate + Sync> Team<'a, R, G> {
         order: &Order,
     ) -> Result<(), LeaseFault> {
         if self.is_one {
-            advance(self.rt, alloc, lease, order, 1, self.gate)
+            lease.advance_by(&Alone::new(self.gate), alloc, order)
         } else {
             lease.advance_by(&self.pool, alloc, order)
         }

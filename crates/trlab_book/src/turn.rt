@@ -2,17 +2,17 @@
 
 ghost use Rattle.std.specs.Prelude.{◌≡◌, ◌<◌, ◌≤◌};
 ghost use Rattle.trlab_bounds.specs.declared.runs.TheConstants.{MOST_WORKERS};
-ghost use Rattle.trlab_book.specs.Desks.{parts_of};
+ghost use Rattle.trlab_book.specs.Desks.{GoesOn};
 
 use crate::desk::{Desk, SharedBook};
 use crate::fault::RunFault;
 use crate::team::Team;
 use std::alloc::Global;
 use std::sync::Wait;
-use std::sync::ledger::Ledger;
 use std::thread::Threads;
 use trlab_leases::{BookFault, Lease, LeaseFault};
 use trlab_segments::Gate;
+use trlab_strands::Ledger;
 
 /// How many steps a runner takes at most before it gives a lease back.
 const STEPS_A_TURN: u32 = 32;
@@ -27,13 +27,13 @@ pub fn run_one<L: Ledger, R: Threads + Wait + Sync, G: Gate + Sync>(
     gate: &G,
 ) -> Result<(), RunFault>
     requires { (0 < workers) × (workers ≤ MOST_WORKERS) }
-    ensures { parts_of desk.new ≡ parts_of desk.old }
+    ensures { GoesOn desk.old desk.new }
 {
     let team = Team::new(rt, workers, gate);
     team.pool.run(
         alloc,
         &mut || -> Result<(), RunFault>
-            ensures { parts_of desk.exit.now ≡ parts_of desk.entry.now }
+            ensures { GoesOn desk.entry.now desk.exit.now }
         { take_leases(rt, alloc, book, desk, &team) },
     )
 }
@@ -46,7 +46,7 @@ fn take_leases<L: Ledger, R: Threads + Wait + Sync, G: Gate + Sync>(
     desk: &mut Desk<L>,
     team: &Team<R, G>,
 ) -> Result<(), RunFault>
-    ensures { parts_of desk.new ≡ parts_of desk.old }
+    ensures { GoesOn desk.old desk.new }
 {
     for _ in rt.forever() {
         if let Some(ended) = take_free(rt, alloc, book, desk, team) {
@@ -64,7 +64,7 @@ fn take_free<L: Ledger, R: Threads + Wait + Sync, G: Gate + Sync>(
     desk: &mut Desk<L>,
     team: &Team<R, G>,
 ) -> Option<Result<(), RunFault>>
-    ensures { parts_of desk.new ≡ parts_of desk.old }
+    ensures { GoesOn desk.old desk.new }
 {
     match book.lease(rt, alloc, desk) {
         Ok(Some(lease)) => match take_turn(rt, alloc, book, desk, lease, team) {
@@ -86,7 +86,7 @@ fn take_turn<L: Ledger, R: Threads + Wait + Sync, G: Gate + Sync>(
     lease: Lease,
     team: &Team<R, G>,
 ) -> Result<(), RunFault>
-    ensures { parts_of desk.new ≡ parts_of desk.old }
+    ensures { GoesOn desk.old desk.new }
 {
     let mut lease = lease;
     match run_steps(rt, alloc, book, desk, &mut lease, team) {
@@ -107,7 +107,7 @@ fn run_steps<L: Ledger, R: Threads + Wait + Sync, G: Gate + Sync>(
     lease: &mut Lease,
     team: &Team<R, G>,
 ) -> Result<(), BookFault>
-    ensures { parts_of desk.new ≡ parts_of desk.old }
+    ensures { GoesOn desk.old desk.new }
 {
     for _ in 0..STEPS_A_TURN {
         if lease.step() >= lease.steps() {
@@ -134,7 +134,7 @@ fn end_lease<L: Ledger, R: Wait>(
     lease: Lease,
     fault: BookFault,
 ) -> Result<(), RunFault>
-    ensures { parts_of desk.new ≡ parts_of desk.old }
+    ensures { GoesOn desk.old desk.new }
 {
     let job = lease.job();
     drop(lease);

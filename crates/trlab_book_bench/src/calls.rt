@@ -1,14 +1,15 @@
 //! A shared book of one job, and the calls that are timed.
 
 ghost use Rattle.std.specs.Prelude.{◌≡◌};
+ghost use Rattle.trlab_strands.specs.Tokens.{name_of};
 
 use std::alloc::Global;
 use std::sync::Wait;
-use std::sync::ledger::{Blank, Ledger};
 use trlab_book::SharedBook;
-use trlab_leases::{BookFault, Seed};
+use trlab_leases::{BookFault, Event, Seed};
 use trlab_road::Road;
 use trlab_rules::nasch;
+use trlab_strands::{Blank, Ledger};
 use trlab_words::{Chance, Key};
 
 /// How many cells the lane has, a car in each.
@@ -29,12 +30,11 @@ fn full_lane(alloc: Global) -> Option<Seed> {
 pub fn make_calls<L: Ledger, R: Wait>(
     rt: &R,
     alloc: Global,
-    blank: Blank,
+    blank: Blank<Event>,
     reads: bool,
     count: u32,
 ) -> Option<()>
-    requires name { blank.name ≡ L.name }
-    requires parts { (blank.parts ≡ L.parts) × (blank.parts ≡ 1024) }
+    requires name { name_of blank ≡ L.name }
 {
     let (book, mut desk) = SharedBook::<L>::start(alloc, blank);
     let rule = nasch(alloc, Chance::new(0)?).ok()?;

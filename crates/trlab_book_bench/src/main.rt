@@ -8,8 +8,8 @@ use crate::calls::make_calls;
 use std::marker::Brand;
 use std::process::ExitCode;
 use std::rt::Env;
-use std::sync::ledger::Blank;
 use std::{env, io};
+use trlab_strands::Blank;
 
 fn main(rt: HostRuntime) -> ExitCode {
     let Ok(words) = given_words(&rt) else {
@@ -22,7 +22,10 @@ fn main(rt: HostRuntime) -> ExitCode {
     let Ok(count) = words[1].parse::<u32>() else {
         return ExitCode::FAILURE;
     };
-    match make_calls::<Brand, HostRuntime>(&rt, rt.alloc(), Blank::new(1024), reads, count) {
+    let Ok(blank) = Blank::new(rt.alloc()) else {
+        return ExitCode::FAILURE;
+    };
+    match make_calls::<Brand, HostRuntime>(&rt, rt.alloc(), blank, reads, count) {
         Some(()) => ExitCode::SUCCESS,
         None => ExitCode::FAILURE,
     }

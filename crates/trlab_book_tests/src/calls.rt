@@ -2,6 +2,7 @@
 //! reads among them show.
 
 ghost use Rattle.std.specs.Prelude.{◌≡◌};
+ghost use Rattle.trlab_strands.specs.Tokens.{name_of};
 
 use crate::replies::{ordered, own, seen, went_out};
 use crate::shown::{Shown, is_rule, show};
@@ -9,10 +10,11 @@ use crate::table::Table;
 use std::alloc::Global;
 use std::marker::Brand;
 use std::sync::Wait;
-use std::sync::ledger::{Blank, Ledger};
+use trlab_book_trials::blanks::new_blank;
 use trlab_book_trials::histories::{Made, is_history};
 use trlab_book_trials::jobs::{ALWAYS, NEVER, shows};
 use trlab_leases::{BookFault, Call, Event, Offered, Reply};
+use trlab_strands::{Blank, Ledger};
 
 /// Whether a submission is of the two cars under the rule by which no car brakes, and a replacement by the
 /// one by which each does.
@@ -48,12 +50,11 @@ fn is_as_made(alloc: Global, history: &[Event], calls: &[(Made, Reply)]) -> bool
 fn leave_in<L: Ledger, R: Wait>(
     rt: &R,
     alloc: Global,
-    blank: Blank,
+    blank: Blank<Event>,
     calls: &[(Made, Reply)],
     wanted: &[Shown],
 ) -> bool
-    requires name { blank.name ≡ L.name }
-    requires parts { (blank.parts ≡ L.parts) × (blank.parts ≡ 1024) }
+    requires name { name_of blank ≡ L.name }
 {
     let mut table = Table::<L>::start(alloc, blank, b"0.0.......", 0);
     let made = table.make_all(rt, alloc, calls) && show(alloc, &table.reads, wanted);
@@ -65,7 +66,10 @@ fn leave_in<L: Ledger, R: Wait>(
 
 /// The same, of a book with one desk.
 fn leave(rt: &(impl AllocGlobal + Wait), calls: &[(Made, Reply)], wanted: &[Shown]) -> bool {
-    leave_in::<Brand, _>(rt, rt.alloc(), Blank::new(1024), calls, wanted)
+    let Ok(blank) = new_blank(rt.alloc()) else {
+        return false;
+    };
+    leave_in::<Brand, _>(rt, rt.alloc(), blank, calls, wanted)
 }
 
 const REPLACED: [(Made, Reply); 11] = [

@@ -1,18 +1,20 @@
 //! Full books: a sheet that has had all its rules, and a history that has had all its events.
 
 ghost use Rattle.std.specs.Prelude.{◌≡◌, ◌<◌, ◌≤◌};
+ghost use Rattle.trlab_strands.specs.Tokens.{name_of};
 
 use crate::replies::{ordered, own, seen, went_out};
 use crate::table::Table;
 use std::alloc::Global;
 use std::marker::Brand;
 use std::sync::Wait;
-use std::sync::ledger::{Blank, Ledger};
 use std::thread::Threads;
 use trlab_book::{Desk, RunFault, SharedBook, run_jobs};
+use trlab_book_trials::blanks::new_blank;
 use trlab_book_trials::histories::Made;
-use trlab_leases::{BookFault, Offered, Reply};
+use trlab_leases::{BookFault, Event, Offered, Reply};
 use trlab_segments::OpenGate;
+use trlab_strands::{Blank, Ledger};
 
 /// Whether so many calls of a job that there is not are events.
 fn hears<L: Ledger, R: Wait>(rt: &R, alloc: Global, table: &mut Table<L>, calls: u32) -> bool {
@@ -56,7 +58,6 @@ fn run<L: Ledger + Send + Sync, R: Threads + Wait + Sync>(
     desk: Desk<L>,
     runners: u32,
 ) -> (Desk<L>, bool)
-    requires ledger { L.parts ≡ 1024 }
     requires runners { (0 < runners) × (runners ≤ 16) }
 {
     if desk.parts() < runners {
@@ -84,10 +85,9 @@ fn fills<L: Ledger, R: Wait>(rt: &R, alloc: Global, table: &mut Table<L>) -> boo
 fn full_history<L: Ledger + Send + Sync, R: Threads + Wait + Sync>(
     rt: &R,
     alloc: Global,
-    blank: Blank,
+    blank: Blank<Event>,
 ) -> Option<usize>
-    requires name { blank.name ≡ L.name }
-    requires parts { (blank.parts ≡ L.parts) × (blank.parts ≡ 1024) }
+    requires name { name_of blank ≡ L.name }
 {
     let mut table = Table::<L>::start(alloc, blank, b"0.0.......", 0);
     let filled = fills(rt, alloc, &mut table);
@@ -102,7 +102,11 @@ fn full_history<L: Ledger + Send + Sync, R: Threads + Wait + Sync>(
 
 #[test]
 fn a_full_history_closes(rt: HostRuntime) {
-    let found = full_history::<Brand, HostRuntime>(&rt, rt.alloc(), Blank::new(1024));
+    let found = full_history::<Brand, HostRuntime>(
+        &rt,
+        rt.alloc(),
+        new_blank(rt.alloc()).expect(&rt, "memory"),
+    );
     assert!(rt; found == Some(1000000));
 }
 
@@ -136,9 +140,8 @@ const END: [(Made, Reply); 3] = [
 ];
 
 /// Whether a sheet has 1024 entries, and no more.
-fn has_full_sheet<L: Ledger, R: Wait>(rt: &R, alloc: Global, blank: Blank) -> bool
-    requires name { blank.name ≡ L.name }
-    requires parts { (blank.parts ≡ L.parts) × (blank.parts ≡ 1024) }
+fn has_full_sheet<L: Ledger, R: Wait>(rt: &R, alloc: Global, blank: Blank<Event>) -> bool
+    requires name { name_of blank ≡ L.name }
 {
     let mut table = Table::<L>::start(alloc, blank, b"0", 0);
     table.make_all(rt, alloc, &FRONT)
@@ -148,5 +151,11 @@ fn has_full_sheet<L: Ledger, R: Wait>(rt: &R, alloc: Global, blank: Blank) -> bo
 
 #[test]
 fn a_sheet_has_1024_entries(rt: HostRuntime) {
-    assert!(rt; has_full_sheet::<Brand, HostRuntime>(&rt, rt.alloc(), Blank::new(1024)));
+    assert!(rt;
+        has_full_sheet::<Brand, HostRuntime>(
+            &rt,
+            rt.alloc(),
+            new_blank(rt.alloc()).expect(&rt, "memory")
+        )
+    );
 }

@@ -3,10 +3,10 @@
 use crate::answers::{lease_told, order_told};
 use std::alloc::Global;
 use std::sync::Wait;
-use std::sync::ledger::Ledger;
 use trlab_book::{Desk, SharedBook};
 use trlab_leases::{Lease, Offered, Order, Reply};
 use trlab_step::Caller;
+use trlab_strands::Ledger;
 
 /// By their places the leases that are not back, and the orders for them.
 #[derive(Drop)]

@@ -2,6 +2,7 @@
 //! as soon as its step is ordered.
 
 ghost use Rattle.std.specs.Prelude.{◌≡◌};
+ghost use Rattle.trlab_strands.specs.Tokens.{name_of};
 
 use crate::replies::{ordered, own, seen, went_out};
 use crate::shown::{Shown, show};
@@ -9,9 +10,10 @@ use crate::table::Table;
 use std::alloc::Global;
 use std::marker::Brand;
 use std::sync::Wait;
-use std::sync::ledger::{Blank, Ledger};
+use trlab_book_trials::blanks::new_blank;
 use trlab_book_trials::histories::Made;
-use trlab_leases::{BookFault, Offered, Reply};
+use trlab_leases::{BookFault, Event, Offered, Reply};
+use trlab_strands::{Blank, Ledger};
 
 /// What is done with two books.
 #[derive(Clone, Copy)]
@@ -63,14 +65,14 @@ fn are_done<P: Ledger, Q: Ledger, R: Wait>(
 fn are_done_anew<P: Ledger, Q: Ledger, R: Wait>(
     rt: &R,
     alloc: Global,
-    first: Blank,
-    second: Blank,
+    first: Blank<Event>,
+    second: Blank<Event>,
     byte: u8,
     deeds: &[Deed],
     wanted: &[Shown],
 ) -> bool
-    requires first { (first.name ≡ P.name) × (first.parts ≡ P.parts) × (first.parts ≡ 1024) }
-    requires second { (second.name ≡ Q.name) × (second.parts ≡ Q.parts) × (second.parts ≡ 1024) }
+    requires first { name_of first ≡ P.name }
+    requires second { name_of second ≡ Q.name }
 {
     let mut own = Table::<P>::start(alloc, first, b"0.0.......", 0);
     let mut other = Table::<Q>::start(alloc, second, b"0.0.......", byte);
@@ -95,7 +97,10 @@ const ANOTHER_KEY: [Deed; 8] = [
 
 #[test]
 fn a_lease_of_a_job_under_another_key_is_a_stranger(rt: HostRuntime) {
-    let (first, second) = (Blank::new(1024), Blank::new(1024));
+    let (first, second) = (
+        new_blank(rt.alloc()).expect(&rt, "memory"),
+        new_blank(rt.alloc()).expect(&rt, "memory"),
+    );
     assert!(rt;
         are_done_anew::<Brand, Brand, _>(&rt, rt.alloc(), first, second, 255, &ANOTHER_KEY, &[])
     );
@@ -119,7 +124,10 @@ const SAME_RUN_READS: [Shown; 1] = [(1, b".1.1......", &[(0, false)])];
 
 #[test]
 fn a_lease_of_the_same_run_is_taken(rt: HostRuntime) {
-    let (first, second) = (Blank::new(1024), Blank::new(1024));
+    let (first, second) = (
+        new_blank(rt.alloc()).expect(&rt, "memory"),
+        new_blank(rt.alloc()).expect(&rt, "memory"),
+    );
     assert!(rt;
         are_done_anew::<Brand, Brand, _>(
             &rt,

@@ -6,17 +6,18 @@
 //! refused, whichever it is.
 
 ghost use Rattle.std.specs.Prelude.{◌≡◌};
+ghost use Rattle.trlab_strands.specs.Tokens.{name_of};
 
 use crate::answers::{done_told, number_told, snapshot_told};
 use crate::held::Held;
 use std::alloc::Global;
 use std::sync::Wait;
-use std::sync::ledger::{Blank, Ledger};
 use trlab_book::{Desk, SharedBook};
 use trlab_book_trials::calls::{replace, submit};
 use trlab_book_trials::histories::Made;
 use trlab_book_trials::jobs::{ALWAYS, Job, NEVER};
 use trlab_leases::{BookFault, Event, Reply, Snapshot};
+use trlab_strands::{Blank, Ledger};
 
 /// A shared book with its desk, the leases that are not back, and what was read. Each job is of the cars of
 /// one picture, under the key of one byte.
@@ -32,9 +33,8 @@ pub struct Table<L: Ledger> {
 
 impl<L: Ledger> Table<L> {
     /// A table with a new book.
-    pub fn start(alloc: Global, blank: Blank, picture: &'static [u8], byte: u8) -> Table<L>
-        requires name { blank.name ≡ L.name }
-        requires parts { (blank.parts ≡ L.parts) × (blank.parts ≡ 1024) }
+    pub fn start(alloc: Global, blank: Blank<Event>, picture: &'static [u8], byte: u8) -> Table<L>
+        requires name { name_of blank ≡ L.name }
     {
         let (book, desk) = SharedBook::<L>::start(alloc, blank);
         Table {

@@ -3,9 +3,9 @@
 use crate::jobs::{Job, is_seen, rule_of, seed_of};
 use std::alloc::Global;
 use std::sync::Wait;
-use std::sync::ledger::Ledger;
 use trlab_book::{Desk, SharedBook};
 use trlab_leases::{BookFault, Snapshot};
+use trlab_strands::Ledger;
 
 /// Submits a job.
 pub fn submit<L: Ledger, R: Wait>(

@@ -1,6 +1,7 @@
-//! What tests of the shared book have in common: jobs of few cars, calls, and what histories say of calls.
+//! What tests of the shared book have in common: new books, jobs of few cars, calls, and what histories say of calls.
 #![tactic(auto)]
 
+pub mod blanks;
 pub mod calls;
 pub mod histories;
 pub mod jobs;

@@ -17,3 +17,4 @@ pub mod SomeOutput
 pub mod Verdicts
 pub mod StatedRules
 pub mod Capacities
+pub mod Headlines

@@ -23,7 +23,7 @@ use Rattle.trlab_campaign.specs.Laws.{HasSomeOutput}
 use Rattle.trlab_campaign.proofs.Points.{suits}
 
 -- a road on which cars that fit are evenly spread
-even_some : (lanes cells limit n : ℕ) → CanSpread lanes cells limit n → (road : Cells) × (IsEven lanes cells limit n road × IsLegal road)
+pub even_some : (lanes cells limit n : ℕ) → CanSpread lanes cells limit n → (road : Cells) × (IsEven lanes cells limit n road × IsLegal road)
 even_some lanes cells limit n fits = let said = something lanes cells limit n in of_said said.0 said.1
   where
     of_said : (said : Result Cells RoadFault) → SaysEven lanes cells limit n said → (road : Cells) × (IsEven lanes cells limit n road × IsLegal road)

@@ -9,6 +9,7 @@ pub mod NoteLines
 pub mod CheckOutput
 pub mod SweepOutput
 pub mod Capacity
+pub mod Headline
 pub mod TooBig
 -- how engines end, and laws
 pub mod Ending

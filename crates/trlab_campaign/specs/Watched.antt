@@ -1,5 +1,5 @@
 -- Readers and writers of std that remember what has come of their calls.
-use Rattle.std.specs.Prelude.{Bool}
+use Rattle.std.specs.Prelude.{ℕ, Bool}
 use Rattle.trlab_campaign.specs.declared.device.flushes.Flushes.{Flushes}
 use Rattle.trlab_campaign.specs.declared.device.watched.Watched.{Watched}
 
@@ -10,6 +10,10 @@ inner_of watched = watched.inner
 -- whether a call of it has failed
 abbrev pub has_failed : {X : Type 0} → Watched X → Bool
 has_failed watched = watched.failed
+
+-- how many bytes it gave
+abbrev pub taken_of : {X : Type 0} → Watched X → ℕ
+taken_of watched = watched.taken
 
 -- whether all that was written has been handed on
 abbrev pub has_handed_on : {X : Type 0} → Watched X → Bool

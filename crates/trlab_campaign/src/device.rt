@@ -4,8 +4,9 @@ mod flushes;
 mod watched;
 mod whole;
 
-ghost use Rattle.std.specs.Prelude.{◌≡◌, ℕ, ◌≤◌, ◌<◌, ◌||◌, List, length, Option, Bool, true, false, IfOk, OnOk, is_err};
+ghost use Rattle.std.specs.Prelude.{◌≡◌, ℕ, ◌+◌, ◌≤◌, ◌<◌, ◌||◌, List, length, Option, Bool, true, false, IfOk, OnOk, is_err};
 ghost use Rattle.std.specs.Io.KnownBytes.{ReadConsumes, WriteAppends, Keeps};
+ghost use Rattle.trlab_campaign.specs.Device.{given};
 ghost use Rattle.trlab_campaign.specs.Flushes.{once_more};
 ghost use Rattle.trlab_campaign.specs.declared.device.flushes.Flushes.{Flushes};
 
@@ -23,6 +24,8 @@ pub struct DeviceError;
 pub trait Source {
     // The bytes that are left to read, where they are told.
     ghost left: { Self → Option (List ℕ) };
+    // How many bytes its calls have given, whether it tells them or not.
+    ghost taken: { Self → ℕ };
     // Whether a call has failed.
     ghost failed: { Self → Bool };
 
@@ -34,6 +37,7 @@ pub trait Source {
     fn take(&mut self, buffer: &mut [u8]) -> Result<usize, DeviceError>
         ensures count { IfOk result (λ n. n ≤ length buffer.new) }
         ensures bytes { ReadConsumes (left self.old) (left self.new) result buffer.new }
+        ensures counted { taken self.new ≡ taken self.old + given result }
         ensures fails { failed self.new ≡ (failed self.old || is_err result) };
 }
 

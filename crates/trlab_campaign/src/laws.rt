@@ -1,12 +1,27 @@
-//! Laws of the outputs of texts, whichever code writes them, and of the points of a sweep.
+//! Laws of the outputs of texts, whichever code writes them: what one worker who drives the roads comes to, and what
+//! the points of a sweep keep to.
 //!
 //! Each law is the contract of a function with nothing to do.
 
 ghost use Rattle.trlab_campaign.specs.Capacity.{DiagramIsTriangle, SweepsKeepToCapacity};
 ghost use Rattle.trlab_campaign.specs.CheckOutput.{IsCheckOutput};
+ghost use Rattle.trlab_campaign.specs.Headline.{JobTextsAreDriven, SweepTextsAreDriven};
 ghost use Rattle.trlab_campaign.specs.Laws.{HasOneOutput, HasSomeOutput};
 ghost use Rattle.trlab_campaign.specs.Output.{IsOutput};
 ghost use Rattle.trlab_campaign.specs.SweepOutput.{IsSweepOutput};
+
+/// The output for a job text that is not refused has the pictures of the roads through which one worker drives, from
+/// the road that the text shows to that behind its last step: each step is under the rule in force, its programs end
+/// within their budgets, no car goes onto or through another, and none is lost or made.
+pub fn job_texts_are_driven()
+    ensures { JobTextsAreDriven }
+{}
+
+/// The table for a sweep text that is not refused has a point for each count of cars, in their order, of a road that
+/// one worker drives so, whose cars are evenly spread at the start.
+pub fn sweep_texts_are_driven()
+    ensures { SweepTextsAreDriven }
+{}
 
 /// Any job text has just one output, and it is a refusal or it is none.
 pub fn text_has_one_output()

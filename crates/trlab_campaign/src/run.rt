@@ -76,6 +76,8 @@ pub fn run_job_text<R: AllocGlobal + Threads + Wait + Sync, S: Source, K: Sink>(
         (K.handed_on writer.new) (K.flushes writer.old) (K.flushes writer.new) }
     ensures device { (result ≡ DeviceFault) ↔ ((S.failed reader.new || K.failed writer.new) ≡ true) }
     ensures read { ConsumesUpTo (TEXT_LIMIT + 1) (S.left reader.old) (S.left reader.new) }
+    // A reader that tells no bytes gives no more either.
+    ensures stops { S.taken reader.new ≤ S.taken reader.old + (TEXT_LIMIT + 1) }
 {
     let alloc = rt.alloc();
     let gate = OpenGate;
@@ -94,6 +96,7 @@ pub fn run_job_text<R: AllocGlobal + Threads + Wait + Sync, S: Source, K: Sink>(
             ensures device { (result ≡ DeviceFault)
                 ↔ ((S.failed reader.exit.now || K.failed writer.exit.now) ≡ true) }
             ensures read { ConsumesUpTo (TEXT_LIMIT + 1) (S.left reader.entry.now) (S.left reader.exit.now) }
+            ensures stops { S.taken reader.exit.now ≤ S.taken reader.entry.now + (TEXT_LIMIT + 1) }
         { run_engine(alloc, Driver { asker: &pool }, reader, writer) },
     )
 }

@@ -3,11 +3,12 @@ use Rattle.std.proofs.Common.{◌≡◌, ℕ, zero, suc, ◌+◌, ◌<◌, ◌�
 use Rattle.std.proofs.lemmas.Bool.{le-leb, lt-leb, false≢true}
 use Rattle.std.proofs.lemmas.Option.{slice_get-get_or}
 use Rattle.std.proofs.Math.Nat.{eq-or-lt_of_le}
-use Rattle.std.specs.Prelude.{slice_get, Option, Some, None, nat_le, unwrap_or, option_map, if◌then◌else◌}
+use Rattle.std.specs.Prelude.{All, slice_get, Option, Some, None, nat_le, unwrap_or, option_map, if◌then◌else◌}
 use Rattle.std.specs.List.{AllWithin}
 use Rattle.trlab_rules.specs.Rules.{Programs}
 use Rattle.trlab_step.specs.Run.{Sheet, Rises, IsSheet, in_force}
 use Rattle.trlab_leases.specs.declared.ran.Ran.{Ran}
+use Rattle.trlab_leases.specs.Leases.{IsSteady}
 use Rattle.trlab_leases.specs.Sheets.{AreInForce, entry_in_force}
 
 -- the steps of a sheet rise from 0 on
@@ -95,3 +96,61 @@ all_in_force sheet step applied count first all k ran at = first.each k ran (wit
     within (x ∷ xs) zero ran count at all = omega arith
     within (x ∷ xs) (suc k) ran zero at all = absurd (omega arith)
     within (x ∷ xs) (suc k) ran (suc count) at all = let rest = within xs k ran count at (omega arith) in omega arith
+
+-- an entry is within the sheet's last step, and where that has come the last rule is in force
+pub record IsLastIn (least : ℕ) (sheet : Sheet) (step : ℕ) (entry : ℕ × Programs) : Type 0 where
+  pub above : least ≤ entry.0
+  pub in_force_there : entry.0 ≤ step → in_force sheet step ≡ Some entry.1
+
+one_entry : {a b : ℕ × Programs} → Some a ≡ Some b → a ≡ b
+one_entry e = cc
+
+pub last_in_force : (least : ℕ) (sheet : Sheet) (step n : ℕ) (entry : ℕ × Programs) → Rises least sheet
+    → slice_get sheet n ≡ Some entry → length sheet ≡ suc n → IsLastIn least sheet step entry
+last_in_force least [] step n entry rises at long = absurd cc
+last_in_force least (x ∷ []) step zero entry rises at long =
+    let same : x ≡ entry = one_entry at in
+    subst (λ e. IsLastIn least (x ∷ []) step e) same
+    (record { above = rises.0; in_force_there = λ come. rw (le-leb x.0 step come) refl })
+last_in_force least (x ∷ []) step (suc n) entry rises at long = absurd cc
+last_in_force least (x ∷ y ∷ more) step zero entry rises at long = absurd (omega arith)
+last_in_force least (x ∷ y ∷ more) step (suc n) entry rises at long =
+    let later = last_in_force (x.0 + 1) (y ∷ more) step n entry rises.1 at (omega arith) in
+    let here = rises.0 in
+    let above = later.above in
+    record {
+      above = omega arith;
+      in_force_there = λ come. (
+          let begun : x.0 ≤ step = omega arith in
+          rw (le-leb x.0 step begun, later.in_force_there come) refl);
+    }
+
+-- one rule is in force from a step on, and one rule was applied: all were in force where the first was
+pub steady_in_force : (sheet : Sheet) (step n : ℕ) (entry : ℕ × Programs) (ran : Ran) (applied : List Ran) → IsSheet sheet
+    → slice_get sheet n ≡ Some entry → length sheet ≡ suc n → entry.0 ≤ step → IsSteady applied
+    → slice_get applied 0 ≡ Some ran → entry.1 ≡ ran.rule → AreInForce sheet step applied
+steady_in_force sheet step n entry ran [] is at long come steady begins same k other found = absurd cc
+steady_in_force sheet step n entry ran (x ∷ more) is at long come steady begins same zero other found =
+    let here : other ≡ ran = one_ran (sym found ∙ begins) in
+    (last_in_force 0 sheet (step + 0) n entry (rises_from_0 sheet is) at long).in_force_there (omega arith)
+    ∙ ap Some (same ∙ ap (λ (r : Ran). r.rule) (sym here))
+steady_in_force sheet step n entry ran (x ∷ more) is at long come steady begins same (suc k) other found =
+    let first : x ≡ ran = one_ran begins in
+    (last_in_force 0 sheet (step + suc k) n entry (rises_from_0 sheet is) at long).in_force_there (omega arith)
+    ∙ ap Some (same ∙ ap (λ (r : Ran). r.rule) (sym first) ∙ sym (one_of more k other (λ r. r.rule ≡ x.rule) steady found))
+  where
+    one_of : (more : List Ran) (k : ℕ) (other : Ran) (P : Ran → Type 0) → All P more → slice_get more k ≡ Some other → P other
+    one_of [] k other P all at = absurd cc
+    one_of (y ∷ more) zero other P all at = subst P (one_ran at) (all 0 y (omega arith))
+    one_of (y ∷ more) (suc k) other P all at = one_of more k other P (λ i d h. all (suc i) d (omega arith)) at
+
+-- and the other way round
+pub first_in_force : (sheet : Sheet) (step n : ℕ) (entry : ℕ × Programs) (ran : Ran) (applied : List Ran) → IsSheet sheet
+    → slice_get sheet n ≡ Some entry → length sheet ≡ suc n → entry.0 ≤ step
+    → slice_get applied 0 ≡ Some ran → AreInForce sheet step applied → entry.1 ≡ ran.rule
+first_in_force sheet step n entry ran applied is at long come begins all =
+    let here = (last_in_force 0 sheet (step + 0) n entry (rises_from_0 sheet is) at long).in_force_there (omega arith) in
+    one_rule (sym here ∙ all 0 ran begins)
+  where
+    one_rule : {a b : Programs} → Some a ≡ Some b → a ≡ b
+    one_rule e = cc

@@ -2,3 +2,5 @@ pub mod InForce
 pub mod Entering
 pub mod LeaseRuns
 pub mod Booking
+pub mod Submitting
+pub mod Reading

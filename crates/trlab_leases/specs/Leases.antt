@@ -1,5 +1,5 @@
 -- Leases: the steps that they have run, and one step more.
-use Rattle.std.specs.Prelude.{◌≡◌, ℕ, ◌+◌, ◌==◌, ◌&&◌, not, is_some, Bool, true, List, [], ◌∷◌, ◌++◌, length}
+use Rattle.std.specs.Prelude.{◌≡◌, ℕ, ◌+◌, ◌==◌, ◌&&◌, not, is_some, Bool, true, List, [], ◌∷◌, ◌++◌, length, All}
 use Rattle.trlab_road.specs.Cells.{Cells}
 use Rattle.trlab_rules.specs.Rules.{Programs}
 use Rattle.trlab_words.specs.declared.key.Key.{Key}
@@ -38,6 +38,11 @@ pub record LeaseState : Type 0 where
 pub record IsLease (lease : LeaseState) : Type 0 where
   pub steps_run : lease.step ≡ lease.base.step + length lease.applied
   pub leads : LeadsTo lease.key.0 lease.road_number lease.base.step lease.base.road lease.applied lease.road
+
+-- all steps were run under one rule
+abbrev pub IsSteady : List Ran → Type 0
+IsSteady [] = Unit {0}
+IsSteady (first ∷ more) = All (λ (ran : Ran). ran.rule ≡ first.rule) more
 
 -- a rule suits a road: a change program does not suit one lane
 abbrev pub suits : Programs → Cells → Bool

@@ -5,3 +5,4 @@ pub mod Jobs
 pub mod Answers
 pub mod Comparison
 pub mod Replay
+pub mod Submits

@@ -1,13 +1,14 @@
 //! One ordered step of a lease.
 
-ghost use Rattle.std.specs.Prelude.{◌≡◌, ◌↔◌, ◌+◌, ◌<◌, ◌^◌, IsTrue, OnOk, OnErr, length};
+ghost use Rattle.std.specs.Prelude.{◌≡◌, ◌↔◌, ◌+◌, ◌<◌, ◌^◌, ◌++◌, ◌∷◌, [], IsTrue, OnOk, OnErr, length};
 ghost use Rattle.trlab_step.specs.Answers.{dice_of};
 ghost use Rattle.trlab_step.specs.Laws.{IsRuleFor};
 ghost use Rattle.trlab_step.specs.Next.{IsNext};
 ghost use Rattle.trlab_step.specs.declared.tally.StepTally.{StepTally};
-ghost use Rattle.trlab_leases.specs.Leases.{FitsOrder, HasRun, one_more};
+ghost use Rattle.trlab_leases.specs.Leases.{FitsOrder, HasRun, IsSteady, one_more};
 ghost use Rattle.trlab_leases.specs.declared.advance.LeaseFault.TheVariants.{Memory, WrongOrder};
 
+use crate::boxed::BoxedRule;
 use crate::lease::Lease;
 use crate::order::Order;
 use crate::ran::Ran;
@@ -62,7 +63,12 @@ impl Lease {
     }
 
     /// Runs one step more, under a rule. Where memory ran out nothing changes.
-    fn run<A: Asker>(&mut self, asker: &A, alloc: Global, rule: &Rule) -> Result<(), AllocError>
+    fn run<A: Asker>(
+        &mut self,
+        asker: &A,
+        alloc: Global,
+        rule: &BoxedRule,
+    ) -> Result<(), AllocError>
         requires ready { A.is_ready asker.now }
         requires rule { IsRuleFor (length self.old.road.lanes) rule.now }
         requires step { self.old.step + 1 < 2 ^ 32 }
@@ -73,7 +79,9 @@ impl Lease {
     {
         self.applied.reserve(1)?;
         let dice = Dice::new(&self.key, self.road_number, self.step);
-        let copy = rule.copy(alloc)?;
+        let shared = rule.share()?;
+        let rule = rule.get();
+        let is_steady = stays_steady(&self.applied, self.is_steady, rule);
         let tally = take_step(
             asker,
             alloc,
@@ -83,7 +91,11 @@ impl Lease {
             &dice,
             &mut Nobody,
         )?;
-        self.applied.push_reserved(Ran { rule: copy, tally });
+        self.applied.push_reserved(Ran {
+            rule: shared,
+            tally,
+        });
+        self.is_steady = is_steady;
         self.step += 1;
         Ok(())
     }
@@ -96,6 +108,18 @@ impl Lease {
         order.job == self.job
             && order.lease == self.number
             && order.step == self.step
-            && suits(&order.rule, &self.road)
+            && suits(order.rule.get(), &self.road)
+    }
+}
+
+/// Whether it is known that the rules which were applied and this one are all one.
+fn stays_steady(applied: &[Ran], is_steady: bool, rule: &Rule) -> bool
+    requires { IsTrue is_steady → IsSteady applied.now }
+    ensures { IsTrue result → (tally : StepTally)
+        → IsSteady (applied.now ++ record { rule = rule.now; tally = tally } ∷ []) }
+{
+    match applied.first() {
+        Some(ran) => is_steady && ran.rule.get().equals(rule),
+        None => true,
     }
 }

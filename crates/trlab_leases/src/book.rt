@@ -160,12 +160,13 @@ impl Book {
         self.order_as(alloc, lease, same)
     }
 
-    /// The same, where it is known whether the lease runs its job's road.
+    /// The same, where it is known whether the lease runs its job's road. The order shares its rule with the
+    /// job's sheet, so the allocator is not used.
     ///
     /// # Errors
     ///
     /// Those of `order`.
-    pub fn order_as(&mut self, alloc: Global, lease: &Lease, same: bool) -> Result<Order, BookFault>
+    pub fn order_as(&mut self, _: Global, lease: &Lease, same: bool) -> Result<Order, BookFault>
         requires { IsTrue same ↔ IsSame self.old.jobs lease.now }
         ensures reply { RepliesAs (is_memory result) (order_reply result) self.old
             (OrderCall (offered lease.now same)) }
@@ -176,7 +177,7 @@ impl Book {
         if self.is_full() {
             return Err(BookFault::HistoryFull);
         }
-        let answer = order_in(&mut self.jobs, alloc, lease, same);
+        let answer = order_in(&mut self.jobs, lease, same);
         if !is_for_memory(&answer) {
             self.count += 1;
         }

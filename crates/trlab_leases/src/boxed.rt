@@ -1,10 +1,12 @@
-//! What an event keeps of a submitted job and of a rule, in memory of its own: so other events stay small.
+//! Seeds and rules in memory of their own. An event keeps these, so that other events stay small; and sheets,
+//! orders and leases share their rules, so that no step copies one.
 
 ghost use Rattle.std.specs.Prelude.{◌≡◌, IfOk};
 
 use crate::seed::Seed;
 use std::alloc::{AllocError, Global};
 use std::marker::Model;
+use std::sync::Arc;
 use trlab_rules::Rule;
 
 /// A seed in memory of its own.
@@ -43,18 +45,19 @@ impl BoxedSeed {
     }
 }
 
-/// A rule in memory of its own.
+/// A rule in memory of its own. Several may share it, and none changes it.
 #[derive(Drop)]
 pub struct BoxedRule {
-    held: Box<Rule>,
+    held: Arc<Rule, Global>,
 }
 
 impl Model for BoxedRule {
+    ghost use Rattle.std.specs.Arc.{arc_value};
     ghost use Rattle.trlab_rules.specs.Rules.{Programs};
 
     ghost Value = { Programs };
 
-    ghost view = { λ boxed. boxed.held.value };
+    ghost view = { λ boxed. arc_value boxed.held };
 }
 
 impl BoxedRule {
@@ -67,7 +70,30 @@ impl BoxedRule {
         ensures { IfOk result (λ copy. copy ≡ rule.now) }
     {
         let copy = rule.copy(alloc)?;
-        let held = Box::new(alloc, copy)?;
+        BoxedRule::new(alloc, copy)
+    }
+
+    /// This very rule, which is moved there.
+    ///
+    /// # Errors
+    ///
+    /// Where memory runs out; the rule is dropped.
+    pub(crate) fn new(alloc: Global, rule: Rule) -> Result<BoxedRule, AllocError>
+        ensures { IfOk result (λ boxed. boxed ≡ rule) }
+    {
+        let held = Arc::new(alloc, rule)?;
+        Ok(BoxedRule { held })
+    }
+
+    /// The same rule, in the same memory.
+    ///
+    /// # Errors
+    ///
+    /// Where more would share it than can be counted, which is told as want of memory.
+    pub(crate) fn share(&self) -> Result<BoxedRule, AllocError>
+        ensures { IfOk result (λ shared. shared ≡ self.now) }
+    {
+        let held = Arc::try_clone(&self.held)?;
         Ok(BoxedRule { held })
     }
 

@@ -170,6 +170,7 @@ impl Job {
             step: self.done,
             road,
             applied: Vec::new(alloc),
+            is_steady: true,
             room: StepRoom::new(alloc),
         })
     }
@@ -186,7 +187,8 @@ impl Job {
         if !lease.base_road().equals(reached) {
             return false;
         }
-        self.sheet.are_in_force(lease.base_step(), lease.applied())
+        self.sheet
+            .are_in_force(lease.base_step(), lease.applied(), lease.is_steady())
     }
 
     /// Whether a lease is the one that is out, and may be ordered or given back.
@@ -204,8 +206,8 @@ impl Job {
         }
     }
 
-    /// The order for the step at which a lease stands.
-    pub fn order(&mut self, alloc: Global, lease: &Lease, same: bool) -> Result<Order, BookFault>
+    /// The order for the step at which a lease stands, which shares its rule with the sheet.
+    pub fn order(&mut self, lease: &Lease, same: bool) -> Result<Order, BookFault>
         ensures reply { MatchBool (is_memory result) (Unit {0})
             (order_reply result ≡ (ordering (offered lease.now same) self.old).reply) }
         ensures job { MatchBool (is_memory result) (self.new ≡ self.old)
@@ -222,7 +224,7 @@ impl Job {
         }
         let entry = self.sheet.entry_in_force(step);
         let from = entry.0;
-        let rule = entry.1.copy(alloc)?;
+        let rule = entry.1.share()?;
         self.high = self.high.max(step + 1);
         Ok(Order {
             job: lease.job(),

@@ -1,7 +1,7 @@
 //! Leases: jobs that are out, whose steps are run outside the book.
 
-ghost use Rattle.std.specs.Prelude.{◌≡◌};
-ghost use Rattle.trlab_leases.specs.Leases.{IsLease};
+ghost use Rattle.std.specs.Prelude.{◌≡◌, IsTrue};
+ghost use Rattle.trlab_leases.specs.Leases.{IsLease, IsSteady};
 
 use crate::ran::Ran;
 use std::marker::Model;
@@ -23,12 +23,15 @@ pub struct Lease {
     pub(crate) step: u32,
     pub(crate) road: Road,
     pub(crate) applied: Vec<Ran>,
+    /// Whether it is known that one rule was applied in all of these steps.
+    pub(crate) is_steady: bool,
     /// The memory of the steps.
     pub(crate) room: StepRoom,
 }
 
 impl Model for Lease {
-    ghost use Rattle.trlab_leases.specs.Leases.{IsLease, LeaseState};
+    ghost use Rattle.std.specs.Prelude.{IsTrue};
+    ghost use Rattle.trlab_leases.specs.Leases.{IsLease, IsSteady, LeaseState};
 
     ghost Value = { LeaseState };
 
@@ -54,7 +57,7 @@ impl Model for Lease {
       step = lease.step;
       road = lease.road;
       applied = lease.applied.items;
-    }) };
+    }) × (IsTrue lease.is_steady → IsSteady lease.applied.items) };
 }
 
 impl Lease {
@@ -129,6 +132,13 @@ impl Lease {
         ensures lease { IsLease self.now }
     {
         &self.applied
+    }
+
+    /// Whether it is known that one rule was applied in all steps.
+    pub(crate) fn is_steady(&self) -> bool
+        ensures { IsTrue result → IsSteady self.now.applied }
+    {
+        self.is_steady
     }
 
     /// The road to which it has come, of a lease that ends.

@@ -128,12 +128,7 @@ pub(crate) fn is_same_in(jobs: &[Job], lease: &Lease) -> bool
 }
 
 /// The order for the step at which a lease stands.
-pub(crate) fn order_in(
-    jobs: &mut Vec<Job>,
-    alloc: Global,
-    lease: &Lease,
-    same: bool,
-) -> Result<Order, BookFault>
+pub(crate) fn order_in(jobs: &mut Vec<Job>, lease: &Lease, same: bool) -> Result<Order, BookFault>
     ensures reply { MatchBool (is_memory result) (Unit {0})
         (order_reply result
         ≡ (on_job jobs.old.items lease.now.job (ordering (offered lease.now same))).reply) }
@@ -147,7 +142,7 @@ pub(crate) fn order_in(
         return Err(BookFault::NoSuchJob);
     }
     let found = &mut jobs[index];
-    found.order(alloc, lease, same)
+    found.order(lease, same)
 }
 
 /// The job of a lease comes to stand where the lease stands.

@@ -2,6 +2,7 @@
 
 ghost use Rattle.std.specs.Prelude.{◌≡◌, ◌+◌, ◌<◌, ◌^◌};
 
+use crate::boxed::BoxedRule;
 use trlab_rules::Rule;
 
 /// The rule in force at the step where a lease stands, which the lease is to run.
@@ -11,7 +12,7 @@ pub struct Order {
     pub(crate) lease: u32,
     pub(crate) step: u32,
     pub(crate) from: u32,
-    pub(crate) rule: Rule,
+    pub(crate) rule: BoxedRule,
     ghost fits: { step + 1 < 2 ^ 32 },
 }
 
@@ -48,6 +49,6 @@ impl Order {
     pub fn rule(&self) -> &Rule
         ensures { result.now ≡ self.now.rule }
     {
-        &self.rule
+        self.rule.get()
     }
 }

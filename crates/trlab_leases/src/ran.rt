@@ -1,11 +1,11 @@
 //! Steps that a lease has run.
 
-use trlab_rules::Rule;
+use crate::boxed::BoxedRule;
 use trlab_step::StepTally;
 
 /// One step that was run: the rule that was applied, and what was counted.
 #[derive(Drop)]
 pub struct Ran {
-    pub rule: Rule,
+    pub rule: BoxedRule,
     pub tally: StepTally,
 }

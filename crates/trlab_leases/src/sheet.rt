@@ -2,9 +2,11 @@
 
 ghost use Rattle.std.specs.Prelude.{◌≡◌, ◌≤◌, ◌<◌, ◌↔◌, ◌+◌, ◌^◌, ◌∷◌, ◌++◌, [], IsTrue, IfOk, IfErr, OnOk, OnErr, length, Some, slice_get, vec_len, vec_capacity};
 ghost use Rattle.trlab_step.specs.Run.{IsSheet, in_force};
+ghost use Rattle.trlab_leases.specs.Leases.{IsSteady};
 ghost use Rattle.trlab_leases.specs.Sheets.{AreInForce, BeginBy, IsBookSheet, MayRefuse, entered, entry_in_force};
 ghost use Rattle.trlab_rules.specs.Rules.{Programs};
 
+use crate::boxed::BoxedRule;
 use crate::fault::BookFault;
 use crate::limits::MOST_ENTRIES;
 use crate::ran::Ran;
@@ -15,7 +17,7 @@ use trlab_rules::Rule;
 /// The rules of a job, each with the step from which on it is in force; the first begins at step 0.
 #[derive(Drop)]
 pub struct Sheet {
-    entries: Vec<(u32, Rule)>,
+    entries: Vec<(u32, BoxedRule)>,
 }
 
 impl Model for Sheet {
@@ -34,6 +36,7 @@ impl Sheet {
     pub(crate) fn new(alloc: Global, rule: Rule) -> Result<Sheet, AllocError>
         ensures { IfOk result (λ sheet. sheet ≡ (0, rule) ∷ []) }
     {
+        let rule = BoxedRule::new(alloc, rule)?;
         let mut entries = Vec::new(alloc);
         entries.push((0, rule))?;
         Ok(Sheet { entries })
@@ -54,11 +57,11 @@ impl Sheet {
         ensures { slice_get self.now index ≡ Some (result.0, result.1.now) }
     {
         let entry = &self.entries[index];
-        (entry.0, &entry.1)
+        (entry.0, entry.1.get())
     }
 
     /// The entry in force at a step.
-    pub(crate) fn entry_in_force(&self, step: u32) -> &(u32, Rule)
+    pub(crate) fn entry_in_force(&self, step: u32) -> &(u32, BoxedRule)
         ensures entry { entry_in_force self.now step ≡ Some result.now }
         ensures rule { in_force self.now step ≡ Some result.now.1 }
     {
@@ -66,7 +69,7 @@ impl Sheet {
         &self.entries[begun - 1]
     }
 
-    /// A copy of the sheet.
+    /// A copy of the sheet, which shares its rules.
     ///
     /// # Errors
     ///
@@ -78,14 +81,33 @@ impl Sheet {
         Ok(Sheet { entries })
     }
 
-    /// Whether the rules that were applied, the first at a step, are those in force.
-    pub(crate) fn are_in_force(&self, first: u32, applied: &[Ran]) -> bool
+    /// Whether the rules that were applied, the first at a step, are those in force. Where it is known that
+    /// they are one rule, and the last entry begins by that step, they are compared by one comparison.
+    pub(crate) fn are_in_force(&self, first: u32, applied: &[Ran], is_steady: bool) -> bool
+        requires steps { first + length applied.now < 2 ^ 32 }
+        requires steady { IsTrue is_steady → IsSteady applied.now }
+        ensures { IsTrue result ↔ AreInForce self.now first applied.now }
+    {
+        let Some(ran) = applied.first() else {
+            return true;
+        };
+        let (from, rule) = self.entry(self.len() - 1);
+        if is_steady && from <= first {
+            rule.equals(ran.rule.get())
+        } else {
+            self.are_each_in_force(first, applied)
+        }
+    }
+
+    /// The same, where each rule is compared.
+    fn are_each_in_force(&self, first: u32, applied: &[Ran]) -> bool
         requires { first + length applied.now < 2 ^ 32 }
         ensures { IsTrue result ↔ AreInForce self.now first applied.now }
     {
         let mut step = first;
         for ran in applied {
-            if !self.entry_in_force(step).1.equals(&ran.rule) {
+            let entry = self.entry_in_force(step);
+            if !entry.1.get().equals(ran.rule.get()) {
                 return false;
             }
             step += 1;
@@ -106,6 +128,8 @@ impl Sheet {
         ensures err { IfErr result (λ fault. MayRefuse fault (entered self.old from rule)) }
         ensures same { OnErr result (self.new ≡ self.old) }
     {
+        let alloc = *self.entries.allocator();
+        let rule = BoxedRule::new(alloc, rule)?;
         make_way(&mut self.entries, from)?;
         self.entries.push_reserved((from, rule));
         Ok(())
@@ -113,7 +137,7 @@ impl Sheet {
 }
 
 /// Has room for an entry from a step on: the last one goes where it begins there.
-fn make_way(entries: &mut Vec<(u32, Rule)>, from: u32) -> Result<(), BookFault>
+fn make_way(entries: &mut Vec<(u32, BoxedRule)>, from: u32) -> Result<(), BookFault>
     requires sheet { IsBookSheet entries.old.items }
     requires begin { BeginBy from entries.old.items }
     ensures ok { (rule : Programs) → OnOk result
@@ -136,13 +160,16 @@ fn make_way(entries: &mut Vec<(u32, Rule)>, from: u32) -> Result<(), BookFault>
     Ok(entries.reserve(1)?)
 }
 
-/// A copy of a list of entries.
-fn copy_entries(alloc: Global, entries: &[(u32, Rule)]) -> Result<Vec<(u32, Rule)>, AllocError>
+/// A copy of a list of entries, which shares their rules.
+fn copy_entries(
+    alloc: Global,
+    entries: &[(u32, BoxedRule)],
+) -> Result<Vec<(u32, BoxedRule)>, AllocError>
     ensures { IfOk result (λ copies. copies.items ≡ entries.now) }
 {
     let mut copies = Vec::with_capacity(alloc, entries.len())?;
     for entry in entries {
-        let rule = entry.1.copy(alloc)?;
+        let rule = entry.1.share()?;
         copies.push_reserved((entry.0, rule));
     }
     Ok(copies)

@@ -1,6 +1,8 @@
 //! Snapshots: what a read tells of a job.
 
-ghost use Rattle.std.specs.Prelude.{◌≡◌};
+ghost use Rattle.std.specs.Prelude.{◌≡◌, length};
+ghost use Rattle.trlab_road.specs.Legal.{IsLegal};
+ghost use Rattle.trlab_step.specs.Laws.{IsLegalLike, IsSheetFor};
 ghost use Rattle.trlab_step.specs.Run.{IsRoadAt, IsTallyAt};
 ghost use Rattle.trlab_leases.specs.Jobs.{start_of};
 
@@ -32,16 +34,18 @@ impl Model for Snapshot {
 }
 
 impl Snapshot {
-    /// Where the job started.
+    /// Where the job started: its road is legal.
     pub fn seed(&self) -> &Seed
-        ensures { start_of result.now ≡ self.now.seed }
+        ensures value { start_of result.now ≡ self.now.seed }
+        ensures legal { IsLegal result.now.road }
     {
         &self.seed
     }
 
-    /// The rules of the job, those of later steps included.
+    /// The rules of the job, those of later steps included: each is one for the lanes of its road.
     pub fn sheet(&self) -> &Sheet
-        ensures { result.now ≡ self.now.sheet }
+        ensures value { result.now ≡ self.now.sheet }
+        ensures rules { IsSheetFor (length self.now.seed.road.lanes) result.now }
     {
         &self.sheet
     }
@@ -53,9 +57,10 @@ impl Snapshot {
         self.step
     }
 
-    /// The road at this step.
+    /// The road at this step: a legal one, with as many lanes and cars as at the start, and the same limit.
     pub fn road(&self) -> &Road
         ensures value { result.now ≡ self.now.road }
+        ensures like { IsLegalLike self.now.seed.road result.now }
         ensures run { IsRoadAt self.now.seed self.now.sheet self.now.step result.now }
     {
         &self.road

@@ -7,6 +7,8 @@ ghost use Rattle.trlab_command_line.specs.Statuses.{status_of_print};
 
 use clap::Error;
 use clap::error::ErrorKind;
+use std::alloc::Global;
+use std::io::{BufWriter, IsTerminal, Write};
 use std::process::ExitCode;
 use std::rt::Env;
 use std::sync::Wait;
@@ -20,16 +22,22 @@ use trlab_command_line::{
 use trlab_commands::{carry_out, status_of_end};
 use trlab_explain::{explain_number, explain_text};
 
+// So many bytes of output are gathered at most before they are written.
+const MOST_GATHERED: usize = 65536;
+
 fn main(rt: HostRuntime) -> ExitCode {
     let status = match given_words(&rt) {
-        Ok(words) => {
-            let mut reader = Watched::new(rt.stdin());
-            let mut writer = Watched::new(rt.stdout());
-            match explain_words(&words) {
-                Some(wanted) => explain(&rt, &words, wanted, &mut reader, &mut writer),
-                None => act(&rt, &words, &mut reader, &mut writer),
+        Ok(words) => match gathered(rt.alloc(), rt.stdout()) {
+            Ok(out) => {
+                let mut reader = Watched::new(rt.stdin());
+                let mut writer = Watched::new(out);
+                match explain_words(&words) {
+                    Some(wanted) => explain(&rt, &words, wanted, &mut reader, &mut writer),
+                    None => act(&rt, &words, &mut reader, &mut writer),
+                }
             }
-        }
+            Err(_) => status_of_end(End::Memory),
+        },
         Err(error) if error.kind() == io::ErrorKind::OutOfMemory => status_of_end(End::Memory),
         Err(_) => {
             let _ = eprintln!(rt; "error: a word of the command line is not UTF-8");
@@ -37,6 +45,13 @@ fn main(rt: HostRuntime) -> ExitCode {
         }
     };
     ExitCode::from(status)
+}
+
+/// A writer that gathers its output before it is written; at a terminal, where each step may be watched, it
+/// gathers nothing. It fails only where memory runs out.
+fn gathered<W: Write + IsTerminal + Drop>(alloc: Global, out: W) -> io::Result<BufWriter<W>> {
+    let most = if out.is_terminal() { 0 } else { MOST_GATHERED };
+    BufWriter::with_capacity(alloc, most, out)
 }
 
 /// Does what the words ask for, and answers the exit status.

@@ -22,6 +22,7 @@ pub mod Headspeeds
 pub mod ListLaneChange
 pub mod ListLeaving
 pub mod ListRoads
+pub mod InLine
 pub mod ListSides
 pub mod ListPictures
 pub mod ListDrawing

@@ -1,5 +1,5 @@
 -- Roads as contracts see them: a speed limit and lanes of cells on a ring.
-use Rattle.std.specs.Prelude.{◌≡◌, ℕ, is_some, Option, Some, None, List, [], slice_index_or, count_by, sum_by}
+use Rattle.std.specs.Prelude.{◌≡◌, ℕ, is_some, Option, Some, None, List, [], slice_index_or, count_by, sum_by, take}
 use Rattle.trlab_road.specs.declared.car.Car.{Car}
 
 -- a cell is empty, or holds a car: its number and its speed
@@ -30,6 +30,10 @@ cell road l x = at (lane_of road l) x
 -- how many cars a lane has
 abbrev pub lane_cars : Lane → ℕ
 lane_cars lane = count_by is_some lane
+
+-- how many cars of a lane stand before a place
+abbrev pub cars_before : Lane → ℕ → ℕ
+cars_before lane x = lane_cars (take x lane)
 
 -- how many cars the road has
 abbrev pub cars : Cells → ℕ

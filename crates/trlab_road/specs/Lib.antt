@@ -9,3 +9,4 @@ pub mod LaneChange
 pub mod Spreading
 pub mod Laws
 pub mod Stored
+pub mod InLine

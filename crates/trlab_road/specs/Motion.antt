@@ -4,7 +4,7 @@ use Rattle.std.specs.Prelude.{◌≡◌, ℕ, ◌<◌, ◌≤◌, Some, None, Li
 use Rattle.trlab_road.specs.declared.car.Car.{Car}
 use Rattle.trlab_road.specs.Cells.{Lane, Cells, IsAt, at, lane_of, cars, lane_cars}
 use Rattle.trlab_road.specs.Gaps.{ahead, gap}
-use Rattle.trlab_road.specs.Standing.{IsStanding, standing, rank}
+use Rattle.trlab_road.specs.Standing.{IsStanding, standing}
 
 -- the car that a lane has at y after the motion stood at x before it
 pub record ComesFrom (answer : ℕ → ℕ) (old : Lane) (y number speed x before : ℕ) : Type 0 where

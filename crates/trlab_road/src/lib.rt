@@ -21,6 +21,7 @@ mod spreading;
 pub use car::Car;
 pub use fault::RoadFault;
 pub use gap::Ahead;
+pub use lane_car::LaneCar;
 pub use road::Road;
 pub use room::Room;
 pub use side::Beside;

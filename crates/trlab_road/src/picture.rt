@@ -1,6 +1,6 @@
 //! The characters of pictures: a point for an empty cell, a digit or a letter for the speed of a car.
 
-ghost use Rattle.std.specs.Prelude.{◌≡◌, ◌<◌, ◌≤◌, ◌↔◌, ℕ, ◌++◌, OnOk, IfSome, IsNone, IsTrue, length, slice_index_or};
+ghost use Rattle.std.specs.Prelude.{◌≡◌, ◌<◌, ◌≤◌, ◌↔◌, ℕ, ◌++◌, OnErr, OnOk, IfSome, IsNone, IsTrue, length, slice_index_or};
 ghost use Rattle.trlab_bounds.specs.declared.roads.TheConstants.{GREATEST_LIMIT};
 ghost use Rattle.trlab_road.specs.Stored.{Rises, cells_of, no_car};
 ghost use Rattle.trlab_road.specs.Pictures.{ShowsCell, ShowsSpeed, picture, speed_character};
@@ -56,12 +56,14 @@ pub fn shows_cell(limit: u32, character: u8) -> bool
     character == POINT || shows_speed(limit, character)
 }
 
-/// Adds the picture of a lane: a point for an empty cell, the character of the speed for a car.
+/// Adds the picture of a lane: a point for an empty cell, the character of the speed for a car. Where an
+/// allocation was refused, the bytes stay as they were.
 pub fn push_picture(out: &mut Vec<u8>, cars: &[LaneCar], cells: u32) -> Result<(), AllocError>
     requires sorted { Rises 0 cells cars.now }
     requires slow { (k : ℕ) → k < length cars.now
         → (slice_index_or cars.now k no_car).speed ≤ GREATEST_LIMIT }
-    ensures { OnOk result (out.new.items ≡ out.old.items ++ picture (cells_of cells cars.now)) }
+    ensures added { OnOk result (out.new.items ≡ out.old.items ++ picture (cells_of cells cars.now)) }
+    ensures same { OnErr result (out.new.items ≡ out.old.items) }
 {
     let start = out.len();
     out.resize(start + cells as usize, POINT)?;

@@ -1,12 +1,14 @@
 //! A road as callers see it: its cells. It is kept as the list of the cars of each lane, by rising place.
 
-ghost use Rattle.std.specs.Prelude.{◌≡◌, ◌≢◌, ◌⊎◌, ◌*◌, ◌<◌, ◌≤◌, ◌↔◌, ℕ, Bool, length, slice_index, slice_index_or, false, ◌++◌, IfOk, OnOk, IsTrue, MatchResult};
+ghost use Rattle.std.specs.Prelude.{◌≡◌, ◌≢◌, ◌⊎◌, ◌+◌, ◌*◌, ◌<◌, ◌≤◌, ◌↔◌, ℕ, Bool, length, slice_index, slice_index_or, false, ◌++◌, IfOk, OnErr, OnOk, IsTrue, MatchResult};
 ghost use Rattle.trlab_bounds.specs.declared.roads.TheConstants.{GREATEST_LENGTH, MOST_LANES};
 ghost use Rattle.trlab_road.specs.declared.car.Car.{Car};
 ghost use Rattle.trlab_road.specs.declared.fault.RoadFault.{RoadFault};
-ghost use Rattle.trlab_road.specs.Cells.{Cells, IsAt, cars, lane_of};
+ghost use Rattle.trlab_road.specs.Cells.{Cells, IsAt, cars, cars_before, lane_of};
 ghost use Rattle.trlab_road.specs.Gaps.{gap, headspeed, side, sideback, sidegap};
+ghost use Rattle.trlab_road.specs.InLine.{IsFollowed};
 ghost use Rattle.trlab_road.specs.Standing.{IsStanding};
+ghost use Rattle.trlab_road.specs.Stored.{no_car};
 ghost use Rattle.trlab_road.specs.Legal.{IsLegal};
 ghost use Rattle.trlab_road.specs.Pictures.{IsFirstFault, Shows, picture, pictures_of};
 ghost use Rattle.trlab_road.specs.LaneChange.{CleanLaneChange, Crosses, IsBeside, IsGapBeside, MayCross, sides};
@@ -241,6 +243,18 @@ impl Road {
         look_ahead(list_of(&self.lanes, lane), self.cells as usize, index)
     }
 
+    /// The line from the k-th car in standing order on to the last one of its lane, as the lane keeps it: each car
+    /// but that last one is followed by the next car ahead of it.
+    pub fn line_from(&self, k: u32) -> &[LaneCar]
+        requires { k < cars self.now }
+        ensures { (j : ℕ) → j + 1 < length result.now → IsFollowed self.now (k + j)
+            (slice_index_or result.now j no_car) (slice_index_or result.now (j + 1) no_car) }
+    {
+        let (lane, index) = find(&self.lanes, k);
+        let (_, line) = list_of(&self.lanes, lane).split_at(index);
+        line
+    }
+
     /// Is the side cell of the k-th car in standing order, the cell beside it on the other lane,
     /// empty?
     pub fn side(&self, k: u32) -> bool
@@ -264,6 +278,7 @@ impl Road {
         ensures empty { IsBeside side self.now k result.is_empty }
         ensures ahead { IsBeside sidegap self.now k result.ahead }
         ensures behind { IsBeside sideback self.now k result.behind }
+        ensures next { IsBeside cars_before self.now k result.next }
         ensures ahead_below { result.ahead < length (lane_of self.now 0) }
         ensures behind_below { result.behind < length (lane_of self.now 0) }
     {
@@ -311,10 +326,11 @@ impl Road {
     ///
     /// # Errors
     ///
-    /// Where an allocation was refused.
+    /// Where an allocation was refused; then the bytes stay as they were.
     pub fn push_picture(&self, out: &mut Vec<u8>, lane: u32) -> Result<(), AllocError>
         requires { lane < length self.now.lanes }
-        ensures { OnOk result (out.new.items ≡ out.old.items ++ picture (lane_of self.now lane)) }
+        ensures added { OnOk result (out.new.items ≡ out.old.items ++ picture (lane_of self.now lane)) }
+        ensures same { OnErr result (out.new.items ≡ out.old.items) }
     {
         push_picture(out, list_of(&self.lanes, lane), self.cells)
     }
@@ -369,7 +385,8 @@ impl Road {
     ///
     /// # Errors
     ///
-    /// Where an allocation was refused.
+    /// Where an allocation was refused; the room may have lost its lists then. Any room serves for any lane
+    /// change, this one too: nothing that stands in a room is asked for or told.
     pub fn after_lane_change_in(
         &self,
         alloc: Global,

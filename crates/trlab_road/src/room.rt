@@ -7,7 +7,7 @@ use crate::lanes::empty_lanes;
 use std::alloc::{AllocError, Global};
 use std::mem;
 
-/// Lists that are filled again in each lane change: they say nothing of a road.
+/// Lists that are filled again in each lane change: they say nothing of a road, and no answer goes by them.
 #[derive(Drop)]
 pub struct Room {
     /// The lists of a road that is no longer needed.

@@ -3,6 +3,7 @@
 
 ghost use Rattle.std.specs.Prelude.{◌≡◌, ◌<◌, ◌≤◌, ℕ, length, nat_lt};
 ghost use Rattle.trlab_bounds.specs.declared.roads.TheConstants.{GREATEST_LENGTH};
+ghost use Rattle.trlab_road.specs.Cells.{cars_before};
 ghost use Rattle.trlab_road.specs.Gaps.{side, sideback, sidegap};
 ghost use Rattle.trlab_road.specs.Stored.{Rises, IsRising, IsFirstFrom, cells_of, place_of};
 
@@ -75,6 +76,7 @@ pub fn look_beside(cars: &[LaneCar], cells: usize, place: u32, near: usize) -> B
     ensures empty { result.is_empty ≡ side (cells_of cells cars.now) place }
     ensures ahead { result.ahead ≡ sidegap (cells_of cells cars.now) place }
     ensures behind { result.behind ≡ sideback (cells_of cells cars.now) place }
+    ensures next { result.next ≡ cars_before (cells_of cells cars.now) place }
     ensures ahead_within { result.ahead < cells }
     ensures behind_within { result.behind < cells }
 {

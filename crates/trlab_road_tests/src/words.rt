@@ -4,11 +4,11 @@ ghost use Rattle.std.specs.Prelude.{◌<◌};
 
 use trlab_words::{CERTAIN, Chance, Key, happens, word_of_cars, words};
 
-/// Whether this is word `k` of car 0, alone and among four.
+/// Whether this is word `k` of car 0, alone and among eight.
 fn has_word(key: &Key, k: usize, word: u32) -> bool
     requires { k < 16 }
 {
-    let [first, ..] = word_of_cars(&key.words(), 0, [0, 1, 2, 3], 0, k);
+    let [first, ..] = word_of_cars(&key.words(), 0, [0, 1, 2, 3, 4, 5, 6, 7], 0, k);
     words(key, 0, 0, 0)[k] == word && first == word
 }
 
@@ -19,23 +19,24 @@ fn the_zero_key_begins_as_published(rt: HostRuntime) {
     assert!(rt; has_word(&key, 1, 2419978656));
 }
 
-/// Whether the word of four cars is that of each one.
-fn is_word_of_each(key: &Key, cars: [u32; 4], k: usize) -> bool
+/// Whether the word of eight cars is that of each one.
+fn is_word_of_each(key: &Key, cars: [u32; 8], k: usize) -> bool
     requires { k < 16 }
 {
-    let [a, b, c, d] = cars;
-    let [of_a, of_b, of_c, of_d] = word_of_cars(&key.words(), 5, cars, 4000000000, k);
-    of_a == words(key, 5, a, 4000000000)[k]
-        && of_b == words(key, 5, b, 4000000000)[k]
-        && of_c == words(key, 5, c, 4000000000)[k]
-        && of_d == words(key, 5, d, 4000000000)[k]
+    let word_of = word_of_cars(&key.words(), 5, cars, 4000000000, k);
+    for j in 0..8 {
+        if word_of[j] != words(key, 5, cars[j], 4000000000)[k] {
+            return false;
+        }
+    }
+    true
 }
 
 #[test]
 fn each_car_has_its_own_words(rt: HostRuntime) {
     let key = Key(*b"0123456789abcdefghijklmnopqrstuv");
     for k in 0..16 {
-        assert!(rt; is_word_of_each(&key, [3, 0, 4294967295, 70000], k));
+        assert!(rt; is_word_of_each(&key, [3, 0, 4294967295, 70000, 1, 2, 199999, 16], k));
     }
 }
 

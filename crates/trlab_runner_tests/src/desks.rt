@@ -3,18 +3,20 @@
 ghost use Rattle.std.specs.Prelude.{◌≡◌, ◌<◌, ◌≤◌};
 ghost use Rattle.std.specs.Thread.{IsSend, IsSync};
 ghost use Rattle.trlab_book.specs.Desks.{parts_of};
+ghost use Rattle.trlab_strands.specs.Tokens.{name_of};
 
 use crate::ends::{events_of, history_of};
 use std::alloc::Global;
 use std::marker::Brand;
 use std::sync::Wait;
-use std::sync::ledger::{Blank, Ledger};
 use std::thread::{Threads, join};
 use trlab_book::{Desk, SharedBook};
+use trlab_book_trials::blanks::new_blank;
 use trlab_book_trials::calls::{reads, replace, submit};
-use trlab_book_trials::histories::{Made, is_event};
+use trlab_book_trials::histories::{Made, is_event, is_history};
 use trlab_book_trials::jobs::{NEVER, two_cars};
-use trlab_leases::{Call, Event, Reply};
+use trlab_leases::{BookFault, Call, Event, Reply};
+use trlab_strands::{Blank, Ledger};
 
 /// How many calls each of four threads makes.
 const CALLS: u32 = 50;
@@ -90,33 +92,31 @@ fn at_desks<L: Ledger + Send + Sync, R: Threads + Wait + Sync>(
     mut desk: Desk<L>,
     threads: u32,
 ) -> (Desk<L>, bool)
-    requires ledger { L.parts ≡ 1024 }
     requires threads { (0 < threads) × (threads ≤ parts_of desk) }
 {
     let others = threads - 1;
     if others == 0 {
         return at_desk(rt, alloc, book, desk);
     }
-    let theirs = desk.split();
+    let theirs = book.split(&mut desk);
     let ((theirs, one), (mine, other)) = join(
         rt,
         move || at_desk(rt, alloc, book, theirs),
         move || -> (Desk<L>, bool)
-            requires { IsSync R.row × IsSend L.row × IsSync L.row × (L.parts ≡ 1024)
+            requires { IsSync R.row × IsSend L.row × IsSync L.row
                 × (0 < others) × (others ≤ parts_of desk) }
         { at_desks(rt, alloc, book, desk, others) },
     );
-    (theirs.gather(mine), one && other)
+    (book.gather(theirs, mine), one && other)
 }
 
 /// Whether four threads leave a history of their calls, in order.
 fn four_threads<L: Ledger + Send + Sync, R: Threads + Wait + Sync>(
     rt: &R,
     alloc: Global,
-    blank: Blank,
+    blank: Blank<Event>,
 ) -> bool
-    requires name { blank.name ≡ L.name }
-    requires parts { (blank.parts ≡ L.parts) × (blank.parts ≡ 1024) }
+    requires name { name_of blank ≡ L.name }
 {
     let (book, desk) = SharedBook::<L>::start(alloc, blank);
     let (desk, made) = at_desks(rt, alloc, &book, desk, 4);
@@ -160,60 +160,101 @@ fn has_thread(history: &[Event], job: u32) -> bool {
 
 #[test]
 fn four_threads_have_their_calls_in_order(rt: HostRuntime) {
-    assert!(rt; four_threads::<Brand, HostRuntime>(&rt, rt.alloc(), Blank::new(1024)));
+    assert!(rt;
+        four_threads::<Brand, HostRuntime>(
+            &rt,
+            rt.alloc(),
+            new_blank(rt.alloc()).expect(&rt, "memory")
+        )
+    );
 }
 
-/// The parts of two desks, and how many events the history has when both close the book.
-fn closed_by_both<L: Ledger>(
+/// The parts of two desks, and the history when both close the book, which one of them could not close; before
+/// that, a job is read.
+fn closed_by_both<L: Ledger, R: Wait>(
+    rt: &R,
+    alloc: Global,
     book: SharedBook<L>,
-    mine: Desk<L>,
+    mut mine: Desk<L>,
     theirs: Desk<L>,
-) -> (u32, u32, Option<usize>)
-    requires ledger { L.parts ≡ 1024 }
-{
+) -> Option<(u32, u32, Vec<Event>)> {
+    if !reads(rt, alloc, &book, &mut mine, 0, (0, 1, b"0.0.......")) {
+        return None;
+    }
     let (some, one) = (mine.parts(), theirs.parts());
-    (some, one, events_of(book, mine.gather(theirs)))
+    let desk = book.gather(mine, theirs);
+    Some((some, one, history_of(book, desk)?))
 }
 
-/// The parts of two desks that can't close the book alone, and how many events the history has when it
-/// closes.
+/// A job is submitted at one desk and revoked at another, and the first tries to close the book: the parts of
+/// the two, and the history when both close it.
 fn half_a_desk<L: Ledger, R: Wait>(
     rt: &R,
     alloc: Global,
-    blank: Blank,
-) -> Option<(u32, u32, Option<usize>)>
-    requires name { blank.name ≡ L.name }
-    requires parts { (blank.parts ≡ L.parts) × (blank.parts ≡ 1024) }
+    blank: Blank<Event>,
+) -> Option<(u32, u32, Vec<Event>)>
+    requires name { name_of blank ≡ L.name }
 {
     let (book, mut mine) = SharedBook::<L>::start(alloc, blank);
-    let mut theirs = mine.split();
+    let mut theirs = book.split(&mut mine);
+    submit(rt, alloc, &book, &mut mine, &two_cars(0, 4)).ok()?;
     let _ = book.revoke(rt, &mut theirs, 0);
     match book.close(mine) {
         Ok(_) => None,
-        Err((book, mine)) => Some(closed_by_both(book, mine, theirs)),
+        Err((book, mine)) => closed_by_both(rt, alloc, book, mine, theirs),
     }
 }
 
+/// Whether two desks have the parts of one that was split, and the history its submit, the revoke of the other
+/// and the read behind the close that was refused.
+fn stayed(some: u32, one: u32, history: &[Event]) -> bool {
+    let read = Reply::Seen {
+        step: 0,
+        entries: 1,
+    };
+    let wanted = [
+        (Made::Submit(4), Reply::Number(0)),
+        (Made::Revoke(0), Reply::Refused(BookFault::StrangerLease)),
+        (Made::Read(0), read),
+    ];
+    some == 1023 && one == 1 && is_history(history, &wanted)
+}
+
 #[test]
-fn half_a_desk_does_not_close_the_book(rt: HostRuntime) {
-    let closed = half_a_desk::<Brand, HostRuntime>(&rt, rt.alloc(), Blank::new(1024));
-    assert!(rt; closed == Some((1023, 1, Some(1))));
+fn a_book_that_does_not_close_stays_as_it_was(rt: HostRuntime) {
+    let closed = half_a_desk::<Brand, HostRuntime>(
+        &rt,
+        rt.alloc(),
+        new_blank(rt.alloc()).expect(&rt, "memory"),
+    );
+    let stays = match closed {
+        Some((some, one, history)) => stayed(some, one, &history),
+        None => false,
+    };
+    assert!(rt; stays);
 }
 
 /// The parts of a desk without a call, and how many events the history has when another desk, which has
 /// made all calls, closes the book.
-fn a_quiet_desk<L: Ledger, R: Wait>(rt: &R, alloc: Global, blank: Blank) -> (u32, Option<usize>)
-    requires name { blank.name ≡ L.name }
-    requires parts { (blank.parts ≡ L.parts) × (blank.parts ≡ 1024) }
+fn a_quiet_desk<L: Ledger, R: Wait>(
+    rt: &R,
+    alloc: Global,
+    blank: Blank<Event>,
+) -> (u32, Option<usize>)
+    requires name { name_of blank ≡ L.name }
 {
     let (book, mut mine) = SharedBook::<L>::start(alloc, blank);
-    let parts = mine.split().parts();
+    let parts = book.split(&mut mine).parts();
     let _ = book.revoke(rt, &mut mine, 0);
     (parts, events_of(book, mine))
 }
 
 #[test]
 fn a_desk_of_all_calls_closes_the_book(rt: HostRuntime) {
-    let closed = a_quiet_desk::<Brand, HostRuntime>(&rt, rt.alloc(), Blank::new(1024));
+    let closed = a_quiet_desk::<Brand, HostRuntime>(
+        &rt,
+        rt.alloc(),
+        new_blank(rt.alloc()).expect(&rt, "memory"),
+    );
     assert!(rt; closed == (1, Some(1)));
 }

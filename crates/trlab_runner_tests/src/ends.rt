@@ -1,8 +1,9 @@
 //! How runners end, and what a book leaves when it closes.
 
-use std::sync::ledger::Ledger;
+use trlab_book::laws::first_fault;
 use trlab_book::{Desk, RunFault, SharedBook};
 use trlab_leases::Event;
+use trlab_strands::Ledger;
 
 /// The desk of runners, and whether all went well.
 pub fn ended<L: Ledger>(ran: Result<Desk<L>, (Desk<L>, RunFault)>) -> (Desk<L>, bool) {
@@ -26,4 +27,14 @@ pub fn events_of<L: Ledger>(book: SharedBook<L>, desk: Desk<L>) -> Option<usize>
         Some(history) => Some(history.len()),
         None => None,
     }
+}
+
+#[test]
+fn a_full_history_is_told_before_memory(rt: HostRuntime) {
+    let memory = Err(RunFault::Memory);
+    let full = Err(RunFault::HistoryFull);
+    assert!(rt; first_fault(memory, full) == full && first_fault(full, memory) == full);
+    assert!(rt; first_fault(Ok(()), memory) == memory && first_fault(memory, Ok(())) == memory);
+    assert!(rt; first_fault(Ok(()), full) == full && first_fault(full, Ok(())) == full);
+    assert!(rt; first_fault(Ok(()), Ok(())) == Ok(()));
 }

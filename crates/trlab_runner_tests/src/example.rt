@@ -2,18 +2,20 @@
 
 ghost use Rattle.std.specs.Prelude.{◌≡◌, ◌≤◌};
 ghost use Rattle.trlab_book.specs.Desks.{parts_of};
+ghost use Rattle.trlab_strands.specs.Tokens.{name_of};
 
 use crate::ends::{ended, history_of};
 use std::alloc::Global;
 use std::marker::Brand;
 use std::sync::Wait;
-use std::sync::ledger::{Blank, Ledger};
 use std::thread::{Threads, join};
 use trlab_book::{Desk, SharedBook, run_jobs};
+use trlab_book_trials::blanks::new_blank;
 use trlab_book_trials::calls::{replace, submit};
 use trlab_book_trials::jobs::{ALWAYS, is_road_alone, two_cars};
 use trlab_leases::{Event, Reply, Snapshot};
 use trlab_segments::OpenGate;
+use trlab_strands::{Blank, Ledger};
 
 /// Replaces the rule of job 0, whose steps are perhaps all ordered by then: the step from which the rule
 /// holds, if it entered.
@@ -45,7 +47,6 @@ fn run_two<L: Ledger + Send + Sync, R: Threads + Wait + Sync>(
     book: &SharedBook<L>,
     desk: Desk<L>,
 ) -> (Desk<L>, bool)
-    requires ledger { L.parts ≡ 1024 }
     requires parts { 2 ≤ parts_of desk }
 {
     ended(run_jobs(rt, alloc, book, desk, 2, 1, &OpenGate))
@@ -58,21 +59,19 @@ fn run_and_replace<L: Ledger + Send + Sync, R: Threads + Wait + Sync>(
     alloc: Global,
     book: &SharedBook<L>,
     mut mine: Desk<L>,
-) -> (Desk<L>, bool, Option<u32>)
-    requires ledger { L.parts ≡ 1024 }
-{
+) -> (Desk<L>, bool, Option<u32>) {
     if mine.parts() < 3 {
         return (mine, false, None);
     }
-    let theirs = mine.split();
+    let theirs = book.split(&mut mine);
     let ((theirs, entered), (mine, ran)) = join(
         rt,
         || replace_late(rt, alloc, book, theirs),
         || -> (Desk<L>, bool)
-            requires { (L.parts ≡ 1024) × (2 ≤ parts_of mine) }
+            requires { 2 ≤ parts_of mine }
         { run_two(rt, alloc, book, mine) },
     );
-    (mine.gather(theirs), ran, entered)
+    (book.gather(mine, theirs), ran, entered)
 }
 
 /// Whether the sheet of a snapshot has a second rule just where one entered, from that step on.
@@ -124,10 +123,9 @@ fn is_last(history: &[Event], reply: Option<Reply>) -> bool {
 fn is_in_the_sheet<L: Ledger + Send + Sync, R: Threads + Wait + Sync>(
     rt: &R,
     alloc: Global,
-    blank: Blank,
+    blank: Blank<Event>,
 ) -> bool
-    requires name { blank.name ≡ L.name }
-    requires parts { (blank.parts ≡ L.parts) × (blank.parts ≡ 1024) }
+    requires name { name_of blank ≡ L.name }
 {
     let (book, mut desk) = SharedBook::<L>::start(alloc, blank);
     let submitted = submit_two(rt, alloc, &book, &mut desk);
@@ -141,5 +139,11 @@ fn is_in_the_sheet<L: Ledger + Send + Sync, R: Threads + Wait + Sync>(
 
 #[test]
 fn a_replaced_rule_is_in_the_sheet(rt: HostRuntime) {
-    assert!(rt; is_in_the_sheet::<Brand, HostRuntime>(&rt, rt.alloc(), Blank::new(1024)));
+    assert!(rt;
+        is_in_the_sheet::<Brand, HostRuntime>(
+            &rt,
+            rt.alloc(),
+            new_blank(rt.alloc()).expect(&rt, "memory")
+        )
+    );
 }

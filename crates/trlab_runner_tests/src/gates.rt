@@ -1,6 +1,7 @@
 //! A runner that is held by a gate: its book can be called meanwhile.
 
 ghost use Rattle.std.specs.Prelude.{◌≡◌};
+ghost use Rattle.trlab_strands.specs.Tokens.{name_of};
 
 use crate::ends::{ended, history_of};
 use crate::meeting::waits_for;
@@ -8,13 +9,14 @@ use std::alloc::Global;
 use std::marker::Brand;
 use std::sync::Wait;
 use std::sync::atomic::{AtomicBool, Ordering};
-use std::sync::ledger::{Blank, Ledger};
 use std::thread::{Threads, join};
 use trlab_book::{Desk, SharedBook, run_jobs};
+use trlab_book_trials::blanks::new_blank;
 use trlab_book_trials::calls::{Wanted, reads, replace, submit};
 use trlab_book_trials::jobs::{ALWAYS, two_cars};
 use trlab_leases::{BookFault, Call, Event, Reply};
 use trlab_segments::Gate;
+use trlab_strands::{Blank, Ledger};
 
 /// Tells that a segment has come, and holds it until it may go on.
 #[derive(Drop)]
@@ -77,9 +79,7 @@ fn run_one<L: Ledger + Send + Sync, R: Threads + Wait + Sync>(
     book: &SharedBook<L>,
     desk: Desk<L>,
     gate: &Barrier,
-) -> (Desk<L>, bool)
-    requires ledger { L.parts ≡ 1024 }
-{
+) -> (Desk<L>, bool) {
     ended(run_jobs(rt, alloc, book, desk, 1, 1, gate))
 }
 
@@ -91,9 +91,7 @@ fn run_held<L: Ledger + Send + Sync, R: Threads + Wait + Sync>(
     book: &SharedBook<L>,
     mut mine: Desk<L>,
     ending: Ending,
-) -> (Desk<L>, bool)
-    requires ledger { L.parts ≡ 1024 }
-{
+) -> (Desk<L>, bool) {
     if mine.parts() < 2 {
         return (mine, false);
     }
@@ -101,15 +99,13 @@ fn run_held<L: Ledger + Send + Sync, R: Threads + Wait + Sync>(
         came: AtomicBool::new(false),
         goes_on: AtomicBool::new(false),
     };
-    let theirs = mine.split();
+    let theirs = book.split(&mut mine);
     let ((theirs, ended), (mine, ran)) = join(
         rt,
         || end_held(rt, alloc, book, theirs, &gate, ending),
-        || -> (Desk<L>, bool)
-            requires { L.parts ≡ 1024 }
-        { run_one(rt, alloc, book, mine, &gate) },
+        || -> (Desk<L>, bool) { run_one(rt, alloc, book, mine, &gate) },
     );
-    (mine.gather(theirs), ended && ran)
+    (book.gather(mine, theirs), ended && ran)
 }
 
 /// What is to be read of the job at the end: it has come to its end under two rules, or where it was
@@ -128,9 +124,7 @@ fn hold<L: Ledger + Send + Sync, R: Threads + Wait + Sync>(
     book: &SharedBook<L>,
     mut desk: Desk<L>,
     ending: Ending,
-) -> (Desk<L>, bool)
-    requires ledger { L.parts ≡ 1024 }
-{
+) -> (Desk<L>, bool) {
     let submitted = submit(rt, alloc, book, &mut desk, &two_cars(0, 4)) == Ok(0);
     let (mut desk, ended) = run_held(rt, alloc, book, desk, ending);
     let right = reads(rt, alloc, book, &mut desk, 0, end_of(ending));
@@ -142,11 +136,10 @@ fn hold<L: Ledger + Send + Sync, R: Threads + Wait + Sync>(
 fn refused_to_held<L: Ledger + Send + Sync, R: Threads + Wait + Sync>(
     rt: &R,
     alloc: Global,
-    blank: Blank,
+    blank: Blank<Event>,
     ending: Ending,
 ) -> Option<u32>
-    requires name { blank.name ≡ L.name }
-    requires parts { (blank.parts ≡ L.parts) × (blank.parts ≡ 1024) }
+    requires name { name_of blank ≡ L.name }
 {
     let (book, desk) = SharedBook::<L>::start(alloc, blank);
     let (desk, held) = hold(rt, alloc, &book, desk, ending);
@@ -175,7 +168,7 @@ fn refused_orders(history: &[Event], ending: Ending) -> u32 {
 #[test]
 fn a_lease_ends_while_its_runner_is_held(rt: HostRuntime) {
     for ending in &[Ending::Revoked, Ending::Cancelled] {
-        let blank = Blank::new(1024);
+        let blank = new_blank(rt.alloc()).expect(&rt, "memory");
         let found = refused_to_held::<Brand, HostRuntime>(&rt, rt.alloc(), blank, *ending);
         assert!(rt; found == Some(1));
     }

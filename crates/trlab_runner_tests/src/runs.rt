@@ -5,18 +5,21 @@
 //! whichever it is. A lease that a runner had dropped without a revoke would stay out, and its job unfinished.
 
 ghost use Rattle.std.specs.Prelude.{◌≡◌, ◌<◌, ◌≤◌};
+ghost use Rattle.trlab_strands.specs.Tokens.{name_of};
 
 use crate::ends::{ended, events_of};
 use crate::meeting::Meeting;
 use std::alloc::Global;
 use std::marker::Brand;
 use std::sync::Wait;
-use std::sync::ledger::{Blank, Ledger};
 use std::thread::Threads;
 use trlab_book::{Desk, RunFault, SharedBook, run_jobs};
+use trlab_book_trials::blanks::new_blank;
 use trlab_book_trials::calls::{reads, submit};
 use trlab_book_trials::jobs::{BY_HALF, Job, is_road_alone, two_cars};
+use trlab_leases::Event;
 use trlab_segments::{Gate, OpenGate};
+use trlab_strands::{Blank, Ledger};
 
 /// What is tried on a new book.
 #[derive(Clone, Copy)]
@@ -86,7 +89,6 @@ fn run_by<L: Ledger + Send + Sync, R: Threads + Wait + Sync, G: Gate + Sync>(
     workers: u32,
     gate: &G,
 ) -> (Desk<L>, bool)
-    requires ledger { L.parts ≡ 1024 }
     requires workers { (0 < workers) × (workers ≤ 16) }
     requires runners { (0 < runners) × (runners ≤ 16) }
 {
@@ -108,9 +110,7 @@ fn run<L: Ledger + Send + Sync, R: Threads + Wait + Sync>(
     book: &SharedBook<L>,
     desk: Desk<L>,
     trial: Trial,
-) -> (Desk<L>, bool)
-    requires ledger { L.parts ≡ 1024 }
-{
+) -> (Desk<L>, bool) {
     match trial {
         Trial::ManyJobs => run_by(rt, alloc, book, desk, 4, 2, &OpenGate),
         Trial::FewCars => run_by(rt, alloc, book, desk, 16, 16, &OpenGate),
@@ -173,11 +173,10 @@ fn are_right<L: Ledger, R: Wait>(
 fn passes<L: Ledger + Send + Sync, R: Threads + Wait + Sync>(
     rt: &R,
     alloc: Global,
-    blank: Blank,
+    blank: Blank<Event>,
     trial: Trial,
 ) -> bool
-    requires name { blank.name ≡ L.name }
-    requires parts { (blank.parts ≡ L.parts) × (blank.parts ≡ 1024) }
+    requires name { name_of blank ≡ L.name }
 {
     let (book, mut desk) = SharedBook::<L>::start(alloc, blank);
     let filled = fill(rt, alloc, &book, &mut desk, trial);
@@ -188,15 +187,36 @@ fn passes<L: Ledger + Send + Sync, R: Threads + Wait + Sync>(
 
 #[test]
 fn runners_run_all_jobs(rt: HostRuntime) {
-    assert!(rt; passes::<Brand, HostRuntime>(&rt, rt.alloc(), Blank::new(1024), Trial::ManyJobs));
+    assert!(rt;
+        passes::<Brand, HostRuntime>(
+            &rt,
+            rt.alloc(),
+            new_blank(rt.alloc()).expect(&rt, "memory"),
+            Trial::ManyJobs
+        )
+    );
 }
 
 #[test]
 fn many_runners_come_to_the_roads_of_one(rt: HostRuntime) {
-    assert!(rt; passes::<Brand, HostRuntime>(&rt, rt.alloc(), Blank::new(1024), Trial::FewCars));
+    assert!(rt;
+        passes::<Brand, HostRuntime>(
+            &rt,
+            rt.alloc(),
+            new_blank(rt.alloc()).expect(&rt, "memory"),
+            Trial::FewCars
+        )
+    );
 }
 
 #[test]
 fn two_runners_run_at_once(rt: HostRuntime) {
-    assert!(rt; passes::<Brand, HostRuntime>(&rt, rt.alloc(), Blank::new(1024), Trial::AtOnce));
+    assert!(rt;
+        passes::<Brand, HostRuntime>(
+            &rt,
+            rt.alloc(),
+            new_blank(rt.alloc()).expect(&rt, "memory"),
+            Trial::AtOnce
+        )
+    );
 }

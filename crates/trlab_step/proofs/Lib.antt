@@ -1,6 +1,9 @@
 pub mod AnswersExist
+pub mod SafeCalls
 pub mod NextLaws
 pub mod RunLaws
+pub mod CallLaws
+pub mod Driving
 pub mod Sheets
 pub mod Totals
 pub mod Parts
@@ -8,4 +11,5 @@ pub mod Stepped
 pub mod PartLaws
 pub mod Blocks
 pub mod AskedCars
+pub mod InLine
 pub mod PublishedLaws

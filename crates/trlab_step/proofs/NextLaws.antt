@@ -23,6 +23,7 @@ use Rattle.trlab_step.specs.Next.{total_speed, stopped_cars, crossing_cars, IsLa
 use Rattle.trlab_step.specs.Laws.{IsLegalLike, NextRoadExists, NextRoadIsOne}
 use Rattle.trlab_step.proofs.AnswersExist.{speeds_exist, crossings_exist}
 use Rattle.trlab_step.proofs.PartLaws.{one_answer_each, one_crossing_each}
+use Rattle.trlab_step.proofs.SafeCalls.{step_calls_safe}
 
 -- a road is like itself, and like what a road like it is like
 pub like_itself : (road : Cells) → IsLegal road → IsLegalLike road road
@@ -111,6 +112,7 @@ next_road_exists rule dice road is legal =
           step = record { lane_change = side.lane_change; motion = ahead.motion_phase; distance = refl; stopped = refl };
           clean_lane_change = side.clean;
           clean_motion = ahead.clean;
+          calls = step_calls_safe rule dice road side.middle (record { motion = is.motion; change = is.change }) is.two_lanes legal side.like.legal;
         },
       ),
       like_next road side.middle ahead.next side.like ahead.like,
@@ -153,7 +155,7 @@ crossing_cars_same road crosses others same =
     same car (standing_cell road k no_one (rw length-standing_lanes at h)))
 
 -- the lane change leads to one road only, and one count of crossing cars
-lane_change_is_one : (change : Option CheckedProgram) (dice : Dice) (road middle other : Cells) (m n : ℕ) → IsLaneChangePhase change dice road middle m → IsLaneChangePhase change dice road other n → (middle ≡ other) × (m ≡ n)
+pub lane_change_is_one : (change : Option CheckedProgram) (dice : Dice) (road middle other : Cells) (m n : ℕ) → IsLaneChangePhase change dice road middle m → IsLaneChangePhase change dice road other n → (middle ≡ other) × (m ≡ n)
 lane_change_is_one None dice road middle other m n a b = (a.0 ∙ sym b.0, a.1 ∙ sym b.1)
 lane_change_is_one (Some change) dice road middle other m n a b =
     let same = crossings_agree change dice road a.1 b.1 a.2 b.2 in

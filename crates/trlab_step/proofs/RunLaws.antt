@@ -38,7 +38,7 @@ run_goes_on seed sheet step road next sum tally rule comes under is =
     (road, sum, rule, tally, comes, record { under = under; next = is; counted = refl })
 
 -- a rule for the lanes of a road is one for those of a road like it
-rule_for_like : (old new : Cells) (rule : Programs) → IsLegalLike old new → IsRuleFor (length old.lanes) rule → IsRuleFor (length new.lanes) rule
+pub rule_for_like : (old new : Cells) (rule : Programs) → IsLegalLike old new → IsRuleFor (length old.lanes) rule → IsRuleFor (length new.lanes) rule
 rule_for_like old new rule like is = subst (λ lanes. IsRuleFor lanes rule) (sym like.same_lanes) is
 
 -- a run under a sheet for its lanes comes to a road at each step

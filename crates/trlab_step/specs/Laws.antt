@@ -1,19 +1,24 @@
 -- Laws of answers, steps and runs, whichever code asks the cars and moves them.
 use Rattle.std.specs.Prelude.{◌≡◌, ◌≤◌, ◌++◌, ℕ, suc, Bool, Option, Some, None, List, [], All, IfSome, IsSome, length, sum, count_by, nat_eq, nat_le, if◌then◌else◌}
+use Rattle.trlab_code.specs.declared.kind.Kind.{Kind}
 use Rattle.trlab_code.specs.declared.kind.Kind.TheVariants.{Motion, Change}
+use Rattle.trlab_code.specs.Views.{IsView}
 use Rattle.trlab_verify.specs.CheckedProgram.{CheckedProgram, IsChecked}
-use Rattle.trlab_road.specs.Cells.{Cells, cars}
+use Rattle.trlab_road.specs.declared.car.Car.{Car}
+use Rattle.trlab_road.specs.Cells.{Cells, IsAt, cars}
 use Rattle.trlab_road.specs.Legal.{IsLegal}
 use Rattle.trlab_road.specs.LaneChange.{Crosses}
 use Rattle.trlab_road.specs.Motion.{Moves, in_order}
 use Rattle.trlab_rules.specs.Rules.{Programs}
 use Rattle.trlab_step.specs.declared.tally.StepTally.{StepTally}
 use Rattle.trlab_machine.specs.declared.dice.Dice.{Dice}
-use Rattle.trlab_step.specs.Answers.{AnswersSpeedsPart, FitsPart, AnswersCrossingsPart}
-use Rattle.trlab_step.specs.Next.{IsNext, IsCleanNext}
+use Rattle.trlab_step.specs.Answers.{AnswersCrossing, AnswersSpeed, AnswersSpeedsPart, FitsPart, AnswersCrossingsPart}
+use Rattle.trlab_step.specs.Block.{view_by}
+use Rattle.trlab_step.specs.Calls.{StepCallsAreSafe}
+use Rattle.trlab_step.specs.Next.{IsNext, IsCleanNext, IsStep}
 use Rattle.trlab_step.specs.Run.{Seed, Sheet, IsSheet, in_force, tally_sum, dice_at, ComesTo}
 
--- a rule for roads of so many lanes: accepted programs; a change program wants two lanes
+-- a rule for roads of so many lanes: programs that are safe within their budgets; a change program wants two lanes
 pub record IsRuleFor (lanes : ℕ) (rule : Programs) : Type 0 where
   pub motion : IsChecked Motion rule.motion
   pub change : IfSome rule.change (λ change. IsChecked Change change)
@@ -92,6 +97,34 @@ AnswersLeadOn =
     → GoByAnswers rule.motion dice middle next speeds
     → IsNext rule dice road next (tally_of_answers crosses speeds)
 
+-- what a program of either kind sees of a car of a legal road is in range; a change program wants two lanes
+abbrev pub ViewsAreInRange : Type 0
+ViewsAreInRange =
+    (kind : Kind) (road : Cells) (car : Car) → IsLegal road → (kind ≡ Change → length road.lanes ≡ 2)
+    → IsAt road car → IsView (view_by kind road car)
+
+-- an accepted motion program answers a car of a legal road within its budget: the count of steps that stands
+-- in the answer is no greater
+abbrev pub SpeedsComeInTime : Type 0
+SpeedsComeInTime =
+    (motion : CheckedProgram) (dice : Dice) (road : Cells) (car : Car) (speed : ℕ)
+    → IsChecked Motion motion → IsLegal road → IsAt road car
+    → (answer : AnswersSpeed motion dice road car speed) → answer.0 ≤ motion.budget
+
+-- the same of an accepted change program, on two lanes
+abbrev pub CrossingsComeInTime : Type 0
+CrossingsComeInTime =
+    (change : CheckedProgram) (dice : Dice) (road : Cells) (car : Car) (crosses : Bool)
+    → IsChecked Change change → IsLegal road → length road.lanes ≡ 2 → IsAt road car
+    → (answer : AnswersCrossing change dice road car crosses) → answer.0 ≤ change.budget
+
+-- in a step of a legal road under a rule for its lanes each call of a program is safe, in both phases
+abbrev pub StepsCallSafely : Type 0
+StepsCallSafely =
+    (rule : Programs) (dice : Dice) (road middle next : Cells) (tally : StepTally)
+    → IsRuleFor (length road.lanes) rule → IsLegal road → IsStep rule dice road middle next tally
+    → StepCallsAreSafe rule dice road middle
+
 -- each legal road has a next road under a rule for its lanes, which is legal too;
 -- no car goes onto or through another on the way
 abbrev pub NextRoadExists : Type 0
@@ -128,3 +161,12 @@ RunGoesOn =
     → ComesTo seed sheet step road sum → in_force sheet step ≡ Some rule
     → IsNext rule (dice_at seed step) road next tally
     → ComesTo seed sheet (suc step) next (if nat_le seed.warm step then tally_sum sum tally else sum)
+
+-- in each step of a run from a legal road, under a sheet for its lanes, each call of a program is safe
+abbrev pub RunsCallSafely : Type 0
+RunsCallSafely =
+    (seed : Seed) (sheet : Sheet) (step : ℕ) (road middle next : Cells) (sum : StepTally) (rule : Programs)
+    (tally : StepTally) → IsLegal seed.road → IsSheetFor (length seed.road.lanes) sheet
+    → ComesTo seed sheet step road sum → in_force sheet step ≡ Some rule
+    → IsStep rule (dice_at seed step) road middle next tally
+    → StepCallsAreSafe rule (dice_at seed step) road middle

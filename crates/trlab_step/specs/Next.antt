@@ -13,6 +13,7 @@ use Rattle.trlab_step.specs.declared.fault.StepFault.TheVariants.{LanesMismatch}
 use Rattle.trlab_step.specs.declared.tally.StepTally.{StepTally}
 use Rattle.trlab_machine.specs.declared.dice.Dice.{Dice}
 use Rattle.trlab_step.specs.Answers.{AnswersSpeeds, AnswersCrossings}
+use Rattle.trlab_step.specs.Calls.{StepCallsAreSafe}
 
 -- the sum of the speeds of a road's cars
 abbrev pub total_speed : Cells → ℕ
@@ -52,12 +53,14 @@ pub record IsStep (rule : Programs) (dice : Dice) (road middle next : Cells)
 abbrev pub IsNext : Programs → Dice → Cells → Cells → StepTally → Type 0
 IsNext rule dice road next tally = (middle : Cells) × IsStep rule dice road middle next tally
 
--- a step whose two phases are clean: no car went onto or through another, none was lost or made
+-- a step whose two phases are clean: no car went onto or through another, none was lost or made, and each
+-- program that was called ended within its budget
 pub record IsCleanStep (rule : Programs) (dice : Dice) (road middle next : Cells)
     (tally : StepTally) : Type 0 where
   pub step : IsStep rule dice road middle next tally
   pub clean_lane_change : CleanLaneChange road middle
   pub clean_motion : CleanMotion middle next
+  pub calls : StepCallsAreSafe rule dice road middle
 
 -- the next road under a rule, and what is counted on the way, both phases clean over one middle road
 abbrev pub IsCleanNext : Programs → Dice → Cells → Cells → StepTally → Type 0

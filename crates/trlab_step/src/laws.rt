@@ -5,6 +5,9 @@
 ghost use Rattle.trlab_step.specs.Published.{NaschOnCells, RickertOnCells, VdrOnCells};
 ghost use Rattle.trlab_step.specs.Laws.{AnswersLeadOn, CrossingsAreOne, CrossingsJoin, SpeedsAreOne, SpeedsJoin};
 ghost use Rattle.trlab_step.specs.Laws.{NextRoadExists, NextRoadIsOne, RoadExists, RoadIsOne, RunGoesOn};
+ghost use Rattle.trlab_step.specs.Laws.{CrossingsComeInTime, RunsCallSafely, SpeedsComeInTime};
+ghost use Rattle.trlab_step.specs.Laws.{StepsCallSafely, ViewsAreInRange};
+ghost use Rattle.trlab_step.specs.Driven.{RunsAreDriven};
 
 /// The cars of a part of the standing order have one list of speeds, and the lists of parts make up
 /// that of the whole: it is all one who asks the cars, and in which order.
@@ -23,6 +26,25 @@ pub fn crossings_make_the_whole()
 /// ahead, lead to the next road and to its tally.
 pub fn answers_lead_on()
     ensures { AnswersLeadOn }
+{}
+
+/// What a program of either kind sees of a car of a legal road is what the verifier took into account: speeds,
+/// gaps and the limit are in range. A change program wants two lanes.
+pub fn views_are_in_range()
+    ensures { ViewsAreInRange }
+{}
+
+/// Accepted programs answer the cars of a legal road in no more steps than their budgets.
+pub fn answers_come_in_time()
+    ensures speeds { SpeedsComeInTime }
+    ensures crossings { CrossingsComeInTime }
+{}
+
+/// Each call of a program is safe, in both phases: it sees what is in range, and ends with an answer within its
+/// budget. So it is in a step of a legal road under a rule for its lanes, and in each step of a run.
+pub fn calls_are_safe()
+    ensures step { StepsCallSafely }
+    ensures run { RunsCallSafely }
 {}
 
 /// Under a rule of accepted programs each legal road has a next road; a change program wants two
@@ -52,6 +74,12 @@ pub fn road_is_one()
 /// added from the step on where the count begins.
 pub fn run_goes_on()
     ensures { RunGoesOn }
+{}
+
+/// One worker drives each run from a legal road under a sheet for its lanes: the road at each step is legal, with
+/// the lanes, the limit and the cars of the start, and each step is clean, its programs ending within their budgets.
+pub fn runs_are_driven()
+    ensures { RunsAreDriven }
 {}
 
 /// In a step under `nasch` each car goes ahead by its speed of Nagel and Schreckenberg (1992).

@@ -7,6 +7,7 @@ mod block;
 mod crossings;
 mod fault;
 pub mod laws;
+mod line;
 mod onlooker;
 mod phases;
 mod room;

@@ -3,7 +3,7 @@
 use std::alloc::Global;
 use trlab_road::Room;
 
-/// Lists that are filled again in each step: they say nothing of a road.
+/// Lists that are filled again in each step: they say nothing of a road, and no answer goes by them.
 #[derive(Drop)]
 pub struct StepRoom {
     /// For the lanes.

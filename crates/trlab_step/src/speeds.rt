@@ -4,9 +4,8 @@ ghost use Rattle.std.specs.Prelude.{◌≡◌, ◌≤◌, IfOk, OnOk};
 ghost use Rattle.trlab_road.specs.Cells.{cars};
 ghost use Rattle.trlab_step.specs.Answers.{AnswersSpeedsPart, FitsPart, dice_of};
 
-use crate::block::{BLOCK, ask_block};
+use crate::block::{BLOCK, ask_motions};
 use std::alloc::{AllocError, Global};
-use trlab_code::Kind;
 use trlab_machine::{Dice, Views, run_motions};
 use trlab_road::Road;
 use trlab_verify::Motion;
@@ -86,7 +85,7 @@ pub fn ask_speeds(
     for block in 0..(to - from) / BLOCK + 1 {
         let begin = from + BLOCK * block;
         let end = begin + BLOCK.min(to - begin);
-        ask_block(&mut views, Kind::Motion, road, begin, end, &mut 0);
+        ask_motions(&mut views, road, begin, end);
         let answers = run_motions(motion, &views, dice);
         for k in begin..end {
             speeds.push(answers[(k - begin) as usize] as u8)?;

@@ -82,7 +82,8 @@ pub fn step_road(
 ///
 /// # Errors
 ///
-/// Where an allocation was refused; then the road stays as it was.
+/// Where an allocation was refused; then the road stays as it was. The room may have lost lists, and serves for
+/// any step.
 pub fn take_step<A: Asker, O: Onlooker>(
     asker: &A,
     alloc: Global,
@@ -100,6 +101,8 @@ pub fn take_step<A: Asker, O: Onlooker>(
     ensures seen { O.sees onlooker.old road.old onlooker.new }
     ensures same { OnErr result (road.new ≡ road.old) }
 {
+    // only the proof reads it: the road is legal, so each call of a program is safe
+    let _start = road.snapshot();
     let motion = rule.motion();
     match rule.change() {
         None => move_cars(asker, alloc, road, &mut room.speeds, motion, dice, onlooker),

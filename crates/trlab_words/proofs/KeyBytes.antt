@@ -1,22 +1,10 @@
 -- A key as 32 bytes and as eight words.
-use Rattle.std.proofs.Common.{◌≡◌, ℕ, zero, suc, ◌<◌, ◌+◌, ◌*◌, ◌/◌, ◌%◌, ◌^◌, List, All, length, slice_index, get_or, arith, refl, subst}
+use Rattle.std.proofs.Common.{◌≡◌, ℕ, ◌<◌, ◌+◌, ◌*◌, ◌/◌, ◌%◌, ◌^◌, List, All, length, slice_index, get_or, arith, refl, subst}
 use Rattle.std.proofs.lemmas.Grind.{same_number_lists}
 use Rattle.std.proofs.lemmas.List.Elements.{All-get_or}
 use Rattle.rand_core.specs.Steps.{u32_at}
 use Rattle.rand_chacha.specs.ChaCha.{key_of, seed_of}
-use Rattle.trlab_words.proofs.LaneLemmas.{below_four}
-
--- what holds of each of the eight words
-below_eight : (P : ℕ → Type 0) → P 0 → P 1 → P 2 → P 3 → P 4 → P 5 → P 6 → P 7 → (k : ℕ) → k < 8 → P k
-below_eight P p0 p1 p2 p3 p4 p5 p6 p7 zero h = p0
-below_eight P p0 p1 p2 p3 p4 p5 p6 p7 (suc zero) h = p1
-below_eight P p0 p1 p2 p3 p4 p5 p6 p7 (suc (suc zero)) h = p2
-below_eight P p0 p1 p2 p3 p4 p5 p6 p7 (suc (suc (suc zero))) h = p3
-below_eight P p0 p1 p2 p3 p4 p5 p6 p7 (suc (suc (suc (suc zero)))) h = p4
-below_eight P p0 p1 p2 p3 p4 p5 p6 p7 (suc (suc (suc (suc (suc zero))))) h = p5
-below_eight P p0 p1 p2 p3 p4 p5 p6 p7 (suc (suc (suc (suc (suc (suc zero)))))) h = p6
-below_eight P p0 p1 p2 p3 p4 p5 p6 p7 (suc (suc (suc (suc (suc (suc (suc zero))))))) h = p7
-below_eight P p0 p1 p2 p3 p4 p5 p6 p7 (suc (suc (suc (suc (suc (suc (suc (suc n)))))))) h = absurd (omega arith)
+use Rattle.trlab_words.proofs.LaneLemmas.{below_four, below_eight}
 
 -- a word is what its four bytes make
 word_from_bytes : (n : ℕ) → n < 2 ^ 32

@@ -1,4 +1,4 @@
-//! A key as the words that its blocks begin with, and the random words of four cars at once.
+//! A key as the words that its blocks begin with, and the random words of eight cars at once.
 
 ghost use Rattle.std.specs.Prelude.{◌≡◌, ℕ, ◌<◌, ◌^◌, List, All, length, slice_index};
 ghost use Rattle.rand_chacha.specs.ChaCha.{seed_of};
@@ -60,10 +60,10 @@ fn read_words(bytes: &[u8]) -> KeyWords
     }
 }
 
-/// Word k, below 16, of each of four cars in a step of a road: what `words` has at k for that car.
-pub fn word_of_cars(key: &KeyWords, road: u32, cars: [u32; 4], step: u32, k: usize) -> [u32; 4]
+/// Word k, below 16, of each of eight cars in a step of a road: what `words` has at k for that car.
+pub fn word_of_cars(key: &KeyWords, road: u32, cars: [u32; 8], step: u32, k: usize) -> [u32; 8]
     requires { k < 16 }
-    ensures { (j : ℕ) → j < 4 → slice_index result j ≡ random_word key.now road (slice_index cars j) step k }
+    ensures { (j : ℕ) → j < 8 → slice_index result j ≡ random_word key.now road (slice_index cars j) step k }
 {
     block_word_of_cars(&key.words, road, cars, step, k)
 }

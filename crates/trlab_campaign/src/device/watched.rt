@@ -6,28 +6,31 @@ ghost use Rattle.trlab_campaign.specs.declared.device.flushes.Flushes.TheVariant
 use crate::device::{DeviceError, Flushes, Sink, Source};
 use std::io::{Read, Write};
 
-/// A reader or a writer, whether a call of it has failed, and of a writer whether it has handed on all
-/// that was written and how often it was flushed.
+/// A reader or a writer, whether a call of it has failed, of a reader how many bytes it gave, and of a
+/// writer whether it has handed on all that was written and how often it was flushed.
 #[derive(Drop)]
 pub struct Watched<X> {
     inner: X,
     failed: bool,
+    taken: u64,
     handed_on: bool,
     flushes: Flushes,
 }
 
 impl<X> Watched<X> {
-    ghost use Rattle.trlab_campaign.specs.Watched.{inner_of, has_failed, flushes_of};
+    ghost use Rattle.trlab_campaign.specs.Watched.{inner_of, has_failed, taken_of, flushes_of};
 
-    /// One that has not failed and was never flushed.
+    /// One that has not failed, has given no byte and was never flushed.
     pub fn new(inner: X) -> Watched<X>
         ensures inner { inner_of result ≡ inner }
         ensures fresh { has_failed result ≡ false }
+        ensures untaken { taken_of result ≡ 0 }
         ensures unflushed { flushes_of result ≡ Never }
     {
         Watched {
             inner,
             failed: false,
+            taken: 0,
             handed_on: false,
             flushes: Flushes::Never,
         }
@@ -43,15 +46,25 @@ impl<X> Watched<X> {
 }
 
 impl<X: Read> Source for Watched<X> {
-    ghost use Rattle.trlab_campaign.specs.Watched.{inner_of, has_failed};
+    ghost use Rattle.trlab_campaign.specs.Watched.{inner_of, has_failed, taken_of};
 
     ghost left = { λ watched. X.remaining (inner_of watched) };
+
+    ghost taken = { taken_of };
 
     ghost failed = { has_failed };
 
     fn take(&mut self, buffer: &mut [u8]) -> Result<usize, DeviceError> {
+        // Bytes that could not be counted are not read.
+        if buffer.len() as u64 > u64::MAX - self.taken {
+            self.failed = true;
+            return Err(DeviceError);
+        }
         match self.inner.read(buffer) {
-            Ok(count) => Ok(count),
+            Ok(count) => {
+                self.taken += count as u64;
+                Ok(count)
+            }
             Err(_) => {
                 self.failed = true;
                 Err(DeviceError)

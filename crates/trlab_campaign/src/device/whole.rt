@@ -39,6 +39,7 @@ pub fn read_text<S: Source>(alloc: Global, reader: &mut S) -> Result<Vec<u8>, Re
     ensures big { IfErr result (λ fault. fault ≡ TooBig
         → IfSome (S.left reader.old) (λ all. TEXT_LIMIT < length all)) }
     ensures read { ConsumesUpTo (TEXT_LIMIT + 1) (S.left reader.old) (S.left reader.new) }
+    ensures stops { S.taken reader.new ≤ S.taken reader.old + (TEXT_LIMIT + 1) }
     ensures fails { IfErr result (λ fault. (S.failed reader.new ≡ true) ↔ (fault ≡ Device)) }
     ensures works { OnOk result (S.failed reader.new ≡ false) }
 {

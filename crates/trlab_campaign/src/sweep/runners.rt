@@ -5,21 +5,21 @@ ghost use Rattle.trlab_diagram.specs.Flow.{IsMeasured};
 ghost use Rattle.trlab_road.specs.Spreading.{IsEven};
 ghost use Rattle.trlab_bounds.specs.declared.runs.TheConstants.{MOST_RUNNERS, MOST_WORKERS};
 ghost use Rattle.trlab_book.specs.Desks.{parts_of};
-ghost use Rattle.trlab_book.specs.declared.limits.TheConstants.{ALL_PARTS};
 ghost use Rattle.trlab_campaign.specs.SweepOutput.{ArePoints, IsPoint};
+ghost use Rattle.trlab_strands.specs.Tokens.{name_of};
 
 use crate::sweep::points::{even_road, run_point};
 use crate::sweep::snapshots::point_seen;
 use std::alloc::{AllocError, Global};
 use std::sync::Wait;
-use std::sync::ledger::{Blank, Ledger};
 use std::thread::Threads;
 use trlab_book::{Desk, SharedBook, run_jobs};
 use trlab_diagram::Point;
 use trlab_jobs::Sweep;
-use trlab_leases::Seed;
+use trlab_leases::{Event, Seed};
 use trlab_road::Road;
 use trlab_segments::OpenGate;
+use trlab_strands::{Blank, Ledger};
 
 /// Submits the road of each point, so that a job has the number of its point. Where the book takes no
 /// more, the roads that are left have no job.
@@ -122,13 +122,12 @@ fn collect_points<L: Ledger, R: Wait>(
 pub fn points_by_runners<L: Ledger + Send + Sync, R: Threads + Wait + Sync>(
     rt: &R,
     alloc: Global,
-    blank: Blank,
+    blank: Blank<Event>,
     sweep: &Sweep,
     runners: u32,
     workers: u32,
 ) -> Result<Vec<Point>, AllocError>
-    requires name { blank.name ≡ L.name }
-    requires parts { (blank.parts ≡ L.parts) × (blank.parts ≡ ALL_PARTS) }
+    requires name { name_of blank ≡ L.name }
     requires runners { (0 < runners) × (runners ≤ MOST_RUNNERS) }
     requires workers { (0 < workers) × (workers ≤ MOST_WORKERS) }
     ensures are { IfOk result (λ points. ArePoints sweep.now points.items) }

@@ -8,11 +8,10 @@ use crate::sweep::runners::points_by_runners;
 use std::alloc::{AllocError, Global};
 use std::marker::Brand;
 use std::sync::Wait;
-use std::sync::ledger::Blank;
 use std::thread::Threads;
-use trlab_book::ALL_PARTS;
 use trlab_diagram::points_text;
 use trlab_jobs::Sweep;
+use trlab_strands::Blank;
 
 /// The table of the points of a sweep, which is made once all of them are there.
 ///
@@ -33,7 +32,7 @@ pub fn table<R: Threads + Wait + Sync>(
     let points = points_by_runners::<Brand, R>(
         rt,
         alloc,
-        Blank::new(u64::from(ALL_PARTS)),
+        Blank::new(alloc)?,
         sweep,
         runners,
         workers,

@@ -26,11 +26,17 @@ returns-in-Ok-clause-handed g c = c.write.ensures.handed
 pub returns-in-Ok-clause-read : goal.returns-in-Ok-clause-read
 returns-in-Ok-clause-read g c = c.in-Ok.ensures.read
 
+pub returns-in-Ok-clause-stops : goal.returns-in-Ok-clause-stops
+returns-in-Ok-clause-stops g c = c.in-Ok.ensures.stops
+
 pub returns-in-Err-TooBig-clause-handed : goal.returns-in-Err-TooBig-clause-handed
 returns-in-Err-TooBig-clause-handed g c = c.refuse.ensures.handed
 
 pub returns-in-Err-TooBig-clause-read : goal.returns-in-Err-TooBig-clause-read
 returns-in-Err-TooBig-clause-read g c = c.in-Err-TooBig.ensures.read
+
+pub returns-in-Err-TooBig-clause-stops : goal.returns-in-Err-TooBig-clause-stops
+returns-in-Err-TooBig-clause-stops g c = c.in-Err-TooBig.ensures.stops
 
 pub returns-clause-answer : goal.returns-clause-answer
 returns-clause-answer g c = fault_ends (g.E.Engine.outputs c.args.engine) _ _

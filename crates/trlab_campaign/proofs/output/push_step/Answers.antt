@@ -16,5 +16,5 @@ pub loop-lane-preserved : goal.loop-lane-preserved
 loop-lane-preserved c =
     let inside : c.loop-lane.lane < length c.args.road.now.lanes = omega arith in
     next_piece (λ (lane : Lane). picture_line (picture lane)) c.args.road.now.lanes c.loop-lane.lane [] c.loop-lane.out.items
-    c.push_picture.new.out.items c.push.new.self.items (picture (lane_of c.args.road.now c.loop-lane.lane)) (10 ∷ []) inside refl c.in_ok-push_picture.ensures c.in_ok-push.ensures.items
+    c.push_picture.new.out.items c.push.new.self.items (picture (lane_of c.args.road.now c.loop-lane.lane)) (10 ∷ []) inside refl c.in_ok-push_picture.ensures.added c.in_ok-push.ensures.items
     ∙ c.loop-lane.invariant

@@ -1,5 +1,6 @@
 use Rattle.std.proofs.Common.{◌≢◌, ◌<◌, ◌∙◌, length, sym, arith}
 use Rattle.trlab_road.specs.Stored.{place_of}
+use Rattle.trlab_road.proofs.ListLaneChange.{rank_sought}
 use Rattle.trlab_road.proofs.ListSides.{taken, taken_ahead, taken_behind, free, free_ahead, free_behind, free_parted, free_past}
 use Rattle.trlab_road.proofs.side.look_beside.Goals as goal
 use Rattle.trlab_road.proofs.side.look_beside.Goals.{else-next-cars-via-then-next-cars+else-place_at-place, else-next-cars-via-else-next-cars}
@@ -55,3 +56,14 @@ returns-clause-behind c =
       | else-next-cars-via-else-next-cars w ↦ (let h = w.if-next-cars.false in absurd (omega arith))
     ] in
     c.gap_behind.ensures.value ∙ sym (free_behind c.args.cells c.args.cars.now c.args.place c.first_near-next.result c.requires.sorted c.requires.inside c.first_near-next.ensures other)
+
+-- the index that was found counts the cars before the place
+pub returns-then-place_at-place-clause-next : goal.returns-then-place_at-place-clause-next
+returns-then-place_at-place-clause-next c =
+    let inside = c.requires.inside in
+    sym (rank_sought c.args.cells c.args.cars.now c.args.place c.first_near-next.result c.requires.sorted c.first_near-next.ensures (omega (arith, inside)))
+
+pub returns-clause-next : goal.returns-clause-next
+returns-clause-next c =
+    let inside = c.requires.inside in
+    sym (rank_sought c.args.cells c.args.cars.now c.args.place c.first_near-next.result c.requires.sorted c.first_near-next.ensures (omega (arith, inside)))

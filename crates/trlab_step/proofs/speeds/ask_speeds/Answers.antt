@@ -15,12 +15,12 @@ loop-k-preserved c =
     let begin = c.args.from + BLOCK * c.loop-block.block in
     let j = c.loop-k.k - begin in
     let at = car_at c.args.from c.args.to c.loop-block.block c.requires.rising c.loop-block-test.true c.min.result c.min.ensures c.loop-k.k c.loop-k.auto.k in
-    let views = c.ask_block.new.views in
+    let views = c.ask_motions.new.views in
     let near = car_near c.args.from c.args.to c.loop-block.block c.requires.rising c.loop-block-test.true c.min.result c.min.ensures c.loop-k.k c.loop-k.auto.k c.loop-k-test.true in
     let low = car_low c.args.from c.args.to c.loop-block.block c.requires.rising c.loop-block-test.true c.min.result c.min.ensures c.loop-k.k c.loop-k.auto.k c.loop-k-test.true in
     let answer = slice_index c.run_motions-answers.result j in
-    let asked = c.ask_block.ensures.each j low in
-    let answered = goes_by c.args.motion.now c.args.dice.now c.args.road.now _ (view_of views j) (slice_index views.number j) _ asked (c.run_motions-answers.ensures j near (rw c.ask_block.ensures.cars low)) in
+    let asked = c.ask_motions.ensures.each j low in
+    let answered = goes_by c.args.motion.now c.args.dice.now c.args.road.now _ (view_of views j) (slice_index views.number j) _ asked (c.run_motions-answers.ensures j near (rw c.ask_motions.ensures.cars low)) in
     let there = subst (λ k. GoesBy c.args.motion.now c.args.dice.now c.args.road.now k answer) at answered in
     rw c.in_ok-push.ensures.items (record {
       answers = one_more 0 (AnswersSpeed c.args.motion.now c.args.dice.now c.args.road.now) c.args.road.now c.args.from c.loop-k.k c.loop-k.speeds.items answer c.loop-k.invariant.answers there.answer;
@@ -62,20 +62,17 @@ overflow_add-begin c = let low = begin_low c.args.from c.args.to c.loop-block.bl
 pub overflow_add-end : goal.overflow_add-end
 overflow_add-end c = let low = end_low c.args.from c.args.to c.loop-block.block c.requires.rising c.loop-block-test.true c.min.result c.min.ensures in let to = c.ranges.to in omega (arith, low, to)
 
-pub ask_block-requires-clause-rising : goal.ask_block-requires-clause-rising
-ask_block-requires-clause-rising c = end_after c.args.from c.args.to c.loop-block.block c.requires.rising c.loop-block-test.true c.min.result c.min.ensures
+pub ask_motions-requires-clause-rising : goal.ask_motions-requires-clause-rising
+ask_motions-requires-clause-rising c = end_after c.args.from c.args.to c.loop-block.block c.requires.rising c.loop-block-test.true c.min.result c.min.ensures
 
-pub ask_block-requires-clause-few : goal.ask_block-requires-clause-few
-ask_block-requires-clause-few c = end_near c.args.from c.args.to c.loop-block.block c.requires.rising c.loop-block-test.true c.min.result c.min.ensures
+pub ask_motions-requires-clause-few : goal.ask_motions-requires-clause-few
+ask_motions-requires-clause-few c = end_near c.args.from c.args.to c.loop-block.block c.requires.rising c.loop-block-test.true c.min.result c.min.ensures
 
-pub ask_block-requires-clause-within : goal.ask_block-requires-clause-within
-ask_block-requires-clause-within c = let low = end_low c.args.from c.args.to c.loop-block.block c.requires.rising c.loop-block-test.true c.min.result c.min.ensures in let within = c.requires.within in omega (arith, low, within)
-
-pub ask_block-requires-clause-two_lanes : goal.ask_block-requires-clause-two_lanes
-ask_block-requires-clause-two_lanes c = λ e. absurd cc
+pub ask_motions-requires-clause-within : goal.ask_motions-requires-clause-within
+ask_motions-requires-clause-within c = let low = end_low c.args.from c.args.to c.loop-block.block c.requires.rising c.loop-block-test.true c.min.result c.min.ensures in let within = c.requires.within in omega (arith, low, within)
 
 pub run_motions-answers-requires : goal.run_motions-answers-requires
-run_motions-answers-requires c = λ k near low. (c.ask_block.ensures.each k (rw c.ask_block.ensures.cars at low)).is_view
+run_motions-answers-requires c = λ k near low. (c.ask_motions.ensures.each k (rw c.ask_motions.ensures.cars at low)).is_view
 
 pub loop-k-init : goal.loop-k-init
 loop-k-init c =
@@ -109,6 +106,6 @@ pub overflow_cast-answers : goal.overflow_cast-answers
 overflow_cast-answers c =
     let near = car_near c.args.from c.args.to c.loop-block.block c.requires.rising c.loop-block-test.true c.min.result c.min.ensures c.loop-k.k c.loop-k.auto.k c.loop-k-test.true in
     let low = car_low c.args.from c.args.to c.loop-block.block c.requires.rising c.loop-block-test.true c.min.result c.min.ensures c.loop-k.k c.loop-k.auto.k c.loop-k-test.true in
-    let view = (c.ask_block.ensures.each _ low).is_view in
-    let speed = low_speed _ _ (c.run_motions-answers.ensures _ near (rw c.ask_block.ensures.cars low)).allowed.limit view.limit in
+    let view = (c.ask_motions.ensures.each _ low).is_view in
+    let speed = low_speed _ _ (c.run_motions-answers.ensures _ near (rw c.ask_motions.ensures.cars low)).allowed.limit view.limit in
     omega (arith, speed)

@@ -1,6 +1,5 @@
 use Rattle.std.proofs.Common.{ℕ, ap, sym, ◌∙◌, slice_index}
-use Rattle.rand_chacha.specs.Block.{quarter_round, diagonal_round}
-use Rattle.rand_chacha.specs.Lanes.{lane}
+use Rattle.rand_chacha.specs.Block.{diagonal_round}
 use Rattle.trlab_words.proofs.LaneLemmas.{slice_index-lane}
 use Rattle.trlab_words.proofs.block.diagonal_word.Goals.{in-0, in-1, in_default}
 use Rattle.trlab_words.proofs.block.diagonal_word.Goals as goal

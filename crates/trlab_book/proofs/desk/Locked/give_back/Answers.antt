@@ -1,8 +1,26 @@
-use Rattle.std.proofs.Common.{subst}
-use Rattle.trlab_leases.specs.declared.event.Reply.{Reply}
-use Rattle.trlab_book.specs.Desks.{Counts}
+use Rattle.std.proofs.lemmas.Bool.{OnTrue_at}
+use Rattle.trlab_leases.specs.Comparison.{offered}
+use Rattle.trlab_leases.specs.declared.event.Call.TheVariants.{GiveBack}
+use Rattle.trlab_leases.specs.Answers.{back_reply}
+use Rattle.trlab_book.specs.Desks.{TellsSame}
+use Rattle.trlab_book.proofs.Noting.{is_made, next_event}
 use Rattle.trlab_book.proofs.desk.Locked.give_back.Goals as goal
 
-pub returns-clause-counted : goal.returns-clause-counted
-returns-clause-counted g c =
-    subst (λ (told : Reply). Counts c.args.desk.now told c.count_event.new.desk) c.reply_to_back.ensures c.count_event.ensures.counted
+pub invariant_of-self-2 : goal.invariant_of-self-2
+invariant_of-self-2 g c =
+    let kept = c.args.self.now.kept in
+    let same = c.give_back-answer.ensures.noted.0 in
+    let call = GiveBack (offered c.args.lease same) in
+    let told = back_reply c.give_back-answer.result in
+    record { noted = (c.note_event.ensures call (next_event kept c.give_back-answer.new.self call told c.reply_to_back.result _ c.give_back-answer.ensures.noted.2 c.reply_to_back.ensures c.args.self.now.noted)).0 }
+
+pub returns-clause-made : goal.returns-clause-made
+returns-clause-made g c =
+    let kept = c.args.self.now.kept in
+    let same = c.give_back-answer.ensures.noted.0 in
+    let call = GiveBack (offered c.args.lease same) in
+    let told = back_reply c.give_back-answer.result in (
+      same,
+      is_made (TellsSame c.args.lease same) kept c.give_back-answer.new.self call told c.reply_to_back.result _ c.args.desk.now c.note_event.new.desk c.give_back-answer.ensures.noted.2 c.reply_to_back.ensures c.args.self.now.noted (λ is. OnTrue_at is c.give_back-answer.ensures.noted.1)
+          (c.note_event.ensures call (next_event kept c.give_back-answer.new.self call told c.reply_to_back.result _ c.give_back-answer.ensures.noted.2 c.reply_to_back.ensures c.args.self.now.noted)).1,
+    )

@@ -1,17 +1,20 @@
-use Rattle.std.proofs.Common.{subst}
-use Rattle.trlab_leases.specs.declared.event.Reply.{Reply}
 use Rattle.trlab_leases.specs.Comparison.{LeaseCall}
 use Rattle.trlab_leases.specs.Answers.{lease_reply}
-use Rattle.trlab_book.specs.Desks.{Counts}
-use Rattle.trlab_book.proofs.Counting.{counted}
+use Rattle.trlab_book.specs.Desks.{IsOfLease}
+use Rattle.trlab_book.proofs.Noting.{is_made, next_event}
 use Rattle.trlab_book.proofs.desk.Locked.lease.Goals as goal
 
-pub invariant_of-self : goal.invariant_of-self
-invariant_of-self g c = record {
-  counted = counted c.args.self.now.kept c.lease-answer.new.self LeaseCall (lease_reply c.lease-answer.result) c.reply_to_lease.result c.args.self.now.events.total c.count_event.new.events.total
-      c.lease-answer.ensures.made c.reply_to_lease.ensures c.args.self.now.counted c.count_event.ensures.total;
-}
+pub invariant_of-self-2 : goal.invariant_of-self-2
+invariant_of-self-2 g c =
+    let kept = c.args.self.now.kept in
+    let call = LeaseCall in
+    let told = lease_reply c.lease-answer.result in
+    record { noted = (c.note_event.ensures call (next_event kept c.lease-answer.new.self call told c.reply_to_lease.result _ c.lease-answer.ensures.made c.reply_to_lease.ensures c.args.self.now.noted)).0 }
 
 pub returns : goal.returns
 returns g c =
-    subst (λ (told : Reply). Counts c.args.desk.now told c.count_event.new.desk) c.reply_to_lease.ensures c.count_event.ensures.counted
+    let kept = c.args.self.now.kept in
+    let call = LeaseCall in
+    let told = lease_reply c.lease-answer.result in
+    is_made (IsOfLease c.lease-answer.result) kept c.lease-answer.new.self call told c.reply_to_lease.result _ c.args.desk.now c.note_event.new.desk c.lease-answer.ensures.made c.reply_to_lease.ensures c.args.self.now.noted (λ is. c.lease-answer.ensures.lent)
+    (c.note_event.ensures call (next_event kept c.lease-answer.new.self call told c.reply_to_lease.result _ c.lease-answer.ensures.made c.reply_to_lease.ensures c.args.self.now.noted)).1

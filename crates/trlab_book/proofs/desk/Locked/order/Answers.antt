@@ -1,8 +1,25 @@
-use Rattle.std.proofs.Common.{subst}
-use Rattle.trlab_leases.specs.declared.event.Reply.{Reply}
-use Rattle.trlab_book.specs.Desks.{Counts}
+use Rattle.std.proofs.lemmas.Bool.{OnTrue_at}
+use Rattle.trlab_leases.specs.Comparison.{OrderCall, offered}
+use Rattle.trlab_leases.specs.Answers.{order_reply}
+use Rattle.trlab_book.specs.Desks.{IsOfOrder}
+use Rattle.trlab_book.proofs.Noting.{is_made, next_event}
 use Rattle.trlab_book.proofs.desk.Locked.order.Goals as goal
+
+pub invariant_of-self-2 : goal.invariant_of-self-2
+invariant_of-self-2 g c =
+    let kept = c.args.self.now.kept in
+    let same = c.order-answer.ensures.noted.0 in
+    let call = OrderCall (offered c.args.lease.now same) in
+    let told = order_reply c.order-answer.result in
+    record { noted = (c.note_event.ensures call (next_event kept c.order-answer.new.self call told c.reply_to_order.result _ c.order-answer.ensures.noted.2 c.reply_to_order.ensures c.args.self.now.noted)).0 }
 
 pub returns : goal.returns
 returns g c =
-    subst (λ (told : Reply). Counts c.args.desk.now told c.count_event.new.desk) c.reply_to_order.ensures c.count_event.ensures.counted
+    let kept = c.args.self.now.kept in
+    let same = c.order-answer.ensures.noted.0 in
+    let call = OrderCall (offered c.args.lease.now same) in
+    let told = order_reply c.order-answer.result in (
+      same,
+      is_made (IsOfOrder c.args.lease.now same c.order-answer.result) kept c.order-answer.new.self call told c.reply_to_order.result _ c.args.desk.now c.note_event.new.desk c.order-answer.ensures.noted.2 c.reply_to_order.ensures c.args.self.now.noted (λ is. (OnTrue_at is c.order-answer.ensures.noted.1, c.order-answer.ensures.rule))
+          (c.note_event.ensures call (next_event kept c.order-answer.new.self call told c.reply_to_order.result _ c.order-answer.ensures.noted.2 c.reply_to_order.ensures c.args.self.now.noted)).1,
+    )

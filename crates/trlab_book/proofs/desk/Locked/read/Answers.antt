@@ -1,17 +1,20 @@
-use Rattle.std.proofs.Common.{subst}
-use Rattle.trlab_leases.specs.declared.event.Reply.{Reply}
 use Rattle.trlab_leases.specs.declared.event.Call.TheVariants.{Read}
 use Rattle.trlab_leases.specs.Answers.{seen_reply}
-use Rattle.trlab_book.specs.Desks.{Counts}
-use Rattle.trlab_book.proofs.Counting.{counted}
+use Rattle.trlab_book.specs.Desks.{IsOfRead}
+use Rattle.trlab_book.proofs.Noting.{is_made, next_event}
 use Rattle.trlab_book.proofs.desk.Locked.read.Goals as goal
 
-pub invariant_of-self : goal.invariant_of-self
-invariant_of-self g c = record {
-  counted = counted c.args.self.now.kept c.read-answer.new.self (Read c.args.job) (seen_reply c.read-answer.result) c.reply_to_read.result c.args.self.now.events.total c.count_event.new.events.total
-      c.read-answer.ensures.made c.reply_to_read.ensures c.args.self.now.counted c.count_event.ensures.total;
-}
+pub invariant_of-self-2 : goal.invariant_of-self-2
+invariant_of-self-2 g c =
+    let kept = c.args.self.now.kept in
+    let call = Read c.args.job in
+    let told = seen_reply c.read-answer.result in
+    record { noted = (c.note_event.ensures call (next_event kept c.read-answer.new.self call told c.reply_to_read.result _ c.read-answer.ensures.made c.reply_to_read.ensures c.args.self.now.noted)).0 }
 
 pub returns : goal.returns
 returns g c =
-    subst (λ (told : Reply). Counts c.args.desk.now told c.count_event.new.desk) c.reply_to_read.ensures c.count_event.ensures.counted
+    let kept = c.args.self.now.kept in
+    let call = Read c.args.job in
+    let told = seen_reply c.read-answer.result in
+    is_made (IsOfRead c.args.job c.read-answer.result) kept c.read-answer.new.self call told c.reply_to_read.result _ c.args.desk.now c.note_event.new.desk c.read-answer.ensures.made c.reply_to_read.ensures c.args.self.now.noted (λ is. c.read-answer.ensures.seen)
+    (c.note_event.ensures call (next_event kept c.read-answer.new.self call told c.reply_to_read.result _ c.read-answer.ensures.made c.reply_to_read.ensures c.args.self.now.noted)).1

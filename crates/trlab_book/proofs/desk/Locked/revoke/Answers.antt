@@ -1,17 +1,19 @@
-use Rattle.std.proofs.Common.{subst}
-use Rattle.trlab_leases.specs.declared.event.Reply.{Reply}
 use Rattle.trlab_leases.specs.declared.event.Call.TheVariants.{Revoke}
 use Rattle.trlab_leases.specs.Answers.{done_reply}
-use Rattle.trlab_book.specs.Desks.{Counts}
-use Rattle.trlab_book.proofs.Counting.{counted}
+use Rattle.trlab_book.proofs.Noting.{is_made, next_event}
 use Rattle.trlab_book.proofs.desk.Locked.revoke.Goals as goal
 
-pub invariant_of-self : goal.invariant_of-self
-invariant_of-self g c = record {
-  counted = counted c.args.self.now.kept c.revoke-answer.new.self (Revoke c.args.job) (done_reply c.revoke-answer.result) c.reply_to_done.result c.args.self.now.events.total c.count_event.new.events.total
-      c.revoke-answer.ensures.made c.reply_to_done.ensures c.args.self.now.counted c.count_event.ensures.total;
-}
+pub invariant_of-self-2 : goal.invariant_of-self-2
+invariant_of-self-2 g c =
+    let kept = c.args.self.now.kept in
+    let call = Revoke c.args.job in
+    let told = done_reply c.revoke-answer.result in
+    record { noted = (c.note_event.ensures call (next_event kept c.revoke-answer.new.self call told c.reply_to_done.result _ c.revoke-answer.ensures.made c.reply_to_done.ensures c.args.self.now.noted)).0 }
 
 pub returns : goal.returns
 returns g c =
-    subst (λ (told : Reply). Counts c.args.desk.now told c.count_event.new.desk) c.reply_to_done.ensures c.count_event.ensures.counted
+    let kept = c.args.self.now.kept in
+    let call = Revoke c.args.job in
+    let told = done_reply c.revoke-answer.result in
+    is_made (λ book. Unit {0}) kept c.revoke-answer.new.self call told c.reply_to_done.result _ c.args.desk.now c.note_event.new.desk c.revoke-answer.ensures.made c.reply_to_done.ensures c.args.self.now.noted (λ is. tt)
+    (c.note_event.ensures call (next_event kept c.revoke-answer.new.self call told c.reply_to_done.result _ c.revoke-answer.ensures.made c.reply_to_done.ensures c.args.self.now.noted)).1

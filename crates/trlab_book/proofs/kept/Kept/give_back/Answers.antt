@@ -1,10 +1,10 @@
 use Rattle.std.proofs.Common.{[], ◌∷◌, ◌++◌, ◌↔◌, IsTrue, ap, subst, sym, ◌∙◌}
+use Rattle.std.proofs.lemmas.Bool.{OnTrue_from}
 use Rattle.trlab_leases.specs.Answers.{back_reply, is_event}
 use Rattle.trlab_leases.specs.Comparison.{IsSame, offered}
 use Rattle.trlab_leases.specs.Machine.{State, is_full}
 use Rattle.trlab_leases.specs.declared.event.Call.TheVariants.{GiveBack}
 use Rattle.trlab_leases.specs.Replay.{event}
-use Rattle.trlab_book.proofs.Counting.{lengthens}
 use Rattle.trlab_book.proofs.Replaying.{back_is_event, makes_offered, replays_on, tells_event}
 use Rattle.trlab_book.proofs.kept.Kept.give_back.Goals as goal
 
@@ -27,11 +27,11 @@ returns-clause-made c = λ same is.
     c.make_room.ensures.same (back_is_event c.make_room.new.self.book (offered c.args.lease c.is_same-same.result) c.in_default.ensures.free) c.is_same-same.ensures is
     c.push_reserved.ensures.items c.parts_of_lease.ensures c.reply_to_back-reply.ensures c.give_back_as-answer.ensures.reply c.give_back_as-answer.ensures.state
 
-pub returns-clause-length : goal.returns-clause-length
-returns-clause-length c =
+pub returns-clause-noted : goal.returns-clause-noted
+returns-clause-noted c =
     let same = c.is_same-same.result in
     let is = subst (λ (b : State). IsTrue same ↔ IsSame b.jobs c.args.lease) c.make_room.ensures.same.book c.is_same-same.ensures in
-    lengthens _ _ (GiveBack (offered c.args.lease same)) _ (returns-clause-made c same is)
+    (same, OnTrue_from _ _ (λ _. is), returns-clause-made c same is)
 
 pub returns-clause-err : goal.returns-clause-err
 returns-clause-err c = c.give_back_as-answer.ensures.handed

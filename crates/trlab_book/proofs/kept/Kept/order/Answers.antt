@@ -1,10 +1,9 @@
 use Rattle.std.proofs.Common.{◌≡◌, [], ◌∷◌, ◌++◌, ◌↔◌, IsTrue, IfOk, false, subst, sym, ap, ◌∙◌}
-use Rattle.std.proofs.lemmas.Bool.{MatchBool-at_false}
+use Rattle.std.proofs.lemmas.Bool.{MatchBool-at_false, OnTrue_from}
 use Rattle.trlab_leases.specs.Answers.{is_event, is_memory, order_reply}
 use Rattle.trlab_leases.specs.Comparison.{IsRuleAt, IsSame, OrderCall, offered}
 use Rattle.trlab_leases.specs.Machine.{State, is_full}
 use Rattle.trlab_leases.specs.Replay.{event}
-use Rattle.trlab_book.proofs.Counting.{lengthens}
 use Rattle.trlab_book.proofs.Replaying.{makes_offered, order_is_event, replays_on, tells_event}
 use Rattle.trlab_book.proofs.kept.Kept.order.Goals as goal
 
@@ -43,8 +42,8 @@ returns-clause-full c =
     tells_event c.args.self.now _ (sym (ap is_full c.make_room.ensures.same.book) ∙ free)
     (ap is_event (MatchBool-at_false _ _ kept c.order_as-answer.ensures.reply) ∙ order_is_event ready.book (offered c.args.lease.now c.is_same-same.result) free)
 
-pub returns-clause-length : goal.returns-clause-length
-returns-clause-length c =
+pub returns-clause-noted : goal.returns-clause-noted
+returns-clause-noted c =
     let same = c.is_same-same.result in
     let is = subst (λ (b : State). IsTrue same ↔ IsSame b.jobs c.args.lease.now) c.make_room.ensures.same.book c.is_same-same.ensures in
-    lengthens _ _ (OrderCall (offered c.args.lease.now same)) _ (returns-clause-made c same is)
+    (same, OnTrue_from _ _ (λ _. is), returns-clause-made c same is)

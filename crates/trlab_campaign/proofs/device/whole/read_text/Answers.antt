@@ -7,7 +7,7 @@ use Rattle.trlab_campaign.proofs.KnownBytes.{consumes_more, consumes_none, consu
 use Rattle.trlab_campaign.proofs.device.whole.read_text.Goals as goal
 
 pub loop-piece-init : goal.loop-piece-init
-loop-piece-init g c = record { read = rw c.new-text.ensures.items (consumes_none _); small = omega (arith, c.new-text.ensures.len); works = c.requires }
+loop-piece-init g c = record { read = rw c.new-text.ensures.items (consumes_none _); small = omega (arith, c.new-text.ensures.len); taken = omega (arith, c.new-text.ensures.len); works = c.requires }
 
 pub loop-piece-preserved : goal.loop-piece-preserved
 loop-piece-preserved g c =
@@ -16,6 +16,7 @@ loop-piece-preserved g c =
     record {
       read = rw added (consumes_more _ _ _ _ _ c.loop-piece.invariant.read c.in-Ok.ensures.bytes.0);
       small = omega (arith, all, length-take c.in-Ok.count c.take.new.buffer, length-take c.min-room.result c.loop-piece.piece);
+      taken = omega (arith, all, length-take c.in-Ok.count c.take.new.buffer, c.in-Ok.ensures.count, c.in-Ok.ensures.counted, c.loop-piece.invariant.taken);
       works = c.in-Ok.ensures.fails ∙ (or-false _ ∙ c.loop-piece.invariant.works);
     }
 
@@ -24,6 +25,9 @@ returns-clause-big g c = λ _. consumes_over _ _ c.loop-piece.text.items TEXT_LI
 
 pub returns-clause-read : goal.returns-clause-read
 returns-clause-read g c = (c.loop-piece.text.items, omega arith, c.loop-piece.invariant.read)
+
+pub returns-clause-stops : goal.returns-clause-stops
+returns-clause-stops g c = omega (arith, c.loop-piece.invariant.small, c.loop-piece.invariant.taken)
 
 pub returns-clause-fails : goal.returns-clause-fails
 returns-clause-fails g c = (λ failed. absurd (false≢true (sym c.loop-piece.invariant.works ∙ failed)), λ e. cc)
@@ -34,6 +38,9 @@ returns-in-Err-clause-big g c = λ e. absurd (cc)
 pub returns-in-Err-clause-read : goal.returns-in-Err-clause-read
 returns-in-Err-clause-read g c = (c.loop-piece.text.items, omega arith, consumes_kept _ _ _ _ c.loop-piece.invariant.read c.in-Err.ensures.bytes)
 
+pub returns-in-Err-clause-stops : goal.returns-in-Err-clause-stops
+returns-in-Err-clause-stops g c = omega (arith, c.in-Err.ensures.counted, c.loop-piece.invariant.small, c.loop-piece.invariant.taken)
+
 pub returns-in-Err-clause-fails : goal.returns-in-Err-clause-fails
 returns-in-Err-clause-fails g c = (λ _. refl, λ _. rw c.loop-piece.invariant.works at c.in-Err.ensures.fails)
 
@@ -43,6 +50,10 @@ returns-then-is_err-clause-big g c = λ e. absurd (cc)
 pub returns-then-is_err-clause-read : goal.returns-then-is_err-clause-read
 returns-then-is_err-clause-read g c =
     (c.loop-piece.text.items ++ take c.in-Ok.count c.take.new.buffer, grind (arith, length-append, length-take), consumes_more _ _ _ _ _ c.loop-piece.invariant.read c.in-Ok.ensures.bytes.0)
+
+pub returns-then-is_err-clause-stops : goal.returns-then-is_err-clause-stops
+returns-then-is_err-clause-stops g c =
+    omega (arith, c.in-Ok.ensures.count, c.in-Ok.ensures.counted, length-take c.min-room.result c.loop-piece.piece, c.loop-piece.invariant.small, c.loop-piece.invariant.taken)
 
 pub returns-then-is_err-clause-fails : goal.returns-then-is_err-clause-fails
 returns-then-is_err-clause-fails g c =
@@ -99,6 +110,9 @@ returns-then-count-eq0-clause-whole g c = c.in-Ok.ensures.bytes.1 c.if-count-eq0
 pub returns-then-count-eq0-clause-read : goal.returns-then-count-eq0-clause-read
 returns-then-count-eq0-clause-read g c =
     (c.loop-piece.text.items, omega (arith, c.loop-piece.invariant.small), consumes_last _ _ _ c.loop-piece.text.items c.take.new.buffer c.in-Ok.count c.if-count-eq0.true c.loop-piece.invariant.read c.in-Ok.ensures.bytes.0)
+
+pub returns-then-count-eq0-clause-stops : goal.returns-then-count-eq0-clause-stops
+returns-then-count-eq0-clause-stops g c = omega (arith, c.if-count-eq0.true, c.in-Ok.ensures.counted, c.loop-piece.invariant.small, c.loop-piece.invariant.taken)
 
 pub returns-then-count-eq0-clause-big : goal.returns-then-count-eq0-clause-big
 returns-then-count-eq0-clause-big g c = tt

@@ -7,6 +7,7 @@ abbrev pub invariant-loop-piece : goal.invariant-loop-piece
 invariant-loop-piece g l = record {
   read : Consumes (g.S.Source.left l.fn.reader) (g.S.Source.left l.reader) l.text.items;
   small : vec_len l.text ≤ TEXT_LIMIT + 1;
+  taken : g.S.Source.taken l.reader ≡ g.S.Source.taken l.fn.reader + vec_len l.text;
   works : g.S.Source.failed l.reader ≡ false;
 }
 

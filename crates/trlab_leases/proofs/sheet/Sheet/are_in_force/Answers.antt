@@ -1,19 +1,19 @@
-use Rattle.std.proofs.Common.{◌≡◌, ◌∙◌, ap, arith, refl, subst}
-use Rattle.trlab_step.specs.Run.{in_force}
-use Rattle.std.specs.Prelude.{Some}
-use Rattle.trlab_leases.proofs.InForce.{all_in_force, one_more_in_force}
+use Rattle.std.proofs.Common.{◌≡◌, ℕ, suc, [], ◌∷◌, ◌-◌, length, arith, ap, sym, ◌∙◌}
+use Rattle.trlab_step.specs.Run.{Sheet, IsSheet}
+use Rattle.trlab_leases.proofs.InForce.{first_in_force, steady_in_force}
 use Rattle.trlab_leases.proofs.sheet.Sheet.are_in_force.Goals as goal
 
-pub loop-ran-preserved : goal.loop-ran-preserved
-loop-ran-preserved c =
-    let at = c.loop-ran.invariant.0 in
-    let here = c.entry_in_force.ensures.rule ∙ ap Some (c.equals.ensures.0 c.if-not-equals.false) in (
-      omega arith,
-      one_more_in_force c.args.self.now c.args.first c.args.applied.now c.loop-ran.ran-index c.ran-item.result c.loop-ran.invariant.1 c.loop-ran-test.true c.ran-item.is
-          (subst (λ s. in_force c.args.self.now s ≡ Some c.ran-item.result.rule) at here),
-    )
+-- a sheet has a last entry
+length_is : (sheet : Sheet) (n : ℕ) → IsSheet sheet → n ≡ length sheet - 1 → length sheet ≡ suc n
+length_is [] n is at = absurd is
+length_is (x ∷ more) n is at = omega arith
 
-pub returns : goal.returns
-returns c =
-    let all = c.loop-ran-test.false in
-    (λ _. all_in_force c.args.self.now c.args.first c.args.applied.now c.loop-ran.ran-index c.loop-ran.invariant.1 (omega arith), λ _. refl)
+pub returns-then-from-first : goal.returns-then-from-first
+returns-then-from-first c =
+    let sheet = c.args.self.now in
+    let is = c.len.ensures.rules in
+    let long = length_is sheet (c.len.result - 1) is (ap (λ (n : ℕ). n - 1) c.len.ensures.value) in (
+      λ same. steady_in_force sheet c.args.first _ _ _ c.args.applied.now is c.entry-from.ensures long c.if-from-first.true
+          (c.requires.steady c.if-is_steady.true) (sym c.in-Some.ensures.value) (c.equals.ensures.0 same ∙ c.get.ensures),
+      λ all. c.equals.ensures.1 (first_in_force sheet c.args.first _ _ _ c.args.applied.now is c.entry-from.ensures long c.if-from-first.true (sym c.in-Some.ensures.value) all ∙ sym c.get.ensures),
+    )

@@ -1,6 +1,6 @@
 use Rattle.std.proofs.Common.{◌≡◌, ◌<◌, ◌≤◌, ◌-◌, ◌∙◌, ℕ, false, List, [], Vec, Global, length, get_or, sym, ap, subst, arith}
 use Rattle.trlab_road.specs.LaneCars.{LaneCar}
-use Rattle.trlab_road.specs.Cells.{Lane}
+use Rattle.trlab_road.specs.Cells.{Lane, cars_before}
 use Rattle.trlab_road.specs.Gaps.{side, sideback, sidegap}
 use Rattle.trlab_road.specs.Stored.{IsFoundAt, cells_of, lanes_from, list_at, place_of}
 use Rattle.trlab_road.proofs.ListRoads.{below_counted, few_cells, found_by, found_in_order, found_inside, lane_from, lanes_count, length_first}
@@ -71,6 +71,16 @@ returns-clause-behind c =
     let count = lanes_count n lists c.self.inside.limit c.self.invariant in
     rw (← c.self.view_is) (found_by (λ l x. sideback (get_or (lanes_from n lists) (1 - l) []) x) n lists c.self.inside.limit _ _ _ c.self.invariant.sorted f c.look_beside.result.behind
     (here sideback n _ _ _ c.look_beside.result.behind lists _ _ _ _ (omega (arith, two, count)) c.deref-2.ensures.value c.list_of.ensures c.deref-3.ensures.value c.list_of-other.ensures (told_at sideback (cells_of n c.list_of-other.result.now) _ _ _ c.place_at-place.ensures c.look_beside.ensures.behind)))
+
+pub returns-clause-next : goal.returns-clause-next
+returns-clause-next c =
+    let n = c.self.inside.cells in
+    let lists = c.self.inside.lanes.items in
+    let f = subst (λ (ls : List (Vec LaneCar Global)). IsFoundAt ls c.args.k c.find-lane.result.0 c.find-lane.result.1) c.deref.ensures.value c.find-lane.ensures in
+    let two = rw (← c.self.view_is) at c.requires.two in
+    let count = lanes_count n lists c.self.inside.limit c.self.invariant in
+    rw (← c.self.view_is) (found_by (λ l x. cars_before (get_or (lanes_from n lists) (1 - l) []) x) n lists c.self.inside.limit _ _ _ c.self.invariant.sorted f c.look_beside.result.next
+    (here cars_before n _ _ _ c.look_beside.result.next lists _ _ _ _ (omega (arith, two, count)) c.deref-2.ensures.value c.list_of.ensures c.deref-3.ensures.value c.list_of-other.ensures (told_at cars_before (cells_of n c.list_of-other.result.now) _ _ _ c.place_at-place.ensures c.look_beside.ensures.next)))
 
 pub returns-clause-ahead_below : goal.returns-clause-ahead_below
 returns-clause-ahead_below c = rw (← c.self.view_is, length_first c.self.inside.cells c.self.inside.lanes.items c.self.inside.limit c.self.invariant) c.look_beside.ensures.ahead_within

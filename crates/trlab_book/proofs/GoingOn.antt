@@ -1,0 +1,97 @@
+-- A desk goes on from call to call of its runners.
+use Rattle.std.proofs.Common.{◌≡◌, ℕ, ◌+◌, ◌<◌, ◌≤◌, max, Bool, true, false, List, [], ◌∷◌, ◌++◌, refl, sym, ap, ◌∙◌, arith, append_assoc, append-nil, MatchBool}
+use Rattle.std.proofs.lemmas.List.Elements.{All-nil, All-push, All-append, All-weaker}
+use Rattle.trlab_leases.specs.declared.event.Call.{Call}
+use Rattle.trlab_leases.specs.declared.event.Event.{Event}
+use Rattle.trlab_leases.specs.declared.event.Reply.{Reply}
+use Rattle.trlab_leases.specs.Answers.{is_event}
+use Rattle.trlab_leases.specs.Comparison.{OrderCall, offered}
+use Rattle.trlab_leases.specs.Leases.{LeaseState}
+use Rattle.trlab_leases.specs.Machine.{State}
+use Rattle.trlab_leases.specs.Replay.{event}
+use Rattle.trlab_strands.specs.declared.ledger.Ledger.{Ghosts}
+use Rattle.trlab_strands.specs.declared.stock.Noted.{Noted}
+use Rattle.trlab_strands.specs.Stocks.{noted, number_of}
+use Rattle.trlab_strands.specs.Tokens as strand
+use Rattle.trlab_book.specs.declared.desk.Desk.{Desk}
+use Rattle.trlab_book.specs.Desks.{AreOfRunners, GoesOn, IsOneEvent, MakesOf, subhistory_of, is_of_runner, least_of, parts_of}
+
+-- calls within a span are within a wider one
+wider : (from to below above : ℕ) (numbered : List (Noted Event)) → below ≤ from → to ≤ above → AreOfRunners from to numbered → AreOfRunners below above numbered
+wider from to below above numbered low high are = All-weaker
+    (λ (x : Noted Event). (from ≤ number_of x) × (number_of x < to) × (is_of_runner x.event.call ≡ true))
+    (λ (x : Noted Event). (below ≤ number_of x) × (number_of x < above) × (is_of_runner x.event.call ≡ true))
+    (λ x is. (omega (arith, is.0), omega (arith, is.1), is.2))
+    numbered are
+
+-- the calls of two lists within one span
+both : (from to : ℕ) (xs ys : List (Noted Event)) → AreOfRunners from to xs → AreOfRunners from to ys → AreOfRunners from to (xs ++ ys)
+both from to xs ys first second =
+    All-append (λ (x : Noted Event). (from ≤ number_of x) × (number_of x < to) × (is_of_runner x.event.call ≡ true)) xs ys first second
+
+module _ {L : Type 0} {ledger : Ghosts L} where
+  pub stays : (d : Desk L ledger) → GoesOn d d
+  stays d = record { parts = refl; least = omega arith; more = []; subhistory = sym (append-nil (subhistory_of d)); runners = All-nil _ }
+
+  pub goes_on : (a b c : Desk L ledger) → GoesOn a b → GoesOn b c → GoesOn a c
+  goes_on a b c first second = record {
+    parts = second.parts ∙ first.parts;
+    least = let p = first.least in let q = second.least in omega arith;
+    more = first.more ++ second.more;
+    subhistory = second.subhistory ∙ (ap (λ (l : List (Noted Event)). l ++ second.more) first.subhistory ∙ append_assoc (subhistory_of a) first.more second.more);
+    runners = both (least_of a) (least_of c) first.more second.more
+        (wider (least_of a) (least_of b) (least_of a) (least_of c) first.more (omega arith) second.least first.runners)
+        (wider (least_of b) (least_of c) (least_of a) (least_of c) second.more first.least (omega arith) second.runners);
+  }
+
+  -- a call of a runner goes on
+  pub makes_goes : (Holds : State → Type 0) (a b : Desk L ledger) (call : Call) (told : Reply) → MakesOf Holds a call told b → is_of_runner call ≡ true → GoesOn a b
+  makes_goes Holds a b call told made of_runner = by_event (is_event told) made.0 made.1
+    where
+      by_event : (one : Bool) → parts_of b ≡ parts_of a
+          → MatchBool one ((book : State) × IsOneEvent a call told b book × Holds book) (strand.IsSame a.strand b.strand) → GoesOn a b
+      by_event true same one =
+          let before = one.1.before in
+          let adds = one.1.noted in
+          record {
+            parts = same;
+            least = let p = adds.1 in let q = adds.3 in omega arith;
+            more = noted before (event call told) ∷ [];
+            subhistory = adds.2;
+            runners = All-push (λ (x : Noted Event). (least_of a ≤ number_of x) × (number_of x < least_of b) × (is_of_runner x.event.call ≡ true)) [] (noted before (event call told)) (All-nil _)
+                (adds.1, omega (arith, adds.3), of_runner);
+          }
+      by_event false same kept = record {
+        parts = same;
+        least = let q = kept.2 in omega arith;
+        more = [];
+        subhistory = kept.1 ∙ sym (append-nil (subhistory_of a));
+        runners = All-nil _;
+      }
+
+  -- so does an order, whatever is said of its lease
+  pub orders_on : (Holds : Bool → State → Type 0) (a b c : Desk L ledger) (lease : LeaseState) (told : Reply) → GoesOn a b
+      → (same : Bool) × MakesOf (Holds same) b (OrderCall (offered lease same)) told c → GoesOn a c
+  orders_on Holds a b c lease told on made = goes_on a b c on (makes_goes (Holds made.0) b c (OrderCall (offered lease made.0)) told made.1 refl)
+
+  -- a desk of which a part was split off, through both of which runners have called, is gathered again
+  pub gathers : (old kept given mine theirs new : Desk L ledger) → parts_of kept + 1 ≡ parts_of old → parts_of given ≡ 1
+      → subhistory_of kept ≡ subhistory_of old → subhistory_of given ≡ [] → least_of kept ≡ least_of old → least_of given ≡ least_of old
+      → GoesOn kept mine → GoesOn given theirs
+      → parts_of new ≡ parts_of mine + parts_of theirs → subhistory_of new ≡ subhistory_of mine ++ subhistory_of theirs → least_of new ≡ max (least_of mine) (least_of theirs)
+      → GoesOn old new
+  gathers old kept given mine theirs new fewer one was free low least first second parts joined greater =
+      let a = first.least in
+      let b = second.least in
+      let behind : subhistory_of theirs ≡ second.more = second.subhistory ∙ ap (λ (l : List (Noted Event)). l ++ second.more) free in
+      record {
+        parts = let p = first.parts in let q = second.parts in omega arith;
+        least = omega arith;
+        more = first.more ++ second.more;
+        subhistory = joined ∙ (ap (λ (l : List (Noted Event)). subhistory_of mine ++ l) behind
+            ∙ (ap (λ (l : List (Noted Event)). l ++ second.more) (first.subhistory ∙ ap (λ (l : List (Noted Event)). l ++ first.more) was)
+            ∙ append_assoc (subhistory_of old) first.more second.more));
+        runners = both (least_of old) (least_of new) first.more second.more
+            (wider (least_of kept) (least_of mine) (least_of old) (least_of new) first.more (omega arith) (omega arith) first.runners)
+            (wider (least_of given) (least_of theirs) (least_of old) (least_of new) second.more (omega arith) (omega arith) second.runners);
+      }

@@ -1,0 +1,12 @@
+use Rattle.trlab_book.proofs.GoingOn.{gathers}
+use Rattle.trlab_book.proofs.running.+fn-run_all-join+arg3+run_all.Goals as goal
+
+pub returns : goal.returns
+returns g t c =
+    let split = c.split-theirs in
+    let ran = c.join-theirs in
+    let parts = split.ensures.parts in
+    let events = split.ensures.events in
+    let least = split.ensures.least in
+    gathers c.args.desk split.new.desk split.result ran.result.1.0 ran.result.0.0 c.gather.result parts.0 parts.1 events.0 events.1 least.0 least.1
+    ran.ensures.second ran.ensures.first c.gather.ensures.parts c.gather.ensures.events c.gather.ensures.least

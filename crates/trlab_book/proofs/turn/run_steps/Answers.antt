@@ -1,0 +1,16 @@
+use Rattle.trlab_leases.specs.Answers.{order_reply}
+use Rattle.trlab_book.specs.Desks.{IsOfOrder}
+use Rattle.trlab_book.proofs.GoingOn.{orders_on}
+use Rattle.trlab_book.proofs.turn.run_steps.Goals as goal
+
+pub returns-in_err-order : goal.returns-in_err-order
+returns-in_err-order g c = orders_on (λ same. IsOfOrder c.loop.lease same c.order.result) c.args.desk.now c.loop.desk c.order.new.desk c.loop.lease (order_reply c.order.result) c.loop.invariant c.order.ensures
+
+pub returns-in-Err-WrongOrder : goal.returns-in-Err-WrongOrder
+returns-in-Err-WrongOrder g c = orders_on (λ same. IsOfOrder c.loop.lease same c.order.result) c.args.desk.now c.loop.desk c.order.new.desk c.loop.lease (order_reply c.order.result) c.loop.invariant c.order.ensures
+
+pub returns-in-Err-Memory : goal.returns-in-Err-Memory
+returns-in-Err-Memory g c = orders_on (λ same. IsOfOrder c.loop.lease same c.order.result) c.args.desk.now c.loop.desk c.order.new.desk c.loop.lease (order_reply c.order.result) c.loop.invariant c.order.ensures
+
+pub loop-preserved : goal.loop-preserved
+loop-preserved g c = orders_on (λ same. IsOfOrder c.loop.lease same c.order.result) c.args.desk.now c.loop.desk c.order.new.desk c.loop.lease (order_reply c.order.result) c.loop.invariant c.order.ensures

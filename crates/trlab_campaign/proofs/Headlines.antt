@@ -1,0 +1,91 @@
+-- One worker drives the roads of each text that is not refused.
+use Rattle.std.proofs.Common.{ℕ, List, false, true≢false, sym, subst, length}
+use Rattle.std.specs.Prelude.{Result, Ok, Err, IfOk}
+use Rattle.trlab_diagram.specs.declared.point.Point.{Point}
+use Rattle.trlab_road.specs.Cells.{Cells}
+use Rattle.trlab_road.specs.Legal.{IsLegal}
+use Rattle.trlab_road.specs.Spreading.{IsEven}
+use Rattle.trlab_road.proofs.EvenRoads.{one_even}
+use Rattle.trlab_step.specs.Laws.{IsRuleFor}
+use Rattle.trlab_step.proofs.Driving.{runs_are_driven}
+use Rattle.trlab_step.proofs.RunLaws.{run_comes_to_road}
+use Rattle.trlab_texts.specs.Reading.{Fault}
+use Rattle.trlab_jobs.specs.Job.{Job, JobText, seed_of, sheet_of}
+use Rattle.trlab_jobs.specs.Shapes.{all_steps}
+use Rattle.trlab_jobs.specs.Stored.{IsStored, IsStoredSweep, Spreads}
+use Rattle.trlab_jobs.specs.Sweep.{Setup, Sweep, SweepText}
+use Rattle.trlab_jobs.proofs.OneText as jobs
+use Rattle.trlab_jobs.proofs.OneSweep as sweeps
+use Rattle.trlab_jobs.proofs.SomeSweep.{says_stored}
+use Rattle.trlab_jobs.proofs.SomeText.{says_plain}
+use Rattle.trlab_campaign.specs.Headline.{IsDrivenJob, IsDrivenPoint, IsDrivenSweep, JobTextsAreDriven, SweepTextsAreDriven}
+use Rattle.trlab_campaign.specs.Output.{JobOutput}
+use Rattle.trlab_campaign.specs.Refusal.{OutputFor}
+use Rattle.trlab_campaign.specs.SweepOutput.{IsPoint, SweepOutput}
+use Rattle.trlab_campaign.specs.SweepOutput as sweep
+use Rattle.trlab_campaign.proofs.Points.{suits}
+use Rattle.trlab_campaign.proofs.Sheets.{plain_sheet}
+use Rattle.trlab_campaign.proofs.SomePoints.{even_some}
+
+drives_job : (text out : List ℕ) (says : Result Job Fault) → JobText text says → IfOk says IsStored → OutputFor JobOutput says false out → IsDrivenJob text out
+drives_job text out (Ok job) says stored output =
+    let roads = output.1.0 in
+    let shown = output.1.1 in
+    record {
+      job = job;
+      says = says;
+      roads = roads;
+      driven = runs_are_driven (seed_of job) (sheet_of job) job.steps roads stored.legal (plain_sheet job stored) shown.road_at;
+      pictures = shown.pictures;
+    }
+drives_job text out (Err fault) says stored output = absurd (true≢false (sym output.0))
+
+pub job_texts_are_driven : JobTextsAreDriven
+job_texts_are_driven text out is =
+    let found = says_plain text in
+    let same = jobs.one_thing text is.0 found.0 is.1.0 found.1.0 in
+    drives_job text out found.0 found.1.0 found.1.1 (subst (λ (says : Result Job Fault). OutputFor JobOutput says false out) same is.1.1)
+
+-- the road on which cars are evenly spread is legal
+even_is_legal : (setup : Setup) (cars : ℕ) (road : Cells) → Spreads setup.shape cars → IsEven setup.shape.lanes setup.shape.cells setup.shape.limit cars road → IsLegal road
+even_is_legal setup cars road fits even =
+    let found = even_some setup.shape.lanes setup.shape.cells setup.shape.limit cars fits in
+    subst IsLegal (one_even setup.shape.lanes setup.shape.cells setup.shape.limit cars found.0 road found.1.0 even) found.1.1
+
+drives_point : (setup : Setup) (number cars : ℕ) (point : Point) → IsRuleFor setup.shape.lanes setup.rule → Spreads setup.shape cars
+    → IsPoint setup number cars point → IsDrivenPoint setup number cars point
+drives_point setup number cars point rule fits is =
+    let seed = sweep.seed_of setup number is.start in
+    let sheet = sweep.sheet_of setup in
+    let legal = even_is_legal setup cars is.start fits is.even in
+    let for_lanes = suits (length is.start.lanes) setup (subst (λ (lanes : ℕ). IsRuleFor lanes setup.rule) (sym is.even.same_lanes) rule) in
+    let at = λ (step : ℕ). run_comes_to_road seed sheet step legal for_lanes in
+    record {
+      start = is.start;
+      tally = is.tally;
+      roads = λ (step : ℕ). (at step).0;
+      even = is.even;
+      driven = runs_are_driven seed sheet (all_steps setup.span) (λ step. (at step).0) legal for_lanes (λ step _. ((at step).1, (at step).2));
+      counted = is.counted;
+      told = is.told;
+    }
+
+drives_sweep : (text out : List ℕ) (says : Result Sweep Fault) → SweepText text says → IfOk says IsStoredSweep → OutputFor SweepOutput says false out → IsDrivenSweep text out
+drives_sweep text out (Ok said) says stored output =
+    let points = output.1.0 in
+    let are = output.1.1.0 in
+    record {
+      said = said;
+      says = says;
+      points = points;
+      one_each = are.one_each;
+      each = λ i cars point inside. drives_point said.setup i _ _ stored.rule (stored.spreads i cars inside) (are.each i cars point inside);
+      table = output.1.1.1;
+    }
+drives_sweep text out (Err fault) says stored output = absurd (true≢false (sym output.0))
+
+pub sweep_texts_are_driven : SweepTextsAreDriven
+sweep_texts_are_driven text out is =
+    let found = says_stored text in
+    let same = sweeps.one_thing text is.0 found.0 is.1.0 found.1.0 in
+    drives_sweep text out found.0 found.1.0 found.1.1 (subst (λ (says : Result Sweep Fault). OutputFor SweepOutput says false out) same is.1.1)

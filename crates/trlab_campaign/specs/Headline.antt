@@ -1,0 +1,53 @@
+-- What comes of a text that is not refused: one worker drives its roads.
+use Rattle.std.specs.Prelude.{◌≡◌, ◌+◌, ◌<◌, ℕ, false, List, Ok, length, slice_index_or}
+use Rattle.trlab_diagram.specs.declared.point.Point.{Point}
+use Rattle.trlab_diagram.specs.Table.{points_text}
+use Rattle.trlab_road.specs.Cells.{Cells}
+use Rattle.trlab_road.specs.Spreading.{IsEven}
+use Rattle.trlab_step.specs.declared.tally.StepTally.{StepTally}
+use Rattle.trlab_step.specs.Driven.{IsDriven}
+use Rattle.trlab_step.specs.Run.{IsTallyAt}
+use Rattle.trlab_jobs.specs.Job.{Job, JobText, seed_of, sheet_of}
+use Rattle.trlab_jobs.specs.Shapes.{all_steps}
+use Rattle.trlab_jobs.specs.Sweep.{Setup, Sweep, SweepText}
+use Rattle.trlab_campaign.specs.Output.{IsOutput, steps_text}
+use Rattle.trlab_campaign.specs.SweepOutput.{IsSweepOutput, point_of}
+use Rattle.trlab_campaign.specs.SweepOutput as sweep
+
+-- the output for a job text: it says a job, one worker drives the job's road, and the pictures are of the roads on the
+-- way
+pub record IsDrivenJob (text out : List ℕ) : Type 0 where
+  pub job : Job
+  pub says : JobText text (Ok job)
+  pub roads : ℕ → Cells
+  pub driven : IsDriven (seed_of job) (sheet_of job) job.steps roads
+  pub pictures : out ≡ steps_text roads (job.steps + 1)
+
+-- each output for a job text that is no refusal is so
+abbrev pub JobTextsAreDriven : Type 0
+JobTextsAreDriven = (text out : List ℕ) → IsOutput text false out → IsDrivenJob text out
+
+-- a point of a sweep: one worker drives its road, whose cars are evenly spread at the start, and what is told of them
+-- is what was counted on the way
+pub record IsDrivenPoint (setup : Setup) (number cars : ℕ) (point : Point) : Type 0 where
+  pub start : Cells
+  pub tally : StepTally
+  pub roads : ℕ → Cells
+  pub even : IsEven setup.shape.lanes setup.shape.cells setup.shape.limit cars start
+  pub driven : IsDriven (sweep.seed_of setup number start) (sweep.sheet_of setup) (all_steps setup.span) roads
+  pub counted : IsTallyAt (sweep.seed_of setup number start) (sweep.sheet_of setup) (all_steps setup.span) tally
+  pub told : point ≡ point_of setup cars tally
+
+-- the output for a sweep text: it says a sweep, and the table has its points, in their order
+pub record IsDrivenSweep (text out : List ℕ) : Type 0 where
+  pub said : Sweep
+  pub says : SweepText text (Ok said)
+  pub points : List Point
+  pub one_each : length points ≡ length said.cars
+  pub each : (i cars : ℕ) (point : Point) → i < length said.cars
+      → IsDrivenPoint said.setup i (slice_index_or said.cars i cars) (slice_index_or points i point)
+  pub table : out ≡ points_text points
+
+-- each output for a sweep text that is no refusal is so
+abbrev pub SweepTextsAreDriven : Type 0
+SweepTextsAreDriven = (text out : List ℕ) → IsSweepOutput text false out → IsDrivenSweep text out

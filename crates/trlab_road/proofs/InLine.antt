@@ -1,0 +1,54 @@
+-- Cars that follow on each other in the list of their lane.
+use Rattle.std.proofs.Common.{◌≡◌, ◌∙◌, ℕ, ◌+◌, ◌-◌, ◌<◌, List, [], Vec, Global, length, get_or, drop, sym, ap, subst, arith}
+use Rattle.std.proofs.lemmas.List.{get_or-drop, length-drop}
+use Rattle.trlab_road.specs.LaneCars.{LaneCar}
+use Rattle.trlab_road.specs.Cells.{Cells, Lane}
+use Rattle.trlab_road.specs.Gaps.{gap, headspeed}
+use Rattle.trlab_road.specs.InLine.{IsFollowed}
+use Rattle.trlab_road.specs.Stored.{AreSorted, IsFoundAt, lanes_from, list_at, no_car, place_of}
+use Rattle.trlab_road.proofs.Headspeeds.{next_headspeed}
+use Rattle.trlab_road.proofs.ListGaps.{gap_next}
+use Rattle.trlab_road.proofs.ListMotion.{parted_kth}
+use Rattle.trlab_road.proofs.ListRoads.{found_by, found_cell, found_in_order, found_standing, lane_from}
+use Rattle.trlab_road.proofs.Lists.{rises_high, rises_order}
+
+module _ (n : ℕ) (lists : List (Vec LaneCar Global)) (limit k l i : ℕ) (s : AreSorted n lists) (f : IsFoundAt lists k l i) where
+  abbrev cars : List LaneCar
+  cars = list_at lists l
+
+  abbrev road : Cells
+  road = record { limit = limit; lanes = lanes_from n lists }
+
+  -- the car that is j behind in the list
+  found_later_on : (j : ℕ) → i + j < length cars → IsFoundAt lists (k + j) l (i + j)
+  found_later_on j low = let order = f.order in record { on_lane = f.on_lane; low = low; order = omega (arith, order) }
+
+  followed : (j : ℕ) → i + j + 1 < length cars → IsFollowed road (k + j) (get_or cars (i + j) no_car) (get_or cars (i + j + 1) no_car)
+  followed j more =
+      let low : i + j < length cars = omega (arith, more) in
+      let r = s.rises l f.on_lane in
+      let there = found_later_on j low in
+      let own = place_of cars (i + j) in
+      let lane = sym (lane_from n lists l f.on_lane) in
+      let gap_is : place_of cars (i + j + 1) - own - 1 ≡ gap (get_or (lanes_from n lists) l []) own
+      = sym (gap_next n cars r own (rises_high 0 n cars (i + j) r low) (i + j + 1) (parted_kth n cars (i + j) r low) more) ∙ ap (λ (lane : Lane). gap lane own) lane in
+      let speed_is : (get_or cars (i + j + 1) no_car).speed ≡ headspeed (get_or (lanes_from n lists) l []) own
+      = next_headspeed n cars r (i + j) low more ∙ ap (λ (lane : Lane). headspeed lane own) lane in
+      record {
+        lane = l;
+        standing = found_standing n lists limit (k + j) l (i + j) s there;
+        here = found_cell n lists limit (k + j) l (i + j) s there;
+        past = rises_order 0 n cars (i + j) (i + j + 1) r (omega arith) more;
+        ahead = found_by (λ l x. gap (get_or (lanes_from n lists) l []) x) n lists limit (k + j) l (i + j) s there _ gap_is;
+        in_gaps = found_in_order (λ l x. gap (get_or (lanes_from n lists) l []) x) n lists limit (k + j) l (i + j) s there _ gap_is 0;
+        head = found_by (λ l x. headspeed (get_or (lanes_from n lists) l []) x) n lists limit (k + j) l (i + j) s there _ speed_is;
+      }
+
+  -- the cars of the list from an index on
+  pub in_line : (line : List LaneCar) → line ≡ drop i cars → (j : ℕ) → j + 1 < length line → IsFollowed road (k + j) (get_or line j no_car) (get_or line (j + 1) no_car)
+  in_line line is j more =
+      let size : length line ≡ length cars - i = ap length is ∙ length-drop i cars in
+      let here : get_or line j no_car ≡ get_or cars (i + j) no_car = ap (λ (xs : List LaneCar). get_or xs j no_car) is ∙ get_or-drop i cars j no_car in
+      let next : get_or line (j + 1) no_car ≡ get_or cars (i + j + 1) no_car = ap (λ (xs : List LaneCar). get_or xs (j + 1) no_car) is ∙ get_or-drop i cars (j + 1) no_car ∙ ap (λ m. get_or cars m no_car) (omega arith) in
+      subst (λ (next : LaneCar). IsFollowed road (k + j) (get_or line j no_car) next) (sym next)
+      (subst (λ (car : LaneCar). IsFollowed road (k + j) car (get_or cars (i + j + 1) no_car)) (sym here) (followed j (omega (arith, size, more))))

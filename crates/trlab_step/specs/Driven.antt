@@ -1,0 +1,34 @@
+-- One worker drives a road: all that is promised of a run, step by step.
+use Rattle.std.specs.Prelude.{◌≡◌, ◌<◌, ◌≤◌, ℕ, suc, Some, length}
+use Rattle.trlab_road.specs.Cells.{Cells}
+use Rattle.trlab_road.specs.Legal.{IsLegal}
+use Rattle.trlab_rules.specs.Rules.{Programs}
+use Rattle.trlab_step.specs.declared.tally.StepTally.{StepTally}
+use Rattle.trlab_step.specs.Next.{IsCleanNext}
+use Rattle.trlab_step.specs.Laws.{IsLegalLike, IsRuleFor, IsSheetFor}
+use Rattle.trlab_step.specs.Run.{Seed, Sheet, dice_at, in_force, IsRoadAt}
+
+-- a step is driven: the rule in force is one for the lanes, of programs that are safe within their budgets, and under it
+-- one road comes next to the other; no car goes onto or through another, none is lost or made, and each program that is
+-- called ends within its budget
+pub record IsDrivenStep (seed : Seed) (sheet : Sheet) (step : ℕ) (road next : Cells) : Type 0 where
+  pub rule : Programs
+  pub tally : StepTally
+  pub under : in_force sheet step ≡ Some rule
+  pub suits : IsRuleFor (length road.lanes) rule
+  pub clean : IsCleanNext rule (dice_at seed step) road next tally
+
+-- one worker drives a road for so many steps: from where it starts each step is driven, and each road is legal, with
+-- the lanes, the limit and the count of cars of the start
+pub record IsDriven (seed : Seed) (sheet : Sheet) (steps : ℕ) (roads : ℕ → Cells) : Type 0 where
+  pub start : roads 0 ≡ seed.road
+  pub legal : (step : ℕ) → step ≤ steps → IsLegalLike seed.road (roads step)
+  pub each : (step : ℕ) → step < steps → IsDrivenStep seed sheet step (roads step) (roads (suc step))
+
+-- the roads of a run, from a legal one and under a sheet for its lanes, are driven so
+abbrev pub RunsAreDriven : Type 0
+RunsAreDriven =
+    (seed : Seed) (sheet : Sheet) (steps : ℕ) (roads : ℕ → Cells)
+    → IsLegal seed.road → IsSheetFor (length seed.road.lanes) sheet
+    → ((step : ℕ) → step ≤ steps → IsRoadAt seed sheet step (roads step))
+    → IsDriven seed sheet steps roads

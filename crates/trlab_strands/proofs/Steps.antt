@@ -1,0 +1,327 @@
+-- Each step keeps the rule of the strands.
+use Rattle.std.proofs.Common.{◌≡◌, ℕ, zero, suc, ◌+◌, ◌<◌, ◌≤◌, ◌≢◌, max, eqb, Bool, true, false, cond, List, [], ◌∷◌, ◌++◌, length, get_or, set, slice_index, refl, sym, ap, ◌∙◌, subst, ⊎_elim, zero-le, true≢false, arith, length-append, append_assoc}
+use Rattle.std.specs.Prelude.{sum_by}
+use Rattle.std.proofs.lemmas.List.{append-nil}
+use Rattle.std.proofs.lemmas.List.Sums.{sum_by-set, sum_by-cons, sum_by_push, sum_by-append}
+use Rattle.std.proofs.lemmas.List.Elements.{All-nil, All-push, All-append, All-weaker}
+use Rattle.std.proofs.lemmas.Bool.Decides.{nat_tests}
+use mathlib.Core.Option.{some, none, some-injective, some-ne-none}
+use lib.ListN.{get_elem?}
+use prog.Atomic.{either}
+use Rattle.atomic_table.specs.Table.{State, Me, step, keeps, opening, Allows, Splits, Joins}
+use Rattle.atomic_table.proofs.Lists.{at_set, at_snoc, set_again, set_else}
+use Rattle.trlab_strands.specs.declared.stock.Noted.{Noted}
+use Rattle.trlab_strands.specs.declared.stock.Stock.{Stock}
+use Rattle.trlab_strands.specs.Stocks.{noted, number_of, times, once_below, StandsIn, StandIn, stock, nothing, opening_stock, without_list, list_alone, less_a_part, one_part, union, with_event}
+use Rattle.trlab_strands.specs.Rule.{IsStock, AreStocks, KeepsStrands, NotesEvent, Learns, Looks}
+
+off : false ≡ true → ⊥
+off e = true≢false (sym e)
+
+at_get : {A : Type 0} (l : List A) (i : ℕ) (a d : A) → get_elem? l i ≡ some a → (i < length l) × (get_or l i d ≡ a)
+at_get [] i a d e = absurd (some-ne-none a (sym e))
+at_get (x ∷ xs) zero a d e = (omega arith, some-injective x a e)
+at_get (x ∷ xs) (suc i) a d e = let r = at_get xs i a d e in let p = r.0 in (omega arith, r.1)
+
+-- what stands in a list stands in it where it is longer
+stands_on : {E : Type 0} (events more : List E) (n : Noted E) → StandsIn events n → StandsIn (events ++ more) n
+stands_on events more n stands = (stands.0 ++ more, ap (λ l. l ++ more) stands.1 ∙ append_assoc n.before (n.event ∷ stands.0) more)
+
+once_next : (k n : ℕ) → once_below k (n + 1) ≡ once_below k n + cond (eqb n k) 1 0
+once_next k n = grind (arith, nat_tests)
+
+empty : {A : Type 0} (xs : List A) → length xs ≡ 0 → xs ≡ []
+empty [] z = refl
+empty (x ∷ xs) z = absurd (omega arith)
+
+kept : (b : Bool) → b ≡ true → ◌≡◌ {A = ℕ} (cond b 1 0) 1
+kept b e = ap (λ (x : Bool). cond {A = ℕ} x 1 0) e
+
+module _ {E : Type 0} where
+  times_push : (k : ℕ) (xs : List (Noted E)) (x : Noted E) → times k (xs ++ x ∷ []) ≡ times k xs + cond (eqb (number_of x) k) 1 0
+  times_push k xs x = sum_by_push (λ (y : Noted E). cond (eqb (number_of y) k) 1 0) xs x
+
+  times_append : (k : ℕ) (xs ys : List (Noted E)) → times k (xs ++ ys) ≡ times k xs + times k ys
+  times_append k xs ys = sum_by-append (λ (y : Noted E). cond (eqb (number_of y) k) 1 0) xs ys
+
+  total_set : (f : Stock E → ℕ) (views : List (Stock E)) (i : ℕ) (v w : Stock E) → get_elem? views i ≡ some v → sum_by f (set views i w) + f v ≡ sum_by f views + f w
+  total_set f views i v w at = let g = at_get views i v v at in subst (λ (u : Stock E). sum_by f (set views i w) + f u ≡ sum_by f views + f w) g.1 (sum_by-set f views i w v g.0)
+
+  -- two stocks have no more than all
+  two_le : (f : Stock E → ℕ) → f nothing ≡ 0 → (views : List (Stock E)) (i j : ℕ) (v u : Stock E) → j ≢ i → get_elem? views i ≡ some v → get_elem? views j ≡ some u → f v + f u ≤ sum_by f views
+  two_le f none_left views i j v u apart at there =
+      let a = total_set f views i v nothing at in
+      let b = total_set f (set views i nothing) j u nothing (set_else views i j nothing apart ∙ there) in
+      omega arith
+
+  -- of two stocks at most one keeps the list
+  one_keeper : (events : List E) (views : List (Stock E)) (i j : ℕ) (v u : Stock E) → AreStocks events views → j ≢ i → get_elem? views i ≡ some v → get_elem? views j ≡ some u → v.keeps ≡ true → u.keeps ≡ true → ⊥
+  one_keeper events views i j v u r apart at there first second =
+      let both = two_le (λ s. cond s.keeps 1 0) refl views i j v u apart at there in
+      let total = r.keepers in
+      let a = kept v.keeps first in
+      let b = kept u.keeps second in
+      omega arith
+
+  -- the list is longer, and another keeps it
+  later : (events : List E) (e : E) (u : Stock E) → (u.keeps ≡ true → ⊥) → IsStock events u → IsStock (events ++ e ∷ []) u
+  later events e u another r = record {
+    idle = r.idle;
+    rises = let l = length-append events (e ∷ []) in let p = r.rises in omega arith;
+    stand = All-weaker (StandsIn events) (StandsIn (events ++ e ∷ [])) (stands_on events (e ∷ [])) u.own r.stand;
+    list = λ has. absurd (another has);
+  }
+
+  each_set : (events : List E) (views : List (Stock E)) (id : ℕ) (w : Stock E) → IsStock events w
+      → ((j : ℕ) (u : Stock E) → j ≢ id → get_elem? views j ≡ some u → IsStock events u) → (j : ℕ) (u : Stock E) → get_elem? (set views id w) j ≡ some u → IsStock events u
+  each_set events views id w mine others j u e = ⊎_elim
+      (λ (t : (j ≡ id) × (w ≡ u)). subst (IsStock events) t.1 mine)
+      (λ (t : (j ≢ id) × (get_elem? views j ≡ some u)). others j u t.0 t.1)
+      (at_set views id j w u e)
+
+  -- a new seat with a stock
+  each_snoc : (events : List E) (views : List (Stock E)) (w : Stock E) → IsStock events w
+      → ((j : ℕ) (u : Stock E) → get_elem? views j ≡ some u → IsStock events u) → (j : ℕ) (u : Stock E) → get_elem? (views ++ w ∷ []) j ≡ some u → IsStock events u
+  each_snoc events views w mine others j u e = ⊎_elim
+      (λ was. others j u was)
+      (λ (same : w ≡ u). subst (IsStock events) same mine)
+      (at_snoc views w u j e)
+
+  -- the event behind the list is of the stock that keeps it
+  notes : (events : List E) (views : List (Stock E)) (id : ℕ) (v : Stock E) (e : E) → get_elem? views id ≡ some v → v.keeps ≡ true → 0 < v.parts
+      → AreStocks events views → AreStocks (events ++ e ∷ []) (set views id (with_event v e))
+  notes events views id v e at keeping some_part r =
+      let w = with_event v e in
+      let mine = r.each id v at in
+      let known : v.all ≡ events = mine.list keeping in
+      let long : length v.all ≡ length events = ap length known in
+      let longer : length (events ++ e ∷ []) ≡ length events + 1 = length-append events (e ∷ []) in
+      record {
+        parts = let t = total_set (λ u. u.parts) views id v w at in let p = r.parts in omega arith;
+        keepers = let t = total_set (λ u. cond u.keeps 1 0) views id v w at in let p = r.keepers in omega arith;
+        count = let t = total_set (λ u. length u.own) views id v w at in let p = r.count in let q = length-append v.own (noted v.all e ∷ []) in omega arith;
+        once = λ k.
+            let t = total_set (λ u. times k u.own) views id v w at in
+            let p = r.once k in
+            let q = times_push k v.own (noted v.all e) in
+            let n : once_below k (length (events ++ e ∷ [])) ≡ once_below k (length v.all) + cond (eqb (length v.all) k) 1 0 = ap (once_below k) (longer ∙ ap (λ (x : ℕ). x + 1) (sym long)) ∙ once_next k (length v.all) in
+            let m : once_below k (length v.all) ≡ once_below k (length events) = ap (once_below k) long in
+            omega arith;
+        each = each_set (events ++ e ∷ []) views id w
+            (record {
+              idle = λ z. absurd (omega arith);
+              rises = omega arith;
+              stand = All-push (StandsIn (events ++ e ∷ [])) v.own (noted v.all e)
+                  (All-weaker (StandsIn events) (StandsIn (events ++ e ∷ [])) (stands_on events (e ∷ [])) v.own mine.stand)
+                  ([], ap (λ (l : List E). l ++ e ∷ []) (sym known));
+              list = λ _. ap (λ (l : List E). l ++ e ∷ []) known;
+            })
+            (λ j u apart there. later events e u (λ theirs. one_keeper events views id j v u r apart at there keeping theirs) (r.each j u there));
+      }
+
+  -- the list leaves a stock
+  pub apart : (id : ℕ) (v : Stock E) → Splits KeepsStrands id v (without_list v) (list_alone v)
+  apart id v s r at =
+      let l = without_list v in
+      let o = list_alone v in
+      let events = r.0 in
+      let k = r.1 in
+      let mine = k.each id v at in
+      let views = set s.views id l in (
+        events,
+        record {
+          parts = let t = total_set (λ u. u.parts) s.views id v l at in let n = sum_by_push (λ (u : Stock E). u.parts) views o in let p = k.parts in omega arith;
+          keepers = let t = total_set (λ u. cond u.keeps 1 0) s.views id v l at in let n = sum_by_push (λ (u : Stock E). cond u.keeps 1 0) views o in let p = k.keepers in omega arith;
+          count = let t = total_set (λ u. length u.own) s.views id v l at in let n = sum_by_push (λ (u : Stock E). length u.own) views o in let p = k.count in omega arith;
+          once = λ x. let t = total_set (λ u. times x u.own) s.views id v l at in let n = sum_by_push (λ (u : Stock E). times x u.own) views o in let p = k.once x in omega arith;
+          each = each_snoc events views o
+              (record { idle = λ _. refl; rises = zero-le; stand = All-nil _; list = mine.list })
+              (each_set events s.views id l (record { idle = mine.idle; rises = mine.rises; stand = mine.stand; list = λ e. absurd (off e) }) (λ j u _ there. k.each j u there));
+        },
+      )
+
+  -- one part goes to a new stock
+  pub splits : (id : ℕ) (v : Stock E) → 1 < v.parts → Splits KeepsStrands id v (less_a_part v) (one_part v)
+  splits id v two s r at =
+      let l = less_a_part v in
+      let o = one_part v in
+      let events = r.0 in
+      let k = r.1 in
+      let mine = k.each id v at in
+      let views = set s.views id l in (
+        events,
+        record {
+          parts = let t = total_set (λ u. u.parts) s.views id v l at in let n = sum_by_push (λ (u : Stock E). u.parts) views o in let p = k.parts in omega arith;
+          keepers = let t = total_set (λ u. cond u.keeps 1 0) s.views id v l at in let n = sum_by_push (λ (u : Stock E). cond u.keeps 1 0) views o in let p = k.keepers in omega arith;
+          count = let t = total_set (λ u. length u.own) s.views id v l at in let n = sum_by_push (λ (u : Stock E). length u.own) views o in let p = k.count in omega arith;
+          once = λ x. let t = total_set (λ u. times x u.own) s.views id v l at in let n = sum_by_push (λ (u : Stock E). times x u.own) views o in let p = k.once x in omega arith;
+          each = each_snoc events views o
+              (record { idle = λ _. refl; rises = mine.rises; stand = All-nil _; list = λ e. absurd (off e) })
+              (each_set events s.views id l (record { idle = λ z. absurd (omega arith); rises = mine.rises; stand = mine.stand; list = mine.list }) (λ j u _ there. k.each j u there));
+        },
+      )
+
+  -- a strand without the list takes in another stock
+  pub joins : (id : ℕ) (v : Stock E) (other : ℕ) (w : Stock E) → 0 < v.parts → v.keeps ≡ false → Joins KeepsStrands id v other w (union v w) nothing
+  joins id v other w some_part unkept s r at apart_ there =
+      let b = union v w in
+      let events = r.0 in
+      let k = r.1 in
+      let views = set s.views id b in
+      let mine = k.each id v at in
+      let theirs : IsStock events w = ⊎_elim
+      (λ (t : (other ≡ id) × (b ≡ w)). absurd (apart_ t.0))
+      (λ (t : (other ≢ id) × (get_elem? s.views other ≡ some w)). k.each other w t.1)
+      (at_set s.views id other b w there) in
+      let none_kept : ◌≡◌ {A = ℕ} (cond v.keeps 1 0) 0 = ap (λ (x : Bool). cond {A = ℕ} x 1 0) unkept in (
+        events,
+        record {
+          parts = let t = total_set (λ u. u.parts) s.views id v b at in let n = total_set (λ u. u.parts) views other w nothing there in let p = k.parts in omega arith;
+          keepers = let t = total_set (λ u. cond u.keeps 1 0) s.views id v b at in let n = total_set (λ u. cond u.keeps 1 0) views other w nothing there in let p = k.keepers in omega arith;
+          count = let t = total_set (λ u. length u.own) s.views id v b at in let n = total_set (λ u. length u.own) views other w nothing there in let p = k.count in let q = length-append v.own w.own in omega arith;
+          once = λ x. let t = total_set (λ u. times x u.own) s.views id v b at in let n = total_set (λ u. times x u.own) views other w nothing there in let p = k.once x in let q = times_append x v.own w.own in omega arith;
+          each = each_set events views other nothing (record { idle = λ _. refl; rises = zero-le; stand = All-nil _; list = λ e. absurd (off e) })
+              (λ j u _ here. each_set events s.views id b
+              (record { idle = λ z. absurd (omega arith); rises = let p = mine.rises in let q = theirs.rises in omega arith; stand = All-append (StandsIn events) v.own w.own mine.stand theirs.stand; list = theirs.list })
+              (λ i y _ was. k.each i y was) j u here);
+        },
+      )
+
+  -- where all that the stocks have of a kind is one's, and who has none of it has no event, the others have no event
+  all_spent : (f g : Stock E → ℕ) → (views : List (Stock E)) → ((j : ℕ) (u : Stock E) → get_elem? views j ≡ some u → f u ≡ 0 → g u ≡ 0) → sum_by f views ≡ 0 → sum_by g views ≡ 0
+  all_spent f g [] idle none_left = omega arith
+  all_spent f g (v ∷ vs) idle none_left =
+      let a = sum_by-cons f v vs in
+      let h : g v ≡ 0 = idle 0 v refl (omega arith) in
+      let t = all_spent f g vs (λ j u e. idle (suc j) u e) (omega arith) in
+      omega (arith, sum_by-cons g v vs)
+
+  alone : (f g : Stock E → ℕ) → f nothing ≡ 0 → g nothing ≡ 0 → (views : List (Stock E)) (id : ℕ) (v : Stock E) → get_elem? views id ≡ some v
+      → ((j : ℕ) (u : Stock E) → get_elem? views j ≡ some u → f u ≡ 0 → g u ≡ 0) → sum_by f views ≡ f v → sum_by g views ≡ g v
+  alone f g no_f no_g views id v at idle every =
+      let t = total_set f views id v nothing at in
+      let others = all_spent f g (set views id nothing)
+      (λ j u e z. ⊎_elim (λ (x : (j ≡ id) × (nothing ≡ u)). ap g (sym x.1) ∙ no_g) (λ (x : (j ≢ id) × (get_elem? views j ≡ some u)). idle j u x.1 z) (at_set views id j nothing u e))
+      (omega arith) in
+      let q = total_set g views id v nothing at in
+      omega arith
+
+  learns : (id : ℕ) (v : Stock E) (s : State E (Stock E)) → KeepsStrands s → get_elem? s.views id ≡ some v → Learns v
+  learns id v s r at =
+      let events = r.0 in
+      let k = r.1 in
+      let mine = k.each id v at in
+      record {
+        few = let t = total_set (λ u. u.parts) s.views id v nothing at in let p = k.parts in omega arith;
+        stand = λ has. subst (λ (l : List E). StandIn l v.own) (sym (mine.list has)) mine.stand;
+        whole = λ has every.
+            let a = alone (λ u. u.parts) (λ u. length u.own) refl refl s.views id v at (λ j u e z. ap length ((k.each j u e).idle z)) (k.parts ∙ sym every) in
+            let p = k.count in
+            let long = ap length (mine.list has) in
+            omega arith;
+        once = λ has every x.
+            let long = ap length (mine.list has) in
+            let a = alone (λ u. length u.own) (λ u. times x u.own) refl refl s.views id v at (λ j u e z. ap (times x) (empty u.own z)) (k.count ∙ sym long ∙ sym every) in
+            sym a ∙ k.once x ∙ ap (once_below x) (sym long);
+      }
+
+  -- nothing is changed
+  still : (s : State E (Stock E)) (id : ℕ) (v : Stock E) → get_elem? s.views id ≡ some v → KeepsStrands s → (words : List ℕ) → (homes : List (mathlib.Core.Option.Option E))
+      → KeepsStrands (record { words = words; homes = homes; views = set s.views id v })
+  still s id v at r words homes = (r.0, subst (AreStocks r.0) (sym (set_again s.views id v at)) r.1)
+
+  pub looks : (slots id : ℕ) (me : Me E (Stock E)) → Allows KeepsStrands slots id me 0 (λ n. n) (Looks (step slots 0 0 0 none) me)
+  looks slots id me s r _ at _ = (me.0, keeps, tt, still s id me.0 at r (set s.words 0 (slice_index s.words 0)) s.homes, (refl, learns id me.0 s r at))
+
+  pub writes : (slots id : ℕ) (me : Me E (Stock E)) (e : E) → me.0.keeps ≡ true → 0 < me.0.parts
+      → Allows KeepsStrands slots id me 0 (λ n. either (eqb n 0) 0 n) (NotesEvent (step slots 0 0 0 (some e)) me)
+  writes slots id me e keeping some_part s r _ at _ =
+      let mine = r.1.each id me.0 at in
+      let long : length me.0.all ≡ length r.0 = ap length (mine.list keeping) in
+      let low : me.0.least ≤ length me.0.all = let p = mine.rises in omega arith in (
+        with_event me.0 e,
+        keeps,
+        tt,
+        (r.0 ++ e ∷ [], notes r.0 s.views id me.0 e at keeping some_part r.1),
+        λ f same. (ap (λ (x : E). (with_event me.0 x, me.1)) (some-injective e f same), low),
+      )
+
+  -- the rule holds at the start
+  pub opens : (words : List ℕ) → KeepsStrands (opening words [] (opening_stock {E = E}))
+  opens words = (
+    [],
+    record {
+      parts = refl;
+      keepers = refl;
+      count = refl;
+      once = λ k. grind (arith, nat_tests);
+      each = one;
+    },
+  )
+    where
+      one : (seat : ℕ) (s : Stock E) → get_elem? (opening_stock {E = E} ∷ []) seat ≡ some s → IsStock [] s
+      one zero s e = subst (IsStock []) (some-injective _ s e) (record { idle = λ z. absurd (omega arith); rises = zero-le; stand = All-nil _; list = λ _. refl })
+      one (suc seat) s e = absurd (some-ne-none s (sym e))
+
+  -- a strand that meets the list
+  pub meets : (v k : Stock E) → k.keeps ≡ true → union v (list_alone k) ≡ stock v.parts v.own v.least true k.all
+  meets v k keeping =
+      let a : v.parts + 0 ≡ v.parts = omega arith in
+      let b : v.own ++ [] ≡ v.own = append-nil v.own in
+      let c : max v.least 0 ≡ v.least = omega arith in
+      λ i. stock (a i) (b i) (c i) (keeping i) k.all
+
+-- a strand that has noted an event, and the list behind it
+pub record HasNoted {E : Type 0} (v k : Stock E) (e : E) (left right : Me E (Stock E)) : Type 0 where
+  pub left_slot : left.1 ≡ []
+  pub left_list : left.0.keeps ≡ false
+  pub left_some : 0 < left.0.parts
+  pub right_slot : right.1 ≡ []
+  pub right_list : right.0.keeps ≡ true
+  pub parts : left.0.parts ≡ v.parts
+  pub least : v.least ≤ length k.all
+  pub own : left.0.own ≡ v.own ++ noted k.all e ∷ []
+  pub next : left.0.least ≡ length k.all + 1
+
+module _ {E : Type 0} where
+  -- a strand meets the list, notes an event, and the list leaves it again
+  pub noting : (v k : Stock E) (c : List (ℕ × E)) (e : E) (list met new left right : Me E (Stock E)) → k.keeps ≡ true → c ≡ [] → 0 < v.parts
+      → list ≡ (list_alone k, []) → met ≡ (union v list.0, c) → (new ≡ (with_event met.0 e, met.1)) × (met.0.least ≤ length met.0.all)
+      → left ≡ (without_list new.0, new.1) → right ≡ (list_alone new.0, []) → HasNoted v k e left right
+  noting v k c e list met new left right keeping free some_part from joined noted left_is right_is =
+      let M : Type 0 = Me E (Stock E) in
+      let both : met ≡ (stock v.parts v.own v.least true k.all, c) = joined ∙ (ap (λ (l : M). (union v l.0, c)) from ∙ ap (λ (u : Stock E). (u, c)) (meets v k keeping)) in
+      let now : new ≡ (with_event (stock v.parts v.own v.least true k.all) e, c) = noted.0 ∙ ap (λ (m : M). (with_event m.0 e, m.1)) both in
+      let l : left ≡ (without_list (with_event (stock v.parts v.own v.least true k.all) e), c) = left_is ∙ ap (λ (m : M). (without_list m.0, m.1)) now in
+      let r : right ≡ (list_alone (with_event (stock v.parts v.own v.least true k.all) e), []) = right_is ∙ ap (λ (m : M). (list_alone m.0, [])) now in
+      record {
+        left_slot = ap (λ (m : M). m.1) l ∙ free;
+        left_list = ap (λ (m : M). m.0.keeps) l;
+        left_some = subst (λ (m : M). 0 < m.0.parts) (sym l) some_part;
+        right_slot = ap (λ (m : M). m.1) r;
+        right_list = ap (λ (m : M). m.0.keeps) r;
+        parts = ap (λ (m : M). m.0.parts) l;
+        least = subst (λ (m : M). m.0.least ≤ length m.0.all) both noted.1;
+        own = ap (λ (m : M). m.0.own) l;
+        next = ap (λ (m : M). m.0.least) l;
+      }
+
+  -- a strand that has met the list keeps it, and has as many parts
+  pub met_list : (v k : Stock E) (c : List (ℕ × E)) (list met : Me E (Stock E)) → k.keeps ≡ true → 0 < v.parts → list ≡ (list_alone k, []) → met ≡ (union v list.0, c)
+      → (met.0.keeps ≡ true) × (0 < met.0.parts)
+  met_list v k c list met keeping some_part from joined =
+      let M : Type 0 = Me E (Stock E) in
+      let both : met ≡ (stock v.parts v.own v.least true k.all, c) = joined ∙ (ap (λ (l : M). (union v l.0, c)) from ∙ ap (λ (u : Stock E). (u, c)) (meets v k keeping)) in
+      (ap (λ (m : M). m.0.keeps) both, subst (λ (m : M). 0 < m.0.parts) (sym both) some_part)
+
+  -- what a strand that has met the list learns by a look
+  pub learns_met : (v k : Stock E) (c : List (ℕ × E)) (list met : Me E (Stock E)) → k.keeps ≡ true → list ≡ (list_alone k, []) → met ≡ (union v list.0, c)
+      → Learns met.0 → Learns (stock v.parts v.own v.least true k.all)
+  learns_met v k c list met keeping from joined learnt =
+      let M : Type 0 = Me E (Stock E) in
+      let both : met ≡ (stock v.parts v.own v.least true k.all, c) = joined ∙ (ap (λ (l : M). (union v l.0, c)) from ∙ ap (λ (u : Stock E). (u, c)) (meets v k keeping)) in
+      subst Learns (ap (λ (m : M). m.0) both) learnt
+
+  -- a list that is alone holds no slot
+  pub no_slot : (v : Stock E) (m : Me E (Stock E)) → m ≡ (v, []) → m.1 ≡ []
+  no_slot v m e = ap (λ (x : Me E (Stock E)). x.1) e

@@ -1,0 +1,3 @@
+pub mod Stocks
+pub mod Rule
+pub mod Tokens
