@@ -1,4 +1,5 @@
 """Rows of one road each: trlab with one worker beside the programs without proofs, and its memory."""
+import itertools
 import os
 import subprocess
 from typing import NamedTuple
@@ -15,6 +16,8 @@ LANES = {
     "vdr 33554432 1610612736": 1,
     "rickert 536870912 1073741824": 2,
 }
+CELLS, DENSITIES = [100, 1000, 100000], [0.05, 0.3, 0.8]
+WIDE = "wide "
 HEAP = "rickert 536870912 1"
 # At most so much of another's time is wanted on lanes of 100000 cells and density 0.3, and of 5 cars on 100 cells.
 WANTED_LARGE = {
@@ -44,6 +47,13 @@ class Road(NamedTuple):
     def write(self, path, steps):
         return tools.write(path, tools.job(self.pictures(), self.rule, steps))
 
+    def draws(self):
+        return self.rule != "nasch 0"
+
+    def is_asked(self):
+        """Whether it is one of those of which something is wanted."""
+        return (self.cells, self.density) in ((100, 0.05), (100000, 0.3))
+
     def wanted(self):
         match self.cells, self.density:
             case 100000, 0.3:
@@ -54,12 +64,12 @@ class Road(NamedTuple):
 
 
 def roads(is_quick):
-    """The roads that are measured; the quick ones are those of which something is wanted, and `vdr`."""
+    """The roads that are measured; the quick ones are those of which something is wanted."""
     for rule, lanes in LANES.items():
-        for cells in 100, 1000, 100000:
-            for density in 0.05, 0.3, 0.8:
-                if not is_quick or (cells, density) in ((100, 0.05), (100000, 0.3)):
-                    yield Road(rule, lanes, cells, density)
+        for cells, density in itertools.product(CELLS, DENSITIES):
+            road = Road(rule, lanes, cells, density)
+            if road.is_asked() or not is_quick:
+                yield road
     if not is_quick:
         yield Road(HEAP, 2, 1000, None)
         yield Road(HEAP, 2, 16000, None)
@@ -90,15 +100,23 @@ def by_numpy(command, road, path, times):
     return a_move(tools.best([numpy_time(command, path) for _ in range(times)]), (0, 0), road.cars() * steps)
 
 
+def commands_of(programs, road):
+    """What drives a road, by its name; one of which something is wanted also with eight words side by side."""
+    commands = {"trlab": [programs.trlab, "run"], "plain": [programs.plain], "interpreter": [programs.interpreter]}
+    if road.draws() and road.is_asked():
+        commands |= {WIDE + "plain": [programs.wide_plain], WIDE + "interpreter": [programs.wide_interpreter]}
+    return commands
+
+
 def measure(programs, road, times, folder):
     """The row of a road."""
     path, standing = os.path.join(folder, "job"), os.path.join(folder, "standing")
-    commands = {"trlab": [programs.trlab, "run"], "plain": [programs.plain], "interpreter": [programs.interpreter]}
+    commands = commands_of(programs, road)
     steps = fitting_steps(road, path, lambda text: tools.timed(commands["trlab"], text).cpu)
     road.write(path, min(steps, max(1, BYTES // (road.lanes * road.cells))))
     tools.compare(list(commands.values()), path, folder)
-    if road.rule != "nasch 0":
-        commands["floor"] = [programs.plain, "floor"]
+    if road.draws():
+        commands["floor"] = [programs.wide_plain, "floor"]
     road.write(standing, 0)
     road.write(path, steps)
     idle = tools.best_of({name: (command, standing) for name, command in commands.items()}, times)
@@ -118,8 +136,9 @@ def row_of(road, took):
     what = f"`{road.rule}`" if road.density is not None else f"heap, `{road.rule}`"
     is_main = (road.cells, road.density) == (100000, 0.3)
     row = Row(what, road.lanes, road.cells, road.cars(), took, is_main=is_main)
+    wide = ", ".join(f"{name} {row.cell(WIDE + name)}" for name in ("plain", "interpreter") if WIDE + name in took)
     wanted = [wish_of(f"{name} at most {bound}", bound, row, name) for name, bound in road.wanted().items()]
-    return row._replace(wanted=tuple(wanted))
+    return row._replace(beside=wide and f"with eight words at once {wide}", wanted=tuple(wanted))
 
 
 def growth(programs, times, folder):
@@ -135,8 +154,9 @@ def growth(programs, times, folder):
     step, step_of_small = a_move(whole, idle, steps), a_move(whole_of_small, idle_of_small, steps)
     ratio = step.cpu / step_of_small.cpu
     took = {"trlab": a_move(whole, idle, steps * large.cells)}
-    beside = f"{ratio:.2f} times a step of 16000 cells"
-    return Row(f"heap, `{HEAP}`", 2, large.cells, large.cars(), took, beside, (wish("at most 4.5 times", ratio <= 4.5),))
+    row = Row(f"heap, `{HEAP}`", 2, large.cells, large.cars(), took)
+    wanted = (wish("at most 4.5 times", ratio <= 4.5),)
+    return row._replace(beside=f"{ratio:.2f} times a step of 16000 cells", wanted=wanted)
 
 
 def memory(programs, times, folder):

@@ -8,10 +8,13 @@ COLUMNS = ["what", "lanes", "cells", "cars", "trlab", "by the clock", *OTHERS, "
 
 
 class Programs(NamedTuple):
-    """The programs that are measured; NumPy's is a command, or nothing."""
+    """The programs that are measured, `plain` and `interpreter` also with eight words side by side; NumPy's is a
+    command, or nothing."""
     trlab: str
     plain: str
     interpreter: str
+    wide_plain: str
+    wide_interpreter: str
     numpy: list[str]
 
 

@@ -126,7 +126,8 @@ def sweep_over_run(programs, cells, cars, bound, times, folder):
     one, other = a_move(swept, stepped, cars * steps), a_move(ran, stood, cars * steps)
     row = Row(f"sweep of one point, `{BRAKING}`", 1, cells, cars, {"trlab": one})
     ratio = one.cpu / other.cpu
-    return row._replace(beside=f"a run {other.cpu:.1f} ({ratio:.2f})", wanted=(wish(f"a run at most {bound}", ratio <= bound),))
+    wanted = (wish(f"a run at most {bound}", ratio <= bound),)
+    return row._replace(beside=f"a run {other.cpu:.1f} ({ratio:.2f})", wanted=wanted)
 
 
 def rows(programs, is_quick, folder):

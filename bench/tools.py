@@ -14,6 +14,7 @@ from typing import NamedTuple
 
 TOP = os.path.dirname(os.path.dirname(os.path.abspath(__file__)))
 BENCH = os.path.join(TOP, "bench")
+WITHOUT_PROOFS = ["plain", "interpreter"]
 BUILT = os.path.join(TOP, "crates", "trlab_program", "out", "trlab_program")
 
 
@@ -60,12 +61,14 @@ def level(program):
     return named[0].decode() if named else "x86-64"
 
 
-def build(level):
-    """Builds the programs without proofs for a level of processors; the folder in which they are."""
-    folder = os.path.join(BENCH, "target", level)
+def build(level, features=()):
+    """Builds the programs without proofs for a level of processors; the paths of `plain` and `interpreter`."""
+    folder = os.path.join(BENCH, "target", "-".join([level, *features]))
     words = ["cargo", "build", "--release", "--quiet", "--offline", "--target-dir", folder]
-    subprocess.run(words, cwd=BENCH, check=True, env={**os.environ, "RUSTFLAGS": f"-C target-cpu={level}"})
-    return os.path.join(folder, "release")
+    asked = [f"{name}/{feature}" for name in WITHOUT_PROOFS for feature in features]
+    env = {**os.environ, "RUSTFLAGS": f"-C target-cpu={level}"}
+    subprocess.run(words + ["--features", ",".join(asked)], cwd=BENCH, check=True, env=env)
+    return [os.path.join(folder, "release", name) for name in WITHOUT_PROOFS]
 
 
 def machine():

@@ -1,14 +1,14 @@
-//! A word for each car of a group, side by side in one vector: eight of them where this is compiled for AVX2, else
-//! four.
+//! A word for each car of a group, side by side in one vector: four of them, or eight, where this is compiled so and
+//! for AVX2.
 
 use std::mem::transmute;
 
-#[cfg(not(target_feature = "avx2"))]
+#[cfg(not(all(feature = "wide", target_feature = "avx2")))]
 use std::arch::x86_64::{
     __m128i as Vector, _mm_add_epi32 as add, _mm_or_si128 as or, _mm_set1_epi32 as all,
     _mm_slli_epi32 as left, _mm_srli_epi32 as right, _mm_xor_si128 as xor,
 };
-#[cfg(target_feature = "avx2")]
+#[cfg(all(feature = "wide", target_feature = "avx2"))]
 use std::arch::x86_64::{
     __m256i as Vector, _mm256_add_epi32 as add, _mm256_or_si256 as or, _mm256_set1_epi32 as all,
     _mm256_slli_epi32 as left, _mm256_srli_epi32 as right, _mm256_xor_si256 as xor,
