@@ -59,7 +59,7 @@ fn part_code(
 /// The refused instruction, by the reason and by how many instructions have notes: one to which no way leads
 /// has none.
 fn refused_at(reason: u32, notes: usize) -> u32 {
-    let notes = notes as u32;
+    let notes = u32::try_from(notes).unwrap_or(u32::MAX);
     if reason == 1 {
         notes
     } else {
