@@ -12,7 +12,8 @@ proved in logic dac8208d650f15bf";
 /// Below the commands: an example, the exit statuses, and where to read on.
 pub const AFTER: &str = "\
 Each command reads one text on standard input and writes to standard output.
-`trlab help check`, `trlab help run` and `trlab help sweep` say which.
+`trlab help check`, `trlab help run`, `trlab help sweep` and `trlab help explain`
+say which.
 
 Examples:
   trlab run < examples/two_cars.job
@@ -124,12 +125,14 @@ Usage: trlab explain [run|sweep|check]
 Standard input:
   A job text, as `trlab run` reads it, a sweep text, as `trlab sweep` does, or
   a check text, as `trlab check` does. Without a word it is a job text where its
-  first word is `road`, a sweep text where that is `sweep`, and else a check text.
+  first word is `road`, a sweep text where that is `sweep`, in small letters or
+  capitals, and else a check text.
 
 Standard output:
   Of a refused text the line that the command would write, the line of the
-  text that is at fault, what was expected there, and a repair where one is
-  likely. Of a good text what it does. Bytes of the text that are not printable
+  text that is at fault, what was expected and what was found there, and a
+  repair where one is likely, which brings the text further: it was tried.
+  Of a good text what it does. Bytes of the text that are not printable
   ASCII are written as \\x and two hexadecimal digits.
 
   With `cause K` or `reason R` nothing is read: what the cause K of a line
