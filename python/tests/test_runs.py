@@ -4,12 +4,13 @@ import stat
 import tempfile
 import unittest
 import warnings
+from dataclasses import replace
 from pathlib import Path
 from unittest import mock
 
 from tests.by_pictures import windows
-from trlab import Failed, Job, Nasch, Own, Point, Refused, Rickert, SlowToStart, Sweep, Table, Window, check, find_program
-from trlab import even, jam, map, moving, random, read_tables, write_texts
+from trlab import Failed, Job, Nasch, Own, Point, Refused, Rickert, SlowToStart, Sweep, Table, Window
+from trlab import check, even, find_program, jam, map, moving, random, read_tables, write_texts
 from trlab.program import ask
 
 EXAMPLES = Path(__file__).resolve().parents[2] / "examples"
@@ -149,10 +150,12 @@ class Refusals(unittest.TestCase):
 
 
 class Many(unittest.TestCase):
-    SWEEPS = [Sweep(limit=5, length=100, rule=Nasch(0.25), warm=10, measure=20, cars=[10, 20], key=key) for key in range(5)]
+    def setUp(self):
+        shape = Sweep(limit=5, length=100, rule=Nasch(0.25), warm=10, measure=20, cars=[10, 20])
+        self.sweeps = [replace(shape, key=key) for key in range(5)]
 
     def test_in_order(self):
-        self.assertEqual(map(Sweep.sweep, self.SWEEPS, at_once=3), [it.sweep() for it in self.SWEEPS])
+        self.assertEqual(map(Sweep.sweep, self.sweeps, at_once=3), [it.sweep() for it in self.sweeps])
 
     def test_the_first_that_fails(self):
         with self.assertRaises(Refused):
@@ -160,9 +163,9 @@ class Many(unittest.TestCase):
 
     def test_by_files(self):
         with tempfile.TemporaryDirectory(prefix="a blank ") as folder:
-            script = write_texts(folder, {f"key_{it.key}": it for it in self.SWEEPS}, program=find_program())
-            self.assertEqual((Path(folder) / "key_3.sweep").read_text(), self.SWEEPS[3].text())
+            script = write_texts(folder, {f"key_{it.key}": it for it in self.sweeps}, program=find_program())
+            self.assertEqual((Path(folder) / "key_3.sweep").read_text(), self.sweeps[3].text())
             for task in 1, 4:
                 self.assertEqual(os.system(f"SLURM_ARRAY_TASK_ID={task} sh '{script}'"), 0)
             tables = read_tables(folder, Point)
-        self.assertEqual(tables, {"key_0": self.SWEEPS[0].sweep(), "key_3": self.SWEEPS[3].sweep()})
+        self.assertEqual(tables, {"key_0": self.sweeps[0].sweep(), "key_3": self.sweeps[3].sweep()})

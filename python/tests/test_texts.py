@@ -75,7 +75,8 @@ class Starts(unittest.TestCase):
 
 class Texts(unittest.TestCase):
     def test_a_job(self):
-        job = Job(limit=5, length=6, density="1/3", rule=SlowToStart("1/64", 0.75), steps=20, key=1, at={9: Nasch(1), 3: Nasch(0)})
+        rule, later = SlowToStart("1/64", 0.75), {9: Nasch(1), 3: Nasch(0)}
+        job = Job(limit=5, length=6, density="1/3", rule=rule, steps=20, key=1, at=later)
         self.assertEqual(
             job.text(),
             lines("road 1", NO_KEY[:-1] + "1", "limit 5", "lane 0..0..", "rule vdr 33554432 1610612736", "steps 20")
@@ -87,7 +88,8 @@ class Texts(unittest.TestCase):
         job = Job(limit=1, start=[[0], [0]], rule=Own(motion, change), steps=2, at={1: Own("code 54")})
         self.assertEqual(
             job.text(),
-            lines("road 1", NO_KEY, "limit 1", "lane 0", "lane 0", "rule own", "motion", "num r0, 0 ; stand", "go r0", "end")
+            lines("road 1", NO_KEY, "limit 1", "lane 0", "lane 0", "rule own")
+            + lines("motion", "num r0, 0 ; stand", "go r0", "end")
             + lines("change", "stay", "end", "steps 2", "at 1 rule own", "code 54"),
         )
 
@@ -95,8 +97,8 @@ class Texts(unittest.TestCase):
         sweep = Sweep(limit=5, length=10, lanes=2, rule=Rickert(0, 0.5), warm=1, measure=2, densities=[0, 0.35, 1])
         self.assertEqual(
             sweep.text(),
-            lines("sweep 1", NO_KEY, "limit 5", "length 10", "lanes 2", "rule rickert 0 1073741824", "warm 1", "measure 2")
-            + lines("cars 0", "cars 7", "cars 20"),
+            lines("sweep 1", NO_KEY, "limit 5", "length 10", "lanes 2", "rule rickert 0 1073741824")
+            + lines("warm 1", "measure 2", "cars 0", "cars 7", "cars 20"),
         )
 
     def test_cars_or_densities(self):

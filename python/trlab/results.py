@@ -1,7 +1,8 @@
 """Results: tables as lists of named tuples, and the pictures of a run."""
 from __future__ import annotations
 
-from typing import TYPE_CHECKING, Generic, Iterable, Iterator, List, NamedTuple, Optional, Tuple, Type, TypeVar
+from typing import TYPE_CHECKING, Any, Generic, Iterable, Iterator, List, NamedTuple, Optional, Sequence, Tuple, Type
+from typing import TypeVar
 
 from .starts import SPEEDS
 
@@ -92,9 +93,10 @@ Row = TypeVar("Row", Point, Window)
 class Table(List[Row], Generic[Row]):
     """The lines of a table, in their order."""
 
-    def __init__(self, kind: Type[Row], rows: Iterable[Row] = ()) -> None:
-        super().__init__(rows)
-        self.kind = kind
+    def __init__(self, kind: Type[Row], rows: Sequence[Row] = ()) -> None:
+        super().__init__()
+        self.extend(rows)
+        self.kind: Type[Row] = kind
 
     @classmethod
     def read(cls, kind: Type[Row], text: str) -> Table[Row]:
@@ -102,14 +104,15 @@ class Table(List[Row], Generic[Row]):
         heading, *lines = text.splitlines()
         if tuple(heading.split(",")) != kind._fields:
             raise ValueError(f"this is not the heading of {kind.__name__}s: {heading}")
-        return cls(kind, (kind(*map(int, line.split(","))) for line in lines))
+        return cls(kind, [kind(*(int(word) for word in line.split(","))) for line in lines])
 
     def csv(self) -> str:
         """The table as the program writes it."""
-        rows = (",".join(map(str, row)) for row in self)
-        return "".join(line + "\n" for line in [",".join(self.kind._fields), *rows])
+        lines = [",".join(self.kind._fields)]
+        lines += [",".join(str(number) for number in row) for row in self]
+        return "".join(line + "\n" for line in lines)
 
-    def to_numpy(self) -> numpy.ndarray:
+    def to_numpy(self) -> numpy.ndarray[Any, Any]:
         """An array of records of whole numbers: `table.to_numpy()["flow"]` is a column."""
         import numpy
 
@@ -119,7 +122,7 @@ class Table(List[Row], Generic[Row]):
         """A frame with the columns of the table."""
         import pandas
 
-        return pandas.DataFrame(list(map(tuple, self)), columns=self.kind._fields)
+        return pandas.DataFrame([tuple(row) for row in self], columns=self.kind._fields)
 
 
 class Picture(NamedTuple):
@@ -136,7 +139,7 @@ class Picture(NamedTuple):
 class Pictures(List[Picture]):
     """The pictures of a run, of step 0 and of each step behind it."""
 
-    def to_numpy(self) -> numpy.ndarray:
+    def to_numpy(self) -> numpy.ndarray[Any, Any]:
         """An array by picture, lane and cell: the speed in cells a step, and -1 where the cell is empty."""
         import numpy
 

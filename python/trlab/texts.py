@@ -3,7 +3,7 @@ from __future__ import annotations
 
 import warnings
 from dataclasses import dataclass, field
-from typing import Iterator, List, Mapping, NamedTuple, Optional, Sequence, Union
+from typing import Iterator, List, Mapping, NamedTuple, Optional, Sequence, Union, cast
 
 from .program import ask, ask_by_line
 from .results import Picture, Pictures, Point, Table, Window, pictures_in
@@ -16,9 +16,9 @@ from .units import Density, Key, cars_at, key_digits
 class Job:
     """A road, a rule and so many steps.
 
-    The road has `lanes` lanes of `length` cells and `cars` cars in all, or as many as come nearest to `density`, in cars
-    a cell, and they stand as `start` says. Or `start` is the road itself: a list with the speed of the car in each cell,
-    in cells a step, and None where the cell is empty; for two lanes a list of two such lists.
+    The road has `lanes` lanes of `length` cells and `cars` cars in all, or as many as come nearest to `density`, in
+    cars a cell, and they stand as `start` says. Or `start` is the road itself: a list with the speed of the car in
+    each cell, in cells a step, and None where the cell is empty; for two lanes a list of two such lists.
 
     `limit` is the greatest speed in cells a step, 1 to 35. `at` has the rules that take over later, each by its step. A
     text that the program does not take is found when it runs, and told by `Refused`."""
@@ -43,8 +43,9 @@ class Job:
             return self.start.on_lanes(cars, self.length, self.lanes, self.limit)
         if not (self.length is None and self.lanes == 1 and self.cars is None and self.density is None):
             raise ValueError("where `start` is a road, it says the length, the lanes and the cars")
-        is_one_lane = all(cell is None or isinstance(cell, int) for cell in self.start)
-        return [self.start] if is_one_lane else list(self.start)
+        if all(cell is None or isinstance(cell, int) for cell in self.start):
+            return [cast(Lane, self.start)]
+        return list(cast(Sequence[Lane], self.start))
 
     def text(self) -> str:
         """The job text, as `trlab run` reads it."""
