@@ -50,7 +50,8 @@ pub record IsOneEvent {L : Type 0} {ledger : Ghosts L} (old : Desk L ledger) (ca
 
 -- what a call does to the desk through which it is made: the same parts, and, where the reply to it is an event, just
 -- this event more, of a book of which something holds; else nothing
-abbrev pub MakesOf : {L : Type 0} {ledger : Ghosts L} → (State → Type 0) → Desk L ledger → Call → Reply → Desk L ledger → Type 0
+abbrev pub MakesOf : {L : Type 0} {ledger : Ghosts L} → (State → Type 0) → Desk L ledger → Call → Reply
+    → Desk L ledger → Type 0
 MakesOf Holds old call told new =
     (parts_of new ≡ parts_of old)
     × MatchBool (is_event told)
@@ -62,7 +63,8 @@ abbrev pub Makes : {L : Type 0} {ledger : Ghosts L} → Desk L ledger → Call �
 Makes old call told new = MakesOf (λ book. Unit {0}) old call told new
 
 -- what is put down at a desk behind these events: the call, where its reply is an event, else nothing
-abbrev pub PutsDown : {L : Type 0} {ledger : Ghosts L} → Desk L ledger → List Event → Call → Reply → Desk L ledger → Type 0
+abbrev pub PutsDown : {L : Type 0} {ledger : Ghosts L} → Desk L ledger → List Event → Call → Reply
+    → Desk L ledger → Type 0
 PutsDown old before call told new =
     (parts_of new ≡ parts_of old)
     × MatchBool (is_event told)

@@ -3,7 +3,7 @@ use Rattle.trlab_leases.specs.declared.event.Call.TheVariants.{Submit}
 use Rattle.trlab_leases.specs.Answers.{is_memory, number_reply}
 use Rattle.trlab_leases.specs.Machine.{State}
 use Rattle.trlab_leases.proofs.Booking.{full_stays, full_told, leads_made, next_number, stays_made, told_made}
-use Rattle.trlab_leases.proofs.book.Book.submit.Goals as goal
+use Rattle.trlab_leases.proofs.book.Book.submit_boxed.Goals as goal
 
 pub returns-then-is_full-clause-reply : goal.returns-then-is_full-clause-reply
 returns-then-is_full-clause-reply c = full_told c.args.self.now (Submit c.args.seed c.args.rule c.args.steps) (sym c.is_full.ensures ∙ c.if-is_full.true)
