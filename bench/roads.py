@@ -7,7 +7,7 @@ from typing import NamedTuple
 import tools
 from rows import Row, a_move, wish
 
-SECONDS = 0.25
+SECONDS = 0.2
 BYTES = 30_000_000  # of an output that is compared
 MOST_STEPS = 500_000  # of a job text
 LANES = {
@@ -101,9 +101,10 @@ def by_numpy(command, road, path, times):
 
 
 def commands_of(programs, road):
-    """What drives a road, by its name; one of which something is wanted also with eight words side by side."""
+    """What drives a road, by its name; one of which something is wanted also with eight words side by side, where
+    there is AVX2."""
     commands = {"trlab": [programs.trlab, "run"], "plain": [programs.plain], "interpreter": [programs.interpreter]}
-    if road.draws() and road.is_asked():
+    if road.draws() and road.is_asked() and programs.wide_plain != programs.plain:
         commands |= {WIDE + "plain": [programs.wide_plain], WIDE + "interpreter": [programs.wide_interpreter]}
     return commands
 

@@ -11,6 +11,7 @@ from rows import Row, a_move, wish
 
 SECONDS = 0.4
 MOVES = 6_000_000  # of a sweep of one point
+TRIED_MOVES = 1_000_000  # of a run whose time is not known yet
 NOBODY = 65534
 BRAKING = "nasch 536870912"
 CHANGING = "rickert 536870912 1073741824"
@@ -56,8 +57,9 @@ def a_run(rule, lanes, cells, steps):
 
 def fitting_run(program, rule, lanes, cells, folder):
     """A run that takes one worker about SECONDS."""
-    path = tools.write(os.path.join(folder, "trial"), a_run(rule, lanes, cells, 10).text)
-    return a_run(rule, lanes, cells, max(10, int(10 * SECONDS / tools.timed([program, "run"], path).clock)))
+    steps = TRIED_MOVES // (cells * 3 // 10)
+    path = tools.write(os.path.join(folder, "trial"), a_run(rule, lanes, cells, steps).text)
+    return a_run(rule, lanes, cells, int(steps * SECONDS / tools.timed([program, "run"], path).cpu))
 
 
 def without_threads():
@@ -114,15 +116,16 @@ def row_of(shared, name, took, alone, plain_time, bound):
 
 def sweep_over_run(programs, cells, cars, bound, times, folder):
     """The row of a sweep of one road beside a run of it, by time on processors."""
-    steps = MOVES // cars
-    runs = {}
+    steps, runs = MOVES // cars, {}
     for count in (steps, 0):
         path = tools.write(os.path.join(folder, f"run {count}"), tools.job([tools.even(cells, cars)], BRAKING, count))
         runs[f"run {count}"] = [programs.trlab, "run"], path
+        tools.compare([[programs.plain], [programs.trlab, "run"]], path, folder)
     for count in (steps + 1, 1):
         path = tools.write(os.path.join(folder, f"sweep {count}"), tools.sweep(BRAKING, cells, [cars], count))
         runs[f"sweep {count}"] = [programs.trlab, "sweep"], path
-    (ran, stood, swept, stepped) = tools.best_of(runs, times).values()
+        tools.compare([[programs.plain, "sweep"], [programs.trlab, "sweep"]], path, folder)
+    ran, stood, swept, stepped = tools.best_of(runs, times).values()
     one, other = a_move(swept, stepped, cars * steps), a_move(ran, stood, cars * steps)
     row = Row(f"sweep of one point, `{BRAKING}`", 1, cells, cars, {"trlab": one})
     ratio = one.cpu / other.cpu
