@@ -1,6 +1,7 @@
 """Results as arrays and frames, where numpy and pandas are there."""
 import importlib.util
 import unittest
+from dataclasses import replace
 
 from trlab import Job, Nasch, Sweep
 
@@ -16,7 +17,10 @@ SWEEP = Sweep(limit=5, length=10, rule=Nasch(0), warm=10, measure=10, cars=[0, 1
 class Arrays(unittest.TestCase):
     @needs("numpy")
     def test_pictures(self):
-        self.assertEqual(JOB.run().to_numpy().tolist(), [[[11, -1, 0], [-1, -1, 1]], [[-1, 1, 0], [-1, -1, 2]]])
+        array = JOB.run().to_numpy()
+        self.assertEqual(array.tolist(), [[[11, -1, 0], [-1, -1, 1]], [[-1, 1, 0], [-1, 2, -1]]])
+        self.assertEqual(replace(JOB, start=array[0]).text(), JOB.text())
+        self.assertEqual(replace(JOB, start=array[0, 0]).run()[0].lanes, ("b.0",))
 
     @needs("numpy")
     def test_tables(self):

@@ -92,7 +92,7 @@ class Series(unittest.TestCase):
             with warnings.catch_warnings():
                 warnings.simplefilter("ignore")
                 (point,) = sweep.sweep()
-            (told,) = windows(job.pictures(), every=100, first=20)
+                (told,) = windows(job.pictures(), every=100, first=20)
             self.assertEqual(told[1:8], point)
             self.assertEqual(told.changes > 0, lanes == 2)
 

@@ -63,8 +63,10 @@ class Starts(unittest.TestCase):
     def test_speeds_are_a_road(self):
         job = Job(limit=35, start=[0, None, 35, None, 10], rule=Nasch(0), steps=0)
         self.assertIn("\nlane 0.z.a\n", job.text())
-        two = Job(limit=5, start=[[0, None], [None, 5]], rule=Nasch(0), steps=0)
+        two = Job(limit=5, start=[[0, -1], [None, 5]], rule=Nasch(0), steps=0)
         self.assertIn("\nlane 0.\nlane .5\n", two.text())
+
+        self.assertRaises(ValueError, Job(limit=35, start=[36], rule=Nasch(0), steps=0).text)
 
     def test_a_road_says_its_cars_itself(self):
         self.assertRaises(ValueError, Job(limit=5, start=[0, None], cars=1, rule=Nasch(0), steps=0).text)
@@ -108,6 +110,7 @@ class Texts(unittest.TestCase):
     def test_a_start_on_one_lane_is_told(self):
         sweep = Sweep(limit=5, length=10, lanes=2, rule=Nasch(0), warm=0, measure=1, cars=[5])
         self.assertWarns(UserWarning, sweep.text)
+        self.assertWarns(UserWarning, Job(limit=5, length=10, lanes=2, cars=5, rule=Nasch(0), steps=0).text)
         with warnings.catch_warnings():
             warnings.simplefilter("error")
             Sweep(limit=5, length=10, lanes=2, rule=Nasch(0), warm=0, measure=1, cars=[0, 1, 4, 20]).text()

@@ -5,6 +5,7 @@ cell 2 on lane 0 and so on."""
 from __future__ import annotations
 
 import random as _random
+import warnings
 from dataclasses import dataclass
 from typing import Callable, List, Optional, Sequence
 
@@ -12,7 +13,7 @@ SPEEDS = "0123456789abcdefghijklmnopqrstuvwxyz"
 """The characters of speeds in pictures, 0 to 35 cells a step."""
 
 Lane = Sequence[Optional[int]]
-"""The speed of the car in each cell, in cells a step, and None where the cell is empty."""
+"""The speed of the car in each cell, in cells a step, and None or -1 where the cell is empty."""
 
 
 @dataclass(frozen=True)
@@ -29,6 +30,8 @@ class Start:
         road: List[List[Optional[int]]] = [[None] * length for _ in range(lanes)]
         for cell in self.taken(cars, length * lanes):
             road[cell % lanes][cell // lanes] = limit if self.speed is None else self.speed
+        if lanes == 2 and cars > 1 and all(speed is None for speed in road[1]):
+            warnings.warn(f"all {cars} cars start on lane 0")
         return list(road)
 
 
@@ -67,4 +70,10 @@ def random(seed: int, speed: Optional[int] = 0) -> Start:
 
 def picture(lane: Lane) -> str:
     """A lane in the characters of a text."""
-    return "".join("." if speed is None else SPEEDS[speed] for speed in lane)
+    return "".join("." if speed is None or speed < 0 else _sign(speed) for speed in lane)
+
+
+def _sign(speed: int) -> str:
+    if speed >= len(SPEEDS):
+        raise ValueError(f"a speed is at most {len(SPEEDS) - 1} cells a step, and not {speed}")
+    return SPEEDS[speed]

@@ -3,6 +3,7 @@ from __future__ import annotations
 
 import warnings
 from dataclasses import dataclass, field
+from numbers import Integral
 from typing import Iterator, List, Mapping, NamedTuple, Optional, Sequence, Union, cast
 
 from .program import ask, ask_by_line
@@ -18,7 +19,7 @@ class Job:
 
     The road has `lanes` lanes of `length` cells and `cars` cars in all, or as many as come nearest to `density`, in
     cars a cell, and they stand as `start` says. Or `start` is the road itself: a list with the speed of the car in
-    each cell, in cells a step, and None where the cell is empty; for two lanes a list of two such lists.
+    each cell, in cells a step, and None, or -1 as in arrays, where the cell is empty; for two lanes two such lists.
 
     `limit` is the greatest speed in cells a step, 1 to 35. `at` has the rules that take over later, each by its step. A
     text that the program does not take is found when it runs, and told by `Refused`."""
@@ -43,7 +44,7 @@ class Job:
             return self.start.on_lanes(cars, self.length, self.lanes, self.limit)
         if not (self.length is None and self.lanes == 1 and self.cars is None and self.density is None):
             raise ValueError("where `start` is a road, it says the length, the lanes and the cars")
-        if all(cell is None or isinstance(cell, int) for cell in self.start):
+        if all(cell is None or isinstance(cell, Integral) for cell in self.start):
             return [cast(Lane, self.start)]
         return list(cast(Sequence[Lane], self.start))
 
@@ -66,7 +67,7 @@ class Job:
         return pictures_in(ask_by_line(["run", *_option("workers", workers, 1)], self.text()))
 
     def series(self, every: int = 1, first: int = 0, workers: int = 1) -> Table[Window]:
-        """What is counted in each window of `every` steps, from the step `first` on."""
+        """What is counted in each window of `every` steps, from the step `first` on, as `trlab series` writes it."""
         options = _option("every", every, 1) + _option("from", first, 0) + _option("workers", workers, 1)
         return Table.read(Window, ask(["series", *options], self.text()))
 
@@ -99,9 +100,9 @@ class Sweep:
     def text(self) -> str:
         """The sweep text, as `trlab sweep` reads it."""
         counts = self.counts()
-        on_one_lane = [cars for cars in counts if self.lanes == 2 and cars > 1 and self.length % cars == 0]
-        if on_one_lane:
-            warnings.warn(f"all cars start on lane 0 where they are {on_one_lane}: their count divides the length")
+        for cars in counts:
+            if self.lanes == 2 and cars > 1 and self.length % cars == 0:
+                warnings.warn(f"all {cars} cars start on lane 0: their count divides the length")
         lines = ["sweep 1", f"key {key_digits(self.key)}", f"limit {self.limit}", f"length {self.length}"]
         lines += [f"lanes {self.lanes}", *self.rule.lines(), f"warm {self.warm}", f"measure {self.measure}"]
         return _text(lines + [f"cars {cars}" for cars in counts])

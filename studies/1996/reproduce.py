@@ -79,7 +79,7 @@ def main():
         told = [means[density] for means in [*flows.values(), *changes.values()]]
         print(f"{density:.4f}", *told, sep=" | ")
     across = Axis("density, cars a cell", 0.4)
-    flow, change = Axis("flow a lane, cars a step", 0.4), Axis("changes of a car in a step", 0.02)
+    flow, change = Axis("flow a lane, cars a step", 0.4), Axis("changes of a car in a step", 0.004)
     study.draw(Figure(across, flow, [curve(*it) for it in flows.items()]), "flow.svg")
     study.draw(Figure(across, change, [curve(*it) for it in changes.items()]), "changes.svg")
 

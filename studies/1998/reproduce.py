@@ -77,8 +77,10 @@ def branch(tables, name):
     return {density: Mean.of(flows[density]) for density in sorted(flows)}
 
 
-def curve(name, means):
-    return Curve(f"start {name}", "points", [Spot(density, *means[density]) for density in means])
+def curve(tables, name):
+    """A point for each run from a start: where some have left the upper branch and some not, a mean says nothing."""
+    runs = [rows[0] for text, rows in tables.items() if text.startswith(name)]
+    return Curve(f"start {name}", "points", [Spot(run.density, run.passing) for run in runs])
 
 
 def lives_by_length(study):
@@ -114,7 +116,7 @@ def main():
             [
                 Curve("published, free flow", "line", [Spot(it, free(it)) for it in (0, 0.17)]),
                 Curve("published, with a jam", "line", [Spot(it, jammed(it)) for it in (meet, 0.3)]),
-                *(curve(name, means) for name, means in found.items()),
+                *(curve(tables, name) for name in STARTS),
             ],
         )
     )

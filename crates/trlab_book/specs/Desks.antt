@@ -100,8 +100,8 @@ abbrev pub AreOfRunners : ℕ → ℕ → List (Noted Event) → Type 0
 AreOfRunners from to calls =
     All (λ n. (from ≤ number_of n) × (number_of n < to) × (is_of_runner n.event.call ≡ true)) calls
 
--- a desk through which runners have called: the same parts, and behind its events those of the runners, which stand in
--- the history behind all that the desk had seen, and before all that is made through it from now on
+-- a desk through which runners have called: the same parts, and behind its events those of the runners, which
+-- stand in the history behind all that the desk had seen, and before all that is made through it from now on
 pub record GoesOn {L : Type 0} {ledger : Ghosts L} (old new : Desk L ledger) : Type 0 where
   pub parts : parts_of new ≡ parts_of old
   pub least : least_of old ≤ least_of new

@@ -28,5 +28,6 @@ pub big_check : (text : List ℕ) → TEXT_LIMIT < length text → IsCheckOutput
 big_check text big = (Err too_big, (rw (lt-ltb TEXT_LIMIT (length text) big) refl, (refl, refl)))
 
 -- as a job text of which a series is written
-pub big_series : (every from : ℕ) (text : List ℕ) → TEXT_LIMIT < length text → IsSeriesOutput every from text true too_big_line
+pub big_series : (every from : ℕ) (text : List ℕ)
+    → TEXT_LIMIT < length text → IsSeriesOutput every from text true too_big_line
 big_series every from text big = (Err too_big, (rw (lt-ltb TEXT_LIMIT (length text) big) refl, (refl, refl)))

@@ -1,5 +1,5 @@
-//! Job texts in, pictures of roads or tables of windows out; sweep texts in, tables of points out; check texts in, verdicts
-//! on programs out.
+//! Job texts in, pictures of roads or tables of windows out; sweep texts in, tables of points out; check texts
+//! in, verdicts on programs out.
 #![tactic(auto)]
 
 mod check;
