@@ -17,10 +17,10 @@ const NAP: u64 = 1000;
 
 /// How often a watchful helper looks for the next phase before it sleeps: for some longer than the calling
 /// thread is alone between two phases of a road of some ten thousand cars.
-const LOOKS: u32 = 5000;
+const LOOKS: u32 = 30000;
 
 /// How many phases a helper that looked in vain awaits asleep, before it looks again.
-const NAPS: u32 = 16;
+const NAPS: u32 = 32;
 
 /// The phases that are open, of which there is one at a time, and a number that grows with each.
 #[derive(Drop)]
