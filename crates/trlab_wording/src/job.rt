@@ -37,12 +37,12 @@ fn push_road(page: &mut Page, road: &Road) -> Result<(), AllocError> {
     )
 }
 
-/// How many bytes of memory a run of a text of so many bytes took at most, with one worker, where it was
-/// measured.
-fn memory_bytes(text: &[u8]) -> u64 {
+/// How many bytes of memory a run by one worker took at most, where it was measured: by its text and its cars.
+fn memory_bytes(text: &[u8], cars: u32) -> u64 {
     (text.len() as u64)
-        .saturating_mul(6)
-        .saturating_add(4_000_000)
+        .saturating_mul(9)
+        .saturating_add(u64::from(cars).saturating_mul(20))
+        .saturating_add(3_000_000)
 }
 
 /// Adds what a job will do.
@@ -66,7 +66,7 @@ fn push_job(page: &mut Page, text: &[u8], job: &Job) -> Result<(), AllocError> {
             ("Output: ", output_bytes(&job.road, job.steps), " bytes."),
             (
                 "Memory: at most ",
-                memory_bytes(text),
+                memory_bytes(text, job.road.cars()),
                 " bytes with one worker, as far as it was measured.",
             ),
         ],

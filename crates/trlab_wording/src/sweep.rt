@@ -99,16 +99,24 @@ fn output_bytes(sweep: &Sweep) -> u64 {
     bytes
 }
 
-/// How many bytes of memory a sweep took at most, where it was measured: by its cars, and its steps.
-fn memory_bytes(cars: u64, steps: u64) -> u64 {
-    cars.saturating_mul(40)
+/// The most cars of the roads that a sweep keeps at once.
+const MOST_AT_ONCE: u64 = 12_800_000;
+
+/// How many bytes of memory a sweep by one runner took at most, where it was measured: by its text, the cars of
+/// all its points, those of the largest one, and its steps.
+fn memory_bytes(text: &[u8], cars: u64, most: u32, steps: u64) -> u64 {
+    (text.len() as u64)
+        .saturating_mul(9)
+        .saturating_add(cars.min(MOST_AT_ONCE).saturating_mul(26))
+        .saturating_add(u64::from(most).saturating_mul(26))
         .saturating_add(steps.saturating_mul(64))
-        .saturating_add(16_000_000)
+        .saturating_add(4_000_000)
 }
 
 /// Adds the work of a sweep, and what it takes.
-fn push_work(page: &mut Page, sweep: &Sweep, work: u64) -> Result<(), AllocError> {
+fn push_work(page: &mut Page, text: &[u8], sweep: &Sweep, work: u64) -> Result<(), AllocError> {
     let cars = all_cars(sweep);
+    let (_, most) = span_of(&sweep.cars);
     let steps = u64::from(sweep.warm).saturating_add(u64::from(sweep.measure));
     push_counts(
         page,
@@ -118,15 +126,15 @@ fn push_work(page: &mut Page, sweep: &Sweep, work: u64) -> Result<(), AllocError
             ("Output: at most ", output_bytes(sweep), " bytes."),
             (
                 "Memory: at most ",
-                memory_bytes(cars, work),
-                " bytes, as far as it was measured.",
+                memory_bytes(text, cars, most, work),
+                " bytes with one runner, as far as it was measured.",
             ),
         ],
     )
 }
 
 /// Adds the points of a sweep, and the work that they are.
-fn push_points(page: &mut Page, sweep: &Sweep) -> Result<(), AllocError> {
+fn push_points(page: &mut Page, text: &[u8], sweep: &Sweep) -> Result<(), AllocError> {
     let points = sweep.cars.len() as u64;
     let warm = u64::from(sweep.warm);
     let measure = u64::from(sweep.measure);
@@ -140,6 +148,7 @@ fn push_points(page: &mut Page, sweep: &Sweep) -> Result<(), AllocError> {
     )?;
     push_work(
         page,
+        text,
         sweep,
         points.saturating_mul(warm.saturating_add(measure)),
     )
@@ -151,7 +160,7 @@ fn push_sweep(page: &mut Page, text: &[u8], sweep: &Sweep) -> Result<(), AllocEr
     push_roads(page, sweep)?;
     push_starts(page, sweep)?;
     push_rules(page, "The rule:", text, b"rule", 1)?;
-    push_points(page, sweep)
+    push_points(page, text, sweep)
 }
 
 /// The page on what a sweep will do.
