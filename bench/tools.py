@@ -1,24 +1,48 @@
-"""What the benchmarks share: the programs that are measured, job texts, timed and compared runs.
+"""What the benchmarks share: the programs that are measured, texts, timed and compared runs.
 
-The proved program is the one that ./trlab runs, once it has been run; or name another one in TRLAB."""
+The proved program is the one that ./trlab runs; or name another one in TRLAB. All others are compiled for the level of
+processors for which it is."""
 import filecmp
 import glob
 import os
 import random
+import re
 import subprocess
 import sys
 import time
+from typing import NamedTuple
 
 TOP = os.path.dirname(os.path.dirname(os.path.abspath(__file__)))
 BENCH = os.path.join(TOP, "bench")
-PLAIN = os.path.join(BENCH, "target", "release", "plain")
+WITHOUT_PROOFS = ["plain", "interpreter"]
 BUILT = os.path.join(TOP, "crates", "trlab_program", "out", "trlab_program")
 
 
+class Time(NamedTuple):
+    """What a run takes: by the clock, and of all its threads on processors."""
+    clock: float
+    cpu: float
+
+
+def run_by_trlab():
+    """The program that ./trlab runs: it is handed a text without an end, until it can be seen."""
+    shell = subprocess.Popen([os.path.join(TOP, "trlab"), "run"], stdin=subprocess.PIPE, stdout=subprocess.DEVNULL)
+    while shell.poll() is None:
+        path = os.path.realpath(f"/proc/{shell.pid}/exe")
+        if os.path.basename(path).startswith("trlab"):
+            shell.communicate()
+            return path
+        time.sleep(0.01)
+    sys.exit("./trlab runs no program")
+
+
 def kept():
-    """The program of these sources that ./trlab keeps in out/, of two the one for the newer processors; or the one
-    that rt built last."""
+    """The program of these sources: where they are those of the release the one that ./trlab runs, which it may
+    unpack first; else the one that it has built before, or that rt built last."""
     told = subprocess.run([os.path.join(TOP, "release", "sources")], capture_output=True, check=True, text=True).stdout
+    with open(os.path.join(TOP, "release", "release.txt")) as release:
+        if f"sources {told}" in release:
+            return run_by_trlab()
     return max(glob.glob(os.path.join(TOP, "out", f"trlab-{told[:16]}-*")), default=BUILT)
 
 
@@ -30,14 +54,28 @@ def trlab():
     return path
 
 
-def build_plain():
-    """Builds the programs of plain Rust, PLAIN among them."""
-    subprocess.run(["cargo", "build", "--release", "--quiet", "--offline"], cwd=BENCH, check=True)
+def level(program):
+    """The level of processors for which a program was compiled: it names it to those that lack it."""
+    with open(program, "rb") as file:
+        named = re.search(rb"x86-64-v[1-4]", file.read())
+    return named[0].decode() if named else "x86-64"
+
+
+def build(level, features=()):
+    """Builds the programs without proofs for a level of processors; the paths of `plain` and `interpreter`."""
+    folder = os.path.join(BENCH, "target", "-".join([level, *features]))
+    words = ["cargo", "build", "--release", "--quiet", "--offline", "--target-dir", folder]
+    asked = [f"{name}/{feature}" for name in WITHOUT_PROOFS for feature in features]
+    env = {**os.environ, "RUSTFLAGS": f"-C target-cpu={level}"}
+    subprocess.run(words + ["--features", ",".join(asked)], cwd=BENCH, check=True, env=env)
+    return [os.path.join(folder, "release", name) for name in WITHOUT_PROOFS]
 
 
 def machine():
     """One line on the machine."""
-    return f"{os.cpu_count()} cores, load {os.getloadavg()[0]:.1f} at the start"
+    with open("/proc/cpuinfo") as told:
+        name = next((line.partition(": ")[2].strip() for line in told if line.startswith("model name")), "a processor")
+    return f"{os.cpu_count()} processors ({name}), load {os.getloadavg()[0]:.1f} at the start"
 
 
 def spread(length, cars, seed=1):
@@ -48,30 +86,61 @@ def spread(length, cars, seed=1):
     return "".join(cells)
 
 
+def even(length, cars):
+    """A lane of so many standing cars as a sweep spreads them."""
+    cells = ["."] * length
+    for number in range(cars):
+        cells[number * length // cars] = "0"
+    return "".join(cells)
+
+
 def job(lanes, rule, steps):
-    """A job text; the rule is all its lines."""
+    """A job text."""
     lines = ["road 1", "key " + 64 * "0", "limit 5"] + ["lane " + lane for lane in lanes]
-    return ("\n".join(lines + [rule, f"steps {steps}"]) + "\n").encode()
+    return ("\n".join(lines + ["rule " + rule, f"steps {steps}"]) + "\n").encode()
 
 
-def seconds(command, path):
-    """The seconds of a run on the text in a file, with its output to a sink that costs nothing."""
+def sweep(rule, cells, points, steps):
+    """A sweep text of one lane; the points are cars, and all steps are counted."""
+    lines = ["sweep 1", "key " + 64 * "0", "limit 5", f"length {cells}", "lanes 1", "rule " + rule, "warm 0"]
+    return ("\n".join(lines + [f"measure {steps}"] + [f"cars {cars}" for cars in points]) + "\n").encode()
+
+
+def write(path, text):
+    with open(path, "wb") as file:
+        file.write(text)
+    return path
+
+
+def timed(command, path):
+    """The time of a run on the text in a file, in seconds, with its output to a sink that costs nothing."""
     with open(path, "rb") as text:
         began = time.perf_counter()
-        ran = subprocess.run(command, stdin=text, stdout=subprocess.DEVNULL)
-        took = time.perf_counter() - began
-    if ran.returncode != 0:
-        sys.exit(f"{' '.join(command)} ended with {ran.returncode}")
+        program = subprocess.Popen(command, stdin=text, stdout=subprocess.DEVNULL)
+        _, status, used = os.wait4(program.pid, 0)
+        clock = time.perf_counter() - began
+    program.returncode = os.waitstatus_to_exitcode(status)
+    if program.returncode != 0:
+        sys.exit(f"{' '.join(command)} ended with {program.returncode}")
+    return Time(clock, used.ru_utime + used.ru_stime)
+
+
+def turns(runs, times):
+    """The times of runs, each a command and its text, by their names; they take turns so many times."""
+    took = {name: [] for name in runs}
+    for _ in range(times):
+        for name, (command, path) in runs.items():
+            took[name].append(timed(command, path))
     return took
 
 
-def best_seconds(runs, times):
-    """The best time of each run, which is a command and its text; they take turns so many times."""
-    best = {name: float("inf") for name in runs}
-    for _ in range(times):
-        for name, (command, path) in runs.items():
-            best[name] = min(best[name], seconds(command, path))
-    return best
+def best(times):
+    """The least of several times, by the clock and on processors."""
+    return Time(*map(min, zip(*times)))
+
+
+def best_of(runs, count):
+    return {name: best(times) for name, times in turns(runs, count).items()}
 
 
 def memory(command, path, output=os.devnull):
@@ -88,13 +157,13 @@ def memory(command, path, output=os.devnull):
 
 
 def compare(commands, path, folder):
-    """Runs each on the text once and stops where two outputs differ; the peak memory of each."""
+    """Runs each on the text once, and stops where two outputs differ."""
     outputs = [os.path.join(folder, f"output{k}") for k in range(len(commands))]
-    peaks = [memory(command, path, output) for command, output in zip(commands, outputs)]
-    for command, output in zip(commands[1:], outputs[1:]):
+    for command, output in zip(commands, outputs):
+        with open(path, "rb") as text, open(output, "wb") as out:
+            subprocess.run(command, stdin=text, stdout=out, check=True)
         if not filecmp.cmp(outputs[0], output, shallow=False):
-            sys.exit(f"{command[0]} writes something else than {commands[0][0]} on {path}")
-    return peaks
+            sys.exit(f"{' '.join(command)} writes something else than {' '.join(commands[0])} on {path}")
 
 
 def peak_of(pid):

@@ -1,65 +1,14 @@
 //! Random words: the block function of ChaCha20 (RFC 8439, with a counter and a stream of 64 bits),
-//! for four cars of one step side by side, in vectors of four words.
+//! for the cars of a group in one step side by side.
 
-use std::arch::x86_64::*;
-
-#[cfg(not(target_feature = "sse4.1"))]
-compile_error!("build in the folder bench, whose .cargo/config.toml names the instruction set");
+use crate::lanes::{Lanes, GROUP};
 
 /// The chance that always happens, in parts of 2^31.
 const CERTAIN: u32 = 1 << 31;
 
 const CONSTANTS: [u32; 4] = [0x6170_7865, 0x3320_646e, 0x7962_2d32, 0x6b20_6574];
 
-/// One word of the state for each of four cars.
-#[derive(Clone, Copy)]
-struct Lanes(__m128i);
-
-impl Lanes {
-    #[inline]
-    #[target_feature(enable = "sse4.1")]
-    fn all(word: u32) -> Self {
-        Lanes(_mm_set1_epi32(word as i32))
-    }
-
-    #[inline]
-    #[target_feature(enable = "sse4.1")]
-    fn of([a, b, c, d]: [u32; 4]) -> Self {
-        Lanes(_mm_setr_epi32(a as i32, b as i32, c as i32, d as i32))
-    }
-
-    #[inline]
-    #[target_feature(enable = "sse4.1")]
-    fn words(self) -> [u32; 4] {
-        let Lanes(x) = self;
-        [
-            _mm_extract_epi32::<0>(x) as u32,
-            _mm_extract_epi32::<1>(x) as u32,
-            _mm_extract_epi32::<2>(x) as u32,
-            _mm_extract_epi32::<3>(x) as u32,
-        ]
-    }
-
-    #[inline]
-    #[target_feature(enable = "sse4.1")]
-    fn plus(self, other: Self) -> Self {
-        Lanes(_mm_add_epi32(self.0, other.0))
-    }
-
-    /// The exclusive or of two words, rotated by LEFT to the left; RIGHT is 32 - LEFT.
-    #[inline]
-    #[target_feature(enable = "sse4.1")]
-    fn xor_rotated<const LEFT: i32, const RIGHT: i32>(self, other: Self) -> Self {
-        let x = _mm_xor_si128(self.0, other.0);
-        Lanes(_mm_or_si128(
-            _mm_slli_epi32::<LEFT>(x),
-            _mm_srli_epi32::<RIGHT>(x),
-        ))
-    }
-}
-
-#[inline]
-#[target_feature(enable = "sse4.1")]
+#[inline(always)]
 fn quarter(x: &mut [Lanes; 16], a: usize, b: usize, c: usize, d: usize) {
     x[a] = x[a].plus(x[b]);
     x[d] = x[d].xor_rotated::<16, 16>(x[a]);
@@ -80,16 +29,9 @@ pub struct Dice<'a> {
     pub step: u32,
 }
 
-/// Word k, below 16, of each of four cars in a step.
+/// Word k, below 16, of each car of a group in a step.
 #[inline]
-pub fn word_of_cars(dice: Dice, cars: [u32; 4], k: usize) -> [u32; 4] {
-    // SAFETY: this is only compiled for machines with SSE 4.1.
-    unsafe { word_of_lanes(dice, cars, k) }
-}
-
-#[inline]
-#[target_feature(enable = "sse4.1")]
-fn word_of_lanes(dice: Dice, cars: [u32; 4], k: usize) -> [u32; 4] {
+pub fn word_of_cars(dice: Dice, cars: [u32; GROUP], k: usize) -> [u32; GROUP] {
     let mut first = [Lanes::all(0); 16];
     for k in 0..4 {
         first[k] = Lanes::all(CONSTANTS[k]);
@@ -114,15 +56,15 @@ fn word_of_lanes(dice: Dice, cars: [u32; 4], k: usize) -> [u32; 4] {
     x[k].plus(first[k]).words()
 }
 
-/// The random words of up to four cars of one step, made when the first of them is asked for.
+/// The random words of a group of cars, or fewer, of one step, made when the first of them is asked for.
 pub struct Words<'a> {
     dice: Dice<'a>,
-    cars: [u32; 4],
-    made: Option<(usize, [u32; 4])>,
+    cars: [u32; GROUP],
+    made: Option<(usize, [u32; GROUP])>,
 }
 
 impl<'a> Words<'a> {
-    pub fn new(dice: Dice<'a>, cars: [u32; 4]) -> Self {
+    pub fn new(dice: Dice<'a>, cars: [u32; GROUP]) -> Self {
         Words {
             dice,
             cars,
@@ -130,7 +72,7 @@ impl<'a> Words<'a> {
         }
     }
 
-    /// Whether a chance, in parts of 2^31, happens on word k of a car of the four.
+    /// Whether a chance, in parts of 2^31, happens on word k of a car of the group.
     #[inline(always)]
     pub fn happens(&mut self, car: usize, k: usize, chance: u32) -> bool {
         match chance {
@@ -141,7 +83,7 @@ impl<'a> Words<'a> {
     }
 
     #[inline(always)]
-    fn words(&mut self, k: usize) -> [u32; 4] {
+    fn words(&mut self, k: usize) -> [u32; GROUP] {
         match self.made {
             Some((of, words)) if of == k => words,
             _ => {
@@ -155,7 +97,7 @@ impl<'a> Words<'a> {
 
 #[cfg(test)]
 mod tests {
-    use super::{word_of_cars, Dice};
+    use super::{word_of_cars, Dice, GROUP};
 
     fn dice(key: &[u32; 8], road: u32, step: u32) -> Dice<'_> {
         Dice { key, road, step }
@@ -164,17 +106,21 @@ mod tests {
     #[test]
     fn the_zero_key_begins_as_published() {
         let zero = dice(&[0; 8], 0, 0);
-        assert_eq!(word_of_cars(zero, [0, 1, 2, 3], 0)[0], 2917185654);
-        assert_eq!(word_of_cars(zero, [0, 1, 2, 3], 1)[0], 2419978656);
+        assert_eq!(word_of_cars(zero, [0; GROUP], 0)[0], 2917185654);
+        assert_eq!(word_of_cars(zero, [0; GROUP], 1)[0], 2419978656);
     }
 
     #[test]
     fn a_car_has_the_same_word_at_every_place_of_a_group() {
-        let key = [1, 2, 3, 4, 5, 6, 7, 8];
-        let [a, b, c, d] = word_of_cars(dice(&key, 2, 5), [9, 8, 7, 6], 3);
-        assert_eq!(
-            word_of_cars(dice(&key, 2, 5), [6, 7, 8, 9], 3),
-            [d, c, b, a]
+        let (key, cars) = (
+            [1, 2, 3, 4, 5, 6, 7, 8],
+            std::array::from_fn(|k| 9 + k as u32),
         );
+        let mut turned = cars;
+        turned.reverse();
+        let mut words = word_of_cars(dice(&key, 2, 5), cars, 3);
+        assert_ne!(words[0], words[1]);
+        words.reverse();
+        assert_eq!(word_of_cars(dice(&key, 2, 5), turned, 3), words);
     }
 }

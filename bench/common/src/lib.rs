@@ -3,12 +3,14 @@
 
 mod chacha;
 mod job;
+mod lanes;
 mod road;
 mod run;
 mod sweep;
 
 pub use chacha::{word_of_cars, Dice, Words};
 pub use job::{read_job, Job, Rule};
+pub use lanes::GROUP;
 pub use road::{Car, Driver, Road, View};
 pub use run::{job_from_input, run, sweep_from_input};
 pub use sweep::Sweep;

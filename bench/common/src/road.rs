@@ -3,6 +3,7 @@
 use std::mem::swap;
 
 use crate::chacha::{Dice, Words};
+use crate::lanes::GROUP;
 
 /// What shows each speed in a picture.
 const SPEEDS: &[u8; 36] = b"0123456789abcdefghijklmnopqrstuvwxyz";
@@ -29,7 +30,7 @@ pub struct View {
     pub headspeed: u32,
 }
 
-/// How cars are driven. A car is told as its place in a group of four, whose words are at hand.
+/// How cars are driven. A car is told as its place in a group, whose words are at hand.
 pub trait Driver {
     /// Whether there is a lane change before the motion.
     fn changes_lanes(&self) -> bool;
@@ -99,9 +100,9 @@ impl Road {
                 continue;
             };
             let (cars, mut wrapped) = (lane.len(), 0);
-            for start in (0..cars).step_by(4) {
+            for start in (0..cars).step_by(GROUP) {
                 let mut words = Words::new(dice, numbers(&lane[start..]));
-                for k in start..cars.min(start + 4) {
+                for k in start..cars.min(start + GROUP) {
                     let next = lane.get(k + 1).copied().unwrap_or(first);
                     let car = &mut lane[k];
                     let view = View {
@@ -157,7 +158,7 @@ impl Road {
     ) {
         let (lane, other) = (&self.lanes[own], &self.lanes[1 - own]);
         let mut at = 0;
-        for (start, group) in (0..).step_by(4).zip(lane.chunks(4)) {
+        for (start, group) in (0..).step_by(GROUP).zip(lane.chunks(GROUP)) {
             let mut words = Words::new(dice, numbers(group));
             for (k, car) in group.iter().enumerate() {
                 while other.get(at).is_some_and(|ahead| ahead.place < car.place) {
@@ -228,12 +229,12 @@ fn between(length: u32, from: u32, to: u32) -> u32 {
     }
 }
 
-/// The numbers of the first four cars; a car that is not there is told as 0.
+/// The numbers of the cars of the first group; a car that is not there is told as 0.
 #[inline(always)]
-fn numbers(cars: &[Car]) -> [u32; 4] {
-    match cars {
-        [a, b, c, d, ..] => [a.number, b.number, c.number, d.number],
-        _ => std::array::from_fn(|k| cars.get(k).map_or(0, |car| car.number)),
+fn numbers(cars: &[Car]) -> [u32; GROUP] {
+    match cars.first_chunk() {
+        Some(group) => group.map(|car| car.number),
+        None => std::array::from_fn(|k| cars.get(k).map_or(0, |car| car.number)),
     }
 }
 

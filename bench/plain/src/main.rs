@@ -3,14 +3,14 @@
 //!
 //! `plain` reads a job text of a standard rule and writes what `trlab run` writes for it. `plain
 //! sweep` reads a sweep text of a standard rule and writes what `trlab sweep` writes for it. `plain
-//! floor` reads a job text, makes a random word of each car in each step, four at a time, and nothing else: less than
-//! that no run can take in which each car draws.
+//! floor` reads a job text, makes a random word of each car in each step, those of a group side by side, and nothing
+//! else: less than that no run can take in which each car draws.
 
 use std::hint::black_box;
 use std::io::{self, Write};
 
 use common::{job_from_input, run, sweep_from_input, word_of_cars};
-use common::{Dice, Driver, Job, Rule, View, Words};
+use common::{Dice, Driver, Job, Rule, View, Words, GROUP};
 
 struct Plain(Rule);
 
@@ -47,14 +47,14 @@ fn make_words(job: &Job) {
     let lanes = job.road.lanes();
     let cars: Vec<u32> = lanes.iter().flatten().map(|car| car.number).collect();
     for step in 0..job.steps {
-        for group in cars.chunks(4) {
-            let four = std::array::from_fn(|k| group.get(k).copied().unwrap_or(0));
+        for group in cars.chunks(GROUP) {
+            let numbers = std::array::from_fn(|k| group.get(k).copied().unwrap_or(0));
             let dice = Dice {
                 key: &job.key,
                 road: 0,
                 step,
             };
-            black_box(word_of_cars(dice, four, 0));
+            black_box(word_of_cars(dice, numbers, 0));
         }
     }
 }

@@ -1,4 +1,5 @@
 pub mod Quoting
 pub mod Oddities
 pub mod Subjects
+pub mod Edits
 pub mod Repairs

@@ -46,8 +46,3 @@ pub fn oddity_of(line: &[u8]) -> Option<Oddity>
         None
     }
 }
-
-/// Whether a carriage return is what is odd about a line.
-pub fn has_windows_end(line: &[u8]) -> bool {
-    oddity_of(line) == Some(Oddity::CarriageReturn)
-}

@@ -2,7 +2,7 @@
 
 ghost use Rattle.std.specs.Prelude.{◌≡◌};
 ghost use Rattle.trlab_lines.specs.Lines.{lines_of};
-ghost use Rattle.trlab_advice.specs.Subjects.{subject_of};
+ghost use Rattle.trlab_advice.specs.Subjects.{is_named, subject_of};
 
 use trlab_lines::next_line;
 use trlab_texts::word::head_word;
@@ -18,6 +18,13 @@ pub enum Subject {
     Check,
 }
 
+/// Whether a word is this name, in small letters or capitals.
+pub fn is_named(word: &[u8], name: &[u8]) -> bool
+    ensures { result ≡ is_named word.now name.now }
+{
+    word.eq_ignore_ascii_case(name)
+}
+
 /// What a text is meant as, by its first word: a job where that is `road`, a sweep where it
 /// is `sweep`, and else a check.
 pub fn subject_of(text: &[u8]) -> Subject
@@ -27,9 +34,9 @@ pub fn subject_of(text: &[u8]) -> Subject
         return Subject::Check;
     };
     let word = head_word(line);
-    if word == b"road".as_slice() {
+    if is_named(word, b"road") {
         Subject::Job
-    } else if word == b"sweep".as_slice() {
+    } else if is_named(word, b"sweep") {
         Subject::Sweep
     } else {
         Subject::Check

@@ -50,7 +50,8 @@ pub record IsOneEvent {L : Type 0} {ledger : Ghosts L} (old : Desk L ledger) (ca
 
 -- what a call does to the desk through which it is made: the same parts, and, where the reply to it is an event, just
 -- this event more, of a book of which something holds; else nothing
-abbrev pub MakesOf : {L : Type 0} {ledger : Ghosts L} → (State → Type 0) → Desk L ledger → Call → Reply → Desk L ledger → Type 0
+abbrev pub MakesOf : {L : Type 0} {ledger : Ghosts L} → (State → Type 0) → Desk L ledger → Call → Reply
+    → Desk L ledger → Type 0
 MakesOf Holds old call told new =
     (parts_of new ≡ parts_of old)
     × MatchBool (is_event told)
@@ -62,7 +63,8 @@ abbrev pub Makes : {L : Type 0} {ledger : Ghosts L} → Desk L ledger → Call �
 Makes old call told new = MakesOf (λ book. Unit {0}) old call told new
 
 -- what is put down at a desk behind these events: the call, where its reply is an event, else nothing
-abbrev pub PutsDown : {L : Type 0} {ledger : Ghosts L} → Desk L ledger → List Event → Call → Reply → Desk L ledger → Type 0
+abbrev pub PutsDown : {L : Type 0} {ledger : Ghosts L} → Desk L ledger → List Event → Call → Reply
+    → Desk L ledger → Type 0
 PutsDown old before call told new =
     (parts_of new ≡ parts_of old)
     × MatchBool (is_event told)
@@ -98,8 +100,8 @@ abbrev pub AreOfRunners : ℕ → ℕ → List (Noted Event) → Type 0
 AreOfRunners from to calls =
     All (λ n. (from ≤ number_of n) × (number_of n < to) × (is_of_runner n.event.call ≡ true)) calls
 
--- a desk through which runners have called: the same parts, and behind its events those of the runners, which stand in
--- the history behind all that the desk had seen, and before all that is made through it from now on
+-- a desk through which runners have called: the same parts, and behind its events those of the runners, which
+-- stand in the history behind all that the desk had seen, and before all that is made through it from now on
 pub record GoesOn {L : Type 0} {ledger : Ghosts L} (old new : Desk L ledger) : Type 0 where
   pub parts : parts_of new ≡ parts_of old
   pub least : least_of old ≤ least_of new

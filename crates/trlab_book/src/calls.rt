@@ -12,12 +12,13 @@ use crate::desk::{Desk, SharedBook};
 use crate::events::{copied_replace, copied_submit};
 use std::alloc::Global;
 use std::sync::Wait;
-use trlab_leases::{BookFault, Lease, Order, Seed, Snapshot};
+use trlab_leases::{BookFault, BoxedSeed, Lease, Order, Seed, Snapshot};
 use trlab_rules::Rule;
 use trlab_strands::Ledger;
 
 impl<L: Ledger> SharedBook<L> {
-    /// Submits a job, and answers its number. What the history keeps is copied before the lock is taken.
+    /// Submits a job, and answers its number. The history shares the seed with the job, and keeps a copy of the
+    /// rule, which is made before the lock is taken.
     ///
     /// # Errors
     ///
@@ -33,10 +34,13 @@ impl<L: Ledger> SharedBook<L> {
     ) -> Result<u32, BookFault>
         ensures { Makes desk.old (Submit seed rule steps) (number_reply result) desk.new }
     {
-        let copied = copied_submit(alloc, &seed, &rule, steps);
+        let Ok(boxed) = BoxedSeed::new(alloc, seed) else {
+            return Err(self.lock.lock(rt).kept.wanting());
+        };
+        let copied = copied_submit(alloc, &boxed, &rule, steps);
         self.lock
             .lock(rt)
-            .submit(&self.strands, desk, alloc, seed, rule, steps, copied)
+            .submit(&self.strands, desk, alloc, boxed, rule, steps, copied)
     }
 
     /// Puts a rule in force from the first step on that was never ordered, and answers that step.
@@ -89,7 +93,8 @@ impl<L: Ledger> SharedBook<L> {
         lease: &Lease,
     ) -> Result<Order, BookFault>
         ensures { (same : Bool)
-            × MakesOf (IsOfOrder lease.now same result) desk.old (OrderCall (offered lease.now same)) (order_reply result) desk.new }
+            × MakesOf (IsOfOrder lease.now same result) desk.old
+            (OrderCall (offered lease.now same)) (order_reply result) desk.new }
     {
         self.lock.lock(rt).order(&self.strands, desk, alloc, lease)
     }
@@ -106,7 +111,8 @@ impl<L: Ledger> SharedBook<L> {
         lease: Lease,
     ) -> Result<(), (Lease, BookFault)>
         ensures made { (same : Bool)
-            × MakesOf (TellsSame lease same) desk.old (GiveBack (offered lease same)) (back_reply result) desk.new }
+            × MakesOf (TellsSame lease same) desk.old
+            (GiveBack (offered lease same)) (back_reply result) desk.new }
         ensures err { IfErr result (λ e. e.0 ≡ lease) }
     {
         self.lock.lock(rt).give_back(&self.strands, desk, lease)

@@ -80,15 +80,31 @@ impl Kept {
         ensures made { Makes self.old (Submit seed rule steps) (number_reply result) self.new }
         ensures full { TellsFull self.old (number_reply result) }
     {
-        let copied = copied_submit(alloc, &seed, &rule, steps);
-        self.submit_copied(alloc, seed, rule, steps, copied)
+        let Ok(boxed) = BoxedSeed::new(alloc, seed) else {
+            return Err(self.wanting());
+        };
+        let copied = copied_submit(alloc, &boxed, &rule, steps);
+        self.submit_copied(alloc, boxed, rule, steps, copied)
+    }
+
+    /// How a call is refused where there was no memory for what it was to be made with.
+    pub(crate) fn wanting(&self) -> BookFault
+        ensures none { is_event (Refused result) ≡ false }
+        ensures full { (Refused result ≡ Refused HistoryFull) ↔ (is_full self.now.book ≡ true) }
+    {
+        let is_full = self.book.is_full();
+        if is_full {
+            BookFault::HistoryFull
+        } else {
+            BookFault::Memory
+        }
     }
 
     /// Submits a job, where the history keeps this copy of the call.
     pub(crate) fn submit_copied(
         &mut self,
         alloc: Global,
-        seed: Seed,
+        seed: BoxedSeed,
         rule: Rule,
         steps: u32,
         copied: Result<Call, AllocError>,
@@ -98,7 +114,7 @@ impl Kept {
         ensures full { TellsFull self.old (number_reply result) }
     {
         let call = self.make_room_for(copied)?;
-        let answer = self.book.submit(alloc, seed, rule, steps);
+        let answer = self.book.submit_boxed(alloc, seed, rule, steps);
         if is_for_memory(&answer) {
             return answer;
         }
@@ -165,13 +181,14 @@ impl Kept {
         answer
     }
 
-    /// Orders the step at which a lease stands.
+    /// Orders the step at which a lease stands. The order shares its rule with the sheet, so the allocator is not
+    /// used.
     ///
     /// # Errors
     ///
     /// As the book's call; `Memory` also where the history can't grow.
     #[tactic(auto, using(crate::proofs::Replaying::replays_on))]
-    pub fn order(&mut self, alloc: Global, lease: &Lease) -> Result<Order, BookFault>
+    pub fn order(&mut self, _: Global, lease: &Lease) -> Result<Order, BookFault>
         ensures made { (same : Bool) → (IsTrue same ↔ IsSame self.old.book.jobs lease.now)
             → Makes self.old (OrderCall (offered lease.now same)) (order_reply result) self.new }
         ensures rule { IfOk result (λ o. IsRuleAt self.old.book.jobs o) }
@@ -183,7 +200,7 @@ impl Kept {
         self.make_room()?;
         let same = self.book.is_same(lease);
         let call = Call::Order(parts_of_lease(lease, same));
-        let answer = self.book.order_as(alloc, lease, same);
+        let answer = self.book.order_as(lease, same);
         if is_for_memory(&answer) {
             return answer;
         }
@@ -284,20 +301,18 @@ impl Kept {
     }
 }
 
-/// The call `submit` with copies of the seed and the rule, for the history.
+/// The call `submit` for the history, which shares the seed with the job, and has a copy of the rule.
 pub(crate) fn copied_submit(
     alloc: Global,
-    seed: &Seed,
+    seed: &BoxedSeed,
     rule: &Rule,
     steps: u32,
 ) -> Result<Call, AllocError>
     ensures { IfOk result (λ call. call ≡ Submit seed.now rule.now steps) }
 {
-    Ok(Call::Submit(
-        BoxedSeed::copy_of(alloc, seed)?,
-        BoxedRule::copy_of(alloc, rule)?,
-        steps,
-    ))
+    let kept = seed.share()?;
+    let rule_kept = BoxedRule::copy_of(alloc, rule)?;
+    Ok(Call::Submit(kept, rule_kept, steps))
 }
 
 /// The call `replace` with a copy of the rule, for the history.

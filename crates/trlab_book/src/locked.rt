@@ -16,7 +16,7 @@ use crate::replies::{
     reply_to_read,
 };
 use std::alloc::{AllocError, Global};
-use trlab_leases::{BookFault, Call, Event, Lease, Order, Reply, Seed, Snapshot};
+use trlab_leases::{BookFault, BoxedSeed, Call, Event, Lease, Order, Reply, Snapshot};
 use trlab_rules::Rule;
 use trlab_strands::{Keeper, Ledger, Strands};
 
@@ -30,8 +30,11 @@ fn note_event<L: Ledger>(
     reply: Reply,
 )
     ensures { (call : Call)
-        → MatchBool (is_event reply) (history.now.items ≡ list_of keeper.old ++ event call reply ∷ []) (history.now.items ≡ list_of keeper.old)
-        → (history.now.items ≡ list_of keeper.new) × PutsDown desk.old (list_of keeper.old) call reply desk.new }
+        → MatchBool (is_event reply)
+        (history.now.items ≡ list_of keeper.old ++ event call reply ∷ [])
+        (history.now.items ≡ list_of keeper.old)
+        → (history.now.items ≡ list_of keeper.new)
+        × PutsDown desk.old (list_of keeper.old) call reply desk.new }
 {
     if !is_event(reply) {
         return;
@@ -48,7 +51,7 @@ impl<L: Ledger> Locked<L> {
         strands: &Strands<L, Event>,
         desk: &mut Desk<L>,
         alloc: Global,
-        seed: Seed,
+        seed: BoxedSeed,
         rule: Rule,
         steps: u32,
         copied: Result<Call, AllocError>,
@@ -57,13 +60,8 @@ impl<L: Ledger> Locked<L> {
         ensures { Makes desk.old (Submit seed rule steps) (number_reply result) desk.new }
     {
         let answer = self.kept.submit_copied(alloc, seed, rule, steps, copied);
-        note_event(
-            &mut self.keeper,
-            strands,
-            desk,
-            &self.kept.history,
-            reply_to_number(&answer),
-        );
+        let reply = reply_to_number(&answer);
+        note_event(&mut self.keeper, strands, desk, &self.kept.history, reply);
         answer
     }
 
@@ -79,13 +77,8 @@ impl<L: Ledger> Locked<L> {
         ensures { Makes desk.old (Replace job rule) (number_reply result) desk.new }
     {
         let answer = self.kept.replace_copied(job, rule, copied);
-        note_event(
-            &mut self.keeper,
-            strands,
-            desk,
-            &self.kept.history,
-            reply_to_number(&answer),
-        );
+        let reply = reply_to_number(&answer);
+        note_event(&mut self.keeper, strands, desk, &self.kept.history, reply);
         answer
     }
 
@@ -98,13 +91,8 @@ impl<L: Ledger> Locked<L> {
         ensures { MakesOf (IsOfLease result) desk.old LeaseCall (lease_reply result) desk.new }
     {
         let answer = self.kept.lease(alloc);
-        note_event(
-            &mut self.keeper,
-            strands,
-            desk,
-            &self.kept.history,
-            reply_to_lease(&answer),
-        );
+        let reply = reply_to_lease(&answer);
+        note_event(&mut self.keeper, strands, desk, &self.kept.history, reply);
         answer
     }
 
@@ -116,16 +104,12 @@ impl<L: Ledger> Locked<L> {
         lease: &Lease,
     ) -> Result<Order, BookFault>
         ensures { (same : Bool)
-            × MakesOf (IsOfOrder lease.now same result) desk.old (OrderCall (offered lease.now same)) (order_reply result) desk.new }
+            × MakesOf (IsOfOrder lease.now same result) desk.old
+            (OrderCall (offered lease.now same)) (order_reply result) desk.new }
     {
         let answer = self.kept.order(alloc, lease);
-        note_event(
-            &mut self.keeper,
-            strands,
-            desk,
-            &self.kept.history,
-            reply_to_order(&answer),
-        );
+        let reply = reply_to_order(&answer);
+        note_event(&mut self.keeper, strands, desk, &self.kept.history, reply);
         answer
     }
 
@@ -136,17 +120,13 @@ impl<L: Ledger> Locked<L> {
         lease: Lease,
     ) -> Result<(), (Lease, BookFault)>
         ensures made { (same : Bool)
-            × MakesOf (TellsSame lease same) desk.old (GiveBack (offered lease same)) (back_reply result) desk.new }
+            × MakesOf (TellsSame lease same) desk.old
+            (GiveBack (offered lease same)) (back_reply result) desk.new }
         ensures err { IfErr result (λ e. e.0 ≡ lease) }
     {
         let answer = self.kept.give_back(lease);
-        note_event(
-            &mut self.keeper,
-            strands,
-            desk,
-            &self.kept.history,
-            reply_to_back(&answer),
-        );
+        let reply = reply_to_back(&answer);
+        note_event(&mut self.keeper, strands, desk, &self.kept.history, reply);
         answer
     }
 
@@ -159,13 +139,8 @@ impl<L: Ledger> Locked<L> {
         ensures { Makes desk.old (Revoke job) (done_reply result) desk.new }
     {
         let answer = self.kept.revoke(job);
-        note_event(
-            &mut self.keeper,
-            strands,
-            desk,
-            &self.kept.history,
-            reply_to_done(&answer),
-        );
+        let reply = reply_to_done(&answer);
+        note_event(&mut self.keeper, strands, desk, &self.kept.history, reply);
         answer
     }
 
@@ -178,13 +153,8 @@ impl<L: Ledger> Locked<L> {
         ensures { Makes desk.old (Cancel job) (done_reply result) desk.new }
     {
         let answer = self.kept.cancel(job);
-        note_event(
-            &mut self.keeper,
-            strands,
-            desk,
-            &self.kept.history,
-            reply_to_done(&answer),
-        );
+        let reply = reply_to_done(&answer);
+        note_event(&mut self.keeper, strands, desk, &self.kept.history, reply);
         answer
     }
 
@@ -198,13 +168,8 @@ impl<L: Ledger> Locked<L> {
         ensures { MakesOf (IsOfRead job result) desk.old (Read job) (seen_reply result) desk.new }
     {
         let answer = self.kept.read(alloc, job);
-        note_event(
-            &mut self.keeper,
-            strands,
-            desk,
-            &self.kept.history,
-            reply_to_read(&answer),
-        );
+        let reply = reply_to_read(&answer);
+        note_event(&mut self.keeper, strands, desk, &self.kept.history, reply);
         answer
     }
 }

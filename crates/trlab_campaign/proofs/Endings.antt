@@ -13,7 +13,10 @@ use Rattle.trlab_jobs.specs.Check.{Check, CheckText}
 use Rattle.trlab_campaign.specs.CheckOutput.{VerdictOutput, IsCheckOutput}
 use Rattle.trlab_jobs.specs.Sweep.{Sweep, SweepText}
 use Rattle.trlab_campaign.specs.SweepOutput.{SweepOutput, IsSweepOutput}
+use Rattle.trlab_campaign.specs.SeriesOutput.{IsSeriesOutput}
+use Rattle.trlab_campaign.specs.Counting.{SeriesEnds, WroteSeries, WroteSomeSeries}
 use Rattle.trlab_campaign.specs.Ending.{EndsSo, OutputEnds, WrotePictures, WroteSome, JobEnds}
+use Rattle.trlab_diagram.specs.Series.{series_text}
 use Rattle.trlab_campaign.proofs.KnownBytes.{front_kept, keeps_same}
 
 -- all pictures were written, and the last call kept the bytes
@@ -69,3 +72,19 @@ too_big_ends IsWhole e (Some all) old new refuses big ends = output_ends (IsWhol
 pub fault_ends : (IsWhole : List ℕ → Outputs) (left old : Option (List ℕ)) → IfSome left (λ text. EndsSo (IsWhole text) DeviceFault old old)
 fault_ends IsWhole None old = tt
 fault_ends IsWhole (Some all) old = inl (keeps_same old)
+
+-- the series of a job that a text says
+pub series_ends : (every from : ℕ) (e : End) (text : List ℕ) (job : Job) (old new : Option (List ℕ)) → JobText text (Ok job) → SeriesEnds every from e job old new
+    → EndsSo (IsSeriesOutput every from text) e old new
+series_ends every from Done text job old new says ends = (series_text ends.0, ((Ok job, (says, (refl, (ends.0, (ends.1, refl))))), ends.2))
+series_ends every from Refused text job old new says ends = absurd ends
+series_ends every from Memory text job old new says ends = inr (false, (series_text ends.0, ((Ok job, (says, (refl, (ends.0, (ends.1, refl))))), ends.2)))
+series_ends every from DeviceFault text job old new says ends = inr (false, (series_text ends.0, ((Ok job, (says, (refl, (ends.0, (ends.1, refl))))), ends.2)))
+
+pub series_refusal_ends : (every from : ℕ) (e : End) (text : List ℕ) (fault : Fault) (old new : Option (List ℕ)) → JobText text (Err fault)
+    → OutputEnds true (fault_line fault) e old new → EndsSo (IsSeriesOutput every from text) e old new
+series_refusal_ends every from e text fault old new says ends = output_ends (IsSeriesOutput every from text) true (fault_line fault) e old new (Err fault, (says, (refl, refl))) ends
+
+-- the whole table was written, and the last call kept the bytes
+pub series_kept : (every from : ℕ) (job : Job) (old a b : Option (List ℕ)) → WroteSeries every from job old a → Keeps a b → WroteSomeSeries every from job old b
+series_kept every from job old a b wrote keeps = (wrote.0, wrote.1, front_kept old a b (series_text wrote.0) wrote.2 keeps)

@@ -4,6 +4,10 @@ pub mod NoteTables
 pub mod Owed
 pub mod Sheets
 pub mod Running
+pub mod Courses
+pub mod SeriesLines
+pub mod LaneSums
+pub mod OneSeries
 pub mod Faults
 pub mod Endings
 pub mod OneOutput

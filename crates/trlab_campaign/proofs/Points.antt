@@ -2,13 +2,12 @@
 use Rattle.std.proofs.Common.{◌≡◌, ℕ, zero, suc, ◌*◌, ◌<◌, ◌≤◌, List, [], ◌∷◌, ◌++◌, length, length-append, get_or, inl, inr, ◌∙◌, sym, arith}
 use Rattle.std.proofs.lemmas.Bool.{cases_lt}
 use Rattle.std.proofs.lemmas.List.{get_or_append_left, get_or_push, get_or_default}
-use Rattle.std.specs.Prelude.{All}
 use Rattle.trlab_diagram.specs.declared.point.Point.{Point}
 use Rattle.trlab_diagram.specs.Flow.{IsMeasured}
 use Rattle.trlab_step.specs.Laws.{IsRuleFor, IsSheetFor}
 use Rattle.trlab_step.proofs.Sheets.{with_is_sheet, with_all}
 use Rattle.trlab_jobs.specs.Sweep.{Setup, Sweep}
-use Rattle.trlab_campaign.specs.SweepOutput.{IsPoint, ArePoints, sheet_of}
+use Rattle.trlab_campaign.specs.SweepOutput.{AreFirstPoints, ArePoints, IsPoint, sheet_of}
 
 -- the sheet of a sweep is one for the lanes of its roads
 pub suits : (lanes : ℕ) (common : Setup) → IsRuleFor lanes common.rule → IsSheetFor lanes (sheet_of common)
@@ -23,19 +22,13 @@ some_cells (suc lanes) (suc cells) p q = omega arith
 some_cells zero cells p q = absurd (omega arith)
 some_cells (suc lanes) zero p q = absurd (omega arith)
 
--- the first points of a sweep are there
-pub record FirstPoints (sweep : Sweep) (points : List Point) : Type 0 where
-  pub few : length points ≤ length sweep.cars
-  pub each : (i cars : ℕ) (point : Point) → i < length points → IsPoint sweep.setup i (get_or sweep.cars i cars) (get_or points i point)
-  pub measured : All IsMeasured points
-
 -- none are there yet
-pub no_points : (sweep : Sweep) → FirstPoints sweep []
+pub no_points : (sweep : Sweep) → AreFirstPoints sweep []
 no_points sweep = record { few = omega arith; each = λ i cars point inside. absurd (omega arith); measured = λ k d inside. absurd (omega arith) }
 
 -- one more is there
-pub one_more : (sweep : Sweep) (points : List Point) (number cars : ℕ) (point : Point) → FirstPoints sweep points → length points ≡ number → number < length sweep.cars
-    → cars ≡ get_or sweep.cars number 0 → IsPoint sweep.setup number cars point → IsMeasured point → FirstPoints sweep (points ++ (point ∷ []))
+pub one_more : (sweep : Sweep) (points : List Point) (number cars : ℕ) (point : Point) → AreFirstPoints sweep points → length points ≡ number → number < length sweep.cars
+    → cars ≡ get_or sweep.cars number 0 → IsPoint sweep.setup number cars point → IsMeasured point → AreFirstPoints sweep (points ++ (point ∷ []))
 one_more sweep points number cars point first here inside counted is measured =
     let more = length-append points (point ∷ []) in
     record { few = omega (arith, more); each = each_of; measured = measured_of }
@@ -60,5 +53,5 @@ one_more sweep points number cars point first here inside counted is measured =
     ]
 
 -- all are there
-pub all_points : (sweep : Sweep) (points : List Point) → FirstPoints sweep points → length points ≡ length sweep.cars → ArePoints sweep points
+pub all_points : (sweep : Sweep) (points : List Point) → AreFirstPoints sweep points → length points ≡ length sweep.cars → ArePoints sweep points
 all_points sweep points first all = record { one_each = all; each = λ i cars point inside. first.each i cars point (omega (arith, all)) }

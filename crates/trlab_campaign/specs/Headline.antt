@@ -14,8 +14,8 @@ use Rattle.trlab_campaign.specs.Output.{IsOutput, steps_text}
 use Rattle.trlab_campaign.specs.SweepOutput.{IsSweepOutput, point_of}
 use Rattle.trlab_campaign.specs.SweepOutput as sweep
 
--- the output for a job text: it says a job, one worker drives the job's road, and the pictures are of the roads on the
--- way
+-- the output for a job text: it says a job, one worker drives the job's road, and the pictures are of the roads
+-- on the way
 pub record IsDrivenJob (text out : List ℕ) : Type 0 where
   pub job : Job
   pub says : JobText text (Ok job)
@@ -27,8 +27,8 @@ pub record IsDrivenJob (text out : List ℕ) : Type 0 where
 abbrev pub JobTextsAreDriven : Type 0
 JobTextsAreDriven = (text out : List ℕ) → IsOutput text false out → IsDrivenJob text out
 
--- a point of a sweep: one worker drives its road, whose cars are evenly spread at the start, and what is told of them
--- is what was counted on the way
+-- a point of a sweep: one worker drives its road, whose cars are evenly spread at the start, and what is told of
+-- them is what was counted on the way
 pub record IsDrivenPoint (setup : Setup) (number cars : ℕ) (point : Point) : Type 0 where
   pub start : Cells
   pub tally : StepTally

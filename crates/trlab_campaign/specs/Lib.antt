@@ -8,9 +8,12 @@ pub mod Output
 pub mod NoteLines
 pub mod CheckOutput
 pub mod SweepOutput
+pub mod SeriesOutput
 pub mod Capacity
 pub mod Headline
 pub mod TooBig
 -- how engines end, and laws
 pub mod Ending
+pub mod Counting
 pub mod Laws
+pub mod SeriesLaws

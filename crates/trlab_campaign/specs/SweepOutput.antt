@@ -1,6 +1,7 @@
 -- What is written for a sweep text: the table of its points.
-use Rattle.std.specs.Prelude.{◌≡◌, ℕ, ◌<◌, false, List, [], ◌∷◌, length, slice_index_or, Result}
+use Rattle.std.specs.Prelude.{◌≡◌, ℕ, ◌<◌, ◌≤◌, false, List, [], ◌∷◌, All, length, slice_index_or, Result}
 use Rattle.trlab_diagram.specs.declared.point.Point.{Point}
+use Rattle.trlab_diagram.specs.Flow.{IsMeasured}
 use Rattle.trlab_diagram.specs.Table.{points_text}
 use Rattle.trlab_road.specs.Cells.{Cells}
 use Rattle.trlab_road.specs.Spreading.{IsEven}
@@ -46,6 +47,13 @@ pub record ArePoints (sweep : Sweep) (points : List Point) : Type 0 where
   pub one_each : length points ≡ length sweep.cars
   pub each : (i cars : ℕ) (point : Point) → i < length sweep.cars
       → IsPoint sweep.setup i (slice_index_or sweep.cars i cars) (slice_index_or points i point)
+
+-- the first points of a sweep, in the same order, each of which was measured
+pub record AreFirstPoints (sweep : Sweep) (points : List Point) : Type 0 where
+  pub few : length points ≤ length sweep.cars
+  pub each : (i cars : ℕ) (point : Point) → i < length points
+      → IsPoint sweep.setup i (slice_index_or sweep.cars i cars) (slice_index_or points i point)
+  pub measured : All IsMeasured points
 
 -- what is written for a sweep, which is no refusal
 abbrev pub SweepOutput : Sweep → Outputs

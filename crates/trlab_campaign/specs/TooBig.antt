@@ -9,6 +9,7 @@ use Rattle.trlab_campaign.specs.Refusal.{too_big_line}
 use Rattle.trlab_campaign.specs.Output.{IsOutput}
 use Rattle.trlab_campaign.specs.CheckOutput.{IsCheckOutput}
 use Rattle.trlab_campaign.specs.SweepOutput.{IsSweepOutput}
+use Rattle.trlab_campaign.specs.SeriesOutput.{IsSeriesOutput}
 
 -- the fault of such a text
 abbrev too_big : Fault
@@ -25,3 +26,8 @@ big_sweep text big = (Err too_big, (rw (lt-ltb TEXT_LIMIT (length text) big) ref
 -- as a check text
 pub big_check : (text : List ℕ) → TEXT_LIMIT < length text → IsCheckOutput text true too_big_line
 big_check text big = (Err too_big, (rw (lt-ltb TEXT_LIMIT (length text) big) refl, (refl, refl)))
+
+-- as a job text of which a series is written
+pub big_series : (every from : ℕ) (text : List ℕ)
+    → TEXT_LIMIT < length text → IsSeriesOutput every from text true too_big_line
+big_series every from text big = (Err too_big, (rw (lt-ltb TEXT_LIMIT (length text) big) refl, (refl, refl)))

@@ -8,6 +8,7 @@ ghost use Rattle.trlab_campaign.specs.CheckOutput.{IsCheckOutput};
 ghost use Rattle.trlab_campaign.specs.Headline.{JobTextsAreDriven, SweepTextsAreDriven};
 ghost use Rattle.trlab_campaign.specs.Laws.{HasOneOutput, HasSomeOutput};
 ghost use Rattle.trlab_campaign.specs.Output.{IsOutput};
+ghost use Rattle.trlab_campaign.specs.SeriesLaws.{LanesOfSeriesAddUp, SeriesHasOneOutput, SeriesHasSomeOutput};
 ghost use Rattle.trlab_campaign.specs.SweepOutput.{IsSweepOutput};
 
 /// The output for a job text that is not refused has the pictures of the roads through which one worker drives, from
@@ -47,4 +48,16 @@ pub fn sweep_has_one_output()
 pub fn sweeps_keep_to_capacity()
     ensures within { SweepsKeepToCapacity }
     ensures triangle { DiagramIsTriangle }
+{}
+
+/// Any job text has just one output as a series of windows, each of a step or more, and it is a refusal or it is none.
+pub fn series_has_one_output()
+    ensures some_output { SeriesHasSomeOutput }
+    ensures one_output { SeriesHasOneOutput }
+{}
+
+/// In each window of a series, what stands on lane 0 and on lane 1 is together what the road has: the cars once in each
+/// step, the cells that they went, and those that were stopped.
+pub fn lanes_of_series_add_up()
+    ensures { LanesOfSeriesAddUp }
 {}

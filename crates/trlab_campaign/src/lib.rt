@@ -1,5 +1,5 @@
-//! Job texts in, pictures of roads out; sweep texts in, tables of points out; check texts in, verdicts
-//! on programs out.
+//! Job texts in, pictures of roads or tables of windows out; sweep texts in, tables of points out; check texts
+//! in, verdicts on programs out.
 #![tactic(auto)]
 
 mod check;
@@ -11,6 +11,7 @@ mod note_lines;
 mod output;
 mod refusal;
 mod run;
+mod series;
 mod sweep;
 mod verdict;
 
@@ -20,6 +21,7 @@ pub use end::End;
 pub use output::fault_line;
 pub use refusal::write_output;
 pub use run::run_job_text;
+pub use series::{Windows, run_series_text};
 pub use sweep::run_sweep_text;
 pub use trlab_bounds::runs::{MOST_LATER, MOST_RUNNERS, MOST_STEPS, MOST_WORKERS};
 pub use trlab_bounds::texts::TEXT_LIMIT;

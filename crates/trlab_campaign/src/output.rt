@@ -1,10 +1,11 @@
 //! The lines of outputs: those of a step with its pictures, and that of a refused text.
 
-ghost use Rattle.std.specs.Prelude.{◌≡◌, ◌++◌, ℕ, List, IfOk, OnOk};
+ghost use Rattle.std.specs.Prelude.{◌≡◌, ◌∷◌, ◌++◌, ℕ, List, [], IfOk, OnOk, codes, decimal};
 ghost use Rattle.std.specs.String.{string_bytes};
 ghost use Rattle.trlab_campaign.specs.Output.{step_text};
 ghost use Rattle.trlab_campaign.specs.Refusal.{fault_line};
 
+use itoa::Buffer;
 use std::alloc::{AllocError, Global};
 use trlab_road::Road;
 use trlab_texts::Cause;
@@ -24,16 +25,26 @@ pub fn push_text(out: &mut Vec<u8>, text: Result<String, AllocError>) -> Result<
     }
 }
 
+/// Adds the line of a step, whose digits need no memory of their own.
+fn push_step_line(out: &mut Vec<u8>, step: u32) -> Result<(), AllocError>
+    ensures { OnOk result (out.new.items ≡ out.old.items ++ (codes "step " ++ (decimal step ++ (10 ∷ [])))) }
+{
+    let mut digits = Buffer::new();
+    out.extend_from_slice(b"step ")?;
+    out.extend_from_slice(digits.format(step).as_bytes())?;
+    out.push(b'\n')?;
+    Ok(())
+}
+
 /// Adds the text of a step: its line, and the picture of each lane.
 ///
 /// # Errors
 ///
 /// Want of memory.
-pub fn push_step(alloc: Global, out: &mut Vec<u8>, step: u32, road: &Road) -> Result<(), AllocError>
+pub fn push_step(out: &mut Vec<u8>, step: u32, road: &Road) -> Result<(), AllocError>
     ensures { OnOk result (out.new.items ≡ out.old.items ++ step_text step road.now) }
 {
-    let line = format!(in alloc; "step {step}\n");
-    push_text(out, line)?;
+    push_step_line(out, step)?;
     for lane in 0..road.lanes() {
         road.push_picture(out, lane)?;
         out.push(b'\n')?;

@@ -1,6 +1,6 @@
 //! The engine of job texts: the whole text is judged before the first picture is written.
 
-mod pictures;
+pub mod pictures;
 mod step_text;
 
 ghost use Rattle.std.specs.Prelude.{◌≡◌, ◌+◌, ◌≤◌, ◌||◌, ◌↔◌, true, false, IfSome};

@@ -1,5 +1,6 @@
 //! The engine of sweep texts: all points are there before the first line of their table is written.
 
+mod batches;
 mod points;
 mod runners;
 mod snapshots;

@@ -36,6 +36,9 @@ run_level = slice_index_or (built command_line).subs 1 top
 abbrev pub sweep_level : Shape
 sweep_level = slice_index_or (built command_line).subs 2 top
 
+abbrev pub series_level : Shape
+series_level = slice_index_or (built command_line).subs 3 top
+
 -- the flag that calls for help, which each command has
 abbrev help_flag : Rule
 help_flag = filled help_rule
@@ -109,6 +112,7 @@ pub data Taken (words : List Text) : Type 0 where
   check : (rest : List Text) → words ≡ codes "check" ∷ rest → Taken words
   run : (rest : List Text) → words ≡ codes "run" ∷ rest → level_fault run_level [] nothing_held rest false [] ≡ [] → Taken words
   sweep : (rest : List Text) → words ≡ codes "sweep" ∷ rest → level_fault sweep_level [] nothing_held rest false [] ≡ [] → Taken words
+  series : (rest : List Text) → words ≡ codes "series" ∷ rest → level_fault series_level [] nothing_held rest false [] ≡ [] → Taken words
 
 abbrev start : Walk
 start = walk_from nothing_held
@@ -131,6 +135,10 @@ stop_sweep : (rest : List Text) → (walk top.rules names nothing_held (codes "s
 unfolding walked
 stop_sweep rest = stop_at (codes "sweep") rest refl
 
+stop_series : (rest : List Text) → (walk top.rules names nothing_held (codes "series" ∷ rest)).stopped ≡ Some (codes "series", rest)
+unfolding walked
+stop_series rest = stop_at (codes "series") rest refl
+
 -- the command that is entered, with its matches
 pub enters_check : (rest : List Text) → subcommand_of command_line (codes "check" ∷ rest) ≡ Some (codes "check", rows_after check_level.rules [] rest)
 enters_check rest = ap (entered (built command_line)) (stop_check rest)
@@ -140,6 +148,9 @@ enters_run rest = ap (entered (built command_line)) (stop_run rest)
 
 pub enters_sweep : (rest : List Text) → subcommand_of command_line (codes "sweep" ∷ rest) ≡ Some (codes "sweep", rows_after sweep_level.rules [] rest)
 enters_sweep rest = ap (entered (built command_line)) (stop_sweep rest)
+
+pub enters_series : (rest : List Text) → subcommand_of command_line (codes "series" ∷ rest) ≡ Some (codes "series", rows_after series_level.rules [] rest)
+enters_series rest = ap (entered (built command_line)) (stop_series rest)
 
 -- the words behind a name have no fault of their own
 passes_behind : (name : Text) (rest : List Text) → fault_of command_line (name ∷ rest) ≡ []
@@ -155,6 +166,9 @@ run_passes rest e = passes_behind (codes "run") rest e (stop_run rest)
 
 sweep_passes : (rest : List Text) → fault_of command_line (codes "sweep" ∷ rest) ≡ [] → level_fault sweep_level [] nothing_held rest false [] ≡ []
 sweep_passes rest e = passes_behind (codes "sweep") rest e (stop_sweep rest)
+
+series_passes : (rest : List Text) → fault_of command_line (codes "series" ∷ rest) ≡ [] → level_fault series_level [] nothing_held rest false [] ≡ []
+series_passes rest e = passes_behind (codes "series") rest e (stop_series rest)
 
 -- the walk over the words comes first
 walk_passes : (words : List Text) → fault_of command_line words ≡ [] → walk_fault top names start words ≡ []
@@ -194,15 +208,22 @@ first_word word rest e = by_check (bytes_eq (codes "check") word) refl
     by_dashes false is none = absurd (other_fails word rest none is (walk_passes (word ∷ rest) e))
 
     by_help : (b : Bool) → bytes_eq (codes "help") word ≡ b → bytes_eq (codes "check") word ≡ false → bytes_eq (codes "run") word ≡ false → bytes_eq (codes "sweep") word ≡ false
+        → bytes_eq (codes "series") word ≡ false → Taken (word ∷ rest)
+    by_help true is not_check not_run not_sweep not_series = absurd (help_fails rest (subst (λ w. walk_fault top names start (w ∷ rest) ≡ []) (sym (is_word _ word is)) (walk_passes (word ∷ rest) e)))
+    by_help false is not_check not_run not_sweep not_series = by_dashes (bytes_eq word (45 ∷ 45 ∷ [])) refl (rw (not_check, not_run, not_sweep, not_series, is) refl)
+
+    by_series : (b : Bool) → bytes_eq (codes "series") word ≡ b → bytes_eq (codes "check") word ≡ false → bytes_eq (codes "run") word ≡ false → bytes_eq (codes "sweep") word ≡ false
         → Taken (word ∷ rest)
-    by_help true is not_check not_run not_sweep = absurd (help_fails rest (subst (λ w. walk_fault top names start (w ∷ rest) ≡ []) (sym (is_word _ word is)) (walk_passes (word ∷ rest) e)))
-    by_help false is not_check not_run not_sweep = by_dashes (bytes_eq word (45 ∷ 45 ∷ [])) refl (rw (not_check, not_run, not_sweep, is) refl)
+    by_series true is not_check not_run not_sweep =
+        let same : codes "series" ≡ word = is_word _ word is in
+        series rest (ap (λ w. w ∷ rest) (sym same)) (series_passes rest (subst (λ w. fault_of command_line (w ∷ rest) ≡ []) (sym same) e))
+    by_series false is not_check not_run not_sweep = by_help (bytes_eq (codes "help") word) refl not_check not_run not_sweep is
 
     by_sweep : (b : Bool) → bytes_eq (codes "sweep") word ≡ b → bytes_eq (codes "check") word ≡ false → bytes_eq (codes "run") word ≡ false → Taken (word ∷ rest)
     by_sweep true is not_check not_run =
         let same : codes "sweep" ≡ word = is_word _ word is in
         sweep rest (ap (λ w. w ∷ rest) (sym same)) (sweep_passes rest (subst (λ w. fault_of command_line (w ∷ rest) ≡ []) (sym same) e))
-    by_sweep false is not_check not_run = by_help (bytes_eq (codes "help") word) refl not_check not_run is
+    by_sweep false is not_check not_run = by_series (bytes_eq (codes "series") word) refl not_check not_run is
 
     by_run : (b : Bool) → bytes_eq (codes "run") word ≡ b → bytes_eq (codes "check") word ≡ false → Taken (word ∷ rest)
     by_run true is not_check =
@@ -292,3 +313,63 @@ pub sweep_workers_value : (words : List Text) → level_fault sweep_level [] not
 sweep_workers_value words e =
     own_value sweep_level.rules sweep_workers (sweep_known sweep_workers (λ h. absurd cc) (λ _. refl)) (λ _. refl) sweep_level words (sweep_runners ∷ []) (help_flag ∷ []) (codes "1") refl refl
     (inr (codes "1", refl, refl, λ h. absurd cc), (inr (codes "1", refl, refl, λ _. refl), (inl refl, tt))) e
+
+-- ---- the options of `series`
+
+abbrev series_every : Rule
+series_every = slice_index_or series_level.rules 0 help_flag
+
+abbrev series_from : Rule
+series_from = slice_index_or series_level.rules 1 help_flag
+
+abbrev series_workers : Rule
+series_workers = slice_index_or series_level.rules 2 help_flag
+
+-- an argument of `series` is one of its three options, or calls for help
+series_known : (own : Rule) → (bytes_eq series_every.id own.id ≡ true → series_every ≡ own) → (bytes_eq series_from.id own.id ≡ true → series_from ≡ own)
+    → (bytes_eq series_workers.id own.id ≡ true → series_workers ≡ own)
+    → (test : Rule → Bool) (a : Rule) → find test series_level.rules ≡ Some a → (IsOption a × (bytes_eq a.id own.id ≡ true → a ≡ own)) ⊎ IsHelp a
+series_known own as_every as_from as_workers test a found = first (test series_every) found
+  where
+    Known : Rule → Type 0
+    Known x = (IsOption x × (bytes_eq x.id own.id ≡ true → x ≡ own)) ⊎ IsHelp x
+
+    same : (x y : Rule) → Some x ≡ Some y → x ≡ y
+    same x y e = cc
+
+    fourth : (b : Bool) → cond b (Some help_flag) None ≡ Some a → Known a
+    fourth false e = absurd cc
+    fourth true e = inr (subst IsHelp (same help_flag a e) (record { action = refl; range = refl }))
+
+    third : (b : Bool) → cond b (Some series_workers) (cond (test help_flag) (Some help_flag) None) ≡ Some a → Known a
+    third true e = subst Known (same series_workers a e) (inl (record { action = refl; range = refl }, as_workers))
+    third false e = fourth (test help_flag) e
+
+    second : (b : Bool) → cond b (Some series_from) (cond (test series_workers) (Some series_workers) (cond (test help_flag) (Some help_flag) None)) ≡ Some a → Known a
+    second true e = subst Known (same series_from a e) (inl (record { action = refl; range = refl }, as_from))
+    second false e = third (test series_workers) e
+
+    first : (b : Bool)
+        → cond b (Some series_every) (cond (test series_from) (Some series_from) (cond (test series_workers) (Some series_workers) (cond (test help_flag) (Some help_flag) None))) ≡ Some a
+        → Known a
+    first true e = subst Known (same series_every a e) (inl (record { action = refl; range = refl }, as_every))
+    first false e = second (test series_from) e
+
+-- where the words of `series` meet no fault, each option has a value that passed the option's parser
+pub series_every_value : (words : List Text) → level_fault series_level [] nothing_held words false [] ≡ []
+    → (v : Text) × (one_of (codes "every") (rows_after series_level.rules [] words) ≡ Some (read_as (reading_by series_every) v)) × (value_passes series_every v ≡ true)
+series_every_value words e =
+    own_value series_level.rules series_every (series_known series_every (λ _. refl) (λ h. absurd cc) (λ h. absurd cc)) (λ _. refl) series_level words [] (series_from ∷ series_workers ∷ help_flag ∷ []) (codes "1") refl refl
+    (inr (codes "1", refl, refl, λ _. refl), (inr (codes "0", refl, refl, λ h. absurd cc), (inr (codes "1", refl, refl, λ h. absurd cc), (inl refl, tt)))) e
+
+pub series_from_value : (words : List Text) → level_fault series_level [] nothing_held words false [] ≡ []
+    → (v : Text) × (one_of (codes "from") (rows_after series_level.rules [] words) ≡ Some (read_as (reading_by series_from) v)) × (value_passes series_from v ≡ true)
+series_from_value words e =
+    own_value series_level.rules series_from (series_known series_from (λ h. absurd cc) (λ _. refl) (λ h. absurd cc)) (λ _. refl) series_level words (series_every ∷ []) (series_workers ∷ help_flag ∷ []) (codes "0") refl refl
+    (inr (codes "1", refl, refl, λ h. absurd cc), (inr (codes "0", refl, refl, λ _. refl), (inr (codes "1", refl, refl, λ h. absurd cc), (inl refl, tt)))) e
+
+pub series_workers_value : (words : List Text) → level_fault series_level [] nothing_held words false [] ≡ []
+    → (v : Text) × (one_of (codes "workers") (rows_after series_level.rules [] words) ≡ Some (read_as (reading_by series_workers) v)) × (value_passes series_workers v ≡ true)
+series_workers_value words e =
+    own_value series_level.rules series_workers (series_known series_workers (λ h. absurd cc) (λ h. absurd cc) (λ _. refl)) (λ _. refl) series_level words (series_every ∷ series_from ∷ []) (help_flag ∷ []) (codes "1") refl refl
+    (inr (codes "1", refl, refl, λ h. absurd cc), (inr (codes "0", refl, refl, λ h. absurd cc), (inr (codes "1", refl, refl, λ _. refl), (inl refl, tt)))) e

@@ -3,16 +3,20 @@ use Rattle.std.specs.Prelude.{ℕ, [], ◌∷◌, Some, codes, pos, true}
 use Rattle.clap.specs.Words.{App, Rule, Text, new_app, new_rule, with_rule, with_subcommand}
 use Rattle.clap.specs.Simple.{on_top}
 use Rattle.clap.specs.declared.builder.value_parser.ValueParser.TheVariants.{Signed}
-use Rattle.trlab_bounds.specs.declared.runs.TheConstants.{MOST_RUNNERS, MOST_WORKERS}
+use Rattle.trlab_bounds.specs.declared.runs.TheConstants.{MOST_RUNNERS, MOST_STEPS, MOST_WORKERS}
+
+-- the option `--name n`: an integer from a least to a greatest one, and what it is where the words give none
+abbrev pub number_option : Text → ℕ → ℕ → Text → Rule
+number_option name least most default = record (new_rule name) {
+  long = Some name;
+  value_names = 1;
+  parser = Some (Signed (pos least) (pos most));
+  defaults = default ∷ [];
+}
 
 -- the option `--name n`: an integer from 1 to a greatest one, and 1 where the words give none
 abbrev pub count_option : Text → ℕ → Rule
-count_option name most = record (new_rule name) {
-  long = Some name;
-  value_names = 1;
-  parser = Some (Signed (pos 1) (pos most));
-  defaults = codes "1" ∷ [];
-}
+count_option name most = number_option name 1 most (codes "1")
 
 -- the option `--workers n`
 abbrev pub workers_option : Rule
@@ -21,6 +25,14 @@ workers_option = count_option (codes "workers") MOST_WORKERS
 -- the option `--runners n`
 abbrev pub runners_option : Rule
 runners_option = count_option (codes "runners") MOST_RUNNERS
+
+-- the option `--every n`
+abbrev pub every_option : Rule
+every_option = count_option (codes "every") MOST_STEPS
+
+-- the option `--from s`, which is 0 where the words do not say it
+abbrev pub from_option : Rule
+from_option = number_option (codes "from") 0 MOST_STEPS (codes "0")
 
 -- the command `check`, which has no options
 abbrev pub check_command : App
@@ -33,6 +45,11 @@ run_command = with_rule (new_app (codes "run")) workers_option
 -- the command `sweep`, with the options `--runners` and `--workers`
 abbrev pub sweep_command : App
 sweep_command = with_rule (with_rule (new_app (codes "sweep")) runners_option) workers_option
+
+-- the command `series`, with the options `--every`, `--from` and `--workers`
+abbrev pub series_command : App
+series_command =
+    with_rule (with_rule (with_rule (new_app (codes "series")) every_option) from_option) workers_option
 
 -- the program, which has a version, and which no command line may call without a command; its words
 -- begin behind its name
@@ -47,5 +64,5 @@ program = on_top (λ s. record s {
 -- the command line: the program with its commands
 abbrev pub command_line : App
 command_line =
-    with_subcommand (with_subcommand (with_subcommand program check_command.top) run_command.top)
-    sweep_command.top
+    with_subcommand (with_subcommand (with_subcommand (with_subcommand program check_command.top)
+    run_command.top) sweep_command.top) series_command.top

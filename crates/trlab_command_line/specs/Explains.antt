@@ -1,5 +1,5 @@
 -- What the words of `explain` ask for.
-use Rattle.std.specs.Prelude.{ℕ, ◌||◌, List, [], ◌∷◌, Option, None, Some, Result, Ok, codes, if◌then◌else◌}
+use Rattle.std.specs.Prelude.{ℕ, ◌||◌, ◌&&◌, List, [], ◌∷◌, Option, None, Some, Result, Ok, codes, if◌then◌else◌}
 use Rattle.std.specs.Str.{bytes_eq}
 use Rattle.trlab_advice.specs.declared.subject.Subject.{Subject}
 use Rattle.trlab_advice.specs.declared.subject.Subject.TheVariants.{Job, Sweep, Check}
@@ -52,8 +52,14 @@ behind_explain (word ∷ []) = explain_word word
 behind_explain (name ∷ number ∷ []) = number_page name number
 behind_explain (word ∷ other ∷ more ∷ rest) = Nothing
 
--- what the words of a command line ask for, where the first is `explain`
+-- what two words ask for that are `help explain`
+abbrev pub help_words : List ℕ → List (List ℕ) → Option Explaining
+help_words first (second ∷ []) =
+    if bytes_eq first (codes "help") && bytes_eq second (codes "explain") then Some Help else None
+help_words first rest = None
+
+-- what the words of a command line ask for, where the first is `explain`, or they are `help explain`
 abbrev pub explain_words : List (List ℕ) → Option Explaining
 explain_words [] = None
 explain_words (first ∷ rest) =
-    if bytes_eq first (codes "explain") then Some (behind_explain rest) else None
+    if bytes_eq first (codes "explain") then Some (behind_explain rest) else help_words first rest

@@ -3,11 +3,12 @@
 ghost use Rattle.std.specs.Prelude.{◌≡◌, IfOk, false};
 ghost use Rattle.clap.specs.Words.{app_of};
 ghost use Rattle.clap.specs.declared.builder.command.Command.TheViews.{out-Command as fields_of};
-ghost use Rattle.trlab_command_line.specs.CommandLine.{check_command, command_line, program, run_command, sweep_command};
+ghost use Rattle.trlab_command_line.specs.CommandLine.{check_command, command_line, program, run_command, series_command, sweep_command};
 
-use crate::counts::{runners_option, workers_option};
+use crate::counts::{every_option, from_option, runners_option, workers_option};
 use crate::help::{
-    ABOUT, AFTER, CHECK_ABOUT, CHECK_AFTER, RUN_ABOUT, RUN_AFTER, SWEEP_ABOUT, SWEEP_AFTER, VERSION,
+    ABOUT, AFTER, CHECK_ABOUT, CHECK_AFTER, RUN_ABOUT, RUN_AFTER, SERIES_ABOUT, SERIES_AFTER,
+    SWEEP_ABOUT, SWEEP_AFTER, VERSION,
 };
 use clap::Command;
 use std::alloc::{AllocError, Global};
@@ -45,6 +46,19 @@ fn sweep_command<'a>(alloc: Global) -> Result<Command<'a>, AllocError>
         .arg(workers_option(alloc))
 }
 
+/// The command `series`.
+fn series_command<'a>(alloc: Global) -> Result<Command<'a>, AllocError>
+    ensures app { IfOk result (λ command. app_of command ≡ series_command) }
+    ensures local { IfOk result (λ command. (fields_of command).has_globals ≡ false) }
+{
+    Command::new(alloc, "series")
+        .about(SERIES_ABOUT)
+        .after_help(SERIES_AFTER)
+        .arg(every_option(alloc))?
+        .arg(from_option(alloc))?
+        .arg(workers_option(alloc))
+}
+
 /// The program, of which one command has to be named, without its commands.
 fn program<'a>(alloc: Global) -> Result<Command<'a>, AllocError>
     ensures { IfOk result (λ command. app_of command ≡ program) }
@@ -66,5 +80,6 @@ pub(crate) fn command_line<'a>(alloc: Global) -> Result<Command<'a>, AllocError>
     program(alloc)?
         .subcommand(check_command(alloc))?
         .subcommand(run_command(alloc)?)?
-        .subcommand(sweep_command(alloc)?)
+        .subcommand(sweep_command(alloc)?)?
+        .subcommand(series_command(alloc)?)
 }

@@ -1,27 +1,42 @@
 //! The options that take a number, and the number that each has among the matches.
 
-ghost use Rattle.std.specs.Prelude.{◌≡◌, ◌≤◌, false};
+ghost use Rattle.std.specs.Prelude.{◌≡◌, ℕ, ◌≤◌, ◌<◌, ◌^◌, false};
 ghost use Rattle.clap.specs.Words.{Text, rows_of, rule_of};
 ghost use Rattle.clap.specs.Matches.{found_of};
-ghost use Rattle.trlab_command_line.specs.CommandLine.{count_option, runners_option, workers_option};
-ghost use Rattle.trlab_command_line.specs.Numbers.{GivesNumber, HasValue};
+ghost use Rattle.trlab_command_line.specs.CommandLine.{count_option, every_option, from_option, number_option, runners_option, workers_option};
+ghost use Rattle.trlab_command_line.specs.Numbers.{GivesNumber, HasValue, HasValueFrom};
 
-use crate::help::{RUNNERS_HELP, WORKERS_HELP};
+use crate::help::{EVERY_HELP, FROM_HELP, RUNNERS_HELP, WORKERS_HELP};
 use clap::{Arg, ArgMatches, value_parser};
 use std::alloc::Global;
-use trlab_bounds::runs::{MOST_RUNNERS, MOST_WORKERS};
+use trlab_bounds::runs::{MOST_RUNNERS, MOST_STEPS, MOST_WORKERS};
+
+/// The option `--name n`, n from a least to a greatest number, and what it is where it is not given.
+fn number_option<'a>(
+    alloc: Global,
+    name: &'a str,
+    least: u32,
+    most: u32,
+    default: &'a str,
+    help: &'a str,
+) -> Arg<'a>
+    ensures rule { rule_of result ≡ number_option name.now least most default.now }
+    ensures local { result.global ≡ false }
+{
+    Arg::new(alloc, name)
+        .long(name)
+        .value_name("n")
+        .value_parser(value_parser!(u32).range(i64::from(least)..=i64::from(most)))
+        .default_value(default)
+        .help(help)
+}
 
 /// The option `--name n`, n from 1 to a greatest number, which is 1 where it is not given.
 fn count_option<'a>(alloc: Global, name: &'a str, most: u32, help: &'a str) -> Arg<'a>
     ensures rule { rule_of result ≡ count_option name.now most }
     ensures local { result.global ≡ false }
 {
-    Arg::new(alloc, name)
-        .long(name)
-        .value_name("n")
-        .value_parser(value_parser!(u32).range(1..=i64::from(most)))
-        .default_value("1")
-        .help(help)
+    number_option(alloc, name, 1, most, "1", help)
 }
 
 /// The option `--workers n`.
@@ -40,15 +55,43 @@ pub(crate) fn runners_option<'a>(alloc: Global) -> Arg<'a>
     count_option(alloc, "runners", MOST_RUNNERS, RUNNERS_HELP)
 }
 
+/// The option `--every n`.
+pub(crate) fn every_option<'a>(alloc: Global) -> Arg<'a>
+    ensures rule { rule_of result ≡ every_option }
+    ensures local { result.global ≡ false }
+{
+    count_option(alloc, "every", MOST_STEPS, EVERY_HELP)
+}
+
+/// The option `--from s`.
+pub(crate) fn from_option<'a>(alloc: Global) -> Arg<'a>
+    ensures rule { rule_of result ≡ from_option }
+    ensures local { result.global ≡ false }
+{
+    number_option(alloc, "from", 0, MOST_STEPS, "0", FROM_HELP)
+}
+
 /// The number that an option has among the matches of its command.
+pub(crate) fn number_of(matches: &ArgMatches, option: &str) -> u32
+    requires { (least : ℕ) × (most : ℕ) × (v : Text) × (most < 2 ^ 32)
+        × HasValueFrom (option.now) least most (rows_of (found_of matches.now)) v }
+    ensures number { GivesNumber (option.now) (rows_of (found_of matches.now)) result }
+    ensures within { (least most : ℕ) (v : Text) → most < 2 ^ 32
+        → HasValueFrom (option.now) least most (rows_of (found_of matches.now)) v
+        → (least ≤ result) × (result ≤ most) }
+{
+    match matches.get_one::<u32>(option) {
+        Some(number) => number,
+        None => unreachable!(),
+    }
+}
+
+/// The number that an option from 1 to 16 has among the matches of its command.
 pub(crate) fn count_of(matches: &ArgMatches, option: &str) -> u32
     requires { (v : Text) × HasValue (option.now) 16 (rows_of (found_of matches.now)) v }
     ensures number { GivesNumber (option.now) (rows_of (found_of matches.now)) result }
     ensures some { 1 ≤ result }
     ensures few { result ≤ 16 }
 {
-    match matches.get_one::<u32>(option) {
-        Some(number) => number,
-        None => unreachable!(),
-    }
+    number_of(matches, option)
 }

@@ -1,7 +1,7 @@
 //! The words of `explain`: which text is explained, and as what.
 
 ghost use Rattle.std.specs.Prelude.{◌≡◌, map, string_bytes};
-ghost use Rattle.trlab_command_line.specs.Explains.{explain_word, explain_words, number_page, subject_named, topic_named};
+ghost use Rattle.trlab_command_line.specs.Explains.{explain_word, explain_words, help_words, number_page, subject_named, topic_named};
 
 use trlab_advice::Subject;
 use trlab_texts::word::number_from;
@@ -86,13 +86,30 @@ pub fn word_not_taken(words: &[String]) -> Option<&String> {
     words.get(place)
 }
 
-/// What the words after the program's name ask for, where the first is `explain`.
+/// What two words ask for that are `help explain`.
+fn help_words(first: &[u8], rest: &[String]) -> Option<Explaining>
+    ensures { result ≡ help_words first.now (map string_bytes rest.now) }
+{
+    match rest.split_first() {
+        Some((second, more)) if more.is_empty() => {
+            if first == b"help".as_slice() && second.as_bytes() == b"explain".as_slice() {
+                Some(Explaining::Help)
+            } else {
+                None
+            }
+        }
+        _ => None,
+    }
+}
+
+/// What the words after the program's name ask for, where the first is `explain`, or they are
+/// `help explain`.
 pub fn explain_words(words: &[String]) -> Option<Explaining>
     ensures { result ≡ explain_words (map string_bytes words.now) }
 {
     let (first, rest) = words.split_first()?;
     if first.as_bytes() != b"explain".as_slice() {
-        return None;
+        return help_words(first.as_bytes(), rest);
     }
     match rest.split_first() {
         None => Some(Explaining::Text(None)),

@@ -12,7 +12,7 @@ proved in logic dac8208d650f15bf";
 /// Below the commands: an example, the exit statuses, and where to read on.
 pub const AFTER: &str = "\
 Each command reads one text on standard input and writes to standard output.
-`trlab help check`, `trlab help run` and `trlab help sweep` say which.
+`trlab help check` says which for `check`, and so for each of the others.
 
 Examples:
   trlab run < examples/two_cars.job
@@ -105,7 +105,36 @@ A small text of three roads of 100 cells, which one can begin with:
   cars 15
   cars 50";
 
-/// What the option of `run` and `sweep` is for.
+/// What `series` does.
+pub const SERIES_ABOUT: &str =
+    "Drives the cars of a job and counts what they do in windows of steps";
+
+/// What `series` reads and writes.
+pub const SERIES_AFTER: &str = "\
+Standard input:
+  A job text, as `trlab run` reads it.
+
+Standard output:
+  A table of comma-separated values, a line for each window of n steps from
+  step s on (`--every n`, `--from s`), written once the window is done: the
+  number of the picture behind it, the cars, the cells, the steps, and over
+  these the cells that the cars went, how often a car was stopped, how often
+  one changed lanes, and the flow: how many cars pass a cell in a step, in
+  millionths. Then for lane 0 and for lane 1, summed over the roads behind the
+  steps: its cars, their speeds, and those of speed 0. Or `fault line N cause
+  K`, where the text has a fault: `trlab explain run` says it in words. Steps
+  behind the last whole window are not counted. docs/TEXTS.md explains all.
+
+Example:
+  trlab series --every 10 < examples/overtaking.job";
+
+/// How many steps a window of `series` has.
+pub const EVERY_HELP: &str = "How many steps a window has, 1 to 500000";
+
+/// Where the first window of `series` begins.
+pub const FROM_HELP: &str = "The step from which the windows are counted, 0 to 500000";
+
+/// What the option of `run`, `sweep` and `series` is for.
 pub const WORKERS_HELP: &str =
     "How many workers may share the work, 1 to 16; the output is the same";
 
@@ -124,12 +153,14 @@ Usage: trlab explain [run|sweep|check]
 Standard input:
   A job text, as `trlab run` reads it, a sweep text, as `trlab sweep` does, or
   a check text, as `trlab check` does. Without a word it is a job text where its
-  first word is `road`, a sweep text where that is `sweep`, and else a check text.
+  first word is `road`, a sweep text where that is `sweep`, in small letters or
+  capitals, and else a check text.
 
 Standard output:
   Of a refused text the line that the command would write, the line of the
-  text that is at fault, what was expected there, and a repair where one is
-  likely. Of a good text what it does. Bytes of the text that are not printable
+  text that is at fault, what was expected and what was found there, and a
+  repair where one is likely, which brings the text further: it was tried.
+  Of a good text what it does. Bytes of the text that are not printable
   ASCII are written as \\x and two hexadecimal digits.
 
   With `cause K` or `reason R` nothing is read: what the cause K of a line

@@ -3,14 +3,16 @@ use Rattle.std.specs.Prelude.{ℕ, List}
 use Rattle.trlab_campaign.specs.CheckOutput.{IsCheckOutput}
 use Rattle.trlab_campaign.specs.Refusal.{Outputs}
 use Rattle.trlab_campaign.specs.Output.{IsOutput}
+use Rattle.trlab_campaign.specs.SeriesOutput.{IsSeriesOutput}
 use Rattle.trlab_campaign.specs.SweepOutput.{IsSweepOutput}
 use Rattle.trlab_command_line.specs.declared.words.Wanted.{Wanted}
-use Rattle.trlab_command_line.specs.declared.words.Wanted.TheVariants.{Check, Run, Sweep}
+use Rattle.trlab_command_line.specs.declared.words.Wanted.TheVariants.{Check, Run, Series, Sweep}
 
 -- the whole output of a command for a text, and whether it is a refusal: `check` writes a verdict on a
--- program, `run` the pictures of a job and `sweep` the table of a sweep, whatever the number of workers
--- and of runners
+-- program, `run` the pictures of a job, `sweep` the table of a sweep and `series` that of a job's windows,
+-- whatever the number of workers and of runners
 abbrev pub output_of : Wanted → List ℕ → Outputs
 output_of Check text = IsCheckOutput text
 output_of (Run workers) text = IsOutput text
 output_of (Sweep runners workers) text = IsSweepOutput text
+output_of (Series workers every from) text = IsSeriesOutput every from text

@@ -12,7 +12,9 @@ ghost use Rattle.trlab_commands.specs.Commands.{output_of};
 use std::alloc::AllocGlobal;
 use std::sync::Wait;
 use std::thread::Threads;
-use trlab_campaign::{End, Sink, Source, check_text, run_job_text, run_sweep_text};
+use trlab_campaign::{
+    End, Sink, Source, Windows, check_text, run_job_text, run_series_text, run_sweep_text,
+};
 use trlab_command_line::Wanted;
 
 /// Does what is wanted, from a reader to a writer.
@@ -40,5 +42,10 @@ pub fn carry_out<R: AllocGlobal + Threads + Wait + Sync, S: Source, K: Sink>(
         Wanted::Check => check_text(rt, reader, writer),
         Wanted::Run { workers } => run_job_text(rt, reader, writer, workers),
         Wanted::Sweep { runners, workers } => run_sweep_text(rt, reader, writer, runners, workers),
+        Wanted::Series {
+            workers,
+            every,
+            from,
+        } => run_series_text(rt, reader, writer, workers, &Windows::new(every, from)),
     }
 }

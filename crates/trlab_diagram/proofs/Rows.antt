@@ -12,6 +12,8 @@ use Rattle.csv.specs.Writing.{default_writer, row_text, row_body, needs_quotes, 
 use Rattle.csv.specs.Quoting.{needs_byte}
 use Rattle.trlab_diagram.specs.declared.point.Point.{Point}
 use Rattle.trlab_diagram.specs.Flow.{flow_of}
+use Rattle.trlab_diagram.specs.declared.window.Window.{Window}
+use Rattle.trlab_diagram.specs.Series.{series_heading, window_line, window_numbers}
 use Rattle.trlab_diagram.specs.Table.{heading, numbers, point_line, line_text, points_text}
 
 -- none of these fields needs quotes
@@ -74,3 +76,33 @@ point_row p cars cells steps distance stopped changes flow =
         ),
       ),
     )
+
+-- ---- the table of a series
+
+abbrev pub series_columns : List (List ℕ)
+series_columns = codes "step" ∷ codes "cars" ∷ codes "cells" ∷ codes "steps" ∷ codes "distance" ∷ codes "stopped" ∷ codes "changes" ∷ codes "flow"
+    ∷ codes "cars0" ∷ codes "distance0" ∷ codes "stopped0" ∷ codes "cars1" ∷ codes "distance1" ∷ codes "stopped1" ∷ []
+
+pub series_row : row_text default_writer series_columns ≡ line_text series_heading
+series_row = plain_row (codes "step") (codes "cars")
+    (codes "cells" ∷ codes "steps" ∷ codes "distance" ∷ codes "stopped" ∷ codes "changes" ∷ codes "flow"
+    ∷ codes "cars0" ∷ codes "distance0" ∷ codes "stopped0" ∷ codes "cars1" ∷ codes "distance1" ∷ codes "stopped1" ∷ []) refl
+    (refl, (refl, (refl, (refl, (refl, (refl, (refl, (refl, (refl, (refl, (refl, (refl, (refl, tt)))))))))))))
+
+-- each of these numbers is one of 128 bits
+abbrev pub AreSmall : List ℕ → Type 0
+AreSmall [] = ⊤
+AreSmall (n ∷ ns) = (n < 2 ^ 128) × AreSmall ns
+
+plain_all : (ns : List ℕ) → AreSmall ns → ArePlain (map decimal ns)
+plain_all [] small = tt
+plain_all (n ∷ ns) small = (plain_number n small.0, plain_all ns small.1)
+
+plain_numbers : (a b : ℕ) (ns : List ℕ) → AreSmall (a ∷ b ∷ ns)
+    → row_text default_writer (map decimal (a ∷ b ∷ ns)) ≡ line_text (join_with_byte 44 (map decimal (a ∷ b ∷ ns)))
+plain_numbers a b ns small = plain_row (decimal a) (decimal b) (map decimal ns) (plain_number a small.0) (plain_all (b ∷ ns) small.1)
+
+pub window_row : (w : Window) → AreSmall (window_numbers w) → row_text default_writer (map decimal (window_numbers w)) ≡ line_text (window_line w)
+window_row w small = plain_numbers w.step w.point.cars
+    (w.point.cells ∷ w.point.steps ∷ w.point.distance ∷ w.point.stopped ∷ w.point.changes ∷ flow_of w.point
+    ∷ w.first.cars ∷ w.first.distance ∷ w.first.stopped ∷ w.second.cars ∷ w.second.distance ∷ w.second.stopped ∷ []) small

@@ -1,3 +1,4 @@
 pub mod Flow
 pub mod Table
+pub mod Series
 pub mod Laws

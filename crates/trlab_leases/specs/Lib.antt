@@ -1,3 +1,4 @@
+pub mod Spelt
 pub mod Sheets
 pub mod Leases
 pub mod Machine

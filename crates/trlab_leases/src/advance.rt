@@ -16,7 +16,6 @@ use crate::suits::suits;
 use std::alloc::{AllocError, Global};
 use thiserror::Error;
 use trlab_machine::Dice;
-use trlab_rules::Rule;
 use trlab_step::{Asker, Nobody, take_step};
 
 /// Why a lease ran no step.
@@ -80,8 +79,8 @@ impl Lease {
         self.applied.reserve(1)?;
         let dice = Dice::new(&self.key, self.road_number, self.step);
         let shared = rule.share()?;
-        let rule = rule.get();
         let is_steady = stays_steady(&self.applied, self.is_steady, rule);
+        let rule = rule.get();
         let tally = take_step(
             asker,
             alloc,
@@ -113,13 +112,13 @@ impl Lease {
 }
 
 /// Whether it is known that the rules which were applied and this one are all one.
-fn stays_steady(applied: &[Ran], is_steady: bool, rule: &Rule) -> bool
+fn stays_steady(applied: &[Ran], is_steady: bool, rule: &BoxedRule) -> bool
     requires { IsTrue is_steady → IsSteady applied.now }
     ensures { IsTrue result → (tally : StepTally)
         → IsSteady (applied.now ++ record { rule = rule.now; tally = tally } ∷ []) }
 {
     match applied.first() {
-        Some(ran) => is_steady && ran.rule.get().equals(rule),
+        Some(ran) => is_steady && ran.rule.equals(rule),
         None => true,
     }
 }

@@ -7,6 +7,7 @@ ghost use Rattle.trlab_leases.specs.Machine.{after, is_full, reply_of, start};
 ghost use Rattle.trlab_leases.specs.declared.event.Call.TheVariants.{Cancel, GiveBack, Read, Replace, Revoke, Submit};
 ghost use Rattle.trlab_leases.specs.declared.fault.BookFault.TheVariants.{HistoryFull};
 
+use crate::boxed::BoxedSeed;
 use crate::fault::BookFault;
 use crate::job::Job;
 use crate::lease::Lease;
@@ -82,6 +83,29 @@ impl Book {
         if self.is_full() {
             return Err(BookFault::HistoryFull);
         }
+        let boxed = BoxedSeed::new(alloc, seed)?;
+        self.submit_boxed(alloc, boxed, rule, steps)
+    }
+
+    /// The same, where the seed stands in memory of its own, which others may share.
+    ///
+    /// # Errors
+    ///
+    /// Those of `submit`.
+    pub fn submit_boxed(
+        &mut self,
+        alloc: Global,
+        seed: BoxedSeed,
+        rule: Rule,
+        steps: u32,
+    ) -> Result<u32, BookFault>
+        ensures reply { RepliesAs (is_memory result) (number_reply result) self.old (Submit seed rule steps) }
+        ensures state { LeadsAs (is_memory result) self.old (Submit seed rule steps) self.new }
+        ensures full { is_full self.old ≡ true → result ≡ Err HistoryFull }
+    {
+        if self.is_full() {
+            return Err(BookFault::HistoryFull);
+        }
         let answer = submit_in(&mut self.jobs, alloc, seed, rule, steps);
         if !is_for_memory(&answer) {
             self.count += 1;
@@ -143,12 +167,13 @@ impl Book {
         is_same_in(&self.jobs, lease)
     }
 
-    /// Orders the step at which a lease stands: the answer has the rule in force there.
+    /// Orders the step at which a lease stands: the answer has the rule in force there, which it shares with the
+    /// job's sheet, so the allocator is not used.
     ///
     /// # Errors
     ///
     /// `HistoryFull`, `NoSuchJob`, `Ended`, `StrangerLease` or `Memory`.
-    pub fn order(&mut self, alloc: Global, lease: &Lease) -> Result<Order, BookFault>
+    pub fn order(&mut self, _: Global, lease: &Lease) -> Result<Order, BookFault>
         ensures reply { (same : Bool) → (IsTrue same ↔ IsSame self.old.jobs lease.now)
             → RepliesAs (is_memory result) (order_reply result) self.old (OrderCall (offered lease.now same)) }
         ensures state { (same : Bool) → (IsTrue same ↔ IsSame self.old.jobs lease.now)
@@ -157,16 +182,15 @@ impl Book {
         ensures rule { IfOk result (λ order. IsRuleAt self.old.jobs order) }
     {
         let same = self.is_same(lease);
-        self.order_as(alloc, lease, same)
+        self.order_as(lease, same)
     }
 
-    /// The same, where it is known whether the lease runs its job's road. The order shares its rule with the
-    /// job's sheet, so the allocator is not used.
+    /// The same, where it is known whether the lease runs its job's road.
     ///
     /// # Errors
     ///
     /// Those of `order`.
-    pub fn order_as(&mut self, _: Global, lease: &Lease, same: bool) -> Result<Order, BookFault>
+    pub fn order_as(&mut self, lease: &Lease, same: bool) -> Result<Order, BookFault>
         requires { IsTrue same ↔ IsSame self.old.jobs lease.now }
         ensures reply { RepliesAs (is_memory result) (order_reply result) self.old
             (OrderCall (offered lease.now same)) }

@@ -1,26 +1,29 @@
-//! Seeds and rules in memory of their own. An event keeps these, so that other events stay small; and sheets,
-//! orders and leases share their rules, so that no step copies one.
+//! Seeds and rules in memory of their own. An event keeps these, so that other events stay small; a job shares
+//! its seed with the history and with snapshots, and sheets, orders and leases share their rules, so that no
+//! step copies one.
 
-ghost use Rattle.std.specs.Prelude.{◌≡◌, IfOk};
+ghost use Rattle.std.specs.Prelude.{◌≡◌, ◌↔◌, IsTrue, IfOk};
 
 use crate::seed::Seed;
+use crate::spelt::SpeltRule;
 use std::alloc::{AllocError, Global};
 use std::marker::Model;
 use std::sync::Arc;
 use trlab_rules::Rule;
 
-/// A seed in memory of its own.
+/// A seed in memory of its own. Several may share it, and none changes it.
 #[derive(Drop)]
 pub struct BoxedSeed {
-    held: Box<Seed>,
+    held: Arc<Seed, Global>,
 }
 
 impl Model for BoxedSeed {
+    ghost use Rattle.std.specs.Arc.{arc_value};
     ghost use Rattle.trlab_leases.specs.declared.seed.Seed.{Seed};
 
     ghost Value = { Seed };
 
-    ghost view = { λ boxed. boxed.held.value };
+    ghost view = { λ boxed. arc_value boxed.held };
 }
 
 impl BoxedSeed {
@@ -33,7 +36,30 @@ impl BoxedSeed {
         ensures { IfOk result (λ copy. copy ≡ seed.now) }
     {
         let copy = seed.copy(alloc)?;
-        let held = Box::new(alloc, copy)?;
+        BoxedSeed::new(alloc, copy)
+    }
+
+    /// This very seed, which is moved there.
+    ///
+    /// # Errors
+    ///
+    /// Where memory runs out; the seed is dropped.
+    pub fn new(alloc: Global, seed: Seed) -> Result<BoxedSeed, AllocError>
+        ensures { IfOk result (λ boxed. boxed ≡ seed) }
+    {
+        let held = Arc::new(alloc, seed)?;
+        Ok(BoxedSeed { held })
+    }
+
+    /// The same seed, in the same memory.
+    ///
+    /// # Errors
+    ///
+    /// Where more would share it than can be counted, which is told as want of memory.
+    pub fn share(&self) -> Result<BoxedSeed, AllocError>
+        ensures { IfOk result (λ shared. shared ≡ self.now) }
+    {
+        let held = Arc::try_clone(&self.held)?;
         Ok(BoxedSeed { held })
     }
 
@@ -48,7 +74,7 @@ impl BoxedSeed {
 /// A rule in memory of its own. Several may share it, and none changes it.
 #[derive(Drop)]
 pub struct BoxedRule {
-    held: Arc<Rule, Global>,
+    held: Arc<SpeltRule, Global>,
 }
 
 impl Model for BoxedRule {
@@ -81,7 +107,8 @@ impl BoxedRule {
     pub(crate) fn new(alloc: Global, rule: Rule) -> Result<BoxedRule, AllocError>
         ensures { IfOk result (λ boxed. boxed ≡ rule) }
     {
-        let held = Arc::new(alloc, rule)?;
+        let spelt = SpeltRule::new(alloc, rule)?;
+        let held = Arc::new(alloc, spelt)?;
         Ok(BoxedRule { held })
     }
 
@@ -101,6 +128,13 @@ impl BoxedRule {
     pub fn get(&self) -> &Rule
         ensures { result.now ≡ self.now }
     {
-        &self.held
+        self.held.rule()
+    }
+
+    /// Whether two rules are one.
+    pub(crate) fn equals(&self, other: &BoxedRule) -> bool
+        ensures { IsTrue result ↔ (self.now ≡ other.now) }
+    {
+        self.held.equals(&other.held)
     }
 }

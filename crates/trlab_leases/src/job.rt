@@ -11,10 +11,10 @@ ghost use Rattle.trlab_leases.specs.Jobs.{run_of};
 ghost use Rattle.trlab_leases.specs.Leases.{suits};
 ghost use Rattle.trlab_leases.specs.Machine.{cancelling, giving_back, is_free, is_own, leasing, new_job, ordering, refused, replacing, revoking};
 
+use crate::boxed::BoxedSeed;
 use crate::fault::BookFault;
 use crate::lease::Lease;
 use crate::order::Order;
-use crate::seed::Seed;
 use crate::sheet::Sheet;
 use crate::snapshot::Snapshot;
 use crate::suits::suits;
@@ -29,7 +29,7 @@ use trlab_words::Key;
 /// A job. Contracts see all of it but its road and its tally, which are those of its seed and its sheet.
 #[derive(Drop)]
 pub(crate) struct Job {
-    seed: Seed,
+    seed: BoxedSeed,
     sheet: Sheet,
     steps: u32,
     /// How many steps were ever ordered.
@@ -60,7 +60,7 @@ impl Model for Job {
 
 impl Job {
     /// A job as it is submitted: no step is done.
-    pub fn new(alloc: Global, seed: Seed, rule: Rule, steps: u32) -> Result<Job, AllocError>
+    pub fn new(alloc: Global, seed: BoxedSeed, rule: Rule, steps: u32) -> Result<Job, AllocError>
         requires legal { IsLegal seed.road }
         requires rule { IsRuleFor (length seed.road.lanes) rule }
         ensures { IfOk result (λ job. job ≡ new_job seed rule steps) }
@@ -85,7 +85,7 @@ impl Job {
     {
         match &self.road {
             Some(road) => (road, self.tally),
-            None => (&self.seed.road, self.tally),
+            None => (&self.seed.get().road, self.tally),
         }
     }
 
@@ -111,7 +111,7 @@ impl Job {
         if self.cancelled || self.high == self.steps {
             return Err(BookFault::Ended);
         }
-        if !suits(rule, &self.seed.road) {
+        if !suits(rule, &self.seed.get().road) {
             return Err(BookFault::LanesMismatch);
         }
         Ok(())
@@ -158,13 +158,14 @@ impl Job {
         let (reached, _) = self.reached();
         let base_road = reached.copy(alloc)?;
         let road = reached.copy(alloc)?;
+        let seed = self.seed.get();
         self.out = Some(number);
         Ok(Lease {
             job: index,
             number,
             steps: self.steps,
-            key: self.seed.key,
-            road_number: self.seed.number,
+            key: seed.key,
+            road_number: seed.number,
             base_step: self.done,
             base_road,
             step: self.done,
@@ -180,7 +181,8 @@ impl Job {
         ensures { IsTrue result ↔ IsOwnRun self.now lease.now }
     {
         let _end = lease.step();
-        if lease.road_number() != self.seed.number || !same_key(lease.key(), &self.seed.key) {
+        let seed = self.seed.get();
+        if lease.road_number() != seed.number || !same_key(lease.key(), &seed.key) {
             return false;
         }
         let (reached, _) = self.reached();
@@ -244,8 +246,9 @@ impl Job {
         let _end = lease.step();
         let mut step = self.done;
         let mut sum = self.tally;
+        let seed = self.seed.get();
         for ran in lease.applied() {
-            if self.seed.warm <= step {
+            if seed.warm <= step {
                 sum = tally_sum(sum, ran.tally);
             }
             step += 1;
@@ -274,7 +277,7 @@ impl Job {
     pub fn read(&self, alloc: Global) -> Result<Snapshot, AllocError>
         ensures { IfOk result (λ seen. IsSnapshotOf self.now seen) }
     {
-        let seed = self.seed.copy(alloc)?;
+        let seed = self.seed.share()?;
         let sheet = self.sheet.copy(alloc)?;
         let (reached, tally) = self.reached();
         let road = reached.copy(alloc)?;

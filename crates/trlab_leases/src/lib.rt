@@ -17,6 +17,7 @@ mod ran;
 mod seed;
 mod sheet;
 mod snapshot;
+mod spelt;
 mod suits;
 
 pub use advance::LeaseFault;

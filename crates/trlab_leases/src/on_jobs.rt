@@ -10,6 +10,7 @@ ghost use Rattle.trlab_leases.specs.Leases.{suits};
 ghost use Rattle.trlab_leases.specs.Machine.{cancelling, giving_back, is_free, on_job, ordering, reading, replacing, revoking, submitting};
 ghost use Rattle.trlab_leases.specs.declared.event.Reply.TheVariants.{Refused};
 
+use crate::boxed::BoxedSeed;
 use crate::fault::BookFault;
 use crate::job::Job;
 use crate::lease::Lease;
@@ -25,7 +26,7 @@ use trlab_rules::Rule;
 pub(crate) fn submit_in(
     jobs: &mut Vec<Job>,
     alloc: Global,
-    seed: Seed,
+    seed: BoxedSeed,
     rule: Rule,
     steps: u32,
 ) -> Result<u32, BookFault>
@@ -36,7 +37,7 @@ pub(crate) fn submit_in(
         (jobs.new.items ≡ (submitting jobs.old.items seed rule steps).jobs) }
     ensures few { length jobs.new.items ≤ 256 }
 {
-    make_room(jobs, &seed, &rule)?;
+    make_room(jobs, seed.get(), &rule)?;
     let job = Job::new(alloc, seed, rule, steps)?;
     let number = jobs.len() as u32;
     jobs.push_reserved(job);

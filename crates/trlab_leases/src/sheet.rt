@@ -56,8 +56,17 @@ impl Sheet {
         requires { index < length self.now }
         ensures { slice_get self.now index ≡ Some (result.0, result.1.now) }
     {
+        let (from, rule) = self.kept_entry(index);
+        (from, rule.get())
+    }
+
+    /// The same, with the rule as the sheet keeps it.
+    fn kept_entry(&self, index: usize) -> (u32, &BoxedRule)
+        requires { index < length self.now }
+        ensures { slice_get self.now index ≡ Some (result.0, result.1.now) }
+    {
         let entry = &self.entries[index];
-        (entry.0, entry.1.get())
+        (entry.0, &entry.1)
     }
 
     /// The entry in force at a step.
@@ -91,9 +100,9 @@ impl Sheet {
         let Some(ran) = applied.first() else {
             return true;
         };
-        let (from, rule) = self.entry(self.len() - 1);
+        let (from, rule) = self.kept_entry(self.len() - 1);
         if is_steady && from <= first {
-            rule.equals(ran.rule.get())
+            rule.equals(&ran.rule)
         } else {
             self.are_each_in_force(first, applied)
         }
@@ -107,7 +116,7 @@ impl Sheet {
         let mut step = first;
         for ran in applied {
             let entry = self.entry_in_force(step);
-            if !entry.1.get().equals(ran.rule.get()) {
+            if !entry.1.equals(&ran.rule) {
                 return false;
             }
             step += 1;

@@ -6,6 +6,7 @@ ghost use Rattle.trlab_step.specs.Laws.{IsLegalLike, IsSheetFor};
 ghost use Rattle.trlab_step.specs.Run.{IsRoadAt, IsTallyAt};
 ghost use Rattle.trlab_leases.specs.Jobs.{start_of};
 
+use crate::boxed::BoxedSeed;
 use crate::seed::Seed;
 use crate::sheet::Sheet;
 use std::marker::Model;
@@ -15,7 +16,7 @@ use trlab_step::StepTally;
 /// A job at a step: its road and its tally are those to which its seed comes under its sheet.
 #[derive(Drop)]
 pub struct Snapshot {
-    pub(crate) seed: Seed,
+    pub(crate) seed: BoxedSeed,
     pub(crate) sheet: Sheet,
     pub(crate) step: u32,
     pub(crate) road: Road,
@@ -39,7 +40,7 @@ impl Snapshot {
         ensures value { start_of result.now ≡ self.now.seed }
         ensures legal { IsLegal result.now.road }
     {
-        &self.seed
+        self.seed.get()
     }
 
     /// The rules of the job, those of later steps included: each is one for the lanes of its road.

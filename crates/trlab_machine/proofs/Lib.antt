@@ -11,3 +11,4 @@ pub mod Ends
 pub mod Speeds
 pub mod Crossings
 pub mod Words
+pub mod Gathering

@@ -7,6 +7,7 @@ mod change;
 mod changes;
 mod columns;
 mod dice;
+mod gathered;
 mod inputs;
 pub mod laws;
 mod motion;

@@ -15,7 +15,7 @@ use crate::task::Task;
 use std::alloc::{AllocError, AllocFailed, Global};
 use std::sync::{Arc, Wait};
 use std::{hint, thread};
-use trlab_machine::Dice;
+use trlab_machine::{Dice, LANES};
 use trlab_road::Road;
 use trlab_segments::{Asked, Drawer, Gate, Phase, Tickets, segment_count};
 use trlab_step::Onlooker;
@@ -51,14 +51,19 @@ fn alone<A, P: Asked<A>, R: Wait>(rt: &R, task: Arc<Task<A, P>, Global>) -> Task
 }
 
 /// How many segments there are for so many workers: as many as in a single step, and on a road of many cars
-/// more, so that nobody waits long for the last.
+/// more, so that nobody waits long for the last. Each fills its blocks then, or nearly so, since a block of few
+/// cars takes as long as a full one.
 fn segments_for(cars: u32, workers: u32) -> u32
     requires some { 0 < workers }
     requires few { workers ≤ MOST_WORKERS }
     ensures { first_car cars result result ≡ cars }
 {
-    let fine = (cars / CARS_A_SEGMENT).min(SEGMENTS_A_WORKER * workers);
-    segment_count(cars, workers).max(fine)
+    let block = LANES as u32;
+    let blocks = cars.div_ceil(block);
+    let each = blocks
+        .div_ceil(SEGMENTS_A_WORKER * workers)
+        .max(CARS_A_SEGMENT / block);
+    segment_count(cars, workers).max(blocks.div_ceil(each))
 }
 
 /// What is asked, as all workers see it.

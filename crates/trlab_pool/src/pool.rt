@@ -67,12 +67,12 @@ impl<'a, R: Threads + Wait + Sync, G: Gate + Sync> Pool<'a, R, G> {
     }
 
     /// As many of these workers as make the work faster: no more than there are processors, and one for
-    /// every 1000 cars of a road.
+    /// every 1000 cars of a road. Between two phases that are close they stay awake.
     pub fn sparing(self) -> Pool<'a, R, G> {
         Pool {
             rt: self.rt,
             gate: self.gate,
-            hall: self.hall,
+            hall: Hall::watchful(),
             workers: within_processors(self.rt, self.workers),
             is_sparing: true,
         }

@@ -27,7 +27,7 @@ const MOST_GATHERED: usize = 65536;
 
 fn main(rt: HostRuntime) -> ExitCode {
     let status = match given_words(&rt) {
-        Ok(words) => match gathered(rt.alloc(), rt.stdout()) {
+        Ok(words) => match gathered(rt.alloc(), rt.stdout(), is_series(&words)) {
             Ok(out) => {
                 let mut reader = Watched::new(rt.stdin());
                 let mut writer = Watched::new(out);
@@ -47,10 +47,26 @@ fn main(rt: HostRuntime) -> ExitCode {
     ExitCode::from(status)
 }
 
-/// A writer that gathers its output before it is written; at a terminal, where each step may be watched, it
-/// gathers nothing. It fails only where memory runs out.
-fn gathered<W: Write + IsTerminal + Drop>(alloc: Global, out: W) -> io::Result<BufWriter<W>> {
-    let most = if out.is_terminal() { 0 } else { MOST_GATHERED };
+/// Whether the words ask for a series, each line of which is handed on as its window is done.
+fn is_series(words: &[String]) -> bool {
+    match words.first() {
+        Some(word) => word.as_bytes() == b"series".as_slice(),
+        None => false,
+    }
+}
+
+/// A writer that gathers its output before it is written; at a terminal, where each step may be watched, and where
+/// each line is to be handed on, it gathers nothing. It fails only where memory runs out.
+fn gathered<W: Write + IsTerminal + Drop>(
+    alloc: Global,
+    out: W,
+    each_line: bool,
+) -> io::Result<BufWriter<W>> {
+    let most = if each_line || out.is_terminal() {
+        0
+    } else {
+        MOST_GATHERED
+    };
     BufWriter::with_capacity(alloc, most, out)
 }
 

@@ -18,6 +18,7 @@ pub mod Lists
 pub mod ListPush
 pub mod ListGaps
 pub mod ListMotion
+pub mod StraightMotion
 pub mod Headspeeds
 pub mod ListLaneChange
 pub mod ListLeaving

@@ -1,8 +1,8 @@
 -- The motion of a sorted list of cars.
-use Rattle.std.proofs.Common.{◌≡◌, ℕ, zero, suc, ◌+◌, ◌-◌, ◌%◌, ◌<◌, ◌≤◌, Some, List, [], ◌∷◌, ◌++◌, length, get_or, set, take, drop, refl, sym, ◌∙◌, ap, subst, inl, inr, arith, below_more, append_assoc, drop-cons, add-one}
+use Rattle.std.proofs.Common.{◌≡◌, ℕ, zero, suc, ◌+◌, ◌-◌, ◌%◌, ◌<◌, ◌≤◌, Some, List, [], ◌∷◌, ◌++◌, length, get_or, take, refl, sym, ◌∙◌, ap, subst, inl, inr, arith, below_more}
 use Rattle.std.proofs.Math.Nat.{mod-eq_of_lt, mod-eq-sub-mod}
 use Rattle.std.proofs.lemmas.Bool.{cases_eq}
-use Rattle.std.proofs.lemmas.List.{length-map, get_or-map, get_or_append_left, get_or_push, length_push, get_or_at, set_at, drop_all, append-nil}
+use Rattle.std.proofs.lemmas.List.{length-map, get_or-map, get_or_append_left, get_or_push, length_push}
 use Rattle.trlab_road.specs.declared.car.Car.{Car}
 use Rattle.trlab_road.specs.LaneCars.{LaneCar}
 use Rattle.trlab_road.specs.Cells.{at, lane_cars}
@@ -193,12 +193,7 @@ moved_all n answer cars next r moved =
           );
     }
 
--- of the cars that stand before the last one the first k went straight ahead
-pub record Led (n : ℕ) (answer : ℕ → ℕ) (cars before now : List LaneCar) (k : ℕ) : Type 0 where
-  pub gone_on : List LaneCar
-  pub parts : now ≡ gone_on ++ drop k before
-  pub moved : Moved n answer cars gone_on k
-
+-- a list whose last car was taken off
 module _ (n : ℕ) (answer : ℕ → ℕ) (cars before : List LaneCar) (last : LaneCar) (r : Rises 0 n cars) (fits : LaneFits answer (cells_of n cars)) (whole : cars ≡ before ++ last ∷ []) where
   pub size_whole : length cars ≡ length before + 1
   size_whole = ap length whole ∙ length_push before last
@@ -206,57 +201,24 @@ module _ (n : ℕ) (answer : ℕ → ℕ) (cars before : List LaneCar) (last : L
   pub last_kth : last ≡ get_or cars (length before) no_car
   last_kth = sym (ap (λ (cs : List LaneCar). get_or cs (length before) no_car) whole ∙ get_or_push before last no_car (length before) refl)
 
-  before_kth : (k : ℕ) → k < length before → get_or before k no_car ≡ get_or cars k no_car
+  pub before_kth : (k : ℕ) → k < length before → get_or before k no_car ≡ get_or cars k no_car
   before_kth k low = sym (ap (λ (cs : List LaneCar). get_or cs k no_car) whole ∙ get_or_append_left before (last ∷ []) no_car k low)
 
-  pub led_none : Led n answer cars before before 0
-  led_none = record { gone_on = []; parts = refl; moved = moved_none n answer cars }
-
-  module _ (now : List LaneCar) (k : ℕ) (l : Led n answer cars before now k) where
-    drop_next : k < length before → drop k before ≡ get_or before k no_car ∷ drop (k + 1) before
-    drop_next low = drop-cons before k no_car low ∙ ap (λ i. get_or before k no_car ∷ drop i before) (sym (add-one k))
-
-    -- what is still there of the list
-    led_parts : k < length before → now ≡ l.gone_on ++ get_or cars k no_car ∷ drop (k + 1) before
-    led_parts low = l.parts ∙ ap (λ (cs : List LaneCar). l.gone_on ++ cs) (drop_next low ∙ ap (λ (car : LaneCar). car ∷ drop (k + 1) before) (before_kth k low))
-
-    pub led_kth : (d : LaneCar) → k < length before → get_or now k d ≡ get_or cars k no_car
-    led_kth d low = ap (λ (cs : List LaneCar). get_or cs k d) (led_parts low) ∙ get_or_at l.gone_on _ _ d k l.moved.size
-
-    pub led_short : k < length before → place_of cars k + answer (place_of cars k) < n
-    led_short low =
-        let more : k + 1 < length cars = let s = size_whole in omega (arith, s, low) in
-        let a = before_next n cars answer r fits k more in
-        let b = rises_high 0 n cars (k + 1) r more in
-        omega (arith, a, b)
-
-    pub led_more : (car : LaneCar) (v : ℕ) → k < length before → v ≡ answer (place_of cars k) → car ≡ record { number = (get_or cars k no_car).number; place = place_of cars k + v; speed = v } → Led n answer cars before (set now k car) (k + 1)
-    led_more car v low same is =
-        let short = led_short low in
-        let s = size_whole in
-        record {
-          gone_on = l.gone_on ++ car ∷ [];
-          parts = ap (λ (cs : List LaneCar). set cs k car) (led_parts low) ∙ set_at l.gone_on _ _ car k l.moved.size ∙ sym (append_assoc l.gone_on (car ∷ []) (drop (k + 1) before));
-          moved = moved_straight n answer cars l.gone_on k r fits l.moved (omega (arith, s, low)) car v same (omega (arith, short, same)) is;
-        }
-
-    pub led_moved : k ≡ length before → Moved n answer cars now (length before)
-    led_moved all = rw (l.parts ∙ ap (λ (cs : List LaneCar). l.gone_on ++ cs) (drop_all k before (omega (arith, all))) ∙ append-nil l.gone_on) (subst (Moved n answer cars l.gone_on) all l.moved)
-
-    -- and then the last one, straight ahead or past the end
-    pub led_straight : k ≡ length before → (car : LaneCar) (v : ℕ) → v ≡ answer last.place → last.place + v < n → car ≡ record { number = last.number; place = last.place + v; speed = v }
+  module _ (now : List LaneCar) (moved : Moved n answer cars now (length before)) where
+    -- the last car goes too, straight ahead or past the end
+    pub last_straight : (car : LaneCar) (v : ℕ) → v ≡ answer last.place → last.place + v < n → car ≡ record { number = last.number; place = last.place + v; speed = v }
         → Moved n answer cars (now ++ car ∷ []) (length cars)
-    led_straight all car v same within is =
+    last_straight car v same within is =
         let s = size_whole in
         let here = last_kth in
-        rw s (moved_straight n answer cars now (length before) r fits (led_moved all) (omega (arith, s)) car v (rw here at same) (rw here at within) (rw here at is))
+        rw s (moved_straight n answer cars now (length before) r fits moved (omega (arith, s)) car v (rw here at same) (rw here at within) (rw here at is))
 
-    pub led_round : k ≡ length before → (car : LaneCar) (v : ℕ) → v ≡ answer last.place → n ≤ last.place + v → car ≡ record { number = last.number; place = last.place + v - n; speed = v }
+    pub last_round : (car : LaneCar) (v : ℕ) → v ≡ answer last.place → n ≤ last.place + v → car ≡ record { number = last.number; place = last.place + v - n; speed = v }
         → Moved n answer cars (car ∷ now) (length cars)
-    led_round all car v same past is =
+    last_round car v same past is =
         let s = size_whole in
         let here = last_kth in
-        rw s (moved_round n answer cars now (length before) r fits (led_moved all) (omega (arith, s)) car v (rw here at same) (rw here at past) (rw here at is))
+        rw s (moved_round n answer cars now (length before) r fits moved (omega (arith, s)) car v (rw here at same) (rw here at past) (rw here at is))
 
 -- a car's answer leads at most round the ring
 pub reach_fits : (n : ℕ) (cars : List LaneCar) (answer : ℕ → ℕ) (k : ℕ) → Rises 0 n cars → LaneFits answer (cells_of n cars) → k + 1 ≡ length cars → place_of cars k + answer (place_of cars k) < n + n

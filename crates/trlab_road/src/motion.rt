@@ -1,14 +1,18 @@
 //! The motion: the cars of each lane go ahead at once, where they stand in its list. Only the last car can
 //! pass the end of the lane, and is the first then.
 
-ghost use Rattle.std.specs.Prelude.{◌≡◌, ◌+◌, ◌<◌, ◌≤◌, ℕ, IfOk, length, slice_index, sum_by};
+ghost use Rattle.std.specs.Prelude.{◌≡◌, ◌+◌, ◌<◌, ◌≤◌, ℕ, IfOk, length, slice_index, slice_index_or, sum_by};
 ghost use Rattle.trlab_bounds.specs.declared.roads.TheConstants.{GREATEST_LENGTH, GREATEST_LIMIT};
 ghost use Rattle.trlab_road.specs.Cells.{lane_cars};
 ghost use Rattle.trlab_road.specs.Motion.{LaneFits, LaneMoves};
-ghost use Rattle.trlab_road.specs.Stored.{ListsFit, ListsMove, Rises, AreSorted, cells_of, lanes_from, lane_answer};
+ghost use Rattle.trlab_road.specs.GoneOn.{HaveGoneOn, gone_on};
+ghost use Rattle.trlab_road.specs.Stored.{no_car, place_of, ListsFit, ListsMove, Rises, AreSorted, cells_of, lanes_from, lane_answer};
 
 use crate::lane_car::LaneCar;
 use std::alloc::{AllocError, Global};
+
+/// How many cars are written together.
+const TOGETHER: usize = 16;
 
 /// The same speeds, each in a byte.
 pub fn in_bytes(alloc: Global, speeds: &[u32]) -> Result<Vec<u8>, AllocError>
@@ -20,6 +24,56 @@ pub fn in_bytes(alloc: Global, speeds: &[u32]) -> Result<Vec<u8>, AllocError>
         bytes.push(*speed as u8)?;
     }
     Ok(bytes)
+}
+
+/// Cars of a list from an index on, after they went ahead.
+#[inline(always)]
+fn gone_together(cars: &[LaneCar], at: usize, speeds: &[u8], from: usize) -> [LaneCar; TOGETHER]
+    requires within { at + TOGETHER ≤ length cars.now }
+    requires one_each { from + TOGETHER ≤ length speeds.now }
+    requires slow { (k : ℕ) → k < TOGETHER → slice_index speeds.now (from + k) ≤ GREATEST_LIMIT }
+    requires short { (k : ℕ) → k < TOGETHER
+        → place_of cars.now (at + k) + slice_index speeds.now (from + k) ≤ GREATEST_LENGTH }
+    ensures { (k : ℕ) → k < TOGETHER → slice_index_or result k no_car
+        ≡ gone_on (slice_index_or cars.now (at + k) no_car) (slice_index speeds.now (from + k)) }
+{
+    let mut gone = [LaneCar::new(0, 0, 0); TOGETHER];
+    for k in 0..TOGETHER {
+        gone[k] = go_on(cars[at + k], u32::from(speeds[from + k]));
+    }
+    gone
+}
+
+/// A car after it went so many cells ahead.
+#[inline(always)]
+fn go_on(car: LaneCar, speed: u32) -> LaneCar
+    requires slow { speed ≤ GREATEST_LIMIT }
+    requires short { car.place + speed ≤ GREATEST_LENGTH }
+    ensures { result ≡ gone_on car speed }
+{
+    LaneCar::new(car.number(), car.place() + speed, speed)
+}
+
+/// Moves the cars of a list ahead that don't pass the end of their lane, where their speeds stand from an
+/// index on: several at once, whose places and speeds are made in columns and written together.
+fn move_straight(cars: &mut [LaneCar], speeds: &[u8], from: usize)
+    requires one_each { from + length cars.old ≤ length speeds.now }
+    requires slow { (k : ℕ) → k < length speeds.now → slice_index speeds.now k ≤ GREATEST_LIMIT }
+    requires short { (k : ℕ) → k < length cars.old
+        → place_of cars.old k + slice_index speeds.now (from + k) ≤ GREATEST_LENGTH }
+    ensures { HaveGoneOn speeds.now from cars.old cars.new (length cars.old) }
+{
+    let blocks = cars.len() / TOGETHER;
+    for block in 0..blocks {
+        let at = TOGETHER * block;
+        let gone = gone_together(cars, at, speeds, from + at);
+        for k in 0..TOGETHER {
+            cars[at + k] = gone[k];
+        }
+    }
+    for index in TOGETHER * blocks..cars.len() {
+        cars[index] = go_on(cars[index], u32::from(speeds[from + index]));
+    }
 }
 
 /// Moves the cars of a lane ahead, where their speeds stand from an index on.
@@ -41,12 +95,7 @@ pub fn move_lane(cars: &mut Vec<LaneCar>, cells: u32, speeds: &[u8], from: usize
         return;
     };
     let straight = cars.len();
-    for k in 0..straight {
-        let car = cars[k];
-        let speed = speeds[from + k] as u32;
-        let ahead = car.place() + speed;
-        cars[k] = LaneCar::new(car.number(), ahead, speed);
-    }
+    move_straight(cars, speeds, from);
     let number = last.number();
     let speed = speeds[from + straight] as u32;
     let place = last.place() + speed;

@@ -4,8 +4,8 @@ use Rattle.std.specs.Prelude.{slice_index, slice_index_or}
 use Rattle.trlab_code.specs.declared.kind.Kind.TheVariants.{Motion, Change}
 use Rattle.trlab_code.specs.declared.view.View.{View}
 use Rattle.trlab_code.specs.Machine.{EndsWith, Goes}
-use Rattle.trlab_code.specs.Views.{IsView, motion_view, change_view}
-use Rattle.trlab_machine.specs.Blocks.{CrossesWith, MovesWith}
+use Rattle.trlab_code.specs.Views.{IsView, motion_view}
+use Rattle.trlab_machine.specs.Blocks.{CrossesWith, MovesWith, with_beside}
 use Rattle.trlab_machine.specs.Crossings.{crossing_answer}
 use Rattle.trlab_road.specs.declared.car.Car.{Car}
 use Rattle.trlab_road.specs.Cells.{Cells, lane_of, IsAt}
@@ -20,10 +20,14 @@ use Rattle.trlab_step.specs.Answers.{AnswersCrossing, AnswersSpeed, change_view_
 use Rattle.trlab_step.specs.Block.{IsAsked}
 use Rattle.trlab_verify.specs.CheckedProgram.{CheckedProgram}
 use Rattle.trlab_step.proofs.AnswersExist.{change_view_is_view, motion_view_is_view}
-use Rattle.trlab_step.proofs.Parts.{same_view, same_change_view}
+use Rattle.trlab_step.proofs.Parts.{same_beside, same_view}
 
 some_same : {a b : Car} → Some a ≡ Some b → a ≡ b
 some_same h = cc
+
+-- one car stands at an index of the standing order
+same : (road : Cells) (k : ℕ) (told : Car) → IsStanding road k told → (car : Car) → IsStanding road k car → told ≡ car
+same road k told order car here = some_same (sym order ∙ here)
 
 not_change : Motion ≡ Change → ⊥
 not_change h = cc
@@ -31,36 +35,35 @@ not_change h = cc
 module _ (road : Cells) (k : ℕ) (told : Car) (order : IsStanding road k told) (limit gap_ahead speed_ahead : ℕ) (limited : limit ≡ road.limit)
     (gap_is : gap_ahead ≡ slice_index (gaps road) k) (gap_of : (car : Car) → IsStanding road k car → gap_ahead ≡ gap (lane_of road car.lane) car.place)
     (speed_of : (car : Car) → IsStanding road k car → speed_ahead ≡ headspeed (lane_of road car.lane) car.place) where
-  same : (car : Car) → IsStanding road k car → told ≡ car
-  same car here = some_same (sym order ∙ here)
-
   pub motion_asked : IsLegal road → IsAt road told → IsAsked Motion road k (motion_view told.speed limit gap_ahead speed_ahead) told.number
   motion_asked legal at =
       let own : (car : Car) → IsStanding road k car → motion_view told.speed limit gap_ahead speed_ahead ≡ motion_view_of road car =
-      λ car here. same_view _ _ _ _ _ _ _ _ (ap (λ (one : Car). one.speed) (same car here)) limited (gap_of car here) (speed_of car here) in
+      λ car here. same_view _ _ _ _ _ _ _ _ (ap (λ (one : Car). one.speed) (same road k told order car here)) limited (gap_of car here) (speed_of car here) in
       record {
         is_view = subst IsView (sym (own told order)) (motion_view_is_view road told legal at);
         seen = own;
-        number_of = λ car here. ap (λ (one : Car). one.number) (same car here);
+        number_of = λ car here. ap (λ (one : Car). one.number) (same road k told order car here);
         limit = limited;
         gap = gap_is;
         side = λ e. absurd (not_change e);
       }
 
-  pub change_asked : IsLegal road → length road.lanes ≡ 2 → IsAt road told → (empty : Bool) (ahead behind : ℕ) → empty ≡ slice_index_or (sides road) k false
+-- what is seen of a car beside what a motion program sees of it
+module _ (road : Cells) (k : ℕ) (told : Car) (order : IsStanding road k told) (view : View) (number : ℕ) (own : IsAsked Motion road k view number) where
+  pub beside_asked : IsLegal road → length road.lanes ≡ 2 → IsAt road told → (empty : Bool) (ahead behind : ℕ) → empty ≡ slice_index_or (sides road) k false
       → ((car : Car) → IsStanding road k car → empty ≡ side (lane_of road (other_lane car.lane)) car.place)
       → ((car : Car) → IsStanding road k car → ahead ≡ sidegap (lane_of road (other_lane car.lane)) car.place)
       → ((car : Car) → IsStanding road k car → behind ≡ sideback (lane_of road (other_lane car.lane)) car.place)
-      → IsAsked Change road k (change_view told.speed limit gap_ahead empty ahead behind told.lane speed_ahead) told.number
-  change_asked legal two at empty ahead behind side_is side_of ahead_of behind_of =
-      let own : (car : Car) → IsStanding road k car → change_view told.speed limit gap_ahead empty ahead behind told.lane speed_ahead ≡ change_view_of road car =
-      λ car here. same_change_view road told car limit gap_ahead empty ahead behind speed_ahead (same car here) limited (gap_of car here) (side_of car here) (ahead_of car here) (behind_of car here) (speed_of car here) in
+      → IsAsked Change road k (with_beside view told.lane empty ahead behind) number
+  beside_asked legal two at empty ahead behind side_is side_of ahead_of behind_of =
+      let all : (car : Car) → IsStanding road k car → with_beside view told.lane empty ahead behind ≡ change_view_of road car =
+      λ car here. same_beside road view told car empty ahead behind (own.seen car here) (same road k told order car here) (side_of car here) (ahead_of car here) (behind_of car here) in
       record {
-        is_view = subst IsView (sym (own told order)) (change_view_is_view road told legal two at);
-        seen = own;
-        number_of = λ car here. ap (λ (one : Car). one.number) (same car here);
-        limit = limited;
-        gap = gap_is;
+        is_view = subst IsView (sym (all told order)) (change_view_is_view road told legal two at);
+        seen = all;
+        number_of = own.number_of;
+        limit = own.limit;
+        gap = own.gap;
         side = λ e. side_is;
       }
 

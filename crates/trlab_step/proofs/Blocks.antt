@@ -18,36 +18,30 @@ free_none road from crosses e = rw e (record { side_empty = λ k h goes. absurd 
 pub first_begin : (from to : ℕ) → from ≤ to → min to (from + 0) ≡ from
 first_begin from to rising = omega (arith, rising)
 
-pub last_end : (from to block : ℕ) → from ≤ to → (to - from) / 16 + 1 ≤ block → min to (from + 16 * block) ≡ to
+pub last_end : (from to block : ℕ) → from ≤ to → (to - from) / 32 + 1 ≤ block → min to (from + 32 * block) ≡ to
 last_end from to block rising past = omega (arith, rising, past)
 
-module _ (from to block : ℕ) (rising : from ≤ to) (low : block < (to - from) / 16 + 1) where
-  pub begin_low : from + 16 * block ≤ to
+module _ (from to block : ℕ) (rising : from ≤ to) (low : block < (to - from) / 32 + 1) where
+  pub begin_low : from + 32 * block ≤ to
   begin_low = omega (arith, rising, low)
 
-  pub begin_is : min to (from + 16 * block) ≡ from + 16 * block
+  pub begin_is : min to (from + 32 * block) ≡ from + 32 * block
   begin_is = let b = begin_low in omega (arith, b)
 
-  -- a block ends behind sixteen cars, or behind the last car
-  module _ (size : ℕ) (is : size ≡ min 16 (to - (from + 16 * block))) where
-    pub end_low : from + 16 * block + size ≤ to
+  -- a block ends behind 32 cars, or behind the last car
+  module _ (size : ℕ) (is : size ≡ min 32 (to - (from + 32 * block))) where
+    pub end_low : from + 32 * block + size ≤ to
     end_low = let b = begin_low in omega (arith, b, is)
 
-    pub end_near : from + 16 * block + size ≤ from + 16 * block + 16
+    pub end_near : from + 32 * block + size ≤ from + 32 * block + 32
     end_near = omega (arith, is)
 
-    pub end_after : from + 16 * block ≤ from + 16 * block + size
+    pub end_after : from + 32 * block ≤ from + 32 * block + size
     end_after = omega arith
 
-    pub next_begin : (k : ℕ) → from + 16 * block + size ≤ k → k ≤ from + 16 * block + size → k ≡ min to (from + 16 * (block + 1))
-    next_begin k past within = let b = begin_low in omega (arith, b, is, past, within)
+    -- so many cars has the block, and behind them the next one begins
+    pub size_is : from + 32 * block + size - (from + 32 * block) ≡ size
+    size_is = omega arith
 
-    -- a car of the block
-    pub car_near : (k : ℕ) → from + 16 * block ≤ k → k < from + 16 * block + size → k - (from + 16 * block) < 16
-    car_near k past within = omega (arith, is, past, within)
-
-    pub car_at : (k : ℕ) → from + 16 * block ≤ k → from + 16 * block + (k - (from + 16 * block)) ≡ k
-    car_at k past = omega (arith, past)
-
-    pub car_low : (k : ℕ) → from + 16 * block ≤ k → k < from + 16 * block + size → k - (from + 16 * block) < from + 16 * block + size - (from + 16 * block)
-    car_low k past within = omega (arith, past, within)
+    pub next_begin : from + 32 * block + size ≡ min to (from + 32 * (block + 1))
+    next_begin = let b = begin_low in omega (arith, b, is)

@@ -11,5 +11,7 @@ pub mod Stepped
 pub mod PartLaws
 pub mod Blocks
 pub mod AskedCars
+pub mod BlockAnswers
 pub mod InLine
+pub mod OneAsked
 pub mod PublishedLaws

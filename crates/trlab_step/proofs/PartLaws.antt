@@ -92,14 +92,12 @@ module _ {X : Type 0} (none : X) (IsAnswer : Car → X → Type 0) (road : Cells
         ]);
       }
 
-  -- the answers of a part and that of the car behind it are those of a longer part
-  pub one_more : (from to : ℕ) (answers : List X) (answer : X) → AreAnswersPart IsAnswer road from to answers → ((car : Car) → IsStanding road to car → IsAnswer car answer)
-      → AreAnswersPart IsAnswer road from (to + 1) (answers ++ answer ∷ [])
-  one_more from to answers answer part right = parts_join from to (to + 1) answers (answer ∷ []) part (record {
-    one_each = refl;
-    each = each_answer to (answer ∷ []) (λ k car below here. let first : k ≡ 0 = omega (arith, below) in let at : to + k ≡ to = omega (arith, first) in
-        subst (λ i. IsAnswer car (get_or (answer ∷ []) i none)) (sym first) (right car (subst (λ i. IsStanding road i car) at here)));
-  })
+  -- the answers of a part and those of a block behind it are those of both
+  pub more_answers : (from middle : ℕ) (answers block : List X) → AreAnswersPart IsAnswer road from middle answers
+      → ((k : ℕ) (car : Car) → k < length block → IsStanding road (middle + k) car → IsAnswer car (get_or block k none))
+      → AreAnswersPart IsAnswer road from (middle + length block) (answers ++ block)
+  more_answers from middle answers block part right =
+      parts_join from middle (middle + length block) answers block part (record { one_each = refl; each = each_answer middle block right })
 
   -- answers of all cars in standing order, by lane and place
   pub by_place : (answers : List X) → AreAnswersPart IsAnswer road 0 (cars road) answers → AreAnswers IsAnswer road (λ l x. get_or answers (rank road l x) none)

@@ -8,9 +8,9 @@ use Rattle.trlab_step.specs.Next.{IsCleanNext}
 use Rattle.trlab_step.specs.Laws.{IsLegalLike, IsRuleFor, IsSheetFor}
 use Rattle.trlab_step.specs.Run.{Seed, Sheet, dice_at, in_force, IsRoadAt}
 
--- a step is driven: the rule in force is one for the lanes, of programs that are safe within their budgets, and under it
--- one road comes next to the other; no car goes onto or through another, none is lost or made, and each program that is
--- called ends within its budget
+-- a step is driven: the rule in force is one for the lanes, of programs that are safe within their budgets, and
+-- under it one road comes next to the other; no car goes onto or through another, none is lost or made, and each
+-- program that is called ends within its budget
 pub record IsDrivenStep (seed : Seed) (sheet : Sheet) (step : ℕ) (road next : Cells) : Type 0 where
   pub rule : Programs
   pub tally : StepTally

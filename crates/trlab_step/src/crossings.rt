@@ -5,9 +5,8 @@ ghost use Rattle.std.specs.Prelude.{◌≡◌, ◌≤◌, IfOk, OnOk, length};
 ghost use Rattle.trlab_road.specs.Cells.{cars};
 ghost use Rattle.trlab_step.specs.Answers.{AnswersCrossingsPart, CrossesFreePart, dice_of};
 
-use crate::block::{BLOCK, ask_block};
+use crate::block::{BLOCK, ask_changes};
 use std::alloc::{AllocError, Global};
-use trlab_code::Kind;
 use trlab_machine::{Dice, Views, run_changes};
 use trlab_road::Road;
 use trlab_verify::Change;
@@ -78,11 +77,9 @@ pub fn ask_crossings(
     for block in 0..(to - from) / BLOCK + 1 {
         let begin = from + BLOCK * block;
         let end = begin + BLOCK.min(to - begin);
-        ask_block(&mut views, Kind::Change, road, begin, end, &mut near);
+        ask_changes(&mut views, road, begin, end, &mut near);
         let answers = run_changes(change, &views, dice);
-        for k in begin..end {
-            crosses.push(answers[(k - begin) as usize])?;
-        }
+        crosses.extend_from_slice(&answers[..(end - begin) as usize])?;
     }
     Ok(())
 }

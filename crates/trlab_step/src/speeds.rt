@@ -1,12 +1,12 @@
 //! The speeds that a motion program answers to the cars of a road: it is run for a block of cars at a time.
 
-ghost use Rattle.std.specs.Prelude.{◌≡◌, ◌≤◌, IfOk, OnOk};
+ghost use Rattle.std.specs.Prelude.{◌≡◌, ◌<◌, ◌≤◌, ◌%◌, ℕ, IfOk, OnOk, slice_index};
 ghost use Rattle.trlab_road.specs.Cells.{cars};
 ghost use Rattle.trlab_step.specs.Answers.{AnswersSpeedsPart, FitsPart, dice_of};
 
 use crate::block::{BLOCK, ask_motions};
 use std::alloc::{AllocError, Global};
-use trlab_machine::{Dice, Views, run_motions};
+use trlab_machine::{Column, Dice, LANES, Views, run_motions};
 use trlab_road::Road;
 use trlab_verify::Motion;
 use trlab_words::Key;
@@ -60,6 +60,18 @@ fn in_words(alloc: Global, speeds: &[u8]) -> Result<Vec<u32>, AllocError>
     Ok(words)
 }
 
+/// The lowest byte of each number of a column: the number itself, where it is at most 255.
+#[inline(always)]
+fn low_bytes(numbers: &Column) -> [u8; LANES]
+    ensures { (k : ℕ) → k < LANES → slice_index result k ≡ slice_index numbers.now k % 256 }
+{
+    let mut bytes = [0; LANES];
+    for k in 0..LANES {
+        bytes[k] = (numbers[k] % 256) as u8;
+    }
+    bytes
+}
+
 /// Puts the speeds that `move_part` tells into a list, each in a byte, in place of what stands there.
 ///
 /// # Errors
@@ -86,10 +98,8 @@ pub fn ask_speeds(
         let begin = from + BLOCK * block;
         let end = begin + BLOCK.min(to - begin);
         ask_motions(&mut views, road, begin, end);
-        let answers = run_motions(motion, &views, dice);
-        for k in begin..end {
-            speeds.push(answers[(k - begin) as usize] as u8)?;
-        }
+        let answers = low_bytes(&run_motions(motion, &views, dice));
+        speeds.extend_from_slice(&answers[..(end - begin) as usize])?;
     }
     Ok(())
 }

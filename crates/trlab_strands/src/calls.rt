@@ -25,14 +25,16 @@ impl<L: Ledger, E: Drop> Keeper<L, E> {
     }
 
     /// Changes nothing, and tells how the list and a strand agree: each event of the strand stands in the list
-    /// behind what stood before it; with all parts the strand has as many events as the list; and where it has as many, the
-    /// list is a linearization of them.
+    /// behind what stood before it; with all parts the strand has as many events as the list; and where it has
+    /// as many, the list is a linearization of them.
     pub fn audit(&mut self, strands: &Strands<L, E>, strand: &mut Strand<L, E>)
         ensures same { (list_of self.new ≡ list_of self.old) × IsSame strand.old strand.new }
         ensures few { parts_of strand.old ≤ ALL_PARTS }
         ensures stand { StandIn (list_of self.old) (subhistory_of strand.old) }
-        ensures whole { parts_of strand.old ≡ ALL_PARTS → length (subhistory_of strand.old) ≡ length (list_of self.old) }
-        ensures all { length (subhistory_of strand.old) ≡ length (list_of self.old) → IsLinearization (list_of self.old) (subhistory_of strand.old) }
+        ensures whole { parts_of strand.old ≡ ALL_PARTS
+            → length (subhistory_of strand.old) ≡ length (list_of self.old) }
+        ensures all { length (subhistory_of strand.old) ≡ length (list_of self.old)
+            → IsLinearization (list_of self.old) (subhistory_of strand.old) }
     {
         let shared = &strands.table.shared;
         let list = shared.split_seat::<Apart>(&mut self.seat);

@@ -93,8 +93,31 @@ fn sweeps_take_runners_and_workers(rt: HostRuntime) {
     }
 }
 
+/// Lines that ask for a series, and how many workers, steps of a window and steps before the first it wants.
+const SERIES: [(&str, u32, u32, u32); 7] = [
+    ("series", 1, 1, 0),
+    ("series --", 1, 1, 0),
+    ("series --every 500000", 1, 500000, 0),
+    ("series --from=500000", 1, 1, 500000),
+    ("series --from 0 --every +10", 1, 10, 0),
+    ("series --workers 16 --every 2 --from 3", 16, 2, 3),
+    ("series --from 007", 1, 1, 7),
+];
+
+#[test]
+fn series_take_windows(rt: HostRuntime) {
+    for (line, workers, every, from) in &SERIES {
+        let wanted = Wanted::Series {
+            workers: *workers,
+            every: *every,
+            from: *from,
+        };
+        assert!(rt; asks_for(&rt, line, wanted), "at {line:?}");
+    }
+}
+
 /// Lines of which the words are refused.
-const REFUSED: [&str; 34] = [
+const REFUSED: [&str; 46] = [
     "",
     "walk",
     "rum",
@@ -128,6 +151,18 @@ const REFUSED: [&str; 34] = [
     "sweep --runners 2 --workers 17",
     "sweep --runners 2 --runners 2",
     "sweep run",
+    "series 2",
+    "series --every",
+    "series --every 0",
+    "series --every 500001",
+    "series --every two",
+    "series --every 2 --every 2",
+    "series --from -1",
+    "series --from 500001",
+    "series --from 4294967296",
+    "series --from 2 --from 3",
+    "series --runners 2",
+    "run --every 2",
     "help walk",
 ];
 
@@ -139,7 +174,7 @@ fn other_words_are_refused(rt: HostRuntime) {
 }
 
 /// Lines that ask for help.
-const HELP: [&str; 13] = [
+const HELP: [&str; 15] = [
     "--help",
     "-h",
     "help",
@@ -151,6 +186,8 @@ const HELP: [&str; 13] = [
     "run --workers 2 --help",
     "sweep --help",
     "help sweep",
+    "series --help",
+    "help series",
     "--version",
     "-V",
 ];
@@ -176,9 +213,16 @@ const SWEEP: &str =
 
 const TABLE: &str = "cars,cells,steps,distance,stopped,changes,flow\n2,10,10,80,0,0,800000\n";
 
+const SERIES_TABLE: &str =
+    "step,cars,cells,steps,distance,stopped,changes,flow,cars0,distance0,stopped0,cars1,distance1,stopped1\n\
+    1,1,2,1,1,0,0,500000,1,1,0,0,0,0\n";
+
+const SERIES_HEADING: &str =
+    "step,cars,cells,steps,distance,stopped,changes,flow,cars0,distance0,stopped0,cars1,distance1,stopped1\n";
+
 const FAULT: &str = "fault line 1 cause 1\n";
 
-const CARRIED: [Carried; 11] = [
+const CARRIED: [Carried; 16] = [
     ("check", "change\nstay", 0, "accepted budget 1\nstay\n"),
     ("check", "change\ncross", 1, "refused at 0 reason 12\n"),
     ("check", "walk", 1, FAULT),
@@ -190,6 +234,11 @@ const CARRIED: [Carried; 11] = [
     ("sweep", SWEEP, 0, TABLE),
     ("sweep --runners 16 --workers 16", SWEEP, 0, TABLE),
     ("sweep", JOB, 1, FAULT),
+    ("series", JOB, 0, SERIES_TABLE),
+    ("series --workers 16", JOB, 0, SERIES_TABLE),
+    ("series --every 2", JOB, 0, SERIES_HEADING),
+    ("series --from 1", JOB, 0, SERIES_HEADING),
+    ("series", SWEEP, 1, FAULT),
 ];
 
 /// The exit status of a command, from a reader to a writer.

@@ -1,10 +1,10 @@
-//! The fundamental diagram: flows, and tables of points.
+//! The fundamental diagram: flows, tables of points, and lines of series.
 
 ghost use Rattle.std.specs.Prelude.{All};
 ghost use Rattle.trlab_diagram.specs.Flow.{IsMeasured};
 
 use std::alloc::Global;
-use trlab_diagram::{Point, flow, points_text};
+use trlab_diagram::{LaneCount, Point, Window, flow, points_text, window_text};
 
 /// Two cars on a lane of ten cells, over ten steps.
 const FREE: Point = Point {
@@ -93,4 +93,34 @@ fn a_table_has_a_line_for_each_point(rt: HostRuntime) {
 fn no_points_have_a_heading(rt: HostRuntime) {
     let wanted = "cars,cells,steps,distance,stopped,changes,flow\n";
     assert!(rt; is_table(rt.alloc(), &[], wanted));
+}
+
+/// Whether this is the line of a window.
+fn is_line(alloc: Global, window: &Window, wanted: &str) -> bool
+    requires { IsMeasured window.now.point }
+{
+    match window_text(alloc, window) {
+        Ok(text) => text.as_slice() == wanted.as_bytes(),
+        Err(_) => false,
+    }
+}
+
+#[test]
+fn a_window_has_a_line(rt: HostRuntime) {
+    let window = Window {
+        step: 17,
+        point: CROWDED,
+        first: LaneCount {
+            cars: 3,
+            distance: 2,
+            stopped: 1,
+        },
+        second: LaneCount {
+            cars: 1,
+            distance: 0,
+            stopped: 18446744073709551615,
+        },
+    };
+    let wanted = "17,4,6,1,2,2,0,333333,3,2,1,1,0,18446744073709551615\n";
+    assert!(rt; is_line(rt.alloc(), &window, wanted));
 }

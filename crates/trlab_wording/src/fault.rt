@@ -1,19 +1,23 @@
 //! What is told of a fault.
 
 use crate::causes::meaning_of_cause;
+use crate::findings::push_finding;
 use crate::forms::{INSTRUCTIONS, form_of};
 use crate::hints::look_at;
 use crate::lines::{push_both, push_count, push_meaning};
 use crate::mends::push_mend;
 use crate::part::push_part_refusal;
-use crate::spots::{EXPECTED_OF_CHECK, expected_at};
+use crate::spots::{EXPECTED_OF_CHECK, push_wanted};
 use std::alloc::{AllocError, Global};
-use trlab_advice::{Subject, likely_repair, line_at, name_and_operands, spot_at};
+use trlab_advice::{
+    Place, Subject, Wanted, finding_of, likely_repair, name_and_operands, wanted_at,
+};
 use trlab_asm::{Why, mnemonic_named};
 use trlab_code::CodeFault;
 use trlab_prose::Page;
 use trlab_road::RoadFault;
 use trlab_texts::Cause;
+use trlab_texts::word::head_word;
 
 /// Adds what a text is read as.
 fn push_read_as(page: &mut Page, subject: Subject) -> Result<(), AllocError> {
@@ -36,26 +40,30 @@ fn push_place(page: &mut Page, cause: Cause) -> Result<(), AllocError> {
     push_count(page, words, u64::from(place), ", counted from 0.")
 }
 
-/// Adds what has to stand at a line of a text.
+/// The line of a job or sweep text that has this first word.
+fn line_named(place: &Place<'_>) -> Option<Wanted> {
+    Wanted::named(head_word(place.line?))
+}
+
+/// Adds what has to stand at a place of a text, where these lines may.
 fn push_expected(
     page: &mut Page,
     subject: Subject,
-    text: &[u8],
-    line: u32,
+    place: &Place<'_>,
+    cause: Cause,
+    wanted: &[Wanted],
 ) -> Result<(), AllocError> {
-    match subject {
-        Subject::Job | Subject::Sweep => {
-            page.line(expected_at(subject, spot_at(subject, text, line)))
-        }
-        Subject::Check => page.line(EXPECTED_OF_CHECK),
+    if subject == Subject::Check {
+        return page.line(EXPECTED_OF_CHECK);
+    }
+    match line_named(place) {
+        Some(line) if cause != Cause::Line => push_wanted(page, &[line]),
+        _ => push_wanted(page, wanted),
     }
 }
 
 /// Adds the form of the instruction of a line.
-fn push_form(page: &mut Page, text: &[u8], number: u32) -> Result<(), AllocError> {
-    let Some(line) = line_at(text, number) else {
-        return Ok(());
-    };
+fn push_form(page: &mut Page, line: &[u8]) -> Result<(), AllocError> {
     let (name, _) = name_and_operands(line);
     match mnemonic_named(name) {
         Some(name) => {
@@ -71,17 +79,19 @@ fn push_expectation(
     alloc: Global,
     page: &mut Page,
     subject: Subject,
-    text: &[u8],
-    line: u32,
+    place: &Place<'_>,
     cause: Cause,
+    wanted: &[Wanted],
 ) -> Result<(), AllocError> {
     match cause {
         Cause::Line | Cause::Number | Cause::Key | Cause::Order => push_expected(
-            page, subject, text, line,
+            page, subject, place, cause, wanted,
         ),
-        Cause::Program(Why::Operand | Why::Number) => push_form(page, text, line),
+        Cause::Program(Why::Operand | Why::Number) => push_form(page, place.line.unwrap_or(b"")),
         Cause::Program(Why::Word) => page.line(INSTRUCTIONS),
-        Cause::Verdict(_) => push_part_refusal(alloc, page, text, line),
+        Cause::Verdict(reason) => {
+            push_part_refusal(alloc, page, place.text, place.number, reason)
+        }
         _ => push_place(page, cause),
     }
 }
@@ -98,23 +108,59 @@ pub fn push_hint(page: &mut Page, cause: Cause) -> Result<(), AllocError> {
     }
 }
 
+/// Adds a repair that is likely, or else what to look at where nothing was found.
+fn push_repair(
+    alloc: Global,
+    page: &mut Page,
+    subject: Subject,
+    place: Place<'_>,
+    cause: Cause,
+    wanted: &[Wanted],
+    is_found: bool,
+) -> Result<(), AllocError> {
+    match likely_repair(alloc, subject, place, cause, wanted)? {
+        Some(repair) => push_mend(page, place.text, &repair),
+        None if is_found => Ok(()),
+        None => push_hint(page, cause),
+    }
+}
+
+/// Adds what was found at a fault, and a repair, where these lines may stand there.
+fn push_remedy(
+    alloc: Global,
+    page: &mut Page,
+    subject: Subject,
+    place: Place<'_>,
+    cause: Cause,
+    wanted: &[Wanted],
+) -> Result<(), AllocError> {
+    push_expectation(alloc, page, subject, &place, cause, wanted)?;
+    match finding_of(&place, cause, wanted) {
+        Some(finding) => {
+            push_finding(page, finding)?;
+            push_repair(alloc, page, subject, place, cause, wanted, true)
+        }
+        None => push_repair(alloc, page, subject, place, cause, wanted, false),
+    }
+}
+
 /// Adds what is told of a fault.
 fn push_fault(
     alloc: Global,
     page: &mut Page,
     subject: Subject,
-    text: &[u8],
-    line: u32,
+    place: Place<'_>,
     cause: Cause,
 ) -> Result<(), AllocError> {
     if cause != Cause::TooBig {
         push_read_as(page, subject)?;
     }
     push_meaning(page, "Cause ", cause.number(), meaning_of_cause(cause))?;
-    push_expectation(alloc, page, subject, text, line, cause)?;
-    match likely_repair(alloc, subject, text, line, cause)? {
-        Some(repair) => push_mend(page, text, repair),
-        None => push_hint(page, cause),
+    if cause == Cause::Line && subject != Subject::Check {
+        let wanted = wanted_at(alloc, subject, &place)?;
+        push_remedy(alloc, page, subject, place, cause, &wanted)
+    } else {
+        push_remedy(alloc, page, subject, place, cause, &[])
     }
 }
 
@@ -131,6 +177,6 @@ pub fn fault_words(
     cause: Cause,
 ) -> Result<Page, AllocError> {
     let mut page = Page::new(alloc);
-    push_fault(alloc, &mut page, subject, text, line, cause)?;
+    push_fault(alloc, &mut page, subject, Place::at(text, line), cause)?;
     Ok(page)
 }

@@ -1,23 +1,11 @@
 //! What a good job text will do.
 
-use crate::lines::{push_counts, push_rules};
+use crate::lines::{count_digits, push_counts, push_rules};
 use std::alloc::{AllocError, Global};
 use trlab_bounds::runs::MOST_LATER;
 use trlab_jobs::Job;
 use trlab_prose::Page;
 use trlab_road::Road;
-
-/// How many decimal digits a number has.
-fn count_digits(number: u32) -> u64 {
-    match number {
-        0..=9 => 1,
-        10..=99 => 2,
-        100..=999 => 3,
-        1000..=9999 => 4,
-        10000..=99999 => 5,
-        _ => 6,
-    }
-}
 
 /// How many bytes a run writes: for each step its line, and the picture of each lane.
 fn output_bytes(road: &Road, steps: u32) -> u64 {
@@ -26,7 +14,7 @@ fn output_bytes(road: &Road, steps: u32) -> u64 {
     ));
     let mut bytes = 0u64;
     for step in 0..=steps {
-        let line = count_digits(step).saturating_add(6);
+        let line = count_digits(u64::from(step)).saturating_add(6);
         bytes = bytes.saturating_add(line).saturating_add(pictures);
     }
     bytes
@@ -49,6 +37,14 @@ fn push_road(page: &mut Page, road: &Road) -> Result<(), AllocError> {
     )
 }
 
+/// How many bytes of memory a run by one worker took at most, where it was measured: by its text and its cars.
+fn memory_bytes(text: &[u8], cars: u32) -> u64 {
+    (text.len() as u64)
+        .saturating_mul(9)
+        .saturating_add(u64::from(cars).saturating_mul(20))
+        .saturating_add(3_000_000)
+}
+
 /// Adds what a job will do.
 fn push_job(page: &mut Page, text: &[u8], job: &Job) -> Result<(), AllocError> {
     page.line("This is a good job text: `trlab run` drives it.")?;
@@ -57,11 +53,22 @@ fn push_job(page: &mut Page, text: &[u8], job: &Job) -> Result<(), AllocError> {
     if !job.later.is_empty() {
         push_rules(page, "Rules of later steps:", text, b"at", MOST_LATER)?;
     }
+    let steps = u64::from(job.steps);
     push_counts(
         page,
         &[
-            ("Steps: ", u64::from(job.steps), "."),
+            ("Steps: ", steps, "."),
+            (
+                "Work: ",
+                u64::from(job.road.cars()).saturating_mul(steps),
+                " steps of cars.",
+            ),
             ("Output: ", output_bytes(&job.road, job.steps), " bytes."),
+            (
+                "Memory: at most ",
+                memory_bytes(text, job.road.cars()),
+                " bytes with one worker, as far as it was measured.",
+            ),
         ],
     )
 }

@@ -5,7 +5,9 @@
 
 mod accepted;
 mod causes;
+mod chances;
 mod fault;
+mod findings;
 mod forms;
 mod hints;
 mod instr_lines;

@@ -3,6 +3,7 @@
 ghost use Rattle.std.specs.Prelude.{◌≡◌, ◌++◌, OnOk, option_map};
 ghost use Rattle.trlab_wording.specs.Quotes.{quote_line};
 
+use crate::chances::push_chances;
 use std::alloc::AllocError;
 use trlab_lines::next_line;
 use trlab_prose::Page;
@@ -95,7 +96,7 @@ pub fn push_quote(page: &mut Page, number: u32, line: Option<&[u8]>) -> Result<(
 }
 
 /// Adds a heading, and the first lines of a text that have this first word, as many as there may be of
-/// them.
+/// them, each with its chances as decimals.
 ///
 /// # Errors
 ///
@@ -117,10 +118,24 @@ pub fn push_rules(
         };
         if head_word(line) == name && told < most {
             push_quote(page, number, Some(line))?;
+            push_chances(page, line)?;
             told = told.saturating_add(1);
         }
         number = number.saturating_add(1);
         left = rest;
     }
     Ok(())
+}
+
+/// How many decimal digits a number has.
+pub fn count_digits(number: u64) -> u64 {
+    let mut count = 1u64;
+    let mut left = number / 10;
+    for _ in 0..20 {
+        if left != 0 {
+            count = count.saturating_add(1);
+            left /= 10;
+        }
+    }
+    count
 }

@@ -9,7 +9,7 @@ use trlab_asm::assemble;
 use trlab_code::{Code, Kind};
 use trlab_prose::Page;
 use trlab_texts::program::{code_line, heads};
-use trlab_verify::{VerifyFault, verify_change, verify_motion};
+use trlab_verify::notes_of_refused;
 
 /// The kind of program that a line heads, if it heads one.
 fn heading_kind(line: &[u8]) -> Option<Kind> {
@@ -56,15 +56,40 @@ fn part_code(
     }
 }
 
-/// The program again, and why the verifier refuses it.
-fn refusal_of(alloc: Global, code: Code) -> Option<(Code, VerifyFault)> {
-    match code.kind() {
-        Kind::Motion => verify_motion(alloc, code).err(),
-        Kind::Change => verify_change(alloc, code).err(),
+/// The refused instruction, by the reason and by how many instructions have notes: one to which no way leads
+/// has none.
+fn refused_at(reason: u32, notes: usize) -> u32 {
+    let notes = u32::try_from(notes).unwrap_or(u32::MAX);
+    if reason == 1 {
+        notes
+    } else {
+        notes.saturating_sub(1)
     }
 }
 
-/// Adds why the program of a part is refused, whose first line has a number.
+/// Adds why a program is refused for a reason.
+fn push_part(
+    alloc: Global,
+    page: &mut Page,
+    program: Placed<'_>,
+    reason: u32,
+) -> Result<(), AllocError> {
+    match notes_of_refused(alloc, program.code)? {
+        Some(notes) => push_refusal(
+            alloc,
+            page,
+            &Refused {
+                program,
+                at: refused_at(reason, notes.len()),
+                reason,
+                notes: &notes,
+            },
+        ),
+        None => Ok(()),
+    }
+}
+
+/// Adds why the program of a part is refused for a reason, whose first line has a number.
 ///
 /// # Errors
 ///
@@ -74,28 +99,15 @@ pub fn push_part_refusal(
     page: &mut Page,
     text: &[u8],
     number: u32,
+    reason: u32,
 ) -> Result<(), AllocError> {
     let Some((code, lines)) = part_code(alloc, text, number)? else {
         return Ok(());
-    };
-    let Some((code, fault)) = refusal_of(alloc, code) else {
-        return Ok(());
-    };
-    let VerifyFault::Why { at, reason } = fault else {
-        return Err(AllocError);
     };
     let program = Placed {
         text,
         code: &code,
         lines: &lines,
     };
-    push_refusal(
-        alloc,
-        page,
-        &Refused {
-            program,
-            at,
-            reason,
-        },
-    )
+    push_part(alloc, page, program, reason)
 }

@@ -10,7 +10,7 @@ use std::alloc::{AllocError, Global};
 use trlab_asm::register_text;
 use trlab_code::{Instr, Register};
 use trlab_prose::Page;
-use trlab_verify::{Mark, Note, notes_of_refused};
+use trlab_verify::{Mark, Note};
 
 /// A program that is refused.
 #[derive(Clone, Copy)]
@@ -21,6 +21,8 @@ pub struct Refused<'a> {
     pub at: u32,
     /// The number of the reason, 1 to 12.
     pub reason: u32,
+    /// What the verifier knows before each instruction up to the refused one.
+    pub notes: &'a [Note],
 }
 
 /// Adds what a note says of a register that is read, if one is.
@@ -152,22 +154,14 @@ fn push_skip(alloc: Global, page: &mut Page, refused: &Refused<'_>) -> Result<()
 }
 
 /// Adds what the notes of a program say where the refused instruction stands.
-fn push_note(page: &mut Page, refused: &Refused<'_>, notes: &[Note]) -> Result<(), AllocError> {
+fn push_note(page: &mut Page, refused: &Refused<'_>) -> Result<(), AllocError> {
     let at = refused.at as usize;
-    match (notes.get(at), refused.program.code.instrs().get(at)) {
+    match (refused.notes.get(at), refused.program.code.instrs().get(at)) {
         (Some(note), Some(instr)) => {
             push_operands(page, note, *instr)?;
             push_why(page, refused.reason, note, *instr)
         }
         _ => Ok(()),
-    }
-}
-
-/// Adds what is known where the refused instruction stands.
-fn push_notes(alloc: Global, page: &mut Page, refused: &Refused<'_>) -> Result<(), AllocError> {
-    match notes_of_refused(alloc, refused.program.code)? {
-        Some(notes) => push_note(page, refused, &notes),
-        None => Ok(()),
     }
 }
 
@@ -187,9 +181,9 @@ pub fn push_refusal(
     if refused.reason == 1 {
         push_skip(alloc, page, refused)?;
     } else {
-        push_notes(alloc, page, refused)?;
+        push_note(page, refused)?;
         push_ways(alloc, page, refused)?;
     }
     let repair = repair_of_reason(refused.reason, refused.program.code.kind());
-    push_both(page, "Repair: ", repair)
+    push_both(page, "Advice: ", repair)
 }

@@ -19,15 +19,15 @@ pub enum Topic {
     Reason,
 }
 
-/// Adds the usual repairs of a reason.
+/// Adds what is advised for a reason.
 fn push_repairs(page: &mut Page, reason: u32) -> Result<(), AllocError> {
     let motion = repair_of_reason(reason, Kind::Motion);
     let change = repair_of_reason(reason, Kind::Change);
     if motion == change {
-        return push_both(page, "Repair: ", motion);
+        return push_both(page, "Advice: ", motion);
     }
-    push_both(page, "Repair of a motion program: ", motion)?;
-    push_both(page, "Repair of a change program: ", change)
+    push_both(page, "Advice for a motion program: ", motion)?;
+    push_both(page, "Advice for a change program: ", change)
 }
 
 /// Adds what is told of a cause behind its number.

@@ -9,6 +9,7 @@ use trlab_advice::line_at;
 use trlab_code::Code;
 use trlab_prose::Page;
 use trlab_texts::word::behind;
+use trlab_verify::notes_of_refused;
 
 /// Where the instructions of the program of a check text stand.
 fn instr_lines_of(alloc: Global, text: &[u8]) -> Result<InstrLines, AllocError> {
@@ -41,6 +42,29 @@ pub fn accepted_page(
     Ok(page)
 }
 
+/// Adds why a program is refused.
+fn push_refused(
+    alloc: Global,
+    page: &mut Page,
+    program: Placed<'_>,
+    at: u32,
+    reason: u32,
+) -> Result<(), AllocError> {
+    match notes_of_refused(alloc, program.code)? {
+        Some(notes) => push_refusal(
+            alloc,
+            page,
+            &Refused {
+                program,
+                at,
+                reason,
+                notes: &notes,
+            },
+        ),
+        None => Ok(()),
+    }
+}
+
 /// What is told of a program that is refused, which its head stands above.
 ///
 /// # Errors
@@ -60,14 +84,6 @@ pub fn refused_words(
         code,
         lines: &lines,
     };
-    push_refusal(
-        alloc,
-        &mut page,
-        &Refused {
-            program,
-            at,
-            reason,
-        },
-    )?;
+    push_refused(alloc, &mut page, program, at, reason)?;
     Ok(page)
 }

@@ -30,7 +30,7 @@ pub enum WriteFault {
 }
 
 /// The run of a job from step 0 on.
-fn run_of(alloc: Global, job: Job) -> Run
+pub fn run_of(alloc: Global, job: Job) -> Run
     ensures { result ≡ at_start (seed_of job) (sheet_of job) }
 {
     let Job {

@@ -11,7 +11,6 @@ use trlab_step::Onlooker;
 /// The text of a step; its memory is used again for each.
 #[derive(Drop)]
 pub struct StepText {
-    alloc: Global,
     pub step: u32,
     pub bytes: Vec<u8>,
     /// Whether the bytes are the whole text.
@@ -22,7 +21,6 @@ impl StepText {
     /// The text of no step yet.
     pub fn new(alloc: Global) -> StepText {
         StepText {
-            alloc,
             step: 0,
             bytes: Vec::new(alloc),
             made: Ok(()),
@@ -35,6 +33,6 @@ impl Onlooker for StepText {
 
     fn see(&mut self, road: &Road) {
         self.bytes.clear();
-        self.made = push_step(self.alloc, &mut self.bytes, self.step, road);
+        self.made = push_step(&mut self.bytes, self.step, road);
     }
 }

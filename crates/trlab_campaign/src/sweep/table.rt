@@ -6,12 +6,10 @@ ghost use Rattle.trlab_campaign.specs.SweepOutput.{SweepOutput};
 
 use crate::sweep::runners::points_by_runners;
 use std::alloc::{AllocError, Global};
-use std::marker::Brand;
 use std::sync::Wait;
 use std::thread::Threads;
 use trlab_diagram::points_text;
 use trlab_jobs::Sweep;
-use trlab_strands::Blank;
 
 /// The table of the points of a sweep, which is made once all of them are there.
 ///
@@ -29,14 +27,7 @@ pub fn table<R: Threads + Wait + Sync>(
     requires workers { (0 < workers) × (workers ≤ MOST_WORKERS) }
     ensures { IfOk result (λ text. SweepOutput sweep.now false text.items) }
 {
-    let points = points_by_runners::<Brand, R>(
-        rt,
-        alloc,
-        Blank::new(alloc)?,
-        sweep,
-        runners,
-        workers,
-    )?;
+    let points = points_by_runners(rt, alloc, sweep, runners, workers)?;
     match points_text(alloc, &points) {
         Ok(text) => Ok(text),
         Err(_) => Err(AllocError),

@@ -27,11 +27,16 @@ fn at_random(alloc: Global) -> Option<Rule> {
     rickert(alloc, Chance::new(CERTAIN / 4)?, Chance::new(CERTAIN / 2)?).ok()
 }
 
-/// 60 cars that stand, evenly spread over two lanes, and go by that rule.
-pub fn spread(alloc: Global) -> Option<Traffic> {
+/// So many cars that stand, evenly spread over two lanes of so many cells, and go by that rule.
+pub fn spread_over(alloc: Global, cells: u32, cars: u32) -> Option<Traffic> {
     let rule = at_random(alloc)?;
-    let road = Road::even(alloc, 2, 100, 5, 60).ok()?;
+    let road = Road::even(alloc, 2, cells, 5, cars).ok()?;
     Some(Traffic { road, rule })
+}
+
+/// 60 such cars on 100 cells.
+pub fn spread(alloc: Global) -> Option<Traffic> {
+    spread_over(alloc, 100, 60)
 }
 
 /// What a list is that came with a road, if that is still this one.
@@ -94,7 +99,7 @@ fn are_bytes_of(bytes: &[u8], speeds: &[u32]) -> bool {
 }
 
 /// Whether these are the speeds that one thread tells in that step.
-fn are_speeds_by_one(alloc: Global, traffic: &Traffic, step: u32, told: &[u8]) -> bool {
+pub fn are_speeds_by_one(alloc: Global, traffic: &Traffic, step: u32, told: &[u8]) -> bool {
     let Traffic { road, rule } = traffic;
     match move_part(
         alloc,

@@ -9,8 +9,8 @@ use Rattle.trlab_campaign.proofs.output.push_step.Goals as goal
 pub loop-lane-init : goal.loop-lane-init
 loop-lane-init c =
     let line = codes "step " ++ (decimal c.args.step ++ (10 ∷ [])) in
-    line_then (codes "step ") (decimal c.args.step) line c.args.out.now.items c.push_text.new.out.items
-    (flat_map (λ lane. picture_line (picture lane)) c.args.road.now.lanes) refl (c.in_ok-push_text.ensures line c.format-line.ensures.ok)
+    line_then (codes "step ") (decimal c.args.step) line c.args.out.now.items c.push_step_line.new.out.items
+    (flat_map (λ lane. picture_line (picture lane)) c.args.road.now.lanes) refl c.in_ok-push_step_line.ensures
 
 pub loop-lane-preserved : goal.loop-lane-preserved
 loop-lane-preserved c =

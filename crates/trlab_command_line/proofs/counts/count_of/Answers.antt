@@ -1,21 +1,10 @@
-use Rattle.std.proofs.Common.{◌∙◌}
-use Rattle.std.specs.Str.Parse.{ParsesUnsigned, ExplainsUnsignedError, HasUnsignedDigitsIfOk}
-use Rattle.clap.specs.Words.{found_of, rows_of}
-use Rattle.clap.proofs.WalkLemmas.{one_text-rows}
-use Rattle.trlab_command_line.proofs.Matches.{some_number, the_number}
+use Rattle.std.proofs.Common.{arith}
 use Rattle.trlab_command_line.proofs.counts.count_of.Goals as goal
+
+pub number_of-requires : goal.number_of-requires
+number_of-requires c = (1, 16, c.requires.0, omega arith, c.requires.1)
 
 pub returns : goal.returns
 returns c =
-    let found = found_of c.args.matches.now in
-    let option = c.args.option.now in
-    let number = the_number _ (λ bs r. ParsesUnsigned 32 10 bs r × ExplainsUnsignedError 10 bs r × HasUnsignedDigitsIfOk bs r) (λ u x g. g.0) option (rows_of found) c.requires c.get_one.result
-    (λ t is. c.get_one.ensures.value t (one_text-rows found option ∙ is)) c.in-Some.number c.in-Some.is in
-    record { number = number.0; some = number.1.0; few = number.1.1 }
-
-pub unreachable-requires : goal.unreachable-requires
-unreachable-requires c =
-    let found = found_of c.args.matches.now in
-    let option = c.args.option.now in
-    some_number _ (λ bs r. ParsesUnsigned 32 10 bs r × ExplainsUnsignedError 10 bs r × HasUnsignedDigitsIfOk bs r) (λ u x g. g.0) option (rows_of found) c.requires c.get_one.result
-    (λ t is. c.get_one.ensures.value t (one_text-rows found option ∙ is)) c.in-None.is
+    let within = c.number_of.ensures.within 1 16 c.requires.0 (omega arith) c.requires.1 in
+    record { number = c.number_of.ensures.number; some = within.0; few = within.1 }

@@ -8,9 +8,3 @@ invariant-loop-block l = record {
   answers : AnswersCrossingsPart l.change l.dice l.road l.from (min l.to (l.from + BLOCK * l.block)) l.crosses.items;
   free : CrossesFreePart l.road l.from l.crosses.items;
 }
-
-abbrev pub invariant-loop-k : goal.invariant-loop-k
-invariant-loop-k l = record {
-  answers : AnswersCrossingsPart l.change l.dice l.road l.from l.k l.crosses.items;
-  free : CrossesFreePart l.road l.from l.crosses.items;
-}

@@ -1,30 +1,34 @@
-use Rattle.std.proofs.Common.{ℕ, ◌≤◌, ◌+◌, ◌*◌, ◌-◌, ◌∙◌, arith, slice_index, subst}
+use Rattle.std.proofs.Common.{◌≡◌, ◌≤◌, ◌+◌, ◌*◌, ◌-◌, ◌∙◌, ap, arith, length, length-take-le, rules, subst, take}
 use Rattle.std.proofs.lemmas.Result.{err_from_is_err_and}
-use Rattle.trlab_bounds.specs.declared.roads.TheConstants.{GREATEST_LIMIT}
-use Rattle.trlab_machine.specs.Blocks.{view_of}
+use Rattle.trlab_machine.specs.declared.columns.TheConstants.{LANES}
 use Rattle.trlab_step.specs.declared.block.TheConstants.{BLOCK}
 use Rattle.trlab_step.specs.Answers.{AnswersSpeed, AnswersSpeedsPart}
-use Rattle.trlab_step.proofs.AskedCars.{GoesBy, goes_by}
-use Rattle.trlab_step.proofs.Blocks.{begin_is, begin_low, car_at, car_low, car_near, end_after, end_low, end_near, first_begin, fits_none, last_end, next_begin, part_none}
-use Rattle.trlab_step.proofs.PartLaws.{one_more}
-use Rattle.trlab_step.proofs.Parts.{more_fits}
+use Rattle.trlab_step.proofs.BlockAnswers.{block_goes, more_fit, more_speeds}
+use Rattle.trlab_step.proofs.Blocks.{begin_is, begin_low, end_after, end_low, end_near, first_begin, fits_none, last_end, next_begin, part_none, size_is}
 use Rattle.trlab_step.proofs.speeds.ask_speeds.Goals as goal
 
-pub loop-k-preserved : goal.loop-k-preserved
-loop-k-preserved c =
+pub loop-block-preserved : goal.loop-block-preserved
+loop-block-preserved c =
+    let program = c.args.motion.now in
+    let dice = c.args.dice.now in
+    let road = c.args.road.now in
+    let before = c.loop-block.speeds.items in
     let begin = c.args.from + BLOCK * c.loop-block.block in
-    let j = c.loop-k.k - begin in
-    let at = car_at c.args.from c.args.to c.loop-block.block c.requires.rising c.loop-block-test.true c.min.result c.min.ensures c.loop-k.k c.loop-k.auto.k in
-    let views = c.ask_motions.new.views in
-    let near = car_near c.args.from c.args.to c.loop-block.block c.requires.rising c.loop-block-test.true c.min.result c.min.ensures c.loop-k.k c.loop-k.auto.k c.loop-k-test.true in
-    let low = car_low c.args.from c.args.to c.loop-block.block c.requires.rising c.loop-block-test.true c.min.result c.min.ensures c.loop-k.k c.loop-k.auto.k c.loop-k-test.true in
-    let answer = slice_index c.run_motions-answers.result j in
-    let asked = c.ask_motions.ensures.each j low in
-    let answered = goes_by c.args.motion.now c.args.dice.now c.args.road.now _ (view_of views j) (slice_index views.number j) _ asked (c.run_motions-answers.ensures j near (rw c.ask_motions.ensures.cars low)) in
-    let there = subst (λ k. GoesBy c.args.motion.now c.args.dice.now c.args.road.now k answer) at answered in
-    rw c.in_ok-push.ensures.items (record {
-      answers = one_more 0 (AnswersSpeed c.args.motion.now c.args.dice.now c.args.road.now) c.args.road.now c.args.from c.loop-k.k c.loop-k.speeds.items answer c.loop-k.invariant.answers there.answer;
-      fits = more_fits c.args.road.now c.args.from c.loop-k.k c.loop-k.speeds.items answer c.loop-k.invariant.answers.one_each c.loop-k.invariant.fits there.gap there.limit;
+    let size = begin + c.min.result - begin in
+    let is = size_is c.args.from c.args.to c.loop-block.block c.requires.rising c.loop-block-test.true c.min.result c.min.ensures in
+    let near = end_near c.args.from c.args.to c.loop-block.block c.requires.rising c.loop-block-test.true c.min.result c.min.ensures in
+    let few : size ≤ LANES = omega (arith, is, near) in
+    let block = take size c.low_bytes-answers.result in
+    let whole : length c.low_bytes-answers.result ≡ LANES = search rules in
+    let count : length block ≡ c.min.result = length-take-le size c.low_bytes-answers.result (omega (arith, whole, few)) ∙ is in
+    let end = ap (λ n. begin + n) count ∙ next_begin c.args.from c.args.to c.loop-block.block c.requires.rising c.loop-block-test.true c.min.result c.min.ensures in
+    let goes = block_goes size few program dice road begin c.ask_motions.new.views c.ask_motions.ensures.cars c.run_motions.result c.low_bytes-answers.result c.ask_motions.ensures.each c.run_motions.ensures
+    c.low_bytes-answers.ensures in
+    let start = begin_is c.args.from c.args.to c.loop-block.block c.requires.rising c.loop-block-test.true in
+    let here = subst (λ m. AnswersSpeedsPart program dice road c.args.from m before) start c.loop-block.invariant.answers in
+    rw c.in_ok-extend_from_slice.ensures.items (record {
+      answers = more_speeds program dice road c.args.from begin _ before block end goes here;
+      fits = more_fit program dice road c.args.from begin _ before block end goes here c.loop-block.invariant.fits;
     })
 
 pub overflow_sub-to : goal.overflow_sub-to
@@ -36,14 +40,14 @@ overflow_sub-block-end c = c.requires.rising
 pub returns-in_err-reserve-clause-speeds : goal.returns-in_err-reserve-clause-speeds
 returns-in_err-reserve-clause-speeds c = let p = err_from_is_err_and c.from_residual.result c.from_residual.ensures.1 in rw p.1 tt
 
-pub returns-in_err-push-clause-speeds : goal.returns-in_err-push-clause-speeds
-returns-in_err-push-clause-speeds c = let p = err_from_is_err_and c.from_residual-in_err-push.result c.from_residual-in_err-push.ensures.1 in rw p.1 tt
+pub returns-in_err-extend_from_slice-clause-speeds : goal.returns-in_err-extend_from_slice-clause-speeds
+returns-in_err-extend_from_slice-clause-speeds c = let p = err_from_is_err_and c.from_residual-in_err-extend_from_slice.result c.from_residual-in_err-extend_from_slice.ensures.1 in rw p.1 tt
 
 pub returns-in_err-reserve-clause-fits : goal.returns-in_err-reserve-clause-fits
 returns-in_err-reserve-clause-fits c = let p = err_from_is_err_and c.from_residual.result c.from_residual.ensures.1 in rw p.1 tt
 
-pub returns-in_err-push-clause-fits : goal.returns-in_err-push-clause-fits
-returns-in_err-push-clause-fits c = let p = err_from_is_err_and c.from_residual-in_err-push.result c.from_residual-in_err-push.ensures.1 in rw p.1 tt
+pub returns-in_err-extend_from_slice-clause-fits : goal.returns-in_err-extend_from_slice-clause-fits
+returns-in_err-extend_from_slice-clause-fits c = let p = err_from_is_err_and c.from_residual-in_err-extend_from_slice.result c.from_residual-in_err-extend_from_slice.ensures.1 in rw p.1 tt
 
 pub loop-block-init : goal.loop-block-init
 loop-block-init c =
@@ -71,24 +75,8 @@ ask_motions-requires-clause-few c = end_near c.args.from c.args.to c.loop-block.
 pub ask_motions-requires-clause-within : goal.ask_motions-requires-clause-within
 ask_motions-requires-clause-within c = let low = end_low c.args.from c.args.to c.loop-block.block c.requires.rising c.loop-block-test.true c.min.result c.min.ensures in let within = c.requires.within in omega (arith, low, within)
 
-pub run_motions-answers-requires : goal.run_motions-answers-requires
-run_motions-answers-requires c = λ k near low. (c.ask_motions.ensures.each k (rw c.ask_motions.ensures.cars at low)).is_view
-
-pub loop-k-init : goal.loop-k-init
-loop-k-init c =
-    let begin = begin_is c.args.from c.args.to c.loop-block.block c.requires.rising c.loop-block-test.true in
-    record { answers = subst (λ m. AnswersSpeedsPart c.args.motion.now c.args.dice.now c.args.road.now c.args.from m c.loop-block.speeds.items) begin c.loop-block.invariant.answers; fits = c.loop-block.invariant.fits }
-
-pub overflow_sub-k : goal.overflow_sub-k
-overflow_sub-k c = c.loop-k.auto.k
-
-pub bounds-answers-k : goal.bounds-answers-k
-bounds-answers-k c = car_near c.args.from c.args.to c.loop-block.block c.requires.rising c.loop-block-test.true c.min.result c.min.ensures c.loop-k.k c.loop-k.auto.k c.loop-k-test.true
-
-pub loop-block-preserved : goal.loop-block-preserved
-loop-block-preserved c =
-    let end = next_begin c.args.from c.args.to c.loop-block.block c.requires.rising c.loop-block-test.true c.min.result c.min.ensures c.loop-k.k c.loop-k-test.false (c.loop-k.auto.k-end (end_after c.args.from c.args.to c.loop-block.block c.requires.rising c.loop-block-test.true c.min.result c.min.ensures)) in
-    record { answers = subst (λ m. AnswersSpeedsPart c.args.motion.now c.args.dice.now c.args.road.now c.args.from m c.loop-k.speeds.items) end c.loop-k.invariant.answers; fits = c.loop-k.invariant.fits }
+pub run_motions-requires : goal.run_motions-requires
+run_motions-requires c = λ k near low. (c.ask_motions.ensures.each k (rw c.ask_motions.ensures.cars at low)).is_view
 
 pub returns-clause-speeds : goal.returns-clause-speeds
 returns-clause-speeds c =
@@ -97,15 +85,3 @@ returns-clause-speeds c =
 
 pub returns-clause-fits : goal.returns-clause-fits
 returns-clause-fits c = c.loop-block.invariant.fits
-
--- a speed within the limit that a view shows
-low_speed : (speed limit : ℕ) → speed ≤ limit → limit ≤ GREATEST_LIMIT → speed ≤ GREATEST_LIMIT
-low_speed speed limit within low = omega (arith, within, low)
-
-pub overflow_cast-answers : goal.overflow_cast-answers
-overflow_cast-answers c =
-    let near = car_near c.args.from c.args.to c.loop-block.block c.requires.rising c.loop-block-test.true c.min.result c.min.ensures c.loop-k.k c.loop-k.auto.k c.loop-k-test.true in
-    let low = car_low c.args.from c.args.to c.loop-block.block c.requires.rising c.loop-block-test.true c.min.result c.min.ensures c.loop-k.k c.loop-k.auto.k c.loop-k-test.true in
-    let view = (c.ask_motions.ensures.each _ low).is_view in
-    let speed = low_speed _ _ (c.run_motions-answers.ensures _ near (rw c.ask_motions.ensures.cars low)).allowed.limit view.limit in
-    omega (arith, speed)

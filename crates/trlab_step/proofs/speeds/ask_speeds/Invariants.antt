@@ -8,9 +8,3 @@ invariant-loop-block l = record {
   answers : AnswersSpeedsPart l.motion l.dice l.road l.from (min l.to (l.from + BLOCK * l.block)) l.speeds.items;
   fits : FitsPart l.road l.from l.speeds.items;
 }
-
-abbrev pub invariant-loop-k : goal.invariant-loop-k
-invariant-loop-k l = record {
-  answers : AnswersSpeedsPart l.motion l.dice l.road l.from l.k l.speeds.items;
-  fits : FitsPart l.road l.from l.speeds.items;
-}

@@ -8,12 +8,12 @@ invariant_of-self-2 g c =
     let kept = c.args.self.now.kept in
     let call = Cancel c.args.job in
     let told = done_reply c.cancel-answer.result in
-    record { noted = (c.note_event.ensures call (next_event kept c.cancel-answer.new.self call told c.reply_to_done.result _ c.cancel-answer.ensures.made c.reply_to_done.ensures c.args.self.now.noted)).0 }
+    record { noted = (c.note_event.ensures call (next_event kept c.cancel-answer.new.self call told c.reply_to_done-reply.result _ c.cancel-answer.ensures.made c.reply_to_done-reply.ensures c.args.self.now.noted)).0 }
 
 pub returns : goal.returns
 returns g c =
     let kept = c.args.self.now.kept in
     let call = Cancel c.args.job in
     let told = done_reply c.cancel-answer.result in
-    is_made (λ book. Unit {0}) kept c.cancel-answer.new.self call told c.reply_to_done.result _ c.args.desk.now c.note_event.new.desk c.cancel-answer.ensures.made c.reply_to_done.ensures c.args.self.now.noted (λ is. tt)
-    (c.note_event.ensures call (next_event kept c.cancel-answer.new.self call told c.reply_to_done.result _ c.cancel-answer.ensures.made c.reply_to_done.ensures c.args.self.now.noted)).1
+    is_made (λ book. Unit {0}) kept c.cancel-answer.new.self call told c.reply_to_done-reply.result _ c.args.desk.now c.note_event.new.desk c.cancel-answer.ensures.made c.reply_to_done-reply.ensures c.args.self.now.noted (λ is. tt)
+    (c.note_event.ensures call (next_event kept c.cancel-answer.new.self call told c.reply_to_done-reply.result _ c.cancel-answer.ensures.made c.reply_to_done-reply.ensures c.args.self.now.noted)).1

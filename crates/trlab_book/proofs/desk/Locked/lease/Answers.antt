@@ -9,12 +9,12 @@ invariant_of-self-2 g c =
     let kept = c.args.self.now.kept in
     let call = LeaseCall in
     let told = lease_reply c.lease-answer.result in
-    record { noted = (c.note_event.ensures call (next_event kept c.lease-answer.new.self call told c.reply_to_lease.result _ c.lease-answer.ensures.made c.reply_to_lease.ensures c.args.self.now.noted)).0 }
+    record { noted = (c.note_event.ensures call (next_event kept c.lease-answer.new.self call told c.reply_to_lease-reply.result _ c.lease-answer.ensures.made c.reply_to_lease-reply.ensures c.args.self.now.noted)).0 }
 
 pub returns : goal.returns
 returns g c =
     let kept = c.args.self.now.kept in
     let call = LeaseCall in
     let told = lease_reply c.lease-answer.result in
-    is_made (IsOfLease c.lease-answer.result) kept c.lease-answer.new.self call told c.reply_to_lease.result _ c.args.desk.now c.note_event.new.desk c.lease-answer.ensures.made c.reply_to_lease.ensures c.args.self.now.noted (λ is. c.lease-answer.ensures.lent)
-    (c.note_event.ensures call (next_event kept c.lease-answer.new.self call told c.reply_to_lease.result _ c.lease-answer.ensures.made c.reply_to_lease.ensures c.args.self.now.noted)).1
+    is_made (IsOfLease c.lease-answer.result) kept c.lease-answer.new.self call told c.reply_to_lease-reply.result _ c.args.desk.now c.note_event.new.desk c.lease-answer.ensures.made c.reply_to_lease-reply.ensures c.args.self.now.noted (λ is. c.lease-answer.ensures.lent)
+    (c.note_event.ensures call (next_event kept c.lease-answer.new.self call told c.reply_to_lease-reply.result _ c.lease-answer.ensures.made c.reply_to_lease-reply.ensures c.args.self.now.noted)).1

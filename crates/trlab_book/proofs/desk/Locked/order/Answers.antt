@@ -11,7 +11,7 @@ invariant_of-self-2 g c =
     let same = c.order-answer.ensures.noted.0 in
     let call = OrderCall (offered c.args.lease.now same) in
     let told = order_reply c.order-answer.result in
-    record { noted = (c.note_event.ensures call (next_event kept c.order-answer.new.self call told c.reply_to_order.result _ c.order-answer.ensures.noted.2 c.reply_to_order.ensures c.args.self.now.noted)).0 }
+    record { noted = (c.note_event.ensures call (next_event kept c.order-answer.new.self call told c.reply_to_order-reply.result _ c.order-answer.ensures.noted.2 c.reply_to_order-reply.ensures c.args.self.now.noted)).0 }
 
 pub returns : goal.returns
 returns g c =
@@ -20,6 +20,6 @@ returns g c =
     let call = OrderCall (offered c.args.lease.now same) in
     let told = order_reply c.order-answer.result in (
       same,
-      is_made (IsOfOrder c.args.lease.now same c.order-answer.result) kept c.order-answer.new.self call told c.reply_to_order.result _ c.args.desk.now c.note_event.new.desk c.order-answer.ensures.noted.2 c.reply_to_order.ensures c.args.self.now.noted (λ is. (OnTrue_at is c.order-answer.ensures.noted.1, c.order-answer.ensures.rule))
-          (c.note_event.ensures call (next_event kept c.order-answer.new.self call told c.reply_to_order.result _ c.order-answer.ensures.noted.2 c.reply_to_order.ensures c.args.self.now.noted)).1,
+      is_made (IsOfOrder c.args.lease.now same c.order-answer.result) kept c.order-answer.new.self call told c.reply_to_order-reply.result _ c.args.desk.now c.note_event.new.desk c.order-answer.ensures.noted.2 c.reply_to_order-reply.ensures c.args.self.now.noted (λ is. (OnTrue_at is c.order-answer.ensures.noted.1, c.order-answer.ensures.rule))
+          (c.note_event.ensures call (next_event kept c.order-answer.new.self call told c.reply_to_order-reply.result _ c.order-answer.ensures.noted.2 c.reply_to_order-reply.ensures c.args.self.now.noted)).1,
     )

@@ -9,12 +9,12 @@ invariant_of-self-2 g c =
     let kept = c.args.self.now.kept in
     let call = Read c.args.job in
     let told = seen_reply c.read-answer.result in
-    record { noted = (c.note_event.ensures call (next_event kept c.read-answer.new.self call told c.reply_to_read.result _ c.read-answer.ensures.made c.reply_to_read.ensures c.args.self.now.noted)).0 }
+    record { noted = (c.note_event.ensures call (next_event kept c.read-answer.new.self call told c.reply_to_read-reply.result _ c.read-answer.ensures.made c.reply_to_read-reply.ensures c.args.self.now.noted)).0 }
 
 pub returns : goal.returns
 returns g c =
     let kept = c.args.self.now.kept in
     let call = Read c.args.job in
     let told = seen_reply c.read-answer.result in
-    is_made (IsOfRead c.args.job c.read-answer.result) kept c.read-answer.new.self call told c.reply_to_read.result _ c.args.desk.now c.note_event.new.desk c.read-answer.ensures.made c.reply_to_read.ensures c.args.self.now.noted (λ is. c.read-answer.ensures.seen)
-    (c.note_event.ensures call (next_event kept c.read-answer.new.self call told c.reply_to_read.result _ c.read-answer.ensures.made c.reply_to_read.ensures c.args.self.now.noted)).1
+    is_made (IsOfRead c.args.job c.read-answer.result) kept c.read-answer.new.self call told c.reply_to_read-reply.result _ c.args.desk.now c.note_event.new.desk c.read-answer.ensures.made c.reply_to_read-reply.ensures c.args.self.now.noted (λ is. c.read-answer.ensures.seen)
+    (c.note_event.ensures call (next_event kept c.read-answer.new.self call told c.reply_to_read-reply.result _ c.read-answer.ensures.made c.reply_to_read-reply.ensures c.args.self.now.noted)).1

@@ -1,5 +1,6 @@
-use Rattle.std.proofs.Common.{sym, ◌∙◌}
+use Rattle.std.proofs.Common.{ap, sym, ◌∙◌}
 use Rattle.std.proofs.lemmas.Bool.{false≢true}
+use Rattle.trlab_leases.specs.declared.seed.Seed.{Seed}
 use Rattle.trlab_leases.specs.Machine.{job_state}
 use Rattle.trlab_leases.proofs.Booking.{runs_not, runs_where}
 use Rattle.trlab_leases.proofs.job.Job.runs.Goals as goal
@@ -19,5 +20,6 @@ returns c =
     let state = job_state j.seed j.sheet j.steps j.high j.done j.cancelled j.out in
     let rules = rw (c.base_step.ensures, c.applied.ensures.value) at c.are_in_force.ensures in
     runs_where state c.args.self.now c.args.lease.now _ _ c.are_in_force.result c.self.view_is c.reached.ensures
-    (sym c.key.ensures ∙ c.same_key.ensures.0 c.if-not-same_key.false) (sym c.road_number.ensures ∙ c.if-road_number-self.false)
+    (sym c.key.ensures ∙ c.same_key.ensures.0 c.if-not-same_key.false ∙ ap (λ (s : Seed). s.key) c.get-seed.ensures)
+    (sym c.road_number.ensures ∙ c.if-road_number-seed.false ∙ ap (λ (s : Seed). s.number) c.get-seed.ensures)
     (sym c.base_road.ensures ∙ c.equals.ensures.0 c.if-not-equals.false) rules

@@ -3,9 +3,10 @@ use Rattle.std.proofs.lemmas.Bool.{le-leb, lt-leb}
 use Rattle.std.specs.Prelude.{nat_le, if◌then◌else◌}
 use Rattle.trlab_step.specs.Run.{tally_sum}
 use Rattle.trlab_leases.specs.Jobs.{start_of}
+use Rattle.trlab_leases.specs.declared.seed.Seed.{Seed}
 use Rattle.trlab_leases.specs.Machine.{JobState, job_state}
 use Rattle.trlab_leases.proofs.LeaseRuns.{go_on_at, way_begins}
-use Rattle.trlab_leases.proofs.job.Job.tally_with.Goals.{then-self-step, else-self-step}
+use Rattle.trlab_leases.proofs.job.Job.tally_with.Goals.{then-seed-step, else-seed-step}
 use Rattle.trlab_leases.proofs.job.Job.tally_with.Goals as goal
 
 pub loop-ran-init : goal.loop-ran-init
@@ -46,8 +47,9 @@ loop-ran-preserved c =
     let on = go_on_at (start_of c.args.self.now.seed) c.args.self.now.sheet c.loop-ran.step c.loop-ran.sum c.args.lease.now.applied c.loop-ran.ran-index c.ran-item.result c.args.lease.now.road below (rw c.applied-ran-items.ensures.value at c.ran-item.is) c.loop-ran.invariant.1 in
     let at = c.loop-ran.invariant.0 in
     let warm = ap (λ (s : JobState). s.seed.warm) c.self.view_is in
-    let counted : c.if-self-step.sum ≡ (if nat_le c.args.self.now.seed.warm c.loop-ran.step then tally_sum c.loop-ran.sum c.ran-item.result.tally else c.loop-ran.sum) = elim c.if-self-step.branch [
-      | then-self-step w ↦ rw (← warm, le-leb c.self.inside.seed.warm c.loop-ran.step w.if-self-step.true) (w.sum-is ∙ w.tally_sum-sum.ensures)
-      | else-self-step w ↦ rw (← warm, lt-leb c.self.inside.seed.warm c.loop-ran.step w.if-self-step.false) w.sum-is
+    let seen = ap (λ (s : Seed). s.warm) c.get-seed.ensures in
+    let counted : c.if-seed-step.sum ≡ (if nat_le c.args.self.now.seed.warm c.loop-ran.step then tally_sum c.loop-ran.sum c.ran-item.result.tally else c.loop-ran.sum) = elim c.if-seed-step.branch [
+      | then-seed-step w ↦ rw (← warm, le-leb c.self.inside.seed.warm c.loop-ran.step (let by = w.if-seed-step.true in omega arith)) (w.sum-is ∙ w.tally_sum-sum.ensures)
+      | else-seed-step w ↦ rw (← warm, lt-leb c.self.inside.seed.warm c.loop-ran.step (let by = w.if-seed-step.false in omega arith)) w.sum-is
     ] in
     (omega arith, rw counted on.way)

@@ -62,7 +62,7 @@ pub invariant_of-self-2 : goal.invariant_of-self-2
 invariant_of-self-2 g c = (
   lease_grows _ c.in_ok-shared.shared c.in_ok-tally.tally c.take_step.new.road _ _ c.new-dice.ensures.key c.new-dice.ensures.road c.new-dice.ensures.step (rw (c.in_ok-shared.ensures, ← c.get-rule.ensures) c.in_ok-tally.ensures.next)
       (grown _ _ _ _ c.push_reserved.ensures.items c.reserve.ensures.items) c.self.invariant.0,
-  λ is. rw (c.push_reserved.ensures.items, c.in_ok-shared.ensures, ← c.get-rule.ensures, ← c.deref.ensures.value) (c.stays_steady-is_steady.ensures is c.in_ok-tally.tally),
+  λ is. rw (c.push_reserved.ensures.items, c.in_ok-shared.ensures, ← c.deref.ensures.value) (c.stays_steady-is_steady.ensures is c.in_ok-tally.tally),
 )
 
 pub returns-clause-ok : goal.returns-clause-ok

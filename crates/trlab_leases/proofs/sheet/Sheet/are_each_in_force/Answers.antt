@@ -1,4 +1,4 @@
-use Rattle.std.proofs.Common.{◌≡◌, ◌∙◌, ap, arith, refl, subst, sym}
+use Rattle.std.proofs.Common.{◌≡◌, ◌∙◌, ap, arith, refl, subst}
 use Rattle.trlab_step.specs.Run.{in_force}
 use Rattle.std.specs.Prelude.{Some}
 use Rattle.trlab_leases.proofs.InForce.{all_in_force, one_more_in_force}
@@ -7,7 +7,7 @@ use Rattle.trlab_leases.proofs.sheet.Sheet.are_each_in_force.Goals as goal
 pub loop-ran-preserved : goal.loop-ran-preserved
 loop-ran-preserved c =
     let at = c.loop-ran.invariant.0 in
-    let here = c.entry_in_force-entry.ensures.rule ∙ ap Some (sym c.get.ensures ∙ c.equals.ensures.0 c.if-not-equals.false ∙ c.get-in-loop-ran.ensures) in (
+    let here = c.entry_in_force-entry.ensures.rule ∙ ap Some (c.equals.ensures.0 c.if-not-equals.false) in (
       omega arith,
       one_more_in_force c.args.self.now c.args.first c.args.applied.now c.loop-ran.ran-index c.ran-item.result c.loop-ran.invariant.1 c.loop-ran-test.true c.ran-item.is
           (subst (λ s. in_force c.args.self.now s ≡ Some c.ran-item.result.rule) at here),

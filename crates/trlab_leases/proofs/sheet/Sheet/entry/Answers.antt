@@ -1,11 +1,9 @@
-use Rattle.std.proofs.Common.{◌<◌, ap, length, sym, ◌∙◌}
-use Rattle.std.specs.Prelude.{Some}
+use Rattle.std.proofs.Common.{ℕ, ap, sym, ◌∙◌}
+use Rattle.std.specs.Prelude.{Option, Some}
 use Rattle.trlab_rules.specs.Rules.{Programs}
-use Rattle.std.proofs.lemmas.Option.{slice_get-get_or}
 use Rattle.trlab_leases.proofs.sheet.Sheet.entry.Goals as goal
 
 pub returns : goal.returns
 returns c =
-    let here : c.args.index < length c.self.inside.entries.items = rw c.self.view_is c.requires in
-    rw (← c.self.view_is) (slice_get-get_or c.self.inside.entries.items c.args.index c.index-entry.result.now here ∙ sym (ap Some c.index-entry.ensures)
-    ∙ ap (λ (rule : Programs). Some (c.index-entry.result.now.0, rule)) (sym c.get.ensures))
+    let kept : ℕ → Programs → Option (ℕ × Programs) = λ from rule. Some (from, rule) in
+    c.kept_entry-from.ensures ∙ ap (kept c.kept_entry-from.result.0) (sym c.get.ensures)

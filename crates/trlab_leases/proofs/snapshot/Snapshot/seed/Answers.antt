@@ -3,7 +3,7 @@ use Rattle.trlab_run.specs.Progress.{Progress}
 use Rattle.trlab_leases.proofs.snapshot.Snapshot.seed.Goals as goal
 
 pub returns-clause-value : goal.returns-clause-value
-returns-clause-value c = ap (λ (seen : Progress). seen.seed) c.self.view_is
+returns-clause-value c = rw c.get.ensures (ap (λ (seen : Progress). seen.seed) c.self.view_is)
 
 pub returns-clause-legal : goal.returns-clause-legal
-returns-clause-legal c = c.self.invariant.legal
+returns-clause-legal c = rw c.get.ensures c.self.invariant.legal

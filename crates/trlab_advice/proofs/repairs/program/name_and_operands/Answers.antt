@@ -1,5 +1,0 @@
-use Rattle.std.proofs.Common.{rules}
-use Rattle.trlab_advice.proofs.repairs.program.name_and_operands.Goals as goal
-
-pub returns : goal.returns
-returns c = search rules

@@ -1,0 +1,22 @@
+//! Where hexadecimal digits stand in a line.
+
+use trlab_texts::word::behind;
+
+/// What may stand before hexadecimal digits.
+const FRONTS: [&[u8]; 3] = [b"key ", b"code ", b"notes code "];
+
+/// The word of a line that has to be hexadecimal digits, and how many bytes of the line stand before it.
+pub fn digits_at(line: &[u8]) -> Option<(usize, &[u8])> {
+    for front in FRONTS {
+        if let Some(word) = behind(front, line) {
+            return Some((front.len(), word));
+        }
+    }
+    None
+}
+
+/// The place of the first character that is no hexadecimal digit, counted from 1.
+pub fn first_no_digit(word: &[u8]) -> Option<usize> {
+    let place = word.iter().position(|byte| !byte.is_ascii_hexdigit())?;
+    Some(place.saturating_add(1))
+}

@@ -1,0 +1,27 @@
+-- Laws of series, whichever code counts them.
+use Rattle.std.specs.Prelude.{◌≡◌, ℕ, ◌+◌, ◌*◌, ◌≤◌, All, List, Ok}
+use Rattle.trlab_diagram.specs.declared.window.Window.{Window}
+use Rattle.trlab_jobs.specs.Job.{Job, JobText}
+use Rattle.trlab_campaign.specs.Laws.{HasOneOutput, HasSomeOutput}
+use Rattle.trlab_campaign.specs.SeriesOutput.{IsSeries, IsSeriesOutput}
+
+-- what stands on the lanes of a window is together all cars in each of its steps, all cells that they went, and all
+-- that were stopped
+pub record LanesAddUp (window : Window) : Type 0 where
+  pub cars : window.first.cars + window.second.cars ≡ window.point.steps * window.point.cars
+  pub distance : window.first.distance + window.second.distance ≡ window.point.distance
+  pub stopped : window.first.stopped + window.second.stopped ≡ window.point.stopped
+
+-- so it is in each window of the series of a job text
+abbrev pub LanesOfSeriesAddUp : Type 0
+LanesOfSeriesAddUp =
+    (text : List ℕ) (job : Job) (every from : ℕ) (windows : List Window)
+    → JobText text (Ok job) → IsSeries job every from windows → All LanesAddUp windows
+
+-- with windows of one step or more, each job text has a series, or a refusal
+abbrev pub SeriesHasSomeOutput : Type 0
+SeriesHasSomeOutput = (every from : ℕ) → 1 ≤ every → HasSomeOutput (IsSeriesOutput every from)
+
+-- and only one
+abbrev pub SeriesHasOneOutput : Type 0
+SeriesHasOneOutput = (every from : ℕ) → HasOneOutput (IsSeriesOutput every from)

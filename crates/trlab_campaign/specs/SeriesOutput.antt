@@ -1,0 +1,108 @@
+-- What is written for a job text as a series: the table of the windows of its run.
+use Rattle.std.specs.Prelude.{◌≡◌, ◌↔◌, ℕ, ◌+◌, ◌*◌, ◌<◌, ◌≤◌, ◌&&◌, Bool, false, cond, Some, List, map, length, sum_by, count_by, nat_eq, Result}
+use Rattle.std.specs.List.{range_with_len}
+use Rattle.trlab_diagram.specs.declared.window.LaneCount.{LaneCount}
+use Rattle.trlab_diagram.specs.declared.window.Window.{Window}
+use Rattle.trlab_diagram.specs.Series.{series_text}
+use Rattle.trlab_road.specs.declared.car.Car.{Car}
+use Rattle.trlab_road.specs.Cells.{Cells, cars, lane_of}
+use Rattle.trlab_road.specs.Standing.{standing}
+use Rattle.trlab_rules.specs.Rules.{Programs}
+use Rattle.trlab_step.specs.declared.tally.StepTally.{StepTally}
+use Rattle.trlab_step.specs.Next.{IsNext}
+use Rattle.trlab_step.specs.Run.{Seed, Sheet, IsRoadAt, dice_at, in_force}
+use Rattle.trlab_texts.specs.Reading.{Fault}
+use Rattle.trlab_jobs.specs.Job.{Job, JobText, seed_of, sheet_of}
+use Rattle.trlab_campaign.specs.Refusal.{Outputs, OutputFor}
+
+-- a step of a run, under the rule in force: from one road to the next, with what is counted on the way
+pub record IsStepAt (seed : Seed) (sheet : Sheet) (step : ℕ) (before after : Cells)
+    (tally : StepTally) : Type 0 where
+  pub rule : Programs
+  pub under : in_force sheet step ≡ Some rule
+  pub next : IsNext rule (dice_at seed step) before after tally
+
+-- the roads of a run, one at each step
+abbrev pub AreRoads : Seed → Sheet → (ℕ → Cells) → Type 0
+AreRoads seed sheet roads = (step : ℕ) → IsRoadAt seed sheet step (roads step)
+
+-- the course of a run: its roads, and the tally of each step, which leads from a road to the next
+pub record IsCourse (seed : Seed) (sheet : Sheet) (roads : ℕ → Cells)
+    (tallies : ℕ → StepTally) : Type 0 where
+  pub road_at : AreRoads seed sheet roads
+  pub step_at : (step : ℕ)
+      → IsStepAt seed sheet step (roads step) (roads (step + 1)) (tallies step)
+
+-- does a car stand on this lane?
+abbrev pub is_on : ℕ → Car → Bool
+is_on lane car = nat_eq car.lane lane
+
+-- of the cars on a lane of a road, how many there are, the sum of their speeds, and how many are stopped
+abbrev pub cars_on : ℕ → Cells → ℕ
+cars_on lane road = count_by (is_on lane) (standing road)
+
+abbrev pub speed_on : ℕ → Cells → ℕ
+speed_on lane road = sum_by (λ (car : Car). cond (is_on lane car) car.speed 0) (standing road)
+
+abbrev pub stopped_on : ℕ → Cells → ℕ
+stopped_on lane road = count_by (λ (car : Car). is_on lane car && nat_eq car.speed 0) (standing road)
+
+-- these numbers of a lane, summed over some roads
+abbrev pub lane_count : ℕ → List Cells → LaneCount
+lane_count lane roads = record {
+  cars = sum_by (cars_on lane) roads;
+  distance = sum_by (speed_on lane) roads;
+  stopped = sum_by (stopped_on lane) roads;
+}
+
+-- the tallies of so many steps of a course, from one on
+abbrev pub tallies_from : (ℕ → StepTally) → ℕ → ℕ → List StepTally
+tallies_from tallies first count = map tallies (range_with_len first count)
+
+-- the roads behind these steps
+abbrev pub roads_behind : (ℕ → Cells) → ℕ → ℕ → List Cells
+roads_behind roads first count = map roads (range_with_len (first + 1) count)
+
+-- the window of these steps: what was counted in them, and what stood on each lane behind them
+abbrev pub window_of : (ℕ → Cells) → (ℕ → StepTally) → ℕ → ℕ → Window
+window_of roads tallies first count = record {
+  step = first + count;
+  point = record {
+    cars = cars (roads (first + count));
+    cells = length (roads (first + count)).lanes * length (lane_of (roads (first + count)) 0);
+    steps = count;
+    distance = sum_by (λ (tally : StepTally). tally.distance) (tallies_from tallies first count);
+    stopped = sum_by (λ (tally : StepTally). tally.stopped) (tallies_from tallies first count);
+    changes = sum_by (λ (tally : StepTally). tally.changes) (tallies_from tallies first count);
+  };
+  first = lane_count 0 (roads_behind roads first count);
+  second = lane_count 1 (roads_behind roads first count);
+}
+
+-- window k of a series, whose windows are so many steps each, from a step on
+abbrev pub nth_window : (ℕ → Cells) → (ℕ → StepTally) → ℕ → ℕ → ℕ → Window
+nth_window roads tallies every from k = window_of roads tallies (from + k * every) every
+
+-- the first windows
+abbrev pub first_windows : (ℕ → Cells) → (ℕ → StepTally) → ℕ → ℕ → ℕ → List Window
+first_windows roads tallies every from count =
+    map (nth_window roads tallies every from) (range_with_len 0 count)
+
+-- the series of a job: window k is one of its windows where the run goes to the end of this window
+pub record IsSeries (job : Job) (every from : ℕ) (windows : List Window) : Type 0 where
+  pub roads : ℕ → Cells
+  pub tallies : ℕ → StepTally
+  pub course : IsCourse (seed_of job) (sheet_of job) roads tallies
+  pub count : ℕ
+  pub whole : (k : ℕ) → (k < count) ↔ (from + (k + 1) * every ≤ job.steps)
+  pub told : windows ≡ first_windows roads tallies every from count
+
+-- what is written for a job, which is no refusal
+abbrev pub SeriesOutput : ℕ → ℕ → Job → Outputs
+SeriesOutput every from job refused out =
+    (refused ≡ false) × ((windows : List Window) × (IsSeries job every from windows × (out ≡ series_text windows)))
+
+-- the whole output for a text, and whether it is a refusal
+abbrev pub IsSeriesOutput : ℕ → ℕ → List ℕ → Outputs
+IsSeriesOutput every from text refused out =
+    (says : Result Job Fault) × (JobText text says × OutputFor (SeriesOutput every from) says refused out)

@@ -1,0 +1,214 @@
+//! The lines of a series: that of a window is written once the steps of the window are taken.
+
+ghost use Rattle.std.specs.Prelude.{◌≡◌, ℕ, ◌+◌, ◌*◌, ◌<◌, ◌≤◌, ◌^◌, ◌↔◌, List, flat_map, true, false, IfOk, IsOk, OnOk, OnErr, IfErr};
+ghost use Rattle.std.specs.Io.KnownBytes.{Appends};
+ghost use Rattle.trlab_bounds.specs.declared.runs.TheConstants.{MOST_STEPS};
+ghost use Rattle.trlab_diagram.specs.Series.{series_heading, series_text, window_text};
+ghost use Rattle.trlab_diagram.specs.Table.{line_text};
+ghost use Rattle.trlab_road.specs.Cells.{Cells};
+ghost use Rattle.trlab_step.specs.declared.tally.StepTally.{StepTally};
+ghost use Rattle.trlab_campaign.specs.Counting.{IsStepsOn, SeriesEnds, WroteSeries, WroteSomeSeries};
+ghost use Rattle.trlab_campaign.specs.Device.{AppendsFront};
+ghost use Rattle.trlab_campaign.specs.Ending.{HandsOn};
+ghost use Rattle.trlab_campaign.specs.SeriesOutput.{IsCourse, first_windows, window_of};
+ghost use Rattle.trlab_campaign.specs.declared.end.End.TheVariants.{DeviceFault};
+ghost use Rattle.trlab_campaign.specs.declared.run.pictures.WriteFault.TheVariants.{Device};
+
+use crate::device::{Sink, write_text};
+use crate::end::End;
+use crate::run::pictures::{WriteFault, run_of};
+use crate::series::counting::{skip_steps, take_window};
+use crate::series::windows::Windows;
+use std::alloc::Global;
+use trlab_diagram::{DiagramFault, series_heading, window_text};
+use trlab_jobs::Job;
+use trlab_run::Run;
+use trlab_step::Asker;
+
+/// Takes the steps of a window, and tells its line.
+fn next_line<A: Asker>(
+    asker: &A,
+    alloc: Global,
+    run: &mut Run,
+    every: u32,
+) -> Result<Vec<u8>, DiagramFault>
+    requires ready { A.is_ready asker.now }
+    requires some { 1 ≤ every }
+    requires few { every ≤ MOST_STEPS }
+    requires room { run.old.step + every < 2 ^ 32 }
+    requires counts { run.old.seed.warm ≡ 0 }
+    ensures on { OnOk result (IsStepsOn every run.old run.new) }
+    ensures line { (roads : ℕ → Cells) (tallies : ℕ → StepTally) → IsCourse run.old.seed run.old.sheet roads tallies
+        → IfOk result (λ line. line.items ≡ window_text (window_of roads tallies run.old.step every)) }
+{
+    let window = take_window(asker, alloc, run, every)?;
+    window_text(alloc, &window)
+}
+
+/// Writes a line, where there was memory for it.
+fn write_line<K: Sink>(
+    line: Result<Vec<u8>, DiagramFault>,
+    writer: &mut K,
+) -> Result<(), WriteFault>
+    requires { K.failed writer.old ≡ false }
+    ensures whole { (bytes : List ℕ) → IfOk line (λ line. line.items ≡ bytes)
+        → OnOk result (Appends (K.written writer.old) (K.written writer.new) bytes) }
+    ensures front { (bytes : List ℕ) → IfOk line (λ line. line.items ≡ bytes)
+        → OnErr result (AppendsFront (K.written writer.old) (K.written writer.new) bytes) }
+    ensures works { OnOk result (K.failed writer.new ≡ false) }
+    ensures fails { IfErr result (λ fault. (fault ≡ Device) ↔ (K.failed writer.new ≡ true)) }
+    ensures flushed { K.flushes writer.new ≡ K.flushes writer.old }
+    ensures made { OnOk result (IsOk line) }
+{
+    match line {
+        Ok(line) => match write_text(writer, &line) {
+            Ok(()) => Ok(()),
+            Err(_) => Err(WriteFault::Device),
+        },
+        Err(_) => Err(WriteFault::Memory),
+    }
+}
+
+/// Takes the steps of a window, and writes its line.
+fn write_window<A: Asker, K: Sink>(
+    asker: &A,
+    alloc: Global,
+    run: &mut Run,
+    every: u32,
+    writer: &mut K,
+) -> Result<(), WriteFault>
+    requires ready { A.is_ready asker.now }
+    requires works { K.failed writer.old ≡ false }
+    requires some { 1 ≤ every }
+    requires few { every ≤ MOST_STEPS }
+    requires room { run.old.step + every < 2 ^ 32 }
+    requires counts { run.old.seed.warm ≡ 0 }
+    ensures whole { (roads : ℕ → Cells) (tallies : ℕ → StepTally) → IsCourse run.old.seed run.old.sheet roads tallies
+        → OnOk result (Appends (K.written writer.old) (K.written writer.new)
+        (window_text (window_of roads tallies run.old.step every))) }
+    ensures front { (roads : ℕ → Cells) (tallies : ℕ → StepTally) → IsCourse run.old.seed run.old.sheet roads tallies
+        → OnErr result (AppendsFront (K.written writer.old) (K.written writer.new)
+        (window_text (window_of roads tallies run.old.step every))) }
+    ensures on { OnOk result (IsStepsOn every run.old run.new) }
+    ensures works { OnOk result (K.failed writer.new ≡ false) }
+    ensures fails { IfErr result (λ fault. (fault ≡ Device) ↔ (K.failed writer.new ≡ true)) }
+    ensures flushed { K.flushes writer.new ≡ K.flushes writer.old }
+{
+    let line = next_line(asker, alloc, run, every);
+    write_line(line, writer)
+}
+
+/// Writes the lines of a run's first windows, from its start on.
+fn write_windows<A: Asker, K: Sink>(
+    asker: &A,
+    alloc: Global,
+    run: &mut Run,
+    windows: &Windows,
+    count: u32,
+    writer: &mut K,
+) -> Result<(), WriteFault>
+    requires ready { A.is_ready asker.now }
+    requires works { K.failed writer.old ≡ false }
+    requires start { run.old.step ≡ 0 }
+    requires counts { run.old.seed.warm ≡ 0 }
+    requires room { (k : ℕ) → k < count → windows.now.from + (k + 1) * windows.now.every < 2 ^ 32 }
+    ensures whole { (roads : ℕ → Cells) (tallies : ℕ → StepTally) → IsCourse run.old.seed run.old.sheet roads tallies
+        → OnOk result (Appends (K.written writer.old) (K.written writer.new)
+        (flat_map window_text (first_windows roads tallies windows.now.every windows.now.from count))) }
+    ensures front { (roads : ℕ → Cells) (tallies : ℕ → StepTally) → IsCourse run.old.seed run.old.sheet roads tallies
+        → OnErr result (AppendsFront (K.written writer.old) (K.written writer.new)
+        (flat_map window_text (first_windows roads tallies windows.now.every windows.now.from count))) }
+    ensures works { OnOk result (K.failed writer.new ≡ false) }
+    ensures fails { IfErr result (λ fault. (fault ≡ Device) ↔ (K.failed writer.new ≡ true)) }
+    ensures flushed { K.flushes writer.new ≡ K.flushes writer.old }
+{
+    if count == 0 {
+        return Ok(());
+    }
+    if skip_steps(asker, alloc, run, windows.from).is_err() {
+        return Err(WriteFault::Memory);
+    }
+    for _ in 0..count {
+        write_window(asker, alloc, run, windows.every, writer)?;
+    }
+    Ok(())
+}
+
+/// Writes the table of a run's first windows, from its start on.
+fn write_table<A: Asker, K: Sink>(
+    asker: &A,
+    alloc: Global,
+    run: &mut Run,
+    windows: &Windows,
+    count: u32,
+    writer: &mut K,
+) -> Result<(), WriteFault>
+    requires ready { A.is_ready asker.now }
+    requires works { K.failed writer.old ≡ false }
+    requires start { run.old.step ≡ 0 }
+    requires counts { run.old.seed.warm ≡ 0 }
+    requires room { (k : ℕ) → k < count → windows.now.from + (k + 1) * windows.now.every < 2 ^ 32 }
+    ensures whole { (roads : ℕ → Cells) (tallies : ℕ → StepTally) → IsCourse run.old.seed run.old.sheet roads tallies
+        → OnOk result (Appends (K.written writer.old) (K.written writer.new)
+        (series_text (first_windows roads tallies windows.now.every windows.now.from count))) }
+    ensures front { (roads : ℕ → Cells) (tallies : ℕ → StepTally) → IsCourse run.old.seed run.old.sheet roads tallies
+        → OnErr result (AppendsFront (K.written writer.old) (K.written writer.new)
+        (series_text (first_windows roads tallies windows.now.every windows.now.from count))) }
+    ensures works { OnOk result (K.failed writer.new ≡ false) }
+    ensures fails { IfErr result (λ fault. (fault ≡ Device) ↔ (K.failed writer.new ≡ true)) }
+    ensures flushed { K.flushes writer.new ≡ K.flushes writer.old }
+{
+    write_line(series_heading(alloc), writer)?;
+    write_windows(asker, alloc, run, windows, count, writer)
+}
+
+/// Writes the table of a job's series.
+fn write_series<A: Asker, K: Sink>(
+    asker: &A,
+    alloc: Global,
+    windows: &Windows,
+    job: Job,
+    writer: &mut K,
+) -> Result<(), WriteFault>
+    requires ready { A.is_ready asker.now }
+    requires works { K.failed writer.old ≡ false }
+    ensures whole { OnOk result (WroteSeries windows.now.every windows.now.from job
+        (K.written writer.old) (K.written writer.new)) }
+    ensures front { OnErr result (WroteSomeSeries windows.now.every windows.now.from job
+        (K.written writer.old) (K.written writer.new)) }
+    ensures works { OnOk result (K.failed writer.new ≡ false) }
+    ensures fails { IfErr result (λ fault. (fault ≡ Device) ↔ (K.failed writer.new ≡ true)) }
+    ensures flushed { K.flushes writer.new ≡ K.flushes writer.old }
+{
+    let count = windows.count(job.steps);
+    let mut run = run_of(alloc, job);
+    let written = write_table(asker, alloc, &mut run, windows, count, writer);
+    drop(run);
+    written
+}
+
+/// Runs a job, in which the asker asks the cars: writes the table of its series, and hands it on at the end.
+pub fn run_series<A: Asker, K: Sink>(
+    asker: &A,
+    alloc: Global,
+    windows: &Windows,
+    job: Job,
+    writer: &mut K,
+) -> End
+    requires ready { A.is_ready asker.now }
+    requires works { K.failed writer.old ≡ false }
+    ensures handed { HandsOn result
+        (K.handed_on writer.new) (K.flushes writer.old) (K.flushes writer.new) }
+    ensures answer { SeriesEnds windows.now.every windows.now.from result job
+        (K.written writer.old) (K.written writer.new) }
+    ensures device { (result ≡ DeviceFault) ↔ (K.failed writer.new ≡ true) }
+{
+    match write_series(asker, alloc, windows, job, writer) {
+        Ok(()) => match writer.flush() {
+            Ok(()) => End::Done,
+            Err(_) => End::DeviceFault,
+        },
+        Err(WriteFault::Memory) => End::Memory,
+        Err(WriteFault::Device) => End::DeviceFault,
+    }
+}

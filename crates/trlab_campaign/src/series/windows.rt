@@ -1,0 +1,34 @@
+//! The windows of a series, by the steps that each has and the step from which they are counted.
+
+ghost use Rattle.std.specs.Prelude.{◌≡◌, ◌↔◌, ◌+◌, ◌*◌, ◌<◌, ◌≤◌, ℕ};
+ghost use Rattle.trlab_bounds.specs.declared.runs.TheConstants.{MOST_STEPS};
+
+/// The windows of a series: window k has the steps from `from` + k * `every` on, `every` of them.
+#[derive(Drop)]
+pub struct Windows {
+    pub every: u32,
+    pub from: u32,
+    ghost some_steps: { 1 ≤ every },
+    ghost few_steps: { every ≤ MOST_STEPS },
+    ghost within: { from ≤ MOST_STEPS },
+}
+
+impl Windows {
+    /// The windows of `every` steps each, 1 to 500000, from the step `from` on, 0 to 500000.
+    pub fn new(every: u32, from: u32) -> Windows
+        requires some_steps { 1 ≤ every }
+        requires few_steps { every ≤ MOST_STEPS }
+        requires within { from ≤ MOST_STEPS }
+        ensures every { result.every ≡ every }
+        ensures from { result.from ≡ from }
+    {
+        Windows { every, from }
+    }
+
+    /// How many windows a run of so many steps goes to the end of.
+    pub fn count(&self, steps: u32) -> u32
+        ensures { (k : ℕ) → (k < result) ↔ (self.now.from + (k + 1) * self.now.every ≤ steps) }
+    {
+        steps.saturating_sub(self.from) / self.every
+    }
+}

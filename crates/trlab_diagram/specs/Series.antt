@@ -1,0 +1,32 @@
+-- The table of a series, in comma-separated values.
+use Rattle.std.specs.Prelude.{ℕ, List, [], ◌∷◌, ◌++◌, map, flat_map, decimal, codes}
+use Rattle.std.specs.List.{join_with_byte}
+use Rattle.trlab_diagram.specs.declared.window.LaneCount.{LaneCount}
+use Rattle.trlab_diagram.specs.declared.window.Window.{Window}
+use Rattle.trlab_diagram.specs.Table.{line_text, numbers}
+
+-- the first line, which names the columns
+abbrev pub series_heading : List ℕ
+series_heading = codes
+    "step,cars,cells,steps,distance,stopped,changes,flow,cars0,distance0,stopped0,cars1,distance1,stopped1"
+
+-- what the columns have of a lane
+abbrev pub lane_numbers : LaneCount → List ℕ
+lane_numbers lane = lane.cars ∷ lane.distance ∷ lane.stopped ∷ []
+
+-- what the columns have of a window: its step, the numbers of its point, and those of the two lanes
+abbrev pub window_numbers : Window → List ℕ
+window_numbers window =
+    window.step ∷ (numbers window.point ++ (lane_numbers window.first ++ lane_numbers window.second))
+
+-- the line of a window: these numbers in decimal digits, with a comma between each two
+abbrev pub window_line : Window → List ℕ
+window_line window = join_with_byte 44 (map decimal (window_numbers window))
+
+-- the text of a line of the table
+abbrev pub window_text : Window → List ℕ
+window_text window = line_text (window_line window)
+
+-- the text of the table: the heading, and a line for each window
+abbrev pub series_text : List Window → List ℕ
+series_text windows = line_text series_heading ++ flat_map window_text windows

@@ -1,0 +1,28 @@
+//! Windows of a series: what was counted on a road over some steps, one after another.
+
+use crate::Point;
+
+/// What stood on a lane, summed over the roads behind some steps.
+#[derive(Clone, Copy, Debug, PartialEq, Eq)]
+pub struct LaneCount {
+    /// The cars on the lane.
+    pub cars: u64,
+    /// The sum of their speeds, in cells.
+    pub distance: u64,
+    /// The cars on the lane whose speed was 0.
+    pub stopped: u64,
+}
+
+/// A window of a series: what was counted over some steps, one after another, of the whole road and of
+/// each lane.
+#[derive(Clone, Copy, Debug, PartialEq, Eq)]
+pub struct Window {
+    /// The number of the picture behind the last of the steps.
+    pub step: u64,
+    /// What was counted on the road.
+    pub point: Point,
+    /// What stood on lane 0.
+    pub first: LaneCount,
+    /// What stood on lane 1, and nothing where there is no such lane.
+    pub second: LaneCount,
+}

@@ -1,0 +1,15 @@
+-- Cars of a list that went ahead, none of them past the end of the lane.
+use Rattle.std.specs.Prelude.{◌≡◌, ℕ, ◌+◌, ◌<◌, ◌≤◌, List, length, slice_index, slice_index_or}
+use Rattle.trlab_road.specs.LaneCars.{LaneCar}
+use Rattle.trlab_road.specs.Stored.{no_car}
+
+-- a car that went so many cells ahead
+abbrev pub gone_on : LaneCar → ℕ → LaneCar
+gone_on car speed = record { number = car.number; place = car.place + speed; speed = speed }
+
+-- the cars before an index went ahead, by speeds that stand from an index on, and the others did not
+pub record HaveGoneOn (speeds : List ℕ) (from : ℕ) (old new : List LaneCar) (k : ℕ) : Type 0 where
+  pub same_count : length new ≡ length old
+  pub gone : (j : ℕ) → j < k
+      → slice_index_or new j no_car ≡ gone_on (slice_index_or old j no_car) (slice_index speeds (from + j))
+  pub others : (j : ℕ) → k ≤ j → slice_index_or new j no_car ≡ slice_index_or old j no_car

@@ -1,0 +1,71 @@
+"""A second program for series: the table of a job as sums over the pictures that `trlab run` writes.
+
+It knows nothing of rules. Cars that changed lanes are told from two pictures that follow on each other: a car at
+speed v has come from v cells behind, on the lane where it is now."""
+from typing import Iterable, Iterator, List, NamedTuple, Sequence, Set
+
+from trlab import Picture, Window
+from trlab.starts import SPEEDS
+
+
+class OnLane(NamedTuple):
+    """What is on a lane of one picture."""
+
+    cars: int
+    distance: int
+    stopped: int
+
+
+def on_lane(lane: str) -> OnLane:
+    counts = [lane.count(sign) for sign in SPEEDS]
+    return OnLane(sum(counts), sum(speed * count for speed, count in enumerate(counts)), counts[0])
+
+
+def cells_before_motion(lane: str) -> Set[int]:
+    """The cells of a lane from which its cars came in the motion."""
+    return {(cell - SPEEDS.index(sign)) % len(lane) for cell, sign in enumerate(lane) if sign != "."}
+
+
+def changes(before: Picture, after: Picture) -> int:
+    """How many cars crossed: cells that were taken before, and were empty when the motion began."""
+    if len(before.lanes) == 1:
+        return 0
+    taken = [{cell for cell, sign in enumerate(lane) if sign != "."} for lane in before.lanes]
+    return sum(len(cells - cells_before_motion(lane)) for cells, lane in zip(taken, after.lanes))
+
+
+def window(pictures: Sequence[Picture]) -> Window:
+    """The line of a window, by the picture before it and those of its steps."""
+    behind = pictures[1:]
+    lanes = len(behind[0].lanes)
+    cells, steps = lanes * len(behind[0].lanes[0]), len(behind)
+    sums = [[sum(column) for column in zip(*(on_lane(it.lanes[lane]) for it in behind))] for lane in range(lanes)]
+    (cars0, distance0, stopped0), (cars1, distance1, stopped1) = sums if lanes == 2 else [*sums, [0, 0, 0]]
+    distance = distance0 + distance1
+    return Window(
+        step=behind[-1].step,
+        cars=(cars0 + cars1) // steps,
+        cells=cells,
+        steps=steps,
+        distance=distance,
+        stopped=stopped0 + stopped1,
+        changes=sum(changes(*pair) for pair in zip(pictures, behind)),
+        flow=distance * 1000000 // (cells * steps),
+        cars0=cars0,
+        distance0=distance0,
+        stopped0=stopped0,
+        cars1=cars1,
+        distance1=distance1,
+        stopped1=stopped1,
+    )
+
+
+def windows(pictures: Iterable[Picture], every: int = 1, first: int = 0) -> Iterator[Window]:
+    """The whole windows of a run, from a step on."""
+    kept: List[Picture] = []
+    for picture in pictures:
+        if picture.step >= first:
+            kept.append(picture)
+        if len(kept) == every + 1:
+            yield window(kept)
+            kept = [picture]

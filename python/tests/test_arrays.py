@@ -1,0 +1,39 @@
+"""Results as arrays and frames, where numpy and pandas are there."""
+import importlib.util
+import unittest
+from dataclasses import replace
+
+from trlab import Job, Nasch, Sweep
+
+
+def needs(package):
+    return unittest.skipUnless(importlib.util.find_spec(package), f"{package} is not installed")
+
+
+JOB = Job(limit=12, start=[[11, None, 0], [None, None, 1]], rule=Nasch(0), steps=1)
+SWEEP = Sweep(limit=5, length=10, rule=Nasch(0), warm=10, measure=10, cars=[0, 1, 10])
+
+
+class Arrays(unittest.TestCase):
+    @needs("numpy")
+    def test_pictures(self):
+        array = JOB.run().to_numpy()
+        self.assertEqual(array.tolist(), [[[11, -1, 0], [-1, -1, 1]], [[-1, 1, 0], [-1, 2, -1]]])
+        self.assertEqual(replace(JOB, start=array[0]).text(), JOB.text())
+        self.assertEqual(replace(JOB, start=array[0, 0]).run()[0].lanes, ("b.0",))
+
+    @needs("numpy")
+    def test_tables(self):
+        self.assertEqual(SWEEP.sweep().to_numpy()["flow"].tolist(), [0, 500000, 0])
+
+
+class Frames(unittest.TestCase):
+    @needs("pandas")
+    def test_pictures(self):
+        cars = JOB.run().to_pandas().values.tolist()
+        self.assertEqual(cars[:3], [[0, 0, 0, 11], [0, 0, 2, 0], [0, 1, 2, 1]])
+        self.assertEqual(len(cars), 6)
+
+    @needs("pandas")
+    def test_tables(self):
+        self.assertEqual(SWEEP.sweep().to_pandas()["stopped"].tolist(), [0, 0, 100])

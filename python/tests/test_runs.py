@@ -1,0 +1,171 @@
+"""Runs of the program: what it writes is what the results hold, and what it refuses is raised."""
+import os
+import stat
+import tempfile
+import unittest
+import warnings
+from dataclasses import replace
+from pathlib import Path
+from unittest import mock
+
+from tests.by_pictures import windows
+from trlab import Failed, Job, Nasch, Own, Point, Refused, Rickert, SlowToStart, Sweep, Table, Window
+from trlab import check, even, find_program, jam, map, moving, random, read_tables, write_texts
+from trlab.program import ask
+
+EXAMPLES = Path(__file__).resolve().parents[2] / "examples"
+HALF = "motion\nget r0, gap\ndiv r0, r0, 2\nget r1, limit\nmin r0, r0, r1\ngo r0\n"
+
+
+def example(name):
+    return (EXAMPLES / name).read_text()
+
+
+def stand_in(folder, lines):
+    """A program of a few lines of the shell."""
+    path = Path(folder) / "trlab"
+    path.write_text("#!/bin/sh\n" + lines)
+    path.chmod(path.stat().st_mode | stat.S_IXUSR)
+    return mock.patch.dict(os.environ, TRLAB=str(path))
+
+
+def knows_series():
+    try:
+        return ask(["series", "--help"], "") != ""
+    except Failed:
+        return False
+
+
+class Sweeps(unittest.TestCase):
+    def test_the_example(self):
+        cars = [int(line[5:]) for line in example("fundamental_diagram.sweep").splitlines() if line.startswith("cars ")]
+        sweep = Sweep(limit=5, length=1000, rule=Nasch(0.25), warm=200, measure=400, cars=cars)
+        self.assertEqual(sweep.text(), example("fundamental_diagram.sweep"))
+        table = sweep.sweep(runners=2)
+        self.assertEqual(table.csv(), example("fundamental_diagram.csv"))
+        self.assertEqual(table, Table.read(Point, table.csv()))
+
+    def test_what_a_point_tells(self):
+        point = Point(cars=4, cells=20, steps=10, distance=60, stopped=8, changes=0, flow=300000)
+        self.assertEqual((point.density, point.passing, point.speed, point.standing), (0.2, 0.3, 1.5, 0.2))
+        self.assertEqual(Point(0, 20, 10, 0, 0, 0, 0).speed, 0)
+
+    def test_no_other_table_is_read(self):
+        self.assertRaises(ValueError, Table.read, Window, example("fundamental_diagram.csv"))
+
+
+class Runs(unittest.TestCase):
+    def test_the_example(self):
+        job = Job(limit=5, start=[0, None, 0] + 7 * [None], rule=Nasch(0), steps=4)
+        self.assertEqual(job.text(), example("two_cars.job"))
+        pictures = job.run(workers=3)
+        told = "".join(f"step {it.step}\n" + "".join(lane + "\n" for lane in it.lanes) for it in pictures)
+        self.assertEqual(told, example("two_cars.job.out"))
+        self.assertEqual(pictures[4].speeds(), [[None, None, 4, None, None, None, None, 3, None, None]])
+        self.assertEqual(list(job.pictures()), pictures)
+
+    def test_a_run_can_be_left(self):
+        pictures = Job(limit=5, length=1000, cars=100, rule=Nasch(0), steps=500000).pictures()
+        self.assertEqual(next(pictures).step, 0)
+        pictures.close()
+
+    def test_more_than_a_pipe_holds(self):
+        job = Job(limit=5, length=100000, density=1, lanes=2, rule=Rickert(0, 1), steps=1)
+        self.assertEqual([it.lanes for it in job.run()], 2 * [2 * (100000 * "0",)])
+
+
+class Series(unittest.TestCase):
+    JOBS = [
+        Job(limit=5, length=60, density=0.3, start=random(1), rule=Nasch(0.25), steps=50, key=7),
+        Job(limit=3, length=40, lanes=2, cars=20, start=random(2, None), rule=Rickert(0.25, 1), steps=33),
+        Job(limit=12, length=50, lanes=2, cars=20, start=jam, rule=Own(HALF), steps=40, at={9: Rickert("1/3", 0.5)}),
+        Job(limit=5, length=30, cars=10, start=moving, rule=SlowToStart("1/64", 0.75), steps=17, at={3: Own(HALF)}),
+        Job(limit=1, length=1, cars=1, rule=Nasch(0), steps=3),
+        Job(limit=1, length=1, lanes=2, cars=0, rule=Nasch(0), steps=3),
+    ]
+
+    def test_pictures_tell_what_a_sweep_counts(self):
+        # On one lane, and where all cars start on lane 0 of two, a job numbers its cars as the first point of a sweep.
+        for lanes, cars, rule in (1, 17, Nasch(0.25)), (2, 20, Rickert(0.25, 0.75)):
+            sweep = Sweep(limit=5, length=60, lanes=lanes, rule=rule, warm=20, measure=100, cars=[cars])
+            job = Job(limit=5, length=60, lanes=lanes, rule=rule, steps=120, cars=cars, start=even)
+            with warnings.catch_warnings():
+                warnings.simplefilter("ignore")
+                (point,) = sweep.sweep()
+                (told,) = windows(job.pictures(), every=100, first=20)
+            self.assertEqual(told[1:8], point)
+            self.assertEqual(told.changes > 0, lanes == 2)
+
+    def test_the_table_is_that_of_the_pictures(self):
+        if not knows_series():
+            self.skipTest("this program has no `series`")
+        for job in self.JOBS:
+            for every, first in (1, 0), (7, 0), (4, 5), (100, 0):
+                told = job.series(every=every, first=first, workers=2)
+                self.assertEqual(told, list(windows(job.pictures(), every, first)))
+
+    def test_what_is_asked_for(self):
+        table = ",".join(Window._fields) + "\n0,1,2,3,4,5,6,7,8,9,10,11,12,13\n"
+        with tempfile.TemporaryDirectory() as folder:
+            lines = f"echo $@ >{folder}/words\ncat >{folder}/text\ncat <<'END'\n{table}END\n"
+            with stand_in(folder, lines):
+                told = self.JOBS[0].series(every=10, first=5, workers=3)
+            self.assertEqual(told, [Window(*range(14))])
+            self.assertEqual(told.csv(), table)
+            self.assertEqual((Path(folder) / "words").read_text(), "series --every 10 --from 5 --workers 3\n")
+            self.assertEqual((Path(folder) / "text").read_text(), self.JOBS[0].text())
+
+
+class Refusals(unittest.TestCase):
+    def test_a_text_with_a_fault(self):
+        with self.assertRaises(Refused) as caught:
+            Job(limit=5, length=10, cars=2, rule=Rickert(0, 1), steps=1).run()
+        refused = caught.exception
+        self.assertEqual((refused.line, refused.cause, refused.pc), (5, 4, None))
+        self.assertEqual(refused.answer, "fault line 5 cause 4")
+        self.assertTrue(refused.explanation.startswith("fault line 5 cause 4\n"))
+        self.assertEqual(str(refused), refused.explanation)
+
+    def test_a_sweep_with_a_fault(self):
+        with self.assertRaises(Refused) as caught:
+            Sweep(limit=5, length=10, rule=Nasch(0), warm=500000, measure=1, cars=[1]).sweep()
+        self.assertEqual(caught.exception.cause, 7)
+
+    def test_a_program(self):
+        self.assertEqual(check(HALF), (5, HALF.partition("\n")[2]))
+        with self.assertRaises(Refused) as caught:
+            check("motion\nget r0, speed\ngo r0\n")
+        self.assertEqual((caught.exception.pc, caught.exception.reason, caught.exception.line), (1, 10, None))
+
+    def test_words_that_are_refused(self):
+        with self.assertRaises(Failed) as caught:
+            Job(limit=5, length=10, cars=2, rule=Nasch(0), steps=1).run(workers=17)
+        self.assertEqual(caught.exception.status, 2)
+
+    def test_a_run_that_ends_early_is_no_result(self):
+        with tempfile.TemporaryDirectory() as folder, stand_in(folder, "echo step 0; echo .; echo full >&2; exit 4\n"):
+            with self.assertRaises(Failed) as caught:
+                Job(limit=5, length=1, cars=0, rule=Nasch(0), steps=1).run()
+        self.assertEqual((caught.exception.status, str(caught.exception)), (4, "trlab ended with status 4: full"))
+
+
+class Many(unittest.TestCase):
+    def setUp(self):
+        shape = Sweep(limit=5, length=100, rule=Nasch(0.25), warm=10, measure=20, cars=[10, 20])
+        self.sweeps = [replace(shape, key=key) for key in range(5)]
+
+    def test_in_order(self):
+        self.assertEqual(map(Sweep.sweep, self.sweeps, at_once=3), [it.sweep() for it in self.sweeps])
+
+    def test_the_first_that_fails(self):
+        with self.assertRaises(Refused):
+            map(Job.run, [Job(limit=5, length=1, cars=0, rule=Nasch(0), steps=steps) for steps in (1, 500001)])
+
+    def test_by_files(self):
+        with tempfile.TemporaryDirectory(prefix="a blank ") as folder:
+            script = write_texts(folder, {f"key_{it.key}": it for it in self.sweeps}, program=find_program())
+            self.assertEqual((Path(folder) / "key_3.sweep").read_text(), self.sweeps[3].text())
+            for task in 1, 4:
+                self.assertEqual(os.system(f"SLURM_ARRAY_TASK_ID={task} sh '{script}'"), 0)
+            tables = read_tables(folder, Point)
+        self.assertEqual(tables, {"key_0": self.sweeps[0].sweep(), "key_3": self.sweeps[3].sweep()})

@@ -1,0 +1,92 @@
+"""The studies: their texts are those that their scripts make, and their tables and figures are what comes of them."""
+import contextlib
+import importlib.util
+import io
+import itertools
+import sys
+import tempfile
+import unittest
+from dataclasses import replace
+from pathlib import Path
+from shutil import copytree
+from unittest import mock
+
+from tests.test_runs import knows_series
+from trlab import Sweep
+
+STUDIES = Path(__file__).resolve().parents[2] / "studies"
+
+
+def script(name, top=STUDIES):
+    """The script of a study, as a module."""
+    path = top / name / "reproduce.py"
+    form = importlib.util.spec_from_file_location(f"study_{name}", path)
+    module = importlib.util.module_from_spec(form)
+    form.loader.exec_module(module)
+    return module
+
+
+def texts(name):
+    """The texts of a study that stand in files of their own, by the names of these."""
+    module = script(name)
+    if name == "1998":
+        jobs = {**module.branches(False), **module.lives(False)}
+        return {f"{text}.job": job for text, job in jobs.items() if job.key == 1}
+    sweeps = {**module.texts(False), **(module.dots() if name == "1992" else {})}
+    return {f"{text}.sweep": sweep for text, sweep in sweeps.items()}
+
+
+def drawn(name):
+    """The figures of a study, drawn again from its tables, by their names."""
+    with tempfile.TemporaryDirectory() as folder:
+        copytree(STUDIES, folder, dirs_exist_ok=True)
+        before = {file.name for file in (Path(folder) / name).glob("*.svg")}
+        for file in (Path(folder) / name).glob("*.svg"):
+            file.unlink()
+        with mock.patch.object(sys, "argv", ["reproduce.py", "--draw"]), contextlib.redirect_stdout(io.StringIO()):
+            script(name, Path(folder)).main()
+        return before, {file.name: file.read_text() for file in (Path(folder) / name).glob("*.svg")}
+
+
+def rows(file):
+    """The lines of a table behind its heading, by the names of their texts."""
+    lines = (line.split(",", 1) for line in file.read_text().splitlines()[1:])
+    return {name: [row for _, row in group] for name, group in itertools.groupby(lines, lambda line: line[0])}
+
+
+class Studies(unittest.TestCase):
+    def test_texts_are_those_of_the_scripts(self):
+        for name in "1992", "1996", "1998", "triangle":
+            with self.subTest(study=name):
+                there = {file.name: file.read_text() for file in (STUDIES / name / "texts").iterdir()}
+                self.assertEqual(there, {file: text.text() for file, text in texts(name).items()})
+
+    def test_figures_are_those_of_the_tables(self):
+        for name in "1992", "1996", "1998", "triangle":
+            with self.subTest(study=name):
+                before, figures = drawn(name)
+                self.assertEqual(set(figures), before)
+                for file, figure in figures.items():
+                    self.assertEqual(figure, (STUDIES / name / file).read_text())
+
+    def test_first_points_come_out_again(self):
+        # A point is the same whatever points stand behind it.
+        for name in "1992", "1996", "triangle":
+            table = rows(STUDIES / name / "table.csv")
+            self.assertEqual(list(table), list(script(name).texts(False)))
+            for text, sweep in itertools.islice(script(name).texts(False).items(), 2):
+                first = replace(sweep, cars=sweep.counts()[:2], densities=None)
+                with self.subTest(study=name, text=text):
+                    self.assertEqual(Sweep.sweep(first).csv().splitlines()[1:], table[text][:2])
+
+    def test_a_branch_comes_out_again(self):
+        if not knows_series():
+            self.skipTest("this program has no `series`")
+        module, table = script("1998"), rows(STUDIES / "1998" / "table.csv")
+        jobs = module.branches(False)
+        self.assertEqual(list(table), list(jobs))
+        for text in "jam_0.03_key1", "moving_0.03_key2":
+            self.assertEqual(module.last_half(jobs[text]).csv().splitlines()[1:], table[text])
+        lives = rows(STUDIES / "1998" / "lives.csv")
+        for text, job in itertools.islice(module.lives(False).items(), 3):
+            self.assertEqual([f"{job.length},{module.life(job)}"], lives[text])

@@ -1,0 +1,52 @@
+"""trlab: cellular automaton road traffic, in a person's units.
+
+    from trlab import Job, Nasch, Sweep, random
+
+    diagram = Sweep(limit=5, length=1000, rule=Nasch("1/4"), warm=200, measure=400, densities=[0.05, 0.1, 0.2])
+    for point in diagram.sweep():
+        print(point.density, point.passing)
+
+    job = Job(limit=5, length=100, density=0.2, start=random(1), rule=Nasch(0.25), steps=50, key=7)
+    print(job.run()[-1].lanes[0])
+
+A length is in cells, a time in steps, a speed in cells a step, a chance and a density (cars a cell) are 0 to 1. Each
+text can be had by `.text()`, and a table or a picture is a function of it alone. No package is needed; `.to_numpy()`
+and `.to_pandas()` of results need theirs. `TRLAB` names the program; without it that of the checkout is found."""
+from .many import map, read_tables, write_texts
+from .program import Failed, Refused, find_program
+from .results import Picture, Pictures, Point, Table, Window
+from .rules import Nasch, Own, Rickert, Rule, SlowToStart
+from .starts import Start, even, jam, moving, random
+from .texts import Accepted, Job, Sweep, check
+from .units import Chance, Density, Key
+
+__all__ = [
+    "Accepted",
+    "Chance",
+    "Density",
+    "Failed",
+    "Job",
+    "Key",
+    "Nasch",
+    "Own",
+    "Picture",
+    "Pictures",
+    "Point",
+    "Refused",
+    "Rickert",
+    "Rule",
+    "SlowToStart",
+    "Start",
+    "Sweep",
+    "Table",
+    "Window",
+    "check",
+    "even",
+    "find_program",
+    "jam",
+    "map",
+    "moving",
+    "random",
+    "read_tables",
+    "write_texts",
+]

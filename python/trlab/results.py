@@ -1,0 +1,178 @@
+"""Results: tables as lists of named tuples, and the pictures of a run."""
+from __future__ import annotations
+
+from typing import TYPE_CHECKING, Any, Generic, Iterable, Iterator, List, NamedTuple, Optional, Sequence, Tuple, Type
+from typing import TypeVar
+
+from .starts import SPEEDS
+
+if TYPE_CHECKING:
+    import numpy
+    import pandas
+
+
+class _Counted:
+    """What a line of any table tells of its cars. (Counts are of all lanes together.)"""
+
+    __slots__ = ()
+    cars: int
+    cells: int
+    steps: int
+    distance: int
+    stopped: int
+
+    @property
+    def density(self) -> float:
+        """Cars a cell."""
+        return self.cars / self.cells
+
+    @property
+    def passing(self) -> float:
+        """The flow: cars a step past one cell of one lane."""
+        return self.distance / (self.cells * self.steps)
+
+    @property
+    def speed(self) -> float:
+        """The mean speed in cells a step; 0 where there is no car."""
+        return self.distance / (self.cars * self.steps) if self.cars else 0.0
+
+    @property
+    def standing(self) -> float:
+        """The share of cars that stand, 0 to 1; 0 where there is no car."""
+        return self.stopped / (self.cars * self.steps) if self.cars else 0.0
+
+
+class _PointColumns(NamedTuple):
+    cars: int
+    cells: int
+    steps: int
+    distance: int
+    stopped: int
+    changes: int
+    flow: int
+
+
+class Point(_PointColumns, _Counted):
+    """A line of a sweep's table: what was counted on one road in the steps that are measured.
+
+    `distance` is in cells; `stopped` and `changes` count over cars and steps; `flow` is in millionths of a car a step,
+    rounded down."""
+
+    __slots__ = ()
+
+
+class _WindowColumns(NamedTuple):
+    step: int
+    cars: int
+    cells: int
+    steps: int
+    distance: int
+    stopped: int
+    changes: int
+    flow: int
+    cars0: int
+    distance0: int
+    stopped0: int
+    cars1: int
+    distance1: int
+    stopped1: int
+
+
+class Window(_WindowColumns, _Counted):
+    """A line of a series: what was counted in so many steps, up to the picture `step`.
+
+    Units are those of a `Point`. `cars0`, `distance0` and `stopped0` are sums, over the roads behind the steps, of what
+    is on lane 0 then: the cars, their speeds, the cars that stand; those that end in 1 are of lane 1."""
+
+    __slots__ = ()
+
+
+Row = TypeVar("Row", Point, Window)
+
+
+class Table(List[Row], Generic[Row]):
+    """The lines of a table, in their order."""
+
+    def __init__(self, kind: Type[Row], rows: Sequence[Row] = ()) -> None:
+        super().__init__()
+        self.extend(rows)
+        self.kind: Type[Row] = kind
+
+    @classmethod
+    def read(cls, kind: Type[Row], text: str) -> Table[Row]:
+        """The table that a program has written."""
+        heading, *lines = text.splitlines()
+        if tuple(heading.split(",")) != kind._fields:
+            raise ValueError(f"this is not the heading of {kind.__name__}s: {heading}")
+        return cls(kind, [kind(*(int(word) for word in line.split(","))) for line in lines])
+
+    def csv(self) -> str:
+        """The table as the program writes it."""
+        lines = [",".join(self.kind._fields)]
+        lines += [",".join(str(number) for number in row) for row in self]
+        return "".join(line + "\n" for line in lines)
+
+    def to_numpy(self) -> numpy.ndarray[Any, Any]:
+        """An array of records of whole numbers: `table.to_numpy()["flow"]` is a column."""
+        import numpy
+
+        return numpy.array([tuple(row) for row in self], dtype=[(name, numpy.int64) for name in self.kind._fields])
+
+    def to_pandas(self) -> pandas.DataFrame:
+        """A frame with the columns of the table."""
+        import pandas
+
+        return pandas.DataFrame([tuple(row) for row in self], columns=self.kind._fields)
+
+
+class Picture(NamedTuple):
+    """The road at a step: each lane in characters, `.` an empty cell, `0` to `9` and `a` to `z` a car and its speed."""
+
+    step: int
+    lanes: Tuple[str, ...]
+
+    def speeds(self) -> List[List[Optional[int]]]:
+        """Of each lane the speed of the car in each cell, in cells a step, and None where the cell is empty."""
+        return [[None if cell == "." else SPEEDS.index(cell) for cell in lane] for lane in self.lanes]
+
+
+class Pictures(List[Picture]):
+    """The pictures of a run, of step 0 and of each step behind it."""
+
+    def to_numpy(self) -> numpy.ndarray[Any, Any]:
+        """An array by picture, lane and cell: the speed in cells a step, and -1 where the cell is empty."""
+        import numpy
+
+        numbers = numpy.full(256, -1, dtype=numpy.int8)
+        numbers[list(SPEEDS.encode())] = range(len(SPEEDS))
+        cells = "".join(lane for picture in self for lane in picture.lanes).encode()
+        lanes = len(self[0].lanes) if self else 0
+        return numbers[numpy.frombuffer(cells, dtype=numpy.uint8)].reshape(len(self), lanes, -1)
+
+    def to_pandas(self) -> pandas.DataFrame:
+        """A frame with a line for each car of each picture: `step`, `lane`, `cell` and `speed` in cells a step."""
+        import pandas
+
+        cars = [
+            (picture.step, lane, cell, SPEEDS.index(sign))
+            for picture in self
+            for lane, cells in enumerate(picture.lanes)
+            for cell, sign in enumerate(cells)
+            if sign != "."
+        ]
+        return pandas.DataFrame(cars, columns=["step", "lane", "cell", "speed"])
+
+
+def pictures_in(lines: Iterable[str]) -> Iterator[Picture]:
+    """The pictures that stand in the output of a run, one by one."""
+    step: Optional[int] = None
+    lanes: List[str] = []
+    for line in lines:
+        if not line.startswith("step "):
+            lanes.append(line.rstrip("\n"))
+            continue
+        if step is not None:
+            yield Picture(step, tuple(lanes))
+        step, lanes = int(line[5:]), []
+    if step is not None:
+        yield Picture(step, tuple(lanes))

@@ -1,0 +1,126 @@
+#!/usr/bin/env python3
+"""Both branches of cars that start late, after Barlovic, Santen, Schadschneider and Schreckenberg (1998), and how long
+the upper one lives: limit 5, chance to brake 1/64, of cars that stand 3/4.
+
+Some two minutes of processor time; --full takes ten keys in place of three, twelve times as long, and ten times the
+lives."""
+import sys
+from pathlib import Path
+
+STUDIES = Path(__file__).resolve().parents[1]
+sys.path[1:1] = [str(STUDIES), str(STUDIES.parent / "python")]
+
+from figure import Axis, Curve, Figure, Spot  # noqa: E402
+from study import Mean, Study, read_rows, write_rows  # noqa: E402
+
+import trlab  # noqa: E402
+from trlab import Job, SlowToStart, Window, jam, moving  # noqa: E402
+
+LIMIT, LENGTH, BRAKE, STANDING = 5, 10000, 1 / 64, 3 / 4
+RULE = SlowToStart(BRAKE, STANDING)
+DENSITIES = [0.03, 0.04, 0.045, 0.05, 0.055, 0.06, 0.08, 0.1, 0.12, 0.14, 0.15, 0.16, 0.2, 0.3]
+STARTS = {"jam": jam, "moving": moving}
+# All gaps are 5 at first, so that each car just has room for the limit.
+LIFE_DENSITY, LIFE_LENGTHS, LIFE_STEPS = "1/6", [600, 1200, 2400, 4800], 3000
+
+
+def branches(is_full):
+    """A job for each start, density and key."""
+    keys, steps = (10, 100000) if is_full else (3, 8000)
+    return {
+        f"{name}_{density}_key{key}": Job(
+            limit=LIMIT, length=LENGTH, density=density, start=start, rule=RULE, steps=steps, key=key
+        )
+        for name, start in STARTS.items()
+        for density in DENSITIES
+        for key in range(1, keys + 1)
+    }
+
+
+def last_half(job):
+    """What is counted in the second half of a run."""
+    return job.series(every=job.steps // 2, first=job.steps // 2)
+
+
+def lives(is_full):
+    """A job for each length and key, all cars moving."""
+    return {
+        f"life_{length}_key{key}": Job(
+            limit=LIMIT, length=length, density=LIFE_DENSITY, start=moving, rule=RULE, steps=LIFE_STEPS, key=key
+        )
+        for length in LIFE_LENGTHS
+        for key in range(1, (400 if is_full else 40) + 1)
+    }
+
+
+def life(job):
+    """The first step in which a car stands, or that no car did in all steps."""
+    return next((window.step for window in job.series() if window.stopped), LIFE_STEPS)
+
+
+def free(density):
+    """The published line of free flow."""
+    return density * (LIMIT - BRAKE)
+
+
+def jammed(density):
+    """The published line of a road with a jam."""
+    return (1 - STANDING) * (1 - density)
+
+
+def branch(tables, name):
+    """The mean flow of a start at each density, over the keys."""
+    flows = {}
+    for text, rows in tables.items():
+        if text.startswith(name):
+            flows.setdefault(rows[0].density, []).append(rows[0].passing)
+    return {density: Mean.of(flows[density]) for density in sorted(flows)}
+
+
+def curve(tables, name):
+    """A point for each run from a start: where some have left the upper branch and some not, a mean says nothing."""
+    runs = [rows[0] for text, rows in tables.items() if text.startswith(name)]
+    return Curve(f"start {name}", "points", [Spot(run.density, run.passing) for run in runs])
+
+
+def lives_by_length(study):
+    """The lives that were measured at each length, as a file has them or anew."""
+    file = study.folder / "lives.csv"
+    if not study.is_drawn_only:
+        jobs = lives(study.is_full)
+        study.write_texts(jobs)
+        found = zip(jobs.items(), trlab.map(life, jobs.values()))
+        write_rows(file, ["text", "length", "life"], ([name, job.length, steps] for (name, job), steps in found))
+    by_length = {}
+    for _, length, steps in read_rows(file):
+        by_length.setdefault(int(length), []).append(int(steps))
+    return by_length
+
+
+def main():
+    study = Study.by_words(__file__, __doc__)
+    tables = study.table("table.csv", Window, branches(study.is_full), last_half)
+    found = {name: branch(tables, name) for name in STARTS}
+    for density in found["jam"]:
+        told = [free(density), jammed(density)]
+        print(f"{density:.3f}", *(f"{it:.5f}" for it in told), *(found[name][density] for name in STARTS), sep=" | ")
+    for length, steps in lives_by_length(study).items():
+        mean = Mean.of(steps)
+        ended = len(steps) - steps.count(LIFE_STEPS)
+        print(f"{length} cells: life {mean.value:.0f} +- {mean.error:.0f} steps; {ended} of {len(steps)} ended")
+    meet = (1 - STANDING) / (LIMIT - BRAKE + 1 - STANDING)
+    study.draw(
+        Figure(
+            Axis("density, cars a cell", 0.3),
+            Axis("flow, cars a step", 0.9),
+            [
+                Curve("published, free flow", "line", [Spot(it, free(it)) for it in (0, 0.17)]),
+                Curve("published, with a jam", "line", [Spot(it, jammed(it)) for it in (meet, 0.3)]),
+                *(curve(tables, name) for name in STARTS),
+            ],
+        )
+    )
+
+
+if __name__ == "__main__":
+    main()

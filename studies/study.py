@@ -1,0 +1,89 @@
+"""What the studies share: their texts and tables as files, runs side by side, means and errors."""
+from __future__ import annotations
+
+import argparse
+import csv
+import statistics
+from pathlib import Path
+from typing import Callable, Dict, Iterable, List, Mapping, NamedTuple, Sequence, Type, TypeVar, Union
+
+from figure import Figure
+
+import trlab
+from trlab import Job, Point, Sweep, Window
+
+Text = TypeVar("Text", Job, Sweep)
+Row = TypeVar("Row", Point, Window)
+
+
+class Mean(NamedTuple):
+    """A mean of independent repetitions, and its standard error."""
+
+    value: float
+    error: float
+
+    @classmethod
+    def of(cls, values: Sequence[float]) -> Mean:
+        spread = statistics.stdev(values) if len(values) > 1 else 0.0
+        return cls(statistics.fmean(values), spread / len(values) ** 0.5)
+
+    def __str__(self) -> str:
+        return f"{self.value:.5f} +- {self.error:.5f}"
+
+
+class Study(NamedTuple):
+    """The folder of a study, and what its script was asked for."""
+
+    folder: Path
+    is_full: bool
+    is_drawn_only: bool
+
+    @classmethod
+    def by_words(cls, script: str, about: str) -> Study:
+        words = argparse.ArgumentParser(description=about.split("\n")[0])
+        words.add_argument("--full", action="store_true", help="the long run, which writes into full/ beside it")
+        words.add_argument("--draw", action="store_true", help="runs nothing: figures and numbers of the tables there")
+        asked = words.parse_args()
+        here = Path(script).resolve().parent
+        return cls(here / "full" if asked.full else here, asked.full, asked.draw)
+
+    def table(
+        self, file: str, kind: Type[Row], texts: Mapping[str, Text], call: Callable[[Text], Iterable[Row]]
+    ) -> Dict[str, List[Row]]:
+        """The lines of a table by the names of their texts: as a file has them, or after all texts were run."""
+        if not self.is_drawn_only:
+            self.write_texts(texts)
+            tables = zip(texts, trlab.map(call, texts.values()))
+            lines = [[name, *line] for name, lines in tables for line in lines]
+            write_rows(self.folder / file, ["text", *kind._fields], lines)
+        found: Dict[str, List[Row]] = {}
+        for name, *numbers in read_rows(self.folder / file):
+            found.setdefault(name, []).append(kind(*(int(number) for number in numbers)))
+        return found
+
+    def write_texts(self, texts: Mapping[str, Union[Job, Sweep]]) -> None:
+        """Writes texts beside the tables; of jobs that differ in their key alone those of key 1."""
+        place = self.folder / "texts"
+        place.mkdir(parents=True, exist_ok=True)
+        for name, text in texts.items():
+            if isinstance(text, Sweep):
+                (place / f"{name}.sweep").write_text(text.text())
+            elif text.key == 1:
+                (place / f"{name}.job").write_text(text.text())
+
+    def draw(self, figure: Figure, name: str = "figure.svg") -> None:
+        (self.folder / name).write_text(figure.svg())
+
+
+def write_rows(file: Path, heading: Sequence[str], rows: Iterable[Sequence[object]]) -> None:
+    file.parent.mkdir(parents=True, exist_ok=True)
+    with open(file, "w", newline="") as out:
+        table = csv.writer(out, lineterminator="\n")
+        table.writerow(heading)
+        table.writerows(rows)
+
+
+def read_rows(file: Path) -> List[List[str]]:
+    """The lines of a table, without its heading."""
+    with open(file, newline="") as lines:
+        return list(csv.reader(lines))[1:]
