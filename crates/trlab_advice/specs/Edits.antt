@@ -1,5 +1,5 @@
 -- Changes of texts, and whether a text gets further by one.
-use Rattle.std.specs.Prelude.{◌≡◌, ◌≢◌, ℕ, ◌+◌, ◌<◌, List, ◌++◌, drop, length, take, Option, None, Some, Result, Ok, Err}
+use Rattle.std.specs.Prelude.{◌≡◌, ℕ, ◌+◌, ◌<◌, List, ◌++◌, drop, length, take, Option, None, Some, Result, Ok, Err}
 use Rattle.trlab_lines.specs.Lines.{lines_of}
 use Rattle.trlab_texts.specs.declared.fault.Cause.{Cause}
 use Rattle.trlab_texts.specs.declared.fault.Cause.TheVariants.{Line}
@@ -37,7 +37,13 @@ abbrev pub GetsFurther : List ℕ → ℕ → Subject → List ℕ → Type 0
 GetsFurther text number subject mended = (fault : Option (ℕ × Cause))
     × HasFirst subject mended fault × IsBehind (lines_of text) number (lines_of mended) fault
 
--- the lines above a line are read, and this line may stand behind them, whatever is wrong in it
+-- no fault is that a line up to the one of a number is not the one that must stand there
+abbrev pub IsPast : ℕ → Option (ℕ × Cause) → Type 0
+IsPast number None = Unit {0}
+IsPast number (Some fault) = fault.1 ≡ Line → number < fault.0
+
+-- a line of this number may stand behind others, and each of these is the one that must stand there,
+-- whatever is wrong in them
 abbrev pub MayFollow : Subject → List ℕ → ℕ → List ℕ → Type 0
 MayFollow subject above number line = (fault : Option (ℕ × Cause))
-    × HasFirst subject (above ++ line) fault × (fault ≢ Some (number, Line))
+    × HasFirst subject (above ++ line) fault × IsPast number fault

@@ -1,29 +1,19 @@
-//! What a refused text most likely needs: which line may stand where its fault is, what is wrong with the
-//! line that stands there, and a repair where one is likely. Nothing is judged here: faults are those that
-//! the readers tell, and the readers are asked which line may stand at a place and whether a repair helps.
+//! Texts as they are meant, their lines, and what a change does for one: whether it gets further. Nothing is
+//! judged here: the readers are asked.
 #![tactic(auto)]
 
-mod alike;
-mod candidates;
-mod digits;
 mod edit;
-mod finding;
+mod instruction;
 mod line;
-mod numbers;
 mod odd;
-mod operands;
 mod repair;
 mod subject;
 mod trial;
-mod wanted;
 
-pub use candidates::{likely_repair, name_and_operands};
 pub use edit::{Edit, edited};
-pub use finding::{Finding, finding_of};
-pub use line::{Place, line_at};
+pub use instruction::{name_and_operands, start_of_name};
+pub use line::Place;
 pub use odd::{Oddity, oddity_of};
-pub use operands::Operand;
-pub use repair::{Change, Repair, Why};
-pub use subject::{Subject, subject_of};
+pub use repair::{Change, Repair, Why, where_it_helps};
+pub use subject::{Subject, is_named, subject_of};
 pub use trial::{first_fault, gets_further, may_follow};
-pub use wanted::{Wanted, wanted_at};

@@ -6,22 +6,6 @@ ghost use Rattle.trlab_advice.specs.Quoting.{line_at};
 
 use trlab_lines::next_line;
 
-/// The line of a text with a number, counted from 1, where there is one.
-pub fn line_at(text: &[u8], number: u32) -> Option<&[u8]>
-    ensures { option_map (λ line. line.now) result ≡ line_at number (lines_of text.now) }
-{
-    let mut left = text;
-    let mut ahead = number;
-    while let Some((line, rest)) = next_line(left) {
-        if ahead <= 1 {
-            return if ahead == 0 { None } else { Some(line) };
-        }
-        ahead -= 1;
-        left = rest;
-    }
-    None
-}
-
 /// How many lines a text has.
 pub fn count_lines(text: &[u8]) -> usize
     ensures { result ≡ length (lines_of text.now) }
@@ -40,7 +24,7 @@ pub fn count_lines(text: &[u8]) -> usize
 pub struct Place<'a> {
     /// The whole text.
     pub text: &'a [u8],
-    /// The number of the line.
+    /// The number of the line, counted from 1.
     pub number: u32,
     /// How many bytes of the text stand before it.
     pub start: usize,
@@ -50,19 +34,28 @@ pub struct Place<'a> {
 
 impl<'a> Place<'a> {
     /// The place of the line with a number.
-    pub fn at(text: &'a [u8], number: u32) -> Place<'a> {
+    pub fn at(text: &'a [u8], number: u32) -> Place<'a>
+        ensures { option_map (λ line. line.now) result.line ≡ line_at number (lines_of text.now) }
+    {
         let mut left = text;
-        for _ in 1..number {
-            match next_line(left) {
-                Some((_, rest)) => left = rest,
-                None => break,
+        let mut ahead = number;
+        while let Some((line, rest)) = next_line(left) {
+            if ahead <= 1 {
+                return Place {
+                    text,
+                    number,
+                    start: text.len().saturating_sub(left.len()),
+                    line: if ahead == 0 { None } else { Some(line) },
+                };
             }
+            ahead -= 1;
+            left = rest;
         }
         Place {
             text,
             number,
-            start: text.len().saturating_sub(left.len()),
-            line: next_line(left).map(|found| found.0),
+            start: text.len(),
+            line: None,
         }
     }
 
@@ -72,8 +65,18 @@ impl<'a> Place<'a> {
         above
     }
 
-    /// The line above it with a number.
-    pub fn line_above(&self, number: u32) -> Option<&'a [u8]> {
-        line_at(self.above(), number)
+    /// What stands below it.
+    pub fn below(&self) -> &'a [u8] {
+        let end = self
+            .start
+            .saturating_add(self.line.unwrap_or(b"").len())
+            .saturating_add(1);
+        let (_, below) = self.text.split_at(end.min(self.text.len()));
+        below
+    }
+
+    /// The place above it of the line with a number.
+    pub fn line_above(&self, number: u32) -> Place<'a> {
+        Place::at(self.above(), number)
     }
 }

@@ -6,7 +6,7 @@ ghost use Rattle.trlab_advice.specs.Oddities.{Shows};
 use trlab_texts::word::behind;
 
 /// What is odd about a line.
-#[derive(Clone, Copy, PartialEq, Eq)]
+#[derive(Clone, Copy)]
 pub enum Oddity {
     /// It begins with the byte order mark of UTF-8.
     ByteOrderMark,

@@ -5,7 +5,7 @@ ghost use Rattle.trlab_advice.specs.Repairs.{Helps};
 
 use crate::edit::{Edit, edited};
 use crate::subject::Subject;
-use crate::trial::{LONGEST_ASKED, gets_further};
+use crate::trial::gets_further;
 use std::alloc::{AllocError, Global};
 
 /// What a repair changes.
@@ -18,7 +18,7 @@ pub enum Change {
 }
 
 /// Why a change may be what is meant.
-#[derive(Clone, Copy, Debug, PartialEq, Eq)]
+#[derive(Clone, Copy)]
 pub enum Why {
     /// The text begins with a byte order mark.
     ByteOrderMark,
@@ -77,18 +77,6 @@ pub struct Repair {
     pub change: Change,
 }
 
-/// How many repairs are tried at most: each is a reading of the whole text.
-const MOST_TRIED: u32 = 5;
-
-/// How many repairs of a text are tried at most; of a long one it is one.
-fn most_tried(text: &[u8]) -> u32 {
-    if text.len() > LONGEST_ASKED {
-        1
-    } else {
-        MOST_TRIED
-    }
-}
-
 /// Whether a text with its first fault at the line of a number gets further once it is changed.
 fn edit_helps(
     alloc: Global,
@@ -122,30 +110,20 @@ fn helps(
     }
 }
 
-/// The first of some repairs that helps a text with its first fault at the line of a number.
+/// A repair, where it helps a text with its first fault at the line of a number.
 ///
 /// # Errors
 ///
 /// Want of memory.
-pub fn first_that_helps(
+pub fn where_it_helps(
     alloc: Global,
     subject: Subject,
     text: &[u8],
     number: u32,
-    repairs: Vec<Repair>,
+    repair: Repair,
 ) -> Result<Option<Repair>, AllocError>
     ensures { IfOk result (λ found. IfSome found (λ repair. Helps subject text.now number repair.change)) }
 {
-    let most = most_tried(text);
-    let mut tried = 0;
-    for repair in repairs {
-        if tried >= most {
-            break;
-        }
-        if helps(alloc, subject, text, number, &repair.change)? {
-            return Ok(Some(repair));
-        }
-        tried += 1;
-    }
-    Ok(None)
+    let is_help = helps(alloc, subject, text, number, &repair.change)?;
+    Ok(if is_help { Some(repair) } else { None })
 }

@@ -2,16 +2,13 @@
 
 ghost use Rattle.std.specs.Prelude.{◌≡◌, ◌++◌, IfOk, true};
 ghost use Rattle.trlab_lines.specs.Lines.{lines_of};
-ghost use Rattle.trlab_advice.specs.Edits.{GetsFurther, HasFirst, IsBehind, MayFollow};
+ghost use Rattle.trlab_advice.specs.Edits.{GetsFurther, HasFirst, IsBehind, IsPast, MayFollow};
 
 use crate::line::count_lines;
 use crate::subject::Subject;
 use std::alloc::{AllocError, Global};
 use trlab_jobs::{read_check, read_job, read_sweep};
 use trlab_texts::{Cause, TextFault};
-
-/// The longest text that is read again and again, so that no explanation takes long.
-pub const LONGEST_ASKED: usize = 524288;
 
 /// The first fault of a text that is read so, if it has one: its line, and what is wrong there.
 ///
@@ -76,6 +73,17 @@ pub fn gets_further(
     Ok(is_behind(text, number, mended, fault))
 }
 
+/// Whether the first fault of a text, if it has one, is no line up to that of a number which is not the one
+/// that must stand there.
+fn is_past(number: u32, fault: Option<(u32, Cause)>) -> bool
+    ensures { result ≡ true → IsPast number fault }
+{
+    match fault {
+        Some((line, Cause::Line)) => number < line,
+        _ => true,
+    }
+}
+
 /// Whether a line, of this number, may stand behind others, whatever is wrong in it.
 ///
 /// # Errors
@@ -94,5 +102,5 @@ pub fn may_follow(
     text.extend_from_slice(above)?;
     text.extend_from_slice(line)?;
     let fault = first_fault(alloc, subject, &text)?;
-    Ok(fault != Some((number, Cause::Line)))
+    Ok(is_past(number, fault))
 }

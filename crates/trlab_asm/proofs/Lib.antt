@@ -7,5 +7,4 @@ pub mod PrintedLines
 pub mod Reread
 pub mod Said
 pub mod Named
-pub mod LineSaid
 pub mod Shapes

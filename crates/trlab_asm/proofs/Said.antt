@@ -42,10 +42,6 @@ if_gives : {A : Type 0} (P : A → Type 0) (b : Bool) (r s : Result A Why) → G
 if_gives P true r s h k = h
 if_gives P false r s h k = k
 
-weaker : {A : Type 0} (P : A → Type 0) (r : Result A Why) → Gives P r → Gives Anything r
-weaker P (Ok x) h = tt
-weaker P (Err why) h = h
-
 -- operands
 
 ok_or_gives : {A : Type 0} (o : Option A) (why : Why) → why ≢ Memory → Gives Anything (ok_or o why)

@@ -30,9 +30,6 @@ both from to xs ys first second =
     All-append (λ (x : Noted Event). (from ≤ number_of x) × (number_of x < to) × (is_of_runner x.event.call ≡ true)) xs ys first second
 
 module _ {L : Type 0} {ledger : Ghosts L} where
-  pub stays : (d : Desk L ledger) → GoesOn d d
-  stays d = record { parts = refl; least = omega arith; more = []; subhistory = sym (append-nil (subhistory_of d)); runners = All-nil _ }
-
   pub goes_on : (a b c : Desk L ledger) → GoesOn a b → GoesOn b c → GoesOn a c
   goes_on a b c first second = record {
     parts = second.parts ∙ first.parts;

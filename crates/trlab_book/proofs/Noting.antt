@@ -1,5 +1,5 @@
 -- What is noted at a desk is the last event of the history.
-use Rattle.std.proofs.Common.{◌≡◌, ◌+◌, ◌-◌, Bool, true, false, List, [], ◌∷◌, ◌++◌, length, Some, slice_get, refl, sym, ap, ◌∙◌, subst, arith, length-append, MatchBool}
+use Rattle.std.proofs.Common.{◌≡◌, ◌+◌, Bool, true, false, List, [], ◌∷◌, ◌++◌, refl, sym, ap, ◌∙◌, subst, MatchBool}
 use Rattle.trlab_leases.specs.declared.event.Call.{Call}
 use Rattle.trlab_leases.specs.declared.event.Event.{Event}
 use Rattle.trlab_leases.specs.declared.event.Reply.{Reply}
@@ -49,11 +49,3 @@ module _ {L : Type 0} {ledger : Ghosts L} where
         holds is,
       )
       by_event false is unchanged kept = kept
-
--- what stands last
-pub last_is : (xs : List Event) (x : Event) → slice_get (xs ++ x ∷ []) (length (xs ++ x ∷ []) - 1) ≡ Some x
-last_is xs x = subst (λ n. slice_get (xs ++ x ∷ []) n ≡ Some x) (sym (let l = length-append xs (x ∷ []) in omega arith)) (at_end xs)
-  where
-    at_end : (ys : List Event) → slice_get (ys ++ x ∷ []) (length ys) ≡ Some x
-    at_end [] = refl
-    at_end (y ∷ ys) = at_end ys

@@ -1,5 +1,5 @@
 -- What callers see of a desk: the calls that were made through it, each with all that stood before it in the history.
-use Rattle.std.specs.Prelude.{◌≡◌, ◌↔◌, ℕ, ◌<◌, ◌≤◌, Bool, true, false, IsTrue, Result, Option, IfOk, List, ◌++◌, length, All, MatchBool}
+use Rattle.std.specs.Prelude.{◌≡◌, ◌↔◌, ℕ, ◌<◌, ◌≤◌, Bool, true, false, IsTrue, Result, Option, IfOk, List, ◌++◌, All, MatchBool}
 use Rattle.trlab_run.specs.Progress.{Progress}
 use Rattle.trlab_leases.specs.declared.fault.BookFault.{BookFault}
 use Rattle.trlab_leases.specs.declared.order.Order.{Order}
@@ -30,10 +30,6 @@ subhistory_of d = strand.subhistory_of d.strand
 -- the clock of a desk: no event that is made through it from now on has a number below this
 abbrev pub least_of : {L : Type 0} {ledger : Ghosts L} → Desk L ledger → ℕ
 least_of d = strand.least_of d.strand
-
--- how many events were made through it
-abbrev pub count_of : {L : Type 0} {ledger : Ghosts L} → Desk L ledger → ℕ
-count_of d = length (subhistory_of d)
 
 -- a desk as it was
 abbrev pub IsSame : {L : Type 0} {ledger : Ghosts L} → Desk L ledger → Desk L ledger → Type 0

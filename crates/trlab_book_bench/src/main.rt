@@ -8,6 +8,7 @@ use crate::calls::make_calls;
 use std::marker::Brand;
 use std::process::ExitCode;
 use std::rt::Env;
+use std::sync::Wait;
 use std::{env, io};
 use trlab_strands::Blank;
 
@@ -15,23 +16,25 @@ fn main(rt: HostRuntime) -> ExitCode {
     let Ok(words) = given_words(&rt) else {
         return ExitCode::FAILURE;
     };
-    if words.len() != 2 {
-        return ExitCode::SUCCESS;
-    }
-    let reads = words[0].as_str() == "read";
-    let Ok(count) = words[1].parse::<u32>() else {
-        return ExitCode::FAILURE;
-    };
-    let Ok(blank) = Blank::new(rt.alloc()) else {
-        return ExitCode::FAILURE;
-    };
-    match make_calls::<Brand, HostRuntime>(&rt, rt.alloc(), blank, reads, count) {
-        Some(()) => ExitCode::SUCCESS,
-        None => ExitCode::FAILURE,
+    if words.len() != 2 || is_done(&rt, words[0].as_str(), words[1].as_str()) {
+        ExitCode::SUCCESS
+    } else {
+        ExitCode::FAILURE
     }
 }
 
 /// The words of the command line after the program's name.
 fn given_words(rt: &(impl Env + AllocGlobal)) -> io::Result<Vec<String>> {
     Ok(env::args(rt)?.skip(1).collect::<Vec<String>>(rt.alloc())?)
+}
+
+/// Makes so many calls as the second word says, and says whether they were answered as they have to be.
+fn is_done<R: AllocGlobal + Wait>(rt: &R, kind: &str, count: &str) -> bool {
+    let Ok(count) = count.parse::<u32>() else {
+        return false;
+    };
+    let Ok(blank) = Blank::new(rt.alloc()) else {
+        return false;
+    };
+    make_calls::<Brand, R>(rt, rt.alloc(), blank, kind == "read", count)
 }

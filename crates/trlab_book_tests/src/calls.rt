@@ -7,12 +7,12 @@ ghost use Rattle.trlab_strands.specs.Tokens.{name_of};
 use crate::replies::{ordered, own, seen, went_out};
 use crate::shown::{Shown, is_rule, show};
 use crate::table::Table;
+use crate::trials::blanks::new_blank;
+use crate::trials::histories::{Made, is_history};
+use crate::trials::jobs::{ALWAYS, NEVER, shows};
 use std::alloc::Global;
 use std::marker::Brand;
 use std::sync::Wait;
-use trlab_book_trials::blanks::new_blank;
-use trlab_book_trials::histories::{Made, is_history};
-use trlab_book_trials::jobs::{ALWAYS, NEVER, shows};
 use trlab_leases::{BookFault, Call, Event, Offered, Reply};
 use trlab_strands::{Blank, Ledger};
 
@@ -171,4 +171,60 @@ const REPLACED_AGAIN_READS: [Shown; 2] = [
 #[test]
 fn the_last_rule_of_a_step_stays(rt: HostRuntime) {
     assert!(rt; leave(&rt, &REPLACED_AGAIN, &REPLACED_AGAIN_READS));
+}
+
+const EMPTY: [(Made, Reply); 5] = [
+    (Made::Lease, Reply::NoLease),
+    (Made::Read(0), Reply::Refused(BookFault::NoSuchJob)),
+    (Made::Revoke(0), Reply::Refused(BookFault::NoSuchJob)),
+    (Made::Cancel(0), Reply::Refused(BookFault::NoSuchJob)),
+    (Made::Replace(0), Reply::Refused(BookFault::NoSuchJob)),
+];
+
+#[test]
+fn an_empty_book_has_no_job(rt: HostRuntime) {
+    assert!(rt; leave(&rt, &EMPTY, &[]));
+}
+
+const ONE_STEP: Reply = Reply::Leased {
+    job: 1,
+    number: 0,
+    step: 0,
+    steps: 1,
+};
+
+const NO_STEPS: [(Made, Reply); 6] = [
+    (Made::Submit(0), Reply::Number(0)),
+    (Made::Lease, Reply::NoLease),
+    (Made::Replace(0), Reply::Refused(BookFault::Ended)),
+    (Made::Cancel(0), Reply::Refused(BookFault::Ended)),
+    (Made::Submit(1), Reply::Number(1)),
+    (Made::Lease, ONE_STEP),
+];
+
+#[test]
+fn a_job_of_no_steps_has_ended(rt: HostRuntime) {
+    assert!(rt; leave(&rt, &NO_STEPS, &[]));
+}
+
+// The first lease has taken the step when its next one is ordered.
+const TAKEN_TWICE: [(Made, Reply); 10] = [
+    (Made::Submit(4), Reply::Number(0)),
+    (Made::Lease, went_out!(0, 0)),
+    (Made::Order(own!(0, 0, 0)), ordered!(0, 0, 0)),
+    (Made::Order(own!(0, 0, 1)), ordered!(0, 1, 0)),
+    (Made::Revoke(0), Reply::Done),
+    (Made::Lease, went_out!(1, 0)),
+    (Made::Order(own!(1, 0, 0)), ordered!(1, 0, 0)),
+    (
+        Made::GiveBack(own!(0, 0, 1)),
+        Reply::Refused(BookFault::StrangerLease),
+    ),
+    (Made::GiveBack(own!(1, 0, 1)), Reply::Done),
+    (Made::Read(0), seen!(1, 1)),
+];
+
+#[test]
+fn a_step_that_two_leases_took_counts_once(rt: HostRuntime) {
+    assert!(rt; leave(&rt, &TAKEN_TWICE, &[(1, b".1.1......", &[(0, false)])]));
 }

@@ -5,13 +5,13 @@ ghost use Rattle.trlab_strands.specs.Tokens.{name_of};
 
 use crate::replies::{ordered, own, seen, went_out};
 use crate::table::Table;
+use crate::trials::blanks::new_blank;
+use crate::trials::histories::Made;
 use std::alloc::Global;
 use std::marker::Brand;
 use std::sync::Wait;
 use std::thread::Threads;
 use trlab_book::{Desk, RunFault, SharedBook, run_jobs};
-use trlab_book_trials::blanks::new_blank;
-use trlab_book_trials::histories::Made;
 use trlab_leases::{BookFault, Event, Offered, Reply};
 use trlab_segments::OpenGate;
 use trlab_strands::{Blank, Ledger};

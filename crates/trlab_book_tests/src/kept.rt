@@ -3,11 +3,11 @@
 ghost use Rattle.std.specs.Prelude.{◌<◌, ◌≤◌};
 
 use crate::shown::{Shown, show};
+use crate::trials::jobs::{ALWAYS, NEVER, rule_of, seed_of, two_cars};
 use std::alloc::Global;
 use std::thread::Threads;
 use trlab_book::advance;
 use trlab_book::laws::Kept;
-use trlab_book_trials::jobs::{ALWAYS, NEVER, rule_of, seed_of, two_cars};
 use trlab_leases::{BookFault, Lease, Snapshot};
 use trlab_segments::OpenGate;
 

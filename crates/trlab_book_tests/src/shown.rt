@@ -1,8 +1,8 @@
 //! What reads show of jobs, compared when all calls have been made: a snapshot does not change when its job
 //! goes on.
 
+use crate::trials::jobs::{ALWAYS, NEVER, is_seen, rule_of};
 use std::alloc::Global;
-use trlab_book_trials::jobs::{ALWAYS, NEVER, is_seen, rule_of};
 use trlab_leases::{Sheet, Snapshot};
 use trlab_rules::Rule;
 

@@ -10,12 +10,12 @@ ghost use Rattle.trlab_strands.specs.Tokens.{name_of};
 
 use crate::answers::{done_told, number_told, snapshot_told};
 use crate::held::Held;
+use crate::trials::calls::{replace, submit};
+use crate::trials::histories::Made;
+use crate::trials::jobs::{ALWAYS, Job, NEVER};
 use std::alloc::Global;
 use std::sync::Wait;
 use trlab_book::{Desk, SharedBook};
-use trlab_book_trials::calls::{replace, submit};
-use trlab_book_trials::histories::Made;
-use trlab_book_trials::jobs::{ALWAYS, Job, NEVER};
 use trlab_leases::{BookFault, Event, Reply, Snapshot};
 use trlab_strands::{Blank, Ledger};
 

@@ -8,16 +8,16 @@ use Rattle.trlab_bounds.specs.declared.texts.TheConstants.{TEXT_LIMIT}
 use Rattle.trlab_texts.specs.Reading.{Fault}
 use Rattle.trlab_jobs.specs.Job.{Job, JobText}
 use Rattle.trlab_campaign.specs.Refusal.{Outputs, fault_line, too_big_line}
-use Rattle.trlab_campaign.specs.Output.{IsOutput}
+use Rattle.trlab_campaign.specs.Output.{IsOutputOf, JobOutput}
 use Rattle.trlab_jobs.specs.Check.{Check, CheckText}
 use Rattle.trlab_campaign.specs.CheckOutput.{VerdictOutput, IsCheckOutput}
 use Rattle.trlab_jobs.specs.Sweep.{Sweep, SweepText}
 use Rattle.trlab_campaign.specs.SweepOutput.{SweepOutput, IsSweepOutput}
-use Rattle.trlab_campaign.specs.SeriesOutput.{IsSeriesOutput}
+use Rattle.trlab_campaign.specs.SeriesOutput.{SeriesOutput}
 use Rattle.trlab_campaign.specs.Counting.{SeriesEnds, WroteSeries, WroteSomeSeries}
 use Rattle.trlab_campaign.specs.Ending.{EndsSo, OutputEnds, WrotePictures, WroteSome, JobEnds}
 use Rattle.trlab_diagram.specs.Series.{series_text}
-use Rattle.trlab_campaign.proofs.KnownBytes.{front_kept, keeps_same}
+use Rattle.trlab_campaign.proofs.KnownBytes.{front_kept}
 
 -- all pictures were written, and the last call kept the bytes
 pub pictures_kept : (job : Job) (old a b : Option (List ℕ)) → WrotePictures job old a → Keeps a b → WroteSome job old b
@@ -31,12 +31,24 @@ output_ends IsWhole refused out Refused old new whole ends = (out, (subst (λ (r
 output_ends IsWhole refused out Memory old new whole ends = inr (refused, (out, (whole, ends)))
 output_ends IsWhole refused out DeviceFault old new whole ends = inr (refused, (out, (whole, ends)))
 
--- the run of a job that a text says
-pub job_ends : (e : End) (text : List ℕ) (job : Job) (old new : Option (List ℕ)) → JobText text (Ok job) → JobEnds e job old new → EndsSo (IsOutput text) e old new
-job_ends Done text job old new says ends = (ends.0, ((Ok job, (says, (refl, (ends.1, ends.2)))), ends.3))
-job_ends Refused text job old new says ends = absurd ends
-job_ends Memory text job old new says ends = inr (false, (ends.0, ((Ok job, (says, (refl, (ends.1, ends.2)))), ends.3)))
-job_ends DeviceFault text job old new says ends = inr (false, (ends.0, ((Ok job, (says, (refl, (ends.1, ends.2)))), ends.3)))
+-- what is written for a job that a text says
+pub text_ends : (Output : Job → Outputs) (e : End) (text : List ℕ) (job : Job) (old new : Option (List ℕ))
+    → JobText text (Ok job) → EndsSo (Output job) e old new → EndsSo (IsOutputOf Output text) e old new
+text_ends Output Done text job old new says ends = (ends.0, ((Ok job, (says, ends.1.0)), ends.1.1))
+text_ends Output Refused text job old new says ends = (ends.0, ((Ok job, (says, ends.1.0)), ends.1.1))
+text_ends Output Memory text job old new says (inl kept) = inl kept
+text_ends Output Memory text job old new says (inr front) =
+    inr (front.0, (front.1.0, ((Ok job, (says, front.1.1.0)), front.1.1.1)))
+text_ends Output DeviceFault text job old new says (inl kept) = inl kept
+text_ends Output DeviceFault text job old new says (inr front) =
+    inr (front.0, (front.1.0, ((Ok job, (says, front.1.1.0)), front.1.1.1)))
+
+-- the run of a job
+pub job_ends : (e : End) (job : Job) (old new : Option (List ℕ)) → JobEnds e job old new → EndsSo (JobOutput job) e old new
+job_ends Done job old new ends = (ends.0, ((refl, (ends.1, ends.2)), ends.3))
+job_ends Refused job old new ends = absurd ends
+job_ends Memory job old new ends = inr (false, (ends.0, ((refl, (ends.1, ends.2)), ends.3)))
+job_ends DeviceFault job old new ends = inr (false, (ends.0, ((refl, (ends.1, ends.2)), ends.3)))
 
 -- the verdict on the program of a check that a text says
 pub verdict_ends : (e : End) (text : List ℕ) (check : Check) (refused : Bool) (out : List ℕ) (old new : Option (List ℕ)) → CheckText text (Ok check)
@@ -45,9 +57,10 @@ verdict_ends e text check refused out old new says verdict ends =
     output_ends (IsCheckOutput text) refused out e old new (Ok check, (says, verdict)) ends
 
 -- the refusal of a text with a fault
-pub refusal_ends : (e : End) (text : List ℕ) (fault : Fault) (old new : Option (List ℕ)) → JobText text (Err fault)
-    → OutputEnds true (fault_line fault) e old new → EndsSo (IsOutput text) e old new
-refusal_ends e text fault old new says ends = output_ends (IsOutput text) true (fault_line fault) e old new (Err fault, (says, (refl, refl))) ends
+pub refusal_ends : (Output : Job → Outputs) (e : End) (text : List ℕ) (fault : Fault) (old new : Option (List ℕ))
+    → JobText text (Err fault) → OutputEnds true (fault_line fault) e old new → EndsSo (IsOutputOf Output text) e old new
+refusal_ends Output e text fault old new says ends =
+    output_ends (IsOutputOf Output text) true (fault_line fault) e old new (Err fault, (says, (refl, refl))) ends
 
 pub check_refusal_ends : (e : End) (text : List ℕ) (fault : Fault) (old new : Option (List ℕ)) → CheckText text (Err fault)
     → OutputEnds true (fault_line fault) e old new → EndsSo (IsCheckOutput text) e old new
@@ -62,28 +75,20 @@ pub sweep_refusal_ends : (e : End) (text : List ℕ) (fault : Fault) (old new : 
     → OutputEnds true (fault_line fault) e old new → EndsSo (IsSweepOutput text) e old new
 sweep_refusal_ends e text fault old new says ends = output_ends (IsSweepOutput text) true (fault_line fault) e old new (Err fault, (says, (refl, refl))) ends
 
--- the refusal of a text that is too long, where an engine refuses such texts
-pub too_big_ends : (IsWhole : List ℕ → Outputs) (e : End) (left old new : Option (List ℕ)) → ((text : List ℕ) → TEXT_LIMIT < length text → IsWhole text true too_big_line)
-    → IfSome left (λ all. TEXT_LIMIT < length all) → OutputEnds true too_big_line e old new → IfSome left (λ text. EndsSo (IsWhole text) e old new)
-too_big_ends IsWhole e None old new refuses big ends = tt
-too_big_ends IsWhole e (Some all) old new refuses big ends = output_ends (IsWhole all) true too_big_line e old new (refuses all big) ends
+-- what is written for a text that is too long, by what an engine does for any such text
+pub too_big_ends : (IsWhole : List ℕ → Outputs) (e : End) (left old new : Option (List ℕ)) → ((text : List ℕ) → TEXT_LIMIT < length text → EndsSo (IsWhole text) e old new)
+    → IfSome left (λ all. TEXT_LIMIT < length all) → IfSome left (λ text. EndsSo (IsWhole text) e old new)
+too_big_ends IsWhole e None old new ends big = tt
+too_big_ends IsWhole e (Some all) old new ends big = ends all big
 
--- nothing was written where the reader failed
-pub fault_ends : (IsWhole : List ℕ → Outputs) (left old : Option (List ℕ)) → IfSome left (λ text. EndsSo (IsWhole text) DeviceFault old old)
-fault_ends IsWhole None old = tt
-fault_ends IsWhole (Some all) old = inl (keeps_same old)
-
--- the series of a job that a text says
-pub series_ends : (every from : ℕ) (e : End) (text : List ℕ) (job : Job) (old new : Option (List ℕ)) → JobText text (Ok job) → SeriesEnds every from e job old new
-    → EndsSo (IsSeriesOutput every from text) e old new
-series_ends every from Done text job old new says ends = (series_text ends.0, ((Ok job, (says, (refl, (ends.0, (ends.1, refl))))), ends.2))
-series_ends every from Refused text job old new says ends = absurd ends
-series_ends every from Memory text job old new says ends = inr (false, (series_text ends.0, ((Ok job, (says, (refl, (ends.0, (ends.1, refl))))), ends.2)))
-series_ends every from DeviceFault text job old new says ends = inr (false, (series_text ends.0, ((Ok job, (says, (refl, (ends.0, (ends.1, refl))))), ends.2)))
-
-pub series_refusal_ends : (every from : ℕ) (e : End) (text : List ℕ) (fault : Fault) (old new : Option (List ℕ)) → JobText text (Err fault)
-    → OutputEnds true (fault_line fault) e old new → EndsSo (IsSeriesOutput every from text) e old new
-series_refusal_ends every from e text fault old new says ends = output_ends (IsSeriesOutput every from text) true (fault_line fault) e old new (Err fault, (says, (refl, refl))) ends
+-- the series of a job
+pub series_ends : (every from : ℕ) (e : End) (job : Job) (old new : Option (List ℕ)) → SeriesEnds every from e job old new
+    → EndsSo (SeriesOutput every from job) e old new
+series_ends every from Done job old new ends = (series_text ends.0, ((refl, (ends.0, (ends.1, refl))), ends.2))
+series_ends every from Refused job old new ends = absurd ends
+series_ends every from Memory job old new ends = inr (false, (series_text ends.0, ((refl, (ends.0, (ends.1, refl))), ends.2)))
+series_ends every from DeviceFault job old new ends =
+    inr (false, (series_text ends.0, ((refl, (ends.0, (ends.1, refl))), ends.2)))
 
 -- the whole table was written, and the last call kept the bytes
 pub series_kept : (every from : ℕ) (job : Job) (old a b : Option (List ℕ)) → WroteSeries every from job old a → Keeps a b → WroteSomeSeries every from job old b

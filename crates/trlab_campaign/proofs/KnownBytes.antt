@@ -5,10 +5,6 @@ use Rattle.std.specs.Prelude.{Option, None, Some, IfSome}
 use Rattle.std.specs.Io.KnownBytes.{Appends, Consumes, IsAtEnd, Keeps}
 use Rattle.trlab_campaign.specs.Device.{AppendsFront}
 
-pub keeps_same : (a : Option (List ℕ)) → Keeps a a
-keeps_same None = tt
-keeps_same (Some xs) = refl
-
 pub consumes_none : (a : Option (List ℕ)) → Consumes a a []
 consumes_none None = tt
 consumes_none (Some xs) = refl
@@ -29,12 +25,6 @@ consumes_kept (Some x) (Some y) (Some z) xs p q = p ∙ ap (λ t. xs ++ t) (sym 
 -- a call that gave no byte
 pub consumes_last : (a b c : Option (List ℕ)) (xs part : List ℕ) (count : ℕ) → count ≡ 0 → Consumes a b xs → Consumes b c (take count part) → Consumes a c xs
 consumes_last a b c xs part count is p q = subst (λ (t : List ℕ). Consumes a c t) (append-nil xs) (consumes_more a b c xs [] p (rw is at q))
-
--- so many bytes were there
-pub consumes_length : (a b : Option (List ℕ)) (xs : List ℕ) → Consumes a b xs → IfSome a (λ all. length xs ≤ length all)
-consumes_length None b xs p = tt
-consumes_length (Some x) None xs p = absurd p
-consumes_length (Some x) (Some y) xs p = omega (arith, ap length p, length-append xs y)
 
 -- all bytes that there were
 pub consumes_whole : (P : List ℕ → Type 0) (a b : Option (List ℕ)) (xs : List ℕ) → Consumes a b xs → IsAtEnd b → P xs → IfSome a P

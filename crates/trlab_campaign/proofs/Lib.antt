@@ -14,6 +14,7 @@ pub mod OneOutput
 pub mod OneVerdict
 pub mod SomeVerdict
 pub mod OneEntry
+pub mod Evenness
 pub mod Points
 pub mod OnePoints
 pub mod SomePoints

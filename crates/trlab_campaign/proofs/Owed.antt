@@ -3,9 +3,9 @@ use Rattle.std.proofs.Common.{◌≡◌, ℕ, List, [], ◌++◌, length, take, 
 use Rattle.std.proofs.Math.Seq.{take-append_seam}
 use Rattle.std.proofs.lemmas.List.{take-append-drop}
 use Rattle.std.specs.Prelude.{Option}
-use Rattle.std.specs.Io.KnownBytes.{Appends, Keeps}
+use Rattle.std.specs.Io.KnownBytes.{Appends}
 use Rattle.trlab_campaign.specs.Device.{AppendsFront}
-use Rattle.trlab_campaign.proofs.KnownBytes.{appends_none, appends_more, appends_kept}
+use Rattle.trlab_campaign.proofs.KnownBytes.{appends_none, appends_more}
 
 -- of a whole text some was written, and the rest is owed
 pub record Owes (whole rest : List ℕ) (old now : Option (List ℕ)) : Type 0 where
@@ -42,7 +42,3 @@ owes_front whole next rest old a b owes front =
 -- where nothing is owed, all was written
 pub owes_none : (whole : List ℕ) (old a : Option (List ℕ)) → Owes whole [] old a → Appends old a whole
 owes_none whole old a owes = subst (λ (t : List ℕ). Appends old a t) (sym (owes.parts ∙ append-nil owes.done)) owes.wrote
-
--- the last call kept the bytes
-pub owes_kept : (whole : List ℕ) (old a b : Option (List ℕ)) → Owes whole [] old a → Keeps a b → Appends old b whole
-owes_kept whole old a b owes keeps = appends_kept old a b whole (owes_none whole old a owes) keeps

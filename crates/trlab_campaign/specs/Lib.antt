@@ -7,11 +7,14 @@ pub mod Refusal
 pub mod Output
 pub mod NoteLines
 pub mod CheckOutput
+pub mod Evenness
 pub mod SweepOutput
 pub mod SeriesOutput
 pub mod Capacity
 pub mod Headline
 pub mod TooBig
+-- how far a work is
+pub mod Hundredths
 -- how engines end, and laws
 pub mod Ending
 pub mod Counting

@@ -30,6 +30,11 @@ pub record IsRunText (job : Job) (roads : ℕ → Cells) (out : List ℕ) : Type
 abbrev pub JobOutput : Job → Outputs
 JobOutput job refused out = (refused ≡ false) × ((roads : ℕ → Cells) × IsRunText job roads out)
 
+-- the whole output for a job text, by what is written for a job, and whether it is a refusal
+abbrev pub IsOutputOf : (Job → Outputs) → List ℕ → Outputs
+IsOutputOf Output text refused out =
+    (says : Result Job Fault) × (JobText text says × OutputFor Output says refused out)
+
 -- the whole output for a text, and whether it is a refusal
 abbrev pub IsOutput : List ℕ → Outputs
 IsOutput text refused out =

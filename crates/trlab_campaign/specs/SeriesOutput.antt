@@ -1,5 +1,6 @@
 -- What is written for a job text as a series: the table of the windows of its run.
-use Rattle.std.specs.Prelude.{◌≡◌, ◌↔◌, ℕ, ◌+◌, ◌*◌, ◌<◌, ◌≤◌, ◌&&◌, Bool, false, cond, Some, List, map, length, sum_by, count_by, nat_eq, Result}
+use Rattle.std.specs.Prelude.{◌≡◌, ◌↔◌, ℕ, ◌+◌, ◌*◌, ◌<◌, ◌≤◌, ◌&&◌, Bool, false, cond, Some}
+use Rattle.std.specs.Prelude.{List, map, length, sum_by, count_by, nat_eq, Result}
 use Rattle.std.specs.List.{range_with_len}
 use Rattle.trlab_diagram.specs.declared.window.LaneCount.{LaneCount}
 use Rattle.trlab_diagram.specs.declared.window.Window.{Window}

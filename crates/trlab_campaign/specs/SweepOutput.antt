@@ -1,5 +1,6 @@
 -- What is written for a sweep text: the table of its points.
-use Rattle.std.specs.Prelude.{◌≡◌, ℕ, ◌<◌, ◌≤◌, false, List, [], ◌∷◌, All, length, slice_index_or, Result}
+use Rattle.std.specs.Prelude.{◌≡◌, ℕ, ◌<◌, ◌≤◌, false, List, [], ◌∷◌, All, length, slice_index_or, Result, IfOk, Vec}
+use Rattle.std.specs.Borrow.{Bor}
 use Rattle.trlab_diagram.specs.declared.point.Point.{Point}
 use Rattle.trlab_diagram.specs.Flow.{IsMeasured}
 use Rattle.trlab_diagram.specs.Table.{points_text}
@@ -64,3 +65,9 @@ SweepOutput sweep refused out =
 abbrev pub IsSweepOutput : List ℕ → Outputs
 IsSweepOutput text refused out =
     (says : Result Sweep Fault) × (SweepText text says × OutputFor SweepOutput says refused out)
+
+-- a call that can be made for any sweep, and tells the table of its points, if memory was there
+abbrev pub TellsTable : {A B E : Type 0} → (A → Bor Sweep → Type 0)
+    → (A → Bor Sweep → Result (Vec ℕ B) E → Type 0) → Type 0
+TellsTable pre post = (alloc : _) (sweep : Bor Sweep) → pre alloc sweep
+    × ((told : _) → post alloc sweep told → IfOk told (λ table. SweepOutput sweep.now false table.items))

@@ -3,7 +3,6 @@
 ghost use Rattle.std.specs.Prelude.{◌≡◌, ◌+◌, ◌≤◌, ◌||◌, ◌↔◌, true, false, IfSome};
 ghost use Rattle.std.specs.Io.KnownBytes.{Keeps};
 ghost use Rattle.trlab_campaign.specs.CheckOutput.{IsCheckOutput};
-ghost use Rattle.trlab_campaign.specs.TooBig.{big_check};
 ghost use Rattle.trlab_campaign.specs.Device.{ConsumesUpTo};
 ghost use Rattle.trlab_campaign.specs.Ending.{EndsSo, HandsOn};
 ghost use Rattle.trlab_campaign.specs.declared.end.End.TheVariants.{DeviceFault};
@@ -17,7 +16,7 @@ use crate::verdict::verdict;
 use std::alloc::{AllocGlobal, Global};
 use trlab_bounds::texts::TEXT_LIMIT;
 use trlab_jobs::read_check;
-use trlab_texts::TextFault;
+use trlab_texts::{Cause, TextFault};
 
 /// The engine of check texts, which writes what the verifier says.
 #[derive(Drop)]
@@ -40,7 +39,9 @@ impl Engine for Judge {
         }
     }
 
-    ghost too_big = { λ _. big_check };
+    fn write_too_big<K: Sink>(self, alloc: Global, writer: &mut K) -> End {
+        refuse(alloc, 0, Cause::TooBig, writer)
+    }
 }
 
 /// Reads a check text, and writes what the verifier says of its program: the budget and the

@@ -4,7 +4,8 @@ mod flushes;
 mod watched;
 mod whole;
 
-ghost use Rattle.std.specs.Prelude.{◌≡◌, ℕ, ◌+◌, ◌≤◌, ◌<◌, ◌||◌, List, length, Option, Bool, true, false, IfOk, OnOk, is_err};
+ghost use Rattle.std.specs.Prelude.{◌≡◌, ℕ, ◌+◌, ◌≤◌, ◌<◌, ◌||◌, List, length, Option, Bool};
+ghost use Rattle.std.specs.Prelude.{true, false, IfOk, OnOk, is_err};
 ghost use Rattle.std.specs.Io.KnownBytes.{ReadConsumes, WriteAppends, Keeps};
 ghost use Rattle.trlab_campaign.specs.Device.{given};
 ghost use Rattle.trlab_campaign.specs.Flushes.{once_more};

@@ -5,14 +5,12 @@ ghost use Rattle.std.specs.Io.KnownBytes.{Keeps};
 ghost use Rattle.trlab_bounds.specs.declared.texts.TheConstants.{TEXT_LIMIT};
 ghost use Rattle.trlab_campaign.specs.Device.{ConsumesUpTo};
 ghost use Rattle.trlab_campaign.specs.Ending.{EndsSo, HandsOn};
-ghost use Rattle.trlab_campaign.specs.Refusal.{Outputs, too_big_line};
+ghost use Rattle.trlab_campaign.specs.Refusal.{Outputs};
 ghost use Rattle.trlab_campaign.specs.declared.end.End.TheVariants.{DeviceFault};
 
 use crate::device::{ReadFault, Sink, Source, read_text};
 use crate::end::End;
-use crate::refusal::refuse;
 use std::alloc::Global;
-use trlab_texts::Cause;
 
 /// What makes the output of a text.
 pub trait Engine: Drop {
@@ -32,9 +30,14 @@ pub trait Engine: Drop {
             (K.handed_on writer.new) (K.flushes writer.old) (K.flushes writer.new) }
         ensures device { (result ≡ DeviceFault) ↔ (K.failed writer.new ≡ true) };
 
-    // A text that is too long is refused for that alone.
-    ghost too_big: { (engine : Self) (text : List ℕ)
-        → TEXT_LIMIT < length text → outputs engine text true too_big_line };
+    /// Writes the output of a text that is too long, of which no more is known, and hands it on.
+    fn write_too_big<K: Sink>(self, alloc: Global, writer: &mut K) -> End
+        requires works { K.failed writer.old ≡ false }
+        ensures answer { (text : List ℕ) → TEXT_LIMIT < length text
+            → EndsSo (outputs self text) result (K.written writer.old) (K.written writer.new) }
+        ensures handed { HandsOn result
+            (K.handed_on writer.new) (K.flushes writer.old) (K.flushes writer.new) }
+        ensures device { (result ≡ DeviceFault) ↔ (K.failed writer.new ≡ true) };
 }
 
 /// Reads a text, and lets an engine write its output.
@@ -59,7 +62,7 @@ pub fn run_engine<E: Engine, S: Source, K: Sink>(
 {
     match read_text(alloc, reader) {
         Ok(text) => engine.write(alloc, &text, writer),
-        Err(ReadFault::TooBig) => refuse(alloc, 0, Cause::TooBig, writer),
+        Err(ReadFault::TooBig) => engine.write_too_big(alloc, writer),
         Err(ReadFault::Memory) => End::Memory,
         Err(ReadFault::Device) => End::DeviceFault,
     }

@@ -1,12 +1,14 @@
-//! The lines of outputs: those of a step with its pictures, and that of a refused text.
+//! The lines of outputs: those of a step with its pictures, and those of a refused text and a refused program.
 
 ghost use Rattle.std.specs.Prelude.{◌≡◌, ◌∷◌, ◌++◌, ℕ, List, [], IfOk, OnOk, codes, decimal};
 ghost use Rattle.std.specs.String.{string_bytes};
+ghost use Rattle.trlab_campaign.specs.CheckOutput.{refused_line};
 ghost use Rattle.trlab_campaign.specs.Output.{step_text};
 ghost use Rattle.trlab_campaign.specs.Refusal.{fault_line};
 
 use itoa::Buffer;
 use std::alloc::{AllocError, Global};
+use trlab_prose::Page;
 use trlab_road::Road;
 use trlab_texts::Cause;
 
@@ -52,14 +54,45 @@ pub fn push_step(out: &mut Vec<u8>, step: u32, road: &Road) -> Result<(), AllocE
     Ok(())
 }
 
-/// The line of a refused text: where its first fault is, and the number of the cause.
+/// Adds the line of a refused text: where its first fault is, and the number of the cause.
 ///
 /// # Errors
 ///
 /// Want of memory.
-pub fn fault_line(alloc: Global, line: u32, cause: Cause) -> Result<String, AllocError>
-    ensures { IfOk result (λ text. string_bytes text ≡ fault_line (record { line = line; cause = cause })) }
+pub fn push_fault_line(page: &mut Page, line: u32, cause: Cause) -> Result<(), AllocError>
+    ensures { OnOk result (page.new ≡ page.old ++ fault_line (record { line = line; cause = cause })) }
 {
-    let number = cause.number();
-    format!(in alloc; "fault line {line} cause {number}\n")
+    page.say("fault line ")?;
+    page.number(u64::from(line))?;
+    page.say(" cause ")?;
+    page.number(cause.number())?;
+    page.end_line()
+}
+
+/// The page on a refused text, which has that line alone.
+///
+/// # Errors
+///
+/// Want of memory.
+pub fn fault_page(alloc: Global, line: u32, cause: Cause) -> Result<Page, AllocError>
+    ensures { IfOk result (λ page. page ≡ fault_line (record { line = line; cause = cause })) }
+{
+    let mut page = Page::new(alloc);
+    push_fault_line(&mut page, line, cause)?;
+    Ok(page)
+}
+
+/// Adds the line of a refused program: where it is refused, and why.
+///
+/// # Errors
+///
+/// Want of memory.
+pub fn push_refused_line(page: &mut Page, at: u32, reason: u32) -> Result<(), AllocError>
+    ensures { OnOk result (page.new ≡ page.old ++ refused_line at reason) }
+{
+    page.say("refused at ")?;
+    page.number(u64::from(at))?;
+    page.say(" reason ")?;
+    page.number(u64::from(reason))?;
+    page.end_line()
 }

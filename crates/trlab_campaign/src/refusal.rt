@@ -7,7 +7,7 @@ ghost use Rattle.trlab_campaign.specs.declared.end.End.TheVariants.{DeviceFault}
 
 use crate::device::{Sink, write_last};
 use crate::end::End;
-use crate::output::fault_line;
+use crate::output::fault_page;
 use std::alloc::Global;
 use trlab_texts::Cause;
 
@@ -34,8 +34,8 @@ pub fn refuse<K: Sink>(alloc: Global, line: u32, cause: Cause, writer: &mut K) -
         (K.handed_on writer.new) (K.flushes writer.old) (K.flushes writer.new) }
     ensures device { (result ≡ DeviceFault) ↔ (K.failed writer.new ≡ true) }
 {
-    match fault_line(alloc, line, cause) {
-        Ok(text) => write_output(true, text.as_bytes(), writer),
+    match fault_page(alloc, line, cause) {
+        Ok(page) => write_output(true, page.text(), writer),
         Err(_) => End::Memory,
     }
 }

@@ -1,4 +1,4 @@
-//! The engine of job texts: the whole text is judged before the first picture is written.
+//! Job texts in, pictures out: the whole text is judged before the first picture is written.
 
 pub mod pictures;
 mod step_text;
@@ -7,47 +7,42 @@ ghost use Rattle.std.specs.Prelude.{◌≡◌, ◌+◌, ◌≤◌, ◌||◌, ◌
 ghost use Rattle.std.specs.Io.KnownBytes.{Keeps};
 ghost use Rattle.trlab_campaign.specs.Device.{ConsumesUpTo};
 ghost use Rattle.trlab_campaign.specs.Ending.{EndsSo, HandsOn};
-ghost use Rattle.trlab_campaign.specs.Output.{IsOutput};
-ghost use Rattle.trlab_campaign.specs.TooBig.{big_job};
+ghost use Rattle.trlab_campaign.specs.Output.{IsOutput, JobOutput};
 ghost use Rattle.trlab_campaign.specs.declared.end.End.TheVariants.{DeviceFault};
 
 use crate::device::{Sink, Source};
 use crate::end::End;
-use crate::engine::{Engine, run_engine};
-use crate::refusal::refuse;
+use crate::pooled::{Account, run_pooled};
+use crate::progress::{Observer, Unobserved};
 use crate::run::pictures::run_job;
 use std::alloc::{AllocGlobal, Global};
 use std::sync::Wait;
 use std::thread::Threads;
 use trlab_bounds::runs::MOST_WORKERS;
 use trlab_bounds::texts::TEXT_LIMIT;
-use trlab_jobs::read_job;
-use trlab_pool::Pool;
-use trlab_segments::OpenGate;
+use trlab_jobs::Job;
 use trlab_step::Asker;
-use trlab_texts::TextFault;
 
-/// The engine of job texts, which writes the pictures of their runs.
+/// The pictures of the road of a run.
 #[derive(Drop)]
-struct Driver<'a, A> {
-    /// Who asks the cars.
-    asker: &'a A,
-}
+struct StepPictures;
 
-impl<'a, A: Asker> Engine for Driver<'a, A> {
-    ghost is_ready = { λ driver. A.is_ready driver.asker.now };
+impl Account for StepPictures {
+    ghost outputs = { λ _ job. JobOutput job };
 
-    ghost outputs = { λ _ text. IsOutput text };
-
-    fn write<K: Sink>(self, alloc: Global, text: &[u8], writer: &mut K) -> End {
-        match read_job(alloc, text) {
-            Ok(job) => run_job(self.asker, alloc, job, writer),
-            Err(TextFault::At { line, cause }) => refuse(alloc, line, cause, writer),
-            Err(TextFault::Memory) => End::Memory,
-        }
+    fn steps(&self, job: &Job) -> u32 {
+        job.steps
     }
 
-    ghost too_big = { λ _. big_job };
+    fn write_job<A: Asker, K: Sink>(
+        &self,
+        asker: &A,
+        alloc: Global,
+        job: Job,
+        writer: &mut K,
+    ) -> End {
+        run_job(asker, alloc, job, writer)
+    }
 }
 
 /// Reads a job text, and writes the picture of its road at each step, or the line of the text's
@@ -79,24 +74,28 @@ pub fn run_job_text<R: AllocGlobal + Threads + Wait + Sync, S: Source, K: Sink>(
     // A reader that tells no bytes gives no more either.
     ensures stops { S.taken reader.new ≤ S.taken reader.old + (TEXT_LIMIT + 1) }
 {
-    let alloc = rt.alloc();
-    let gate = OpenGate;
-    let pool = Pool::new(rt, workers, &gate).sparing();
-    pool.run(
-        alloc,
-        &mut || -> End
-            requires reader_works { S.failed reader.now ≡ false }
-            requires writer_works { K.failed writer.now ≡ false }
-            ensures answer { IfSome (S.left reader.entry.now) (λ text. EndsSo (IsOutput text) result
-                (K.written writer.entry.now) (K.written writer.exit.now)) }
-            ensures silent { S.failed reader.exit.now ≡ true
-                → Keeps (K.written writer.entry.now) (K.written writer.exit.now) }
-            ensures handed { HandsOn result (K.handed_on writer.exit.now)
-                (K.flushes writer.entry.now) (K.flushes writer.exit.now) }
-            ensures device { (result ≡ DeviceFault)
-                ↔ ((S.failed reader.exit.now || K.failed writer.exit.now) ≡ true) }
-            ensures read { ConsumesUpTo (TEXT_LIMIT + 1) (S.left reader.entry.now) (S.left reader.exit.now) }
-            ensures stops { S.taken reader.exit.now ≤ S.taken reader.entry.now + (TEXT_LIMIT + 1) }
-        { run_engine(alloc, Driver { asker: &pool }, reader, writer) },
-    )
+    run_job_text_observed(rt, reader, writer, workers, &Unobserved)
+}
+
+/// Does what `run_job_text` does, and tells an observer of the steps.
+pub fn run_job_text_observed<
+    R: AllocGlobal + Threads + Wait + Sync,
+    S: Source,
+    K: Sink,
+    O: Observer,
+>(rt: &R, reader: &mut S, writer: &mut K, workers: u32, observer: &O) -> End
+    requires reader_works { S.failed reader.old ≡ false }
+    requires writer_works { K.failed writer.old ≡ false }
+    requires some_worker { 1 ≤ workers }
+    requires few_workers { workers ≤ MOST_WORKERS }
+    ensures answer { IfSome (S.left reader.old)
+        (λ text. EndsSo (IsOutput text) result (K.written writer.old) (K.written writer.new)) }
+    ensures silent { S.failed reader.new ≡ true → Keeps (K.written writer.old) (K.written writer.new) }
+    ensures handed { HandsOn result
+        (K.handed_on writer.new) (K.flushes writer.old) (K.flushes writer.new) }
+    ensures device { (result ≡ DeviceFault) ↔ ((S.failed reader.new || K.failed writer.new) ≡ true) }
+    ensures read { ConsumesUpTo (TEXT_LIMIT + 1) (S.left reader.old) (S.left reader.new) }
+    ensures stops { S.taken reader.new ≤ S.taken reader.old + (TEXT_LIMIT + 1) }
+{
+    run_pooled(rt, &StepPictures, reader, writer, workers, observer)
 }

@@ -1,4 +1,4 @@
-//! The engine of series: a job text is judged as a run's is, and then a table is written, a line for each
+//! Job texts in, tables of windows out: a text is judged as a run's is, and then a line is written for each
 //! window of so many steps.
 
 mod counting;
@@ -10,49 +10,45 @@ ghost use Rattle.std.specs.Prelude.{◌≡◌, ◌+◌, ◌≤◌, ◌||◌, ◌
 ghost use Rattle.std.specs.Io.KnownBytes.{Keeps};
 ghost use Rattle.trlab_campaign.specs.Device.{ConsumesUpTo};
 ghost use Rattle.trlab_campaign.specs.Ending.{EndsSo, HandsOn};
-ghost use Rattle.trlab_campaign.specs.SeriesOutput.{IsSeriesOutput};
-ghost use Rattle.trlab_campaign.specs.TooBig.{big_series};
+ghost use Rattle.trlab_campaign.specs.SeriesOutput.{IsSeriesOutput, SeriesOutput};
 ghost use Rattle.trlab_campaign.specs.declared.end.End.TheVariants.{DeviceFault};
 
 use crate::device::{Sink, Source};
 use crate::end::End;
-use crate::engine::{Engine, run_engine};
-use crate::refusal::refuse;
+use crate::pooled::{Account, run_pooled};
+use crate::progress::{Observer, Unobserved};
 use crate::series::lines::run_series;
 use std::alloc::{AllocGlobal, Global};
 use std::sync::Wait;
 use std::thread::Threads;
 use trlab_bounds::runs::MOST_WORKERS;
 use trlab_bounds::texts::TEXT_LIMIT;
-use trlab_jobs::read_job;
-use trlab_pool::Pool;
-use trlab_segments::OpenGate;
+use trlab_jobs::Job;
 use trlab_step::Asker;
-use trlab_texts::TextFault;
 pub use windows::Windows;
 
-/// The engine of series, which writes what is counted in the windows of a job's run.
+/// The table of the windows of a run.
 #[derive(Drop)]
-struct Counter<'a, A> {
-    /// Who asks the cars.
-    asker: &'a A,
+struct Series<'a> {
     windows: &'a Windows,
 }
 
-impl<'a, A: Asker> Engine for Counter<'a, A> {
-    ghost is_ready = { λ counter. A.is_ready counter.asker.now };
+impl<'a> Account for Series<'a> {
+    ghost outputs = { λ series job. SeriesOutput series.windows.now.every series.windows.now.from job };
 
-    ghost outputs = { λ counter text. IsSeriesOutput counter.windows.now.every counter.windows.now.from text };
-
-    fn write<K: Sink>(self, alloc: Global, text: &[u8], writer: &mut K) -> End {
-        match read_job(alloc, text) {
-            Ok(job) => run_series(self.asker, alloc, self.windows, job, writer),
-            Err(TextFault::At { line, cause }) => refuse(alloc, line, cause, writer),
-            Err(TextFault::Memory) => End::Memory,
-        }
+    fn steps(&self, job: &Job) -> u32 {
+        self.windows.steps(job.steps)
     }
 
-    ghost too_big = { λ counter. big_series counter.windows.now.every counter.windows.now.from };
+    fn write_job<A: Asker, K: Sink>(
+        &self,
+        asker: &A,
+        alloc: Global,
+        job: Job,
+        writer: &mut K,
+    ) -> End {
+        run_series(asker, alloc, self.windows, job, writer)
+    }
 }
 
 /// Reads a job text, and writes the table of its windows, or the line of the text's first fault.
@@ -85,35 +81,29 @@ pub fn run_series_text<R: AllocGlobal + Threads + Wait + Sync, S: Source, K: Sin
     // A reader that tells no bytes gives no more either.
     ensures stops { S.taken reader.new ≤ S.taken reader.old + (TEXT_LIMIT + 1) }
 {
-    let alloc = rt.alloc();
-    let gate = OpenGate;
-    let pool = Pool::new(rt, workers, &gate).sparing();
-    pool.run(
-        alloc,
-        &mut || -> End
-            requires reader_works { S.failed reader.now ≡ false }
-            requires writer_works { K.failed writer.now ≡ false }
-            ensures answer { IfSome (S.left reader.entry.now)
-                (λ text. EndsSo (IsSeriesOutput windows.entry.now.every windows.entry.now.from text) result
-                (K.written writer.entry.now) (K.written writer.exit.now)) }
-            ensures silent { S.failed reader.exit.now ≡ true
-                → Keeps (K.written writer.entry.now) (K.written writer.exit.now) }
-            ensures handed { HandsOn result (K.handed_on writer.exit.now)
-                (K.flushes writer.entry.now) (K.flushes writer.exit.now) }
-            ensures device { (result ≡ DeviceFault)
-                ↔ ((S.failed reader.exit.now || K.failed writer.exit.now) ≡ true) }
-            ensures read { ConsumesUpTo (TEXT_LIMIT + 1) (S.left reader.entry.now) (S.left reader.exit.now) }
-            ensures stops { S.taken reader.exit.now ≤ S.taken reader.entry.now + (TEXT_LIMIT + 1) }
-        {
-            run_engine(
-                alloc,
-                Counter {
-                    asker: &pool,
-                    windows,
-                },
-                reader,
-                writer,
-            )
-        },
-    )
+    run_series_text_observed(rt, reader, writer, workers, windows, &Unobserved)
+}
+
+/// Does what `run_series_text` does, and tells an observer of the steps that the windows take.
+pub fn run_series_text_observed<
+    R: AllocGlobal + Threads + Wait + Sync,
+    S: Source,
+    K: Sink,
+    O: Observer,
+>(rt: &R, reader: &mut S, writer: &mut K, workers: u32, windows: &Windows, observer: &O) -> End
+    requires reader_works { S.failed reader.old ≡ false }
+    requires writer_works { K.failed writer.old ≡ false }
+    requires some_worker { 1 ≤ workers }
+    requires few_workers { workers ≤ MOST_WORKERS }
+    ensures answer { IfSome (S.left reader.old)
+        (λ text. EndsSo (IsSeriesOutput windows.now.every windows.now.from text)
+        result (K.written writer.old) (K.written writer.new)) }
+    ensures silent { S.failed reader.new ≡ true → Keeps (K.written writer.old) (K.written writer.new) }
+    ensures handed { HandsOn result
+        (K.handed_on writer.new) (K.flushes writer.old) (K.flushes writer.new) }
+    ensures device { (result ≡ DeviceFault) ↔ ((S.failed reader.new || K.failed writer.new) ≡ true) }
+    ensures read { ConsumesUpTo (TEXT_LIMIT + 1) (S.left reader.old) (S.left reader.new) }
+    ensures stops { S.taken reader.new ≤ S.taken reader.old + (TEXT_LIMIT + 1) }
+{
+    run_pooled(rt, &Series { windows }, reader, writer, workers, observer)
 }

@@ -1,55 +1,45 @@
 //! The engine of sweep texts: all points are there before the first line of their table is written.
 
 mod batches;
+mod evenness;
 mod points;
 mod runners;
 mod snapshots;
 mod table;
+mod work;
 
-ghost use Rattle.std.specs.Prelude.{◌≡◌, ◌+◌, ◌<◌, ◌≤◌, ◌||◌, ◌↔◌, ℕ, List, Ok, true, false, IfSome};
+ghost use Rattle.std.specs.Prelude.{◌≡◌, ◌+◌, ◌<◌, ◌≤◌, ◌||◌, ◌↔◌, ℕ, List, Ok, true, false, IfOk, IfSome};
 ghost use Rattle.std.specs.Io.KnownBytes.{Keeps};
-ghost use Rattle.std.specs.Thread.{IsSync};
 ghost use Rattle.trlab_bounds.specs.declared.runs.TheConstants.{MOST_RUNNERS, MOST_WORKERS};
 ghost use Rattle.trlab_jobs.specs.Sweep.{SweepText};
 ghost use Rattle.trlab_campaign.specs.Device.{ConsumesUpTo};
 ghost use Rattle.trlab_campaign.specs.Ending.{EndsSo, HandsOn};
-ghost use Rattle.trlab_campaign.specs.SweepOutput.{IsSweepOutput};
-ghost use Rattle.trlab_campaign.specs.TooBig.{big_sweep};
+ghost use Rattle.trlab_campaign.specs.SweepOutput.{IsSweepOutput, SweepOutput, TellsTable};
 ghost use Rattle.trlab_campaign.specs.declared.end.End.TheVariants.{DeviceFault};
 
 use crate::device::{Sink, Source};
 use crate::end::End;
 use crate::engine::{Engine, run_engine};
+use crate::progress::{Observer, Unobserved};
 use crate::refusal::{refuse, write_output};
 use crate::sweep::table::table;
-use std::alloc::{AllocGlobal, Global};
+use std::alloc::{AllocError, AllocGlobal, Global};
 use std::sync::Wait;
 use std::thread::Threads;
 use trlab_bounds::texts::TEXT_LIMIT;
 use trlab_jobs::{Sweep, read_sweep};
-use trlab_texts::TextFault;
+use trlab_texts::{Cause, TextFault};
 
 /// The engine of sweep texts, which writes the table of their points.
 #[derive(Drop)]
-struct Surveyor<'a, R> {
-    rt: &'a R,
-    runners: u32,
-    workers: u32,
-    ghost some_runners: { (0 < runners) × (runners ≤ MOST_RUNNERS) },
-    ghost some_workers: { (0 < workers) × (workers ≤ MOST_WORKERS) },
+struct Surveyor<T> {
+    /// Makes the table of a sweep: an engine may not start threads that tell an observer, a call may.
+    table: T,
 }
 
-/// Writes the table of the points of a sweep.
-fn write_table<R: Threads + Wait + Sync, K: Sink>(
-    rt: &R,
-    alloc: Global,
-    sweep: &Sweep,
-    runners: u32,
-    workers: u32,
-    writer: &mut K,
-) -> End
-    requires runners { (0 < runners) × (runners ≤ MOST_RUNNERS) }
-    requires workers { (0 < workers) × (workers ≤ MOST_WORKERS) }
+/// Writes the table of the points of a sweep, where it was made.
+fn write_table<K: Sink>(sweep: &Sweep, table: Result<Vec<u8>, AllocError>, writer: &mut K) -> End
+    requires made { IfOk table (λ table. SweepOutput sweep.now false table.items) }
     requires works { K.failed writer.old ≡ false }
     ensures answer { (text : List ℕ) → SweepText text (Ok sweep.now)
         → EndsSo (IsSweepOutput text) result (K.written writer.old) (K.written writer.new) }
@@ -57,14 +47,14 @@ fn write_table<R: Threads + Wait + Sync, K: Sink>(
         (K.handed_on writer.new) (K.flushes writer.old) (K.flushes writer.new) }
     ensures device { (result ≡ DeviceFault) ↔ (K.failed writer.new ≡ true) }
 {
-    match table(rt, alloc, sweep, runners, workers) {
+    match table {
         Ok(table) => write_output(false, &table, writer),
         Err(_) => End::Memory,
     }
 }
 
-impl<'a, R: Threads + Wait + Sync> Engine for Surveyor<'a, R> {
-    ghost is_ready = { λ _. IsSync R.row };
+impl<T: Fn(Global, &Sweep) -> Result<Vec<u8>, AllocError> + Drop> Engine for Surveyor<T> {
+    ghost is_ready = { λ surveyor. TellsTable (T.pre surveyor.table) (T.post surveyor.table) };
 
     ghost outputs = { λ _ text. IsSweepOutput text };
 
@@ -74,12 +64,15 @@ impl<'a, R: Threads + Wait + Sync> Engine for Surveyor<'a, R> {
             Err(TextFault::At { line, cause }) => return refuse(alloc, line, cause, writer),
             Err(TextFault::Memory) => return End::Memory,
         };
-        let end = write_table(self.rt, alloc, &sweep, self.runners, self.workers, writer);
+        let table = (self.table)(alloc, &sweep);
+        let end = write_table(&sweep, table, writer);
         drop(sweep);
         end
     }
 
-    ghost too_big = { λ _. big_sweep };
+    fn write_too_big<K: Sink>(self, alloc: Global, writer: &mut K) -> End {
+        refuse(alloc, 0, Cause::TooBig, writer)
+    }
 }
 
 /// Reads a sweep text, and writes the table of its points, or the line of the text's first fault.
@@ -113,10 +106,36 @@ pub fn run_sweep_text<R: AllocGlobal + Threads + Wait + Sync, S: Source, K: Sink
     // A reader that tells no bytes gives no more either.
     ensures stops { S.taken reader.new ≤ S.taken reader.old + (TEXT_LIMIT + 1) }
 {
+    run_sweep_text_observed(rt, reader, writer, runners, workers, &Unobserved)
+}
+
+/// Does what `run_sweep_text` does, and tells an observer of the work on the points.
+pub fn run_sweep_text_observed<
+    R: AllocGlobal + Threads + Wait + Sync,
+    S: Source,
+    K: Sink,
+    O: Observer + Sync,
+>(rt: &R, reader: &mut S, writer: &mut K, runners: u32, workers: u32, observer: &O) -> End
+    requires reader_works { S.failed reader.old ≡ false }
+    requires writer_works { K.failed writer.old ≡ false }
+    requires some_runner { 1 ≤ runners }
+    requires few_runners { runners ≤ MOST_RUNNERS }
+    requires some_worker { 1 ≤ workers }
+    requires few_workers { workers ≤ MOST_WORKERS }
+    ensures answer { IfSome (S.left reader.old)
+        (λ text. EndsSo (IsSweepOutput text) result (K.written writer.old) (K.written writer.new)) }
+    ensures silent { S.failed reader.new ≡ true → Keeps (K.written writer.old) (K.written writer.new) }
+    ensures handed { HandsOn result
+        (K.handed_on writer.new) (K.flushes writer.old) (K.flushes writer.new) }
+    ensures device { (result ≡ DeviceFault) ↔ ((S.failed reader.new || K.failed writer.new) ≡ true) }
+    ensures read { ConsumesUpTo (TEXT_LIMIT + 1) (S.left reader.old) (S.left reader.new) }
+    ensures stops { S.taken reader.new ≤ S.taken reader.old + (TEXT_LIMIT + 1) }
+{
     let surveyor = Surveyor {
-        rt,
-        runners,
-        workers,
+        table: |alloc: Global, sweep: &Sweep| -> Result<Vec<u8>, AllocError>
+            requires runners { (0 < runners) × (runners ≤ MOST_RUNNERS) }
+            requires workers { (0 < workers) × (workers ≤ MOST_WORKERS) }
+        { table(rt, alloc, sweep, observer, runners, workers) },
     };
     run_engine(rt.alloc(), surveyor, reader, writer)
 }

@@ -8,10 +8,12 @@ ghost use Rattle.trlab_verify.specs.Verdict.{IsAccepted};
 ghost use Rattle.trlab_campaign.specs.CheckOutput.{VerdictOutput, accepted_text, answer_text, refused_line};
 
 use crate::note_lines::push_notes;
+use crate::output::push_refused_line;
 use std::alloc::{AllocError, Global};
 use trlab_asm::disassemble;
 use trlab_code::{Code, Kind};
 use trlab_jobs::{Check, Question};
+use trlab_prose::Page;
 use trlab_verify::{VerifyFault, verify_change, verify_motion};
 
 /// What is written for an accepted program: its budget, and its canonical text.
@@ -25,16 +27,15 @@ fn accepted_text(alloc: Global, budget: u32, code: &Code) -> Result<Vec<u8>, All
     Ok(text)
 }
 
-/// What is written for a refused program: where it is refused, and why.
-///
-/// # Errors
-///
-/// Want of memory.
-pub fn refused_line(alloc: Global, at: u32, reason: u32) -> Result<Vec<u8>, AllocError>
+/// What is written for a refused program.
+fn refused_text(alloc: Global, at: u32, reason: u32) -> Result<Vec<u8>, AllocError>
     ensures { IfOk result (λ text. text.items ≡ refused_line at reason) }
 {
-    let line = format!(in alloc; "refused at {at} reason {reason}\n")?;
-    Ok(line.into_bytes())
+    let mut page = Page::new(alloc);
+    push_refused_line(&mut page, at, reason)?;
+    let mut text = Vec::new(alloc);
+    text.extend_from_slice(page.text())?;
+    Ok(text)
 }
 
 /// What is written for an accepted program of which this is asked.
@@ -75,7 +76,7 @@ fn refused_output(alloc: Global, fault: VerifyFault) -> Result<(bool, Vec<u8>), 
         → IfOk result (λ answer. VerdictOutput check answer.0 answer.1.items) }
 {
     match fault {
-        VerifyFault::Why { at, reason } => Ok((true, refused_line(alloc, at, reason)?)),
+        VerifyFault::Why { at, reason } => Ok((true, refused_text(alloc, at, reason)?)),
         VerifyFault::Memory => Err(AllocError),
     }
 }

@@ -1,7 +1,13 @@
 //! What is written of an answer.
 
 use std::alloc::{AllocError, Global};
-use trlab_campaign::End;
+
+/// How a call ends.
+#[derive(Clone, Copy)]
+pub enum End {
+    Done,
+    Refused,
+}
 
 /// What is written of an answer. Where memory runs out it goes on, but is no answer in the end.
 #[derive(Drop)]
@@ -22,10 +28,10 @@ impl Page {
         }
     }
 
-    /// Says that memory ran out.
+    /// Says that memory ran out, so that this is no answer.
     pub fn fail(&mut self) -> End {
         self.is_short = true;
-        End::Memory
+        End::Refused
     }
 
     /// Adds some bytes.

@@ -1,10 +1,9 @@
 //! Programs that are assembled, decoded and noted, as lines of text.
 
 use crate::notes::add_note;
-use crate::page::Page;
+use crate::page::{End, Page};
 use std::alloc::{AllocError, Global};
 use trlab_asm::{AsmFault, Why, assemble, disassemble};
-use trlab_campaign::End;
 use trlab_code::{Code, CodeFault, Kind, decode, encode};
 use trlab_verify::{Note, NotesFault, check_notes, notes};
 

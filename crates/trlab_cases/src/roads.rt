@@ -3,8 +3,7 @@
 ghost use Rattle.std.specs.Prelude.{◌≡◌, ◌<◌, length};
 ghost use Rattle.trlab_road.specs.Cells.{cars};
 
-use crate::page::Page;
-use trlab_campaign::End;
+use crate::page::{End, Page};
 use trlab_road::{Road, RoadFault};
 
 /// The road of a limit and the pictures of its lanes, each on a line, or the fault.

@@ -2,10 +2,9 @@
 
 ghost use Rattle.std.specs.Prelude.{◌≡◌, length};
 
-use crate::page::Page;
+use crate::page::{End, Page};
 use crate::roads::add_pictures;
 use std::alloc::AllocError;
-use trlab_campaign::End;
 use trlab_jobs::{Job, read_job};
 use trlab_road::Road;
 use trlab_step::{

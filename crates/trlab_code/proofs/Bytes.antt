@@ -15,9 +15,6 @@ use Rattle.trlab_code.specs.Machine.{register_number, input_number}
 use Rattle.trlab_code.specs.Spelling.{kind_byte, row, row_bytes, instr_bytes, header, spelling}
 use Rattle.trlab_code.specs.Laws.{AreBytes, HasWord, IsStored}
 
-byte : ℕ → Type 0
-byte n = n < 2 ^ 8
-
 -- the same, so that the list is told by the type
 record Small (bytes : List ℕ) : Type 0 where
   all : AreBytes bytes

@@ -175,7 +175,8 @@ impl PartialEq for Instr {
     ghost use Rattle.trlab_code.specs.Spelling.{row_of};
 
     ghost eq = { on row_of (eq_of_both (on (λ row. row.opcode) nat_eq) (eq_of_both (on (λ row. row.a) nat_eq)
-        (eq_of_both (on (λ row. row.b) nat_eq) (eq_of_both (on (λ row. row.c) nat_eq) (on (λ row. row.number) nat_eq))))) };
+        (eq_of_both (on (λ row. row.b) nat_eq) (eq_of_both (on (λ row. row.c) nat_eq)
+        (on (λ row. row.number) nat_eq))))) };
 
     ghost laws = { Prim.search (comparing, rules) depth 8 };
 

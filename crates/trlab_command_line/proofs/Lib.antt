@@ -1,3 +1,5 @@
+mod Alone
 mod CommandLine
+mod Levels
 mod Matches
 mod Options

@@ -1,21 +1,21 @@
--- The matches of a command whose arguments are options of one value and calls for help: where a
--- parse meets no fault, each value that an option has passed that option's parser.
+-- The matches of a command whose arguments take one value, or are flags and calls for help: where a
+-- parse meets no fault, each value that an argument has passed that argument's parser.
 use Rattle.std.proofs.Common.{◌≡◌, ◌∙◌, ◌&&◌, ◌||◌, ◌⊎◌, ℕ, zero, suc, Bool, cond, true, false, not, refl, sym, ap, subst, inl, inr, arith, List, [], ◌∷◌, ◌++◌, length, drop, Option, Some, None, append-nil}
 use Rattle.std.proofs.lemmas.Slice.Eq.{bytes_eq-Decides}
-use Rattle.std.specs.Prelude.{◌==◌, option_and_then, encode_utf8, fold, is_some, find, slice_get}
+use Rattle.std.specs.Prelude.{◌==◌, option_and_then, encode_utf8, fold, is_some, find, slice_get, unwrap_or}
 use Rattle.std.specs.Option.{option_map_or}
 use Rattle.std.specs.Str.{bytes_eq, chars}
 use Rattle.std.proofs.lemmas.Bool.{ne_eqb}
 use Rattle.clap.specs.Lexer.{long_of, short_of}
-use Rattle.clap.specs.Kinds.{Kinds, or_else, range_kinds}
+use Rattle.clap.specs.Kinds.{Kinds, or_else, range_kinds, request_kinds}
 use Rattle.clap.specs.Values.{read_as, refused_kind}
 use Rattle.clap.specs.declared.error.kind.ErrorKind.TheVariants.{ArgumentConflict, TooManyValues}
-use Rattle.clap.specs.Walk.{Held, Outcome, Row, Rule, Step, Text, Waiting, Walk, flag_met, has_long, has_short, subcommand_or_other, to_positional, walked_from, short_met, bundle, short_or_plain, action_of, more_values, most_values, values_or_missing, without, after_flag, after_step, default_rows, arg_by_id, arg_by_index, arg_by_long, arg_by_short, at_row, attached_value, bundle_met, bundle_step, done, has_row, idle, long_met, long_or_other, next, nothing_held, one_of, option, option_met, option_word, plain, plain_word, positional, reacted, reading_by, refused, row_text, rows_after, settled, settled_rows, subcommand, subcommand_met, takes_values, trailing, used, used_by_id, value, waits, walk, walk_from, walked, with_default, with_values, word_met}
+use Rattle.clap.specs.Walk.{Held, Outcome, Row, Rule, Step, Text, Waiting, Walk, flag_met, has_long, has_short, is_empty, is_pending, pushed, subcommand_or_other, takes_several, to_positional, walked_from, short_met, bundle, short_or_plain, action_of, more_values, most_values, values_or_missing, without, after_flag, after_step, default_rows, arg_by_id, arg_by_index, arg_by_long, arg_by_short, at_row, attached_value, bundle_met, bundle_step, done, has_row, idle, long_met, long_or_other, next, nothing_held, one_of, option, option_met, option_word, plain, plain_word, positional, reacted, reading_by, refused, row_text, rows_after, settled, settled_rows, subcommand, subcommand_met, takes_values, trailing, used, used_by_id, value, waits, walk, walk_from, walked, with_default, with_values, word_met}
 use Rattle.clap.specs.Takes.{value_passes}
 use Rattle.clap.specs.Simple.{Shape}
-use Rattle.clap.specs.Faults.{action_fault, bundle_fault, bundle_step_fault, flag_word_fault, flags_fault, level_fault, long_fault, option_fault, other_fault, react_fault, repeat_fault, settle_fault, short_fault, step_fault, turn_fault, use_fault, values_fault, walk_fault, word_fault}
+use Rattle.clap.specs.Faults.{action_fault, bundle_fault, bundle_step_fault, default_fault, defaults_fault, flag_word_fault, flags_fault, level_fault, long_fault, option_fault, other_fault, positional_fault, react_fault, repeat_fault, set_fault, settle_fault, short_fault, step_fault, stray_fault, turn_fault, use_fault, values_fault, walk_fault, word_fault}
 use Rattle.clap.specs.Facts.{parser_of_value, unwrap_or_range}
-use Rattle.clap.specs.declared.builder.action.ArgAction.TheVariants.{Set, Help}
+use Rattle.clap.specs.declared.builder.action.ArgAction.TheVariants.{Set, SetTrue, Help}
 use Rattle.clap.specs.declared.parser.matches.ValueSource.{ValueSource}
 use Rattle.clap.specs.declared.parser.matches.ValueSource.TheVariants.{CommandLine, DefaultValue}
 
@@ -33,6 +33,22 @@ one_value (suc (suc k)) e =
     let more : (1 == suc (suc k)) ≡ false = ne_eqb _ _ (λ h. omega arith) in
     let bad = rw (some, more) at e in
     cc
+
+-- none, where none is wanted
+no_value : (n : ℕ) → range_kinds 0 0 n ≡ [] → n ≡ 0
+no_value zero e = refl
+no_value (suc k) e =
+    let more : (0 == suc k) ≡ false = ne_eqb _ _ (λ h. omega arith) in
+    let bad = rw more at e in
+    cc
+
+-- a list that begins is not empty
+not_empty : {X : Type 0} (x : X) (xs : List X) → is_empty (x ∷ xs) ≡ false
+not_empty x xs = ne_eqb _ _ (λ h. omega arith)
+
+-- of two texts of which one is found, the other is the same
+pub some_same : {X : Type 0} (x y : X) → Some x ≡ Some y → x ≡ y
+some_same x y e = ap (λ o. unwrap_or o x) e
 
 -- where no row has the id, what is added for it stands at the end
 at_end : (id : Text) (change : Row → List Row) (missing rows : List Row) → has_row id rows ≡ false → at_row id change missing rows ≡ rows ++ missing
@@ -63,15 +79,40 @@ has_last id (x ∷ xs) r is = go (bytes_eq x.id id) (has_last id xs r is)
 same_id : (id : Text) → bytes_eq id id ≡ true
 same_id id = (bytes_eq-Decides id id).1 refl
 
--- an option that takes one value a use, and is used once
-pub record IsOption (a : Rule) : Type 0 where
+-- an argument that takes one value a use, and is used once
+pub record TakesOne (a : Rule) : Type 0 where
   pub action : a.action ≡ Some Set
   pub range : a.range ≡ Some (record { start_inclusive = 1; end_inclusive = 1 })
+
+-- a flag that is given once, and what stands for its use
+pub record IsFlag (a : Rule) : Type 0 where
+  pub action : a.action ≡ Some SetTrue
+  pub range : a.range ≡ Some (record { start_inclusive = 0; end_inclusive = 0 })
+  pub text : Text
+  pub missing : a.missing ≡ text ∷ []
 
 -- an argument that calls for help
 pub record IsHelp (a : Rule) : Type 0 where
   pub action : a.action ≡ Some Help
   pub range : a.range ≡ Some (record { start_inclusive = 0; end_inclusive = 0 })
+
+-- an argument of one of these kinds, which no other argument of the command has the id of
+abbrev pub Known : List Rule → Rule → Type 0
+Known c a = (TakesOne a ⊎ (IsFlag a ⊎ IsHelp a)) × (arg_by_id c a.id ≡ Some a)
+
+-- each of some arguments is so
+abbrev pub AllKnown : List Rule → List Rule → Type 0
+AllKnown c [] = Unit {0}
+AllKnown c (a ∷ rest) = Known c a × AllKnown c rest
+
+-- one that is found among them is so
+found_known : (c xs : List Rule) → AllKnown c xs → (test : Rule → Bool) (a : Rule) → find test xs ≡ Some a → Known c a
+found_known c [] all test a e = cc
+found_known c (x ∷ xs) all test a e = go (test x) e (found_known c xs all.1 test a)
+  where
+    go : (b : Bool) → cond b (Some x) (find test xs) ≡ Some a → (find test xs ≡ Some a → Known c a) → Known c a
+    go true f later = subst (Known c) (some_same x a f) all.0
+    go false f later = later f
 
 -- what is found amiss in one use: the count of its values, or what its action makes of them
 abbrev count_amiss : Rule → List Text → Kinds
@@ -87,72 +128,102 @@ help_fault a values rows help e =
     let bad = rw help.action at asked in
     cc
 
--- a use of an option gives one value, which passes its parser, and is the first
-option_use : (a : Rule) (values : List Text) (rows : List Row) → IsOption a → use_fault false a values rows ≡ []
-    → (v : Text) × (values ≡ v ∷ []) × (has_row a.id rows ≡ false) × (value_passes a v ≡ true)
-option_use a [] rows is e =
-    let count = rw is.range at (none_fails (count_amiss a []) (action_amiss a [] rows) e).0 in
-    cc
-option_use a (v ∷ w ∷ vs) rows is e =
-    let count : range_kinds 1 1 (length (v ∷ w ∷ vs)) ≡ [] = rw is.range at (none_fails (count_amiss a (v ∷ w ∷ vs)) (action_amiss a (v ∷ w ∷ vs) rows) e).0 in
-    let bad = one_value (length (v ∷ w ∷ vs)) count in
-    absurd (omega arith)
-option_use a (v ∷ []) rows is e =
-    let amiss = rw is.action at (none_fails (count_amiss a (v ∷ [])) (action_amiss a (v ∷ []) rows) e).1 in
-    let parts = none_fails (repeat_fault false a.id rows) (values_fault a (v ∷ [])) amiss in
-    (v, refl, first (has_row a.id rows) parts.0, passes (value_passes a v) parts.1)
+-- a use that is the first gives one value, which passes its parser
+abbrev UsesOne : Rule → List Text → List Row → Type 0
+UsesOne a values rows = (v : Text) × (values_or_missing a values ≡ v ∷ []) × (has_row a.id rows ≡ false) × (value_passes a v ≡ true)
+
+values_pass : (a : Rule) (v : Text) (vs : List Text) → values_fault a (v ∷ vs) ≡ [] → value_passes a v ≡ true
+values_pass a v vs e = go (value_passes a v) (none_fails _ _ e).0
+  where
+    go : (b : Bool) → cond b [] (refused_kind (parser_of_value a.parser) ∷ []) ≡ [] → b ≡ true
+    go true h = refl
+    go false h = cc
+
+set_use : (a : Rule) (v : Text) (rows : List Row) → set_fault false a (v ∷ []) rows ≡ [] → (has_row a.id rows ≡ false) × (value_passes a v ≡ true)
+set_use a v rows e =
+    let parts = none_fails (repeat_fault false a.id rows) (values_fault a (v ∷ [])) e in
+    (first (has_row a.id rows) parts.0, values_pass a v [] parts.1)
   where
     first : (b : Bool) → cond (b && true) (ArgumentConflict ∷ []) [] ≡ [] → b ≡ false
     first true h = cc
     first false h = refl
 
-    passes : (b : Bool) → or_else (cond b [] (refused_kind (parser_of_value a.parser) ∷ [])) [] ≡ [] → b ≡ true
-    passes true h = refl
-    passes false h = cc
+one_use : (a : Rule) (values : List Text) (rows : List Row) → TakesOne a → use_fault false a values rows ≡ [] → UsesOne a values rows
+one_use a [] rows is e =
+    let count = rw is.range at (none_fails (count_amiss a []) (action_amiss a [] rows) e).0 in
+    cc
+one_use a (v ∷ w ∷ vs) rows is e =
+    let count : range_kinds 1 1 (length (v ∷ w ∷ vs)) ≡ [] = rw is.range at (none_fails (count_amiss a (v ∷ w ∷ vs)) (action_amiss a (v ∷ w ∷ vs) rows) e).0 in
+    let bad = one_value (length (v ∷ w ∷ vs)) count in
+    absurd (omega arith)
+one_use a (v ∷ []) rows is e =
+    let amiss : set_fault false a (v ∷ []) rows ≡ [] = rw is.action at (none_fails (count_amiss a (v ∷ [])) (action_amiss a (v ∷ []) rows) e).1 in
+    let used = set_use a v rows amiss in
+    (v, refl, used.0, used.1)
 
--- what a use of an option with one value does
-option_used : (a : Rule) (v : Text) (rows : List Row) → IsOption a → used a (v ∷ []) rows ≡ with_values a.id (reading_by a) CommandLine (v ∷ []) (without a.id rows)
-option_used a v rows is = rw is.action refl
+flag_use : (a : Rule) (values : List Text) (rows : List Row) → IsFlag a → use_fault false a values rows ≡ [] → UsesOne a values rows
+flag_use a (v ∷ vs) rows is e =
+    let count : range_kinds 0 0 (length (v ∷ vs)) ≡ [] = rw is.range at (none_fails (count_amiss a (v ∷ vs)) (action_amiss a (v ∷ vs) rows) e).0 in
+    let bad = no_value (length (v ∷ vs)) count in
+    absurd (omega arith)
+flag_use a [] rows is e =
+    let amiss : set_fault false a (is.text ∷ []) rows ≡ [] = rw (is.action, is.missing) at (none_fails (count_amiss a []) (action_amiss a [] rows) e).1 in
+    let used = set_use a is.text rows amiss in
+    (is.text, is.missing, used.0, used.1)
 
--- `own` is the option whose values are followed, `known` says what arguments the command has
-module _ (c : List Rule) (own : Rule)
-    (known : (test : Rule → Bool) (a : Rule) → find test c ≡ Some a → (IsOption a × (bytes_eq a.id own.id ≡ true → a ≡ own)) ⊎ IsHelp a)
-    (no_positional : (i : ℕ) → arg_by_index c i ≡ None) where
-  abbrev IsKnown : Rule → Type 0
-  IsKnown a = (IsOption a × (bytes_eq a.id own.id ≡ true → a ≡ own)) ⊎ IsHelp a
+-- what a use does
+abbrev used_so : Rule → List Text → List Row → List Row
+used_so a values rows = with_values a.id (reading_by a) CommandLine (values_or_missing a values) (without a.id rows)
 
-  -- the row has a value that passed the option's parser, and is read as that parser says
+one_used : (a : Rule) (values : List Text) (rows : List Row) → TakesOne a → used a values rows ≡ used_so a values rows
+one_used a values rows is = rw is.action refl
+
+flag_used : (a : Rule) (values : List Text) (rows : List Row) → IsFlag a → used a values rows ≡ used_so a values rows
+flag_used a values rows is = rw is.action refl
+
+-- `all` says what arguments the command has
+module _ (c : List Rule) (all : AllKnown c c) where
+  known : (test : Rule → Bool) (a : Rule) → find test c ≡ Some a → Known c a
+  known test a e = found_known c c all test a e
+
+  -- the row has a value that passed its argument's parser, and is read as that parser says
   abbrev Passed : Row → Type 0
-  Passed r = (v : Text) × (slice_get r.values 0 ≡ Some v) × (value_passes own v ≡ true) × (r.reading ≡ reading_by own)
+  Passed r = (a : Rule) × (v : Text) × (arg_by_id c r.id ≡ Some a) × (slice_get r.values 0 ≡ Some v) × (value_passes a v ≡ true) × (r.reading ≡ reading_by a)
 
-  -- each row of the option has passed
   abbrev AllPassed : List Row → Type 0
   AllPassed [] = Unit {0}
-  AllPassed (r ∷ rs) = (bytes_eq r.id own.id ≡ true → Passed r) × AllPassed rs
+  AllPassed (r ∷ rs) = Passed r × AllPassed rs
 
-  one_more : (rows : List Row) (r : Row) → AllPassed rows → (bytes_eq r.id own.id ≡ true → Passed r) → AllPassed (rows ++ r ∷ [])
+  one_more : (rows : List Row) (r : Row) → AllPassed rows → Passed r → AllPassed (rows ++ r ∷ [])
   one_more [] r h passed = (passed, tt)
   one_more (x ∷ xs) r h passed = (h.0, one_more xs r h.1 passed)
 
-  -- a value that passed makes a row that does
-  new_row : (a : Rule) (source : ValueSource) (v : Text) (rows : List Row) → (bytes_eq a.id own.id ≡ true → a ≡ own) → value_passes a v ≡ true
-      → has_row a.id rows ≡ false → AllPassed rows → AllPassed (with_values a.id (reading_by a) source (v ∷ []) rows)
-  new_row a source v rows same passes none h =
-      let row : Row = record { id = a.id; values = v ∷ []; count = None; source = Some source; reading = reading_by a } in
-      subst AllPassed (sym (at_end a.id (more_values source (v ∷ [])) (row ∷ []) rows none))
-      (one_more rows row h (λ (is : bytes_eq a.id own.id ≡ true).
-      (v, refl, subst (λ (x : Rule). value_passes x v ≡ true) (same is) passes, ap reading_by (same is))))
+  -- values of which the first passed make a row that does
+  new_row : (a : Rule) (source : ValueSource) (v : Text) (vs : List Text) (rows : List Row) → Known c a → value_passes a v ≡ true
+      → has_row a.id rows ≡ false → AllPassed rows → AllPassed (with_values a.id (reading_by a) source (v ∷ vs) rows)
+  new_row a source v vs rows is passes none h =
+      let row : Row = record { id = a.id; values = v ∷ vs; count = None; source = Some source; reading = reading_by a } in
+      subst AllPassed (sym (at_end a.id (more_values source (v ∷ vs)) (row ∷ []) rows none))
+      (one_more rows row h (a, v, is.1, refl, passes, refl))
 
   -- one use of an argument
-  use_passes : (a : Rule) (values : List Text) (rows : List Row) → IsKnown a → use_fault false a values rows ≡ [] → AllPassed rows → AllPassed (used a values rows)
-  use_passes a values rows (inr help) e h = absurd (help_fault a values rows help e)
-  use_passes a values rows (inl is) e h =
-      let given = option_use a values rows is.0 e in
-      let none : without a.id rows ≡ rows = at_end a.id (λ _. []) [] rows given.2 ∙ append-nil rows in
-      let row = new_row a CommandLine given.0 rows is.1 given.3 given.2 h in
-      let same : used a (given.0 ∷ []) rows ≡ with_values a.id (reading_by a) CommandLine (given.0 ∷ []) rows =
-      option_used a given.0 rows is.0 ∙ ap (with_values a.id (reading_by a) CommandLine (given.0 ∷ [])) none in
-      subst (λ vs. AllPassed (used a vs rows)) (sym given.1) (subst AllPassed (sym same) row)
+  use_passes : (a : Rule) (values : List Text) (rows : List Row) → Known c a → use_fault false a values rows ≡ [] → AllPassed rows → AllPassed (used a values rows)
+  use_passes a values rows is e h = elim is.0 [
+    | inl one ↦ finish (one_use a values rows one e) (one_used a values rows one)
+    | inr more ↦ elim more [
+      | inl flag ↦ finish (flag_use a values rows flag e) (flag_used a values rows flag)
+      | inr help ↦ absurd (help_fault a values rows help e)
+    ]
+  ]
+    where
+      finish : UsesOne a values rows → used a values rows ≡ used_so a values rows → AllPassed (used a values rows)
+      finish given same =
+          let none : without a.id rows ≡ rows = at_end a.id (λ _. []) [] rows given.2 ∙ append-nil rows in
+          let row = new_row a CommandLine given.0 [] rows is given.3 given.2 h in
+          let so : used_so a values rows ≡ with_values a.id (reading_by a) CommandLine (given.0 ∷ []) rows =
+          ap (λ vs. with_values a.id (reading_by a) CommandLine vs (without a.id rows)) given.1
+          ∙ ap (with_values a.id (reading_by a) CommandLine (given.0 ∷ [])) none in
+          subst AllPassed (sym (same ∙ so)) row
 
   -- what waits for its values is used
   held_passes : (pending : Option (Text × List Text)) (rows : List Row)
@@ -170,17 +241,17 @@ module _ (c : List Rule) (own : Rule)
   settle_passes : (h : Held) → settle_fault c false h ≡ [] → Holds h → Holds (settled c h)
   settle_passes h e passed = held_passes h.pending h.rows e passed
 
-  react_passes : (a : Rule) (values : List Text) (h : Held) → IsKnown a → react_fault c false a values h ≡ [] → Holds h → Holds (reacted c a values h)
+  react_passes : (a : Rule) (values : List Text) (h : Held) → Known c a → react_fault c false a values h ≡ [] → Holds h → Holds (reacted c a values h)
   react_passes a values h is e passed =
       let steps = none_fails (settle_fault c false h) (use_fault false a values (settled c h).rows) e in
       use_passes a values (settled c h).rows is steps.1 (settle_passes h steps.0 passed)
 
-  option_passes : (a : Rule) (v : Option Text) (h : Held) → IsKnown a → option_fault c false a v h ≡ [] → Holds h → Holds (option_met c a v h).0
+  option_passes : (a : Rule) (v : Option Text) (h : Held) → Known c a → option_fault c false a v h ≡ [] → Holds h → Holds (option_met c a v h).0
   option_passes a None h is e passed = settle_passes h e passed
   option_passes a (Some v) h is e passed = react_passes a (v ∷ []) h is e passed
 
   -- `--name` or `--name=value`
-  long_passes : (o : Option Rule) (v : Option Text) (h : Held) → ((a : Rule) → o ≡ Some a → IsKnown a) → long_fault c false o v h ≡ [] → Holds h → Holds (long_met c o v h).0
+  long_passes : (o : Option Rule) (v : Option Text) (h : Held) → ((a : Rule) → o ≡ Some a → Known c a) → long_fault c false o v h ≡ [] → Holds h → Holds (long_met c o v h).0
   long_passes None v h is e passed = cc
   long_passes (Some a) v h is e passed = go (takes_values a) v e
     where
@@ -199,7 +270,7 @@ module _ (c : List Rule) (own : Rule)
   flags_pass zero flags skip so_far h e passed = passed
   flags_pass (suc k) flags skip so_far h e passed = step (slice_get (chars flags) 0) skip e (flags_pass k)
     where
-      flag : (rest : Text) (o : Option Rule) → ((a : Rule) → o ≡ Some a → IsKnown a) → short_fault c false o rest h (flags_fault c false k rest 0) ≡ [] → FlagsPass k
+      flag : (rest : Text) (o : Option Rule) → ((a : Rule) → o ≡ Some a → Known c a) → short_fault c false o rest h (flags_fault c false k rest 0) ≡ [] → FlagsPass k
           → Holds (short_met c o rest h (bundle_met c k rest 0 done)).0
       flag rest None is f later = cc
       flag rest (Some a) is f later = taken (takes_values a) f later
@@ -257,28 +328,25 @@ module _ (c : List Rule) (own : Rule)
 
   -- ---- defaults
 
-  -- the argument has no default, or one that passes its parser
-  abbrev HasGoodDefault : Rule → Type 0
-  HasGoodDefault a = (a.defaults ≡ []) ⊎ ((v : Text) × (a.defaults ≡ v ∷ []) × (value_passes a v ≡ true) × (bytes_eq a.id own.id ≡ true → a ≡ own))
-
-  abbrev pub HaveGoodDefaults : List Rule → Type 0
-  HaveGoodDefaults [] = Unit {0}
-  HaveGoodDefaults (a ∷ rest) = HasGoodDefault a × HaveGoodDefaults rest
-
-  default_passes : (a : Rule) (rows : List Row) → HasGoodDefault a → AllPassed rows → AllPassed (with_default rows a)
-  default_passes a rows good h = go (has_row a.id rows) refl
+  default_passes : (a : Rule) (rows : List Row) → Known c a → default_fault rows a ≡ [] → AllPassed rows → AllPassed (with_default rows a)
+  default_passes a rows is e h = go (has_row a.id rows) refl a.defaults e
     where
-      given : has_row a.id rows ≡ false → HasGoodDefault a → AllPassed (default_rows a.id (reading_by a) a.defaults rows)
-      given none (inl empty) = subst (λ vs. AllPassed (default_rows a.id (reading_by a) vs rows)) (sym empty) h
-      given none (inr d) = subst (λ vs. AllPassed (default_rows a.id (reading_by a) vs rows)) (sym d.1) (new_row a DefaultValue d.0 rows d.3 d.2 none h)
+      go : (has : Bool) → has_row a.id rows ≡ has → (ds : List Text) → cond (has || is_empty ds) [] (or_else (request_kinds (action_of a)) (values_fault a ds)) ≡ []
+          → AllPassed (cond has rows (default_rows a.id (reading_by a) ds rows))
+      go true there ds f = h
+      go false there [] f = h
+      go false there (v ∷ vs) f =
+          let given : or_else (request_kinds (action_of a)) (values_fault a (v ∷ vs)) ≡ [] =
+          subst (λ (b : Bool). cond (false || b) [] (or_else (request_kinds (action_of a)) (values_fault a (v ∷ vs))) ≡ []) (not_empty v vs) f in
+          let passes = values_pass a v vs (none_fails (request_kinds (action_of a)) (values_fault a (v ∷ vs)) given).1 in
+          new_row a DefaultValue v vs rows is passes there h
 
-      go : (has : Bool) → has_row a.id rows ≡ has → AllPassed (cond has rows (default_rows a.id (reading_by a) a.defaults rows))
-      go true is = h
-      go false is = given is good
-
-  defaults_pass : (xs : List Rule) (rows : List Row) → HaveGoodDefaults xs → AllPassed rows → AllPassed (fold with_default rows xs)
-  defaults_pass [] rows good h = h
-  defaults_pass (a ∷ rest) rows good h = defaults_pass rest (with_default rows a) good.1 (default_passes a rows good.0 h)
+  defaults_pass : (xs : List Rule) (rows : List Row) → AllKnown c xs → defaults_fault rows xs ≡ [] → AllPassed rows → AllPassed (fold with_default rows xs)
+  unfolding defaults_fault
+  defaults_pass [] rows is e h = h
+  defaults_pass (a ∷ rest) rows is e h =
+      let steps = none_fails (default_fault rows a) (defaults_fault (with_default rows a) rest) e in
+      defaults_pass rest (with_default rows a) is.1 steps.1 (default_passes a rows is.0 steps.0 h)
 
   -- a row that is there stays there
   row_stays : (id : Text) (a : Rule) (rows : List Row) → has_row id rows ≡ true → has_row id (with_default rows a) ≡ true
@@ -301,20 +369,33 @@ module _ (c : List Rule) (own : Rule)
       go true h = h
       go false h = rw (is, at_end a.id (more_values DefaultValue (v ∷ [])) _ rows h) (has_last a.id rows _ (same_id a.id))
 
-  -- what is read of the option, where it has a row and all have passed
-  reads : (rows : List Row) → has_row own.id rows ≡ true → AllPassed rows
-      → (v : Text) × (one_of own.id rows ≡ Some (read_as (reading_by own) v)) × (value_passes own v ≡ true)
-  reads [] is h = cc
-  reads (r ∷ rs) is h = go (bytes_eq r.id own.id) refl is (reads rs)
-    where
-      read : (p : Passed r) → (v : Text) × (row_text r ≡ Some (read_as (reading_by own) v)) × (value_passes own v ≡ true)
-      read p = (p.0, rw (p.1, p.3) refl, p.2)
+  -- what is read of an argument, where all rows have passed: what passed, if it has a row
+  abbrev Read : Rule → Option Text → Type 0
+  Read own text = (v : Text) × (text ≡ Some (read_as (reading_by own) v)) × (value_passes own v ≡ true)
 
-      go : (b : Bool) → bytes_eq r.id own.id ≡ b → (b || has_row own.id rs) ≡ true
-          → (has_row own.id rs ≡ true → AllPassed rs → (v : Text) × (one_of own.id rs ≡ Some (read_as (reading_by own) v)) × (value_passes own v ≡ true))
-          → (v : Text) × (option_and_then row_text (cond b (Some r) (find (λ x. bytes_eq x.id own.id) rs)) ≡ Some (read_as (reading_by own) v)) × (value_passes own v ≡ true)
-      go true same there later = read (h.0 same)
+  reads : (own : Rule) (rows : List Row) → arg_by_id c own.id ≡ Some own → has_row own.id rows ≡ true → AllPassed rows → Read own (one_of own.id rows)
+  reads own [] at is h = cc
+  reads own (r ∷ rs) at is h = go (bytes_eq r.id own.id) refl is (reads own rs at)
+    where
+      read : bytes_eq r.id own.id ≡ true → (p : Passed r) → Read own (row_text r)
+      read same p =
+          let mine : p.0 ≡ own = some_same p.0 own (sym p.2 ∙ ap (arg_by_id c) ((bytes_eq-Decides r.id own.id).0 same) ∙ at) in
+          subst (λ (a : Rule). Read a (row_text r)) mine (p.1, rw (p.3, p.5) refl, p.4)
+
+      go : (b : Bool) → bytes_eq r.id own.id ≡ b → (b || has_row own.id rs) ≡ true → (has_row own.id rs ≡ true → AllPassed rs → Read own (one_of own.id rs))
+          → Read own (option_and_then row_text (cond b (Some r) (find (λ x. bytes_eq x.id own.id) rs)))
+      go true same there later = read same h.0
       go false same there later = later there h.1
+
+  -- nothing is read where there is no row
+  reads_none : (id : Text) (rows : List Row) → has_row id rows ≡ false → one_of id rows ≡ None
+  reads_none id [] e = refl
+  reads_none id (r ∷ rs) e = go (bytes_eq r.id id) e (reads_none id rs)
+    where
+      go : (b : Bool) → (b || has_row id rs) ≡ false → (has_row id rs ≡ false → one_of id rs ≡ None)
+          → option_and_then row_text (cond b (Some r) (find (λ x. bytes_eq x.id id) rs)) ≡ None
+      go true f later = cc
+      go false f later = later f
 
   -- a command with these arguments, each of which is used once
   module _ (s : Shape) where
@@ -338,12 +419,25 @@ module _ (c : List Rule) (own : Rule)
         subst (λ o. Holds (subcommand_or_other c o waiting position word h).0) (sym none)
         (other_word_passes waiting position word h (subst (λ o. other_fault level o word h ≡ []) none e) passed)
 
-    -- what is held after a word is what was held when it was met, as no word goes to a positional
-    step_held : (word : Text) (w : Walk) (h : Held) (step : Step) → Holds h → Holds (after_step c word w h step).held
-    step_held word w h (next waiting) passed = passed
-    step_held word w h (trailing position) passed = passed
-    step_held word w h (subcommand name) passed = passed
-    step_held word w h value passed = subst (λ o. Holds (to_positional c o word w h).held) (sym (no_positional w.position)) passed
+    -- a word that goes to a positional ends what waited
+    placed_passes : (a : Rule) (word : Text) (h : Held) → positional_fault c false a h ≡ [] → Holds h
+        → Holds (pushed a.id word (cond (is_pending a h.pending && takes_several a) h (settled c h)))
+    placed_passes a word h e passed = go (is_pending a h.pending && takes_several a) e
+      where
+        go : (b : Bool) → cond b [] (settle_fault c false h) ≡ [] → Holds (pushed a.id word (cond b h (settled c h)))
+        go true f = passed
+        go false f = settle_passes h f passed
+
+    -- what is held after a word
+    step_held : (word : Text) (w : Walk) (h : Held) (step : Step) → step_fault level w.position h step ≡ [] → Holds h → Holds (after_step c word w h step).held
+    step_held word w h (next waiting) e passed = passed
+    step_held word w h (trailing position) e passed = passed
+    step_held word w h (subcommand name) e passed = passed
+    step_held word w h value e passed = go (arg_by_index c w.position) e
+      where
+        go : (o : Option Rule) → option_map_or (λ a. positional_fault c false a h) o (stray_fault level) ≡ [] → Holds (to_positional c o word w h).held
+        go None f = passed
+        go (Some a) f = placed_passes a word h f passed
 
     turn_passes : (w : Walk) (word : Text) → turn_fault level [] w word ≡ [] → Holds w.held → Holds (walked c [] w word).held
     unfolding walked
@@ -357,7 +451,7 @@ module _ (c : List Rule) (own : Rule)
         go None f =
             let met = word_met c [] w.is_trailing w.waiting w.position word w.held in
             let steps = none_fails (word_fault level [] w.is_trailing w.waiting word w.held) (step_fault level w.position met.0 met.1) f in
-            step_held word w met.0 met.1 (word_passes w.is_trailing w.waiting w.position word w.held steps.0 passed)
+            step_held word w met.0 met.1 steps.1 (word_passes w.is_trailing w.waiting w.position word w.held steps.0 passed)
 
     walk_passes : (words : List Text) (w : Walk) → walk_fault level [] w words ≡ [] → Holds w.held → Holds (fold (walked c []) w words).held
     unfolding walk_fault
@@ -366,23 +460,40 @@ module _ (c : List Rule) (own : Rule)
         let steps = none_fails (turn_fault level [] w word) (walk_fault level [] (walked c [] w word) rest) e in
         walk_passes rest (walked c [] w word) steps.1 (turn_passes w word steps.0 passed)
 
-    -- the rows of all the words, before the defaults
-    pub words_pass : (words : List Text) → level_fault level [] nothing_held words false [] ≡ [] → AllPassed (settled c (walk c [] nothing_held words).held).rows
+    -- the rows of all the words
+    words_pass : (words : List Text) → level_fault level [] nothing_held words false [] ≡ [] → AllPassed (rows_after c [] words)
     words_pass words e =
         let end = (walk c [] nothing_held words).held in
         let steps = none_fails (walk_fault level [] (walk_from nothing_held) words) _ e in
         let later = none_fails (settle_fault c false end) _ steps.1 in
-        settle_passes end later.0 (walk_passes words (walk_from nothing_held) steps.0 tt)
+        let last = none_fails (defaults_fault (settled c end).rows c) _ later.1 in
+        defaults_pass c (settled c end).rows all last.0 (settle_passes end later.0 (walk_passes words (walk_from nothing_held) steps.0 tt))
 
-    -- the value of the option, where the words have no fault and the option has a default
-    pub own_value : (words : List Text) (before after : List Rule) (v : Text) → c ≡ before ++ own ∷ after → own.defaults ≡ v ∷ [] → HaveGoodDefaults c
-        → level_fault level [] nothing_held words false [] ≡ []
-        → (v : Text) × (one_of own.id (rows_after c [] words) ≡ Some (read_as (reading_by own) v)) × (value_passes own v ≡ true)
-    own_value words before after v split default good e =
+    -- an argument has a value that passed its parser, where the words have no fault and it has a default
+    pub own_value : (own : Rule) (v : Text) (words : List Text) → arg_by_id c own.id ≡ Some own → own.defaults ≡ v ∷ []
+        → level_fault level [] nothing_held words false [] ≡ [] → Read own (one_of own.id (rows_after c [] words))
+    own_value own v words at default e =
         let rows = (settled c (walk c [] nothing_held words).held).rows in
-        reads (fold with_default rows c) (subst (λ xs. has_row own.id (fold with_default rows xs) ≡ true) (sym split) (there before rows))
-        (defaults_pass c rows good (words_pass words e))
+        reads own (rows_after c [] words) at (there c rows at) (words_pass words e)
       where
-        there : (xs : List Rule) (rows : List Row) → has_row own.id (fold with_default rows (xs ++ own ∷ after)) ≡ true
-        there [] rows = rows_stay own.id after (with_default rows own) (default_row own v rows default)
-        there (x ∷ xs) rows = there xs (with_default rows x)
+        there : (xs : List Rule) (rows : List Row) → find (λ a. bytes_eq a.id own.id) xs ≡ Some own → has_row own.id (fold with_default rows xs) ≡ true
+        there [] rows f = cc
+        there (x ∷ xs) rows f = go (bytes_eq x.id own.id) f (there xs (with_default rows x))
+          where
+            go : (b : Bool) → cond b (Some x) (find (λ a. bytes_eq a.id own.id) xs) ≡ Some own
+                → (find (λ a. bytes_eq a.id own.id) xs ≡ Some own → has_row own.id (fold with_default (with_default rows x) xs) ≡ true)
+                → has_row own.id (fold with_default (with_default rows x) xs) ≡ true
+            go true g later =
+                let same : own ≡ x = sym (some_same x own g) in
+                rows_stay own.id xs (with_default rows x) (subst (λ (a : Rule). has_row own.id (with_default rows a) ≡ true) same (default_row own v rows default))
+            go false g later = later g
+
+    -- it has none, or one that passed its parser
+    pub own_if_given : (own : Rule) (words : List Text) → arg_by_id c own.id ≡ Some own → level_fault level [] nothing_held words false [] ≡ []
+        → (one_of own.id (rows_after c [] words) ≡ None) ⊎ Read own (one_of own.id (rows_after c [] words))
+    own_if_given own words at e = go (has_row own.id (rows_after c [] words)) refl
+      where
+        go : (b : Bool) → has_row own.id (rows_after c [] words) ≡ b
+            → (one_of own.id (rows_after c [] words) ≡ None) ⊎ Read own (one_of own.id (rows_after c [] words))
+        go true there = inr (reads own (rows_after c [] words) at there (words_pass words e))
+        go false there = inl (reads_none own.id (rows_after c [] words) there)

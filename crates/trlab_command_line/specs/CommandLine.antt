@@ -2,6 +2,7 @@
 use Rattle.std.specs.Prelude.{ℕ, [], ◌∷◌, Some, codes, pos, true}
 use Rattle.clap.specs.Words.{App, Rule, Text, new_app, new_rule, with_rule, with_subcommand}
 use Rattle.clap.specs.Simple.{on_top}
+use Rattle.clap.specs.declared.builder.action.ArgAction.TheVariants.{SetTrue}
 use Rattle.clap.specs.declared.builder.value_parser.ValueParser.TheVariants.{Signed}
 use Rattle.trlab_bounds.specs.declared.runs.TheConstants.{MOST_RUNNERS, MOST_STEPS, MOST_WORKERS}
 
@@ -34,22 +35,39 @@ every_option = count_option (codes "every") MOST_STEPS
 abbrev pub from_option : Rule
 from_option = number_option (codes "from") 0 MOST_STEPS (codes "0")
 
+-- the flag `--progress`
+abbrev pub progress_flag : Rule
+progress_flag = record (new_rule (codes "progress")) { long = Some (codes "progress"); action = Some SetTrue }
+
+-- the first argument of `explain`: a word
+abbrev pub what_argument : Rule
+what_argument = new_rule (codes "what")
+
+-- the second argument of `explain`: a number
+abbrev pub number_argument : Rule
+number_argument = record (new_rule (codes "number")) { parser = Some (Signed (pos 0) (pos 4294967295)) }
+
 -- the command `check`, which has no options
 abbrev pub check_command : App
 check_command = new_app (codes "check")
 
--- the command `run`, with the option `--workers`
+-- the command `run`, with the options `--workers` and `--progress`
 abbrev pub run_command : App
-run_command = with_rule (new_app (codes "run")) workers_option
+run_command = with_rule (with_rule (new_app (codes "run")) workers_option) progress_flag
 
--- the command `sweep`, with the options `--runners` and `--workers`
+-- the command `sweep`, with the options `--runners`, `--workers` and `--progress`
 abbrev pub sweep_command : App
-sweep_command = with_rule (with_rule (new_app (codes "sweep")) runners_option) workers_option
+sweep_command = with_rule (with_rule (with_rule (new_app (codes "sweep")) runners_option) workers_option) progress_flag
 
--- the command `series`, with the options `--every`, `--from` and `--workers`
+-- the command `series`, with the options `--every`, `--from`, `--workers` and `--progress`
 abbrev pub series_command : App
 series_command =
-    with_rule (with_rule (with_rule (new_app (codes "series")) every_option) from_option) workers_option
+    with_rule (with_rule (with_rule (with_rule (new_app (codes "series")) every_option) from_option) workers_option)
+    progress_flag
+
+-- the command `explain`, with its two arguments
+abbrev pub explain_command : App
+explain_command = with_rule (with_rule (new_app (codes "explain")) what_argument) number_argument
 
 -- the program, which has a version, and which no command line may call without a command; its words
 -- begin behind its name
@@ -64,5 +82,5 @@ program = on_top (λ s. record s {
 -- the command line: the program with its commands
 abbrev pub command_line : App
 command_line =
-    with_subcommand (with_subcommand (with_subcommand (with_subcommand program check_command.top)
-    run_command.top) sweep_command.top) series_command.top
+    with_subcommand (with_subcommand (with_subcommand (with_subcommand (with_subcommand program check_command.top)
+    run_command.top) sweep_command.top) series_command.top) explain_command.top

@@ -1,14 +1,16 @@
 -- What the words of `explain` ask for.
-use Rattle.std.specs.Prelude.{ℕ, ◌||◌, ◌&&◌, List, [], ◌∷◌, Option, None, Some, Result, Ok, codes, if◌then◌else◌}
+use Rattle.std.specs.Prelude.{ℕ, List, [], ◌∷◌, Option, None, Some, Result, Ok, Err, codes, if◌then◌else◌}
 use Rattle.std.specs.Str.{bytes_eq}
+use Rattle.clap.specs.Words.{Kinds, Row, Text as Word, first_of}
+use Rattle.clap.specs.declared.error.kind.ErrorKind.{ErrorKind}
+use Rattle.clap.specs.declared.error.kind.ErrorKind.TheVariants.{InvalidValue, MissingRequiredArgument, UnknownArgument}
 use Rattle.trlab_advice.specs.declared.subject.Subject.{Subject}
 use Rattle.trlab_advice.specs.declared.subject.Subject.TheVariants.{Job, Sweep, Check}
 use Rattle.trlab_wording.specs.declared.topics.Topic.{Topic}
 use Rattle.trlab_wording.specs.declared.topics.Topic.TheVariants.{Cause, Reason}
-use Rattle.trlab_texts.specs.declared.fault.Cause.{Cause as OfText}
-use Rattle.trlab_texts.specs.Words.{number_of, within}
+use Rattle.trlab_command_line.specs.Numbers.{number_in}
 use Rattle.trlab_command_line.specs.declared.explain.Explaining.{Explaining}
-use Rattle.trlab_command_line.specs.declared.explain.Explaining.TheVariants.{Text, Number, Help, Nothing}
+use Rattle.trlab_command_line.specs.declared.explain.Explaining.TheVariants.{Text, Number}
 
 -- what a text is read as by the command of this name
 abbrev pub subject_named : List ℕ → Option Subject
@@ -17,49 +19,35 @@ subject_named name =
     else if bytes_eq name (codes "sweep") then Some Sweep
     else if bytes_eq name (codes "check") then Some Check else None
 
--- what a word asks for that names no command
-abbrev pub other_word : List ℕ → Explaining
-other_word word = if bytes_eq word (codes "--help") || bytes_eq word (codes "-h") then Help else Nothing
-
--- what one word asks for, by the command that it names
-abbrev pub one_word : List ℕ → Option Subject → Explaining
-one_word word None = other_word word
-one_word word (Some subject) = Text (Some subject)
-
--- what the word behind `explain` asks for
-abbrev pub explain_word : List ℕ → Explaining
-explain_word word = one_word word (subject_named word)
-
 -- what is named by the word before a number
 abbrev pub topic_named : List ℕ → Option Topic
 topic_named name =
     if bytes_eq name (codes "cause") then Some Cause
     else if bytes_eq name (codes "reason") then Some Reason else None
 
--- what is asked for by a topic and a number of it
-abbrev pub page_on : Option Topic → Result ℕ OfText → Explaining
-page_on (Some topic) (Ok number) = Number topic number
-page_on _ _ = Nothing
+-- what is asked for by what a word names, a command or a topic, and the number behind it, or why that is refused
+abbrev pub asked_by : Option Subject → Option Topic → Option ℕ → Result Explaining ErrorKind
+asked_by (Some subject) topic None = Ok (Text (Some subject))
+asked_by (Some subject) topic (Some number) = Err UnknownArgument
+asked_by None (Some topic) (Some number) = Ok (Number topic number)
+asked_by None (Some topic) None = Err MissingRequiredArgument
+asked_by None None number = Err InvalidValue
 
--- what a name and a number behind `explain` ask for
-abbrev pub number_page : List ℕ → List ℕ → Explaining
-number_page name word = page_on (topic_named name) (within 0 4294967295 (number_of word))
+-- what is asked for by the two arguments of `explain`, where they are given
+abbrev pub explained : Option Word → Option ℕ → Result Explaining ErrorKind
+explained None number = Ok (Text None)
+explained (Some name) number = asked_by (subject_named name) (topic_named name) number
 
--- what the words behind `explain` ask for
-abbrev pub behind_explain : List (List ℕ) → Explaining
-behind_explain [] = Text None
-behind_explain (word ∷ []) = explain_word word
-behind_explain (name ∷ number ∷ []) = number_page name number
-behind_explain (word ∷ other ∷ more ∷ rest) = Nothing
+-- the same by the matches of `explain`
+abbrev pub explained_in : List Row → Result Explaining ErrorKind
+explained_in rows = explained (first_of (codes "what") rows) (number_in (codes "number") rows)
 
--- what two words ask for that are `help explain`
-abbrev pub help_words : List ℕ → List (List ℕ) → Option Explaining
-help_words first (second ∷ []) =
-    if bytes_eq first (codes "help") && bytes_eq second (codes "explain") then Some Help else None
-help_words first rest = None
+-- the kinds of error that an answer has
+abbrev pub kinds_of : Result Explaining ErrorKind → Kinds
+kinds_of (Ok asked) = []
+kinds_of (Err kind) = kind ∷ []
 
--- what the words of a command line ask for, where the first is `explain`, or they are `help explain`
-abbrev pub explain_words : List (List ℕ) → Option Explaining
-explain_words [] = None
-explain_words (first ∷ rest) =
-    if bytes_eq first (codes "explain") then Some (behind_explain rest) else help_words first rest
+-- the kinds of error of a command that was entered, where its words have no other: its arguments do not go together
+abbrev pub pair_fault : Option (Word × List Row) → Kinds
+pair_fault None = []
+pair_fault (Some (name, rows)) = if bytes_eq name (codes "explain") then kinds_of (explained_in rows) else []

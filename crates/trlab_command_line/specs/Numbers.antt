@@ -1,9 +1,10 @@
--- The numbers that options give.
-use Rattle.std.specs.Prelude.{◌≡◌, ℕ, List, Some, pos}
+-- What arguments give.
+use Rattle.std.specs.Prelude.{◌≡◌, ◌⊎◌, ℕ, Bool, List, Option, None, Some, codes, false, option_map, pos}
 use Rattle.std.specs.Str.Parse.{digits_value, without_leading_plus}
 use Rattle.clap.specs.Words.{Row, Text, one_of}
 use Rattle.clap.specs.Lexer.{without_minus}
-use Rattle.clap.specs.Values.{IsSignedIn}
+use Rattle.clap.specs.Values.{Accepts, IsSignedIn, bool_text}
+use Rattle.clap.specs.declared.builder.value_parser.ValueParser.TheVariants.{Bool as OfBool}
 
 -- among the matches of a command, the value of the option is the decimal numeral of this number
 abbrev pub GivesNumber : Text → List Row → ℕ → Type 0
@@ -18,3 +19,24 @@ HasValueFrom option least most rows v =
 -- the same, from 1 on
 abbrev pub HasValue : Text → ℕ → List Row → Text → Type 0
 HasValue option most rows v = HasValueFrom option 1 most rows v
+
+-- the number of a decimal numeral
+abbrev pub numeral_value : Text → ℕ
+numeral_value numeral = digits_value 10 (without_leading_plus numeral)
+
+-- the number that an argument has among the matches of a command, where it is given
+abbrev pub number_in : Text → List Row → Option ℕ
+number_in argument rows = option_map numeral_value (one_of argument rows)
+
+-- among the matches of a command, the argument is not given, or has a value that its parser took: a number of 32 bits
+abbrev pub MayHaveNumber : Text → List Row → Type 0
+MayHaveNumber argument rows =
+    (one_of argument rows ≡ None) ⊎ ((v : Text) × HasValueFrom argument 0 4294967295 rows v)
+
+-- what a flag has among the matches of a command, by whether it is given
+abbrev pub flag_text : Bool → Option Text
+flag_text given = Some (bool_text given)
+
+-- among the matches of a command, the flag has a value that its parser took
+abbrev pub HasFlag : Text → List Row → Type 0
+HasFlag flag rows = (v : Text) × (one_of flag rows ≡ Some v) × Accepts false OfBool v

@@ -3,12 +3,15 @@
 ghost use Rattle.std.specs.Prelude.{◌≡◌, IfOk, false};
 ghost use Rattle.clap.specs.Words.{app_of};
 ghost use Rattle.clap.specs.declared.builder.command.Command.TheViews.{out-Command as fields_of};
-ghost use Rattle.trlab_command_line.specs.CommandLine.{check_command, command_line, program, run_command, series_command, sweep_command};
+ghost use Rattle.trlab_command_line.specs.CommandLine.{check_command, command_line, explain_command, program, run_command, series_command, sweep_command};
 
-use crate::counts::{every_option, from_option, runners_option, workers_option};
+use crate::counts::{
+    every_option, from_option, number_argument, progress_flag, runners_option, what_argument,
+    workers_option,
+};
 use crate::help::{
-    ABOUT, AFTER, CHECK_ABOUT, CHECK_AFTER, RUN_ABOUT, RUN_AFTER, SERIES_ABOUT, SERIES_AFTER,
-    SWEEP_ABOUT, SWEEP_AFTER, VERSION,
+    ABOUT, AFTER, CHECK_ABOUT, CHECK_AFTER, EXPLAIN_ABOUT, EXPLAIN_AFTER, EXPLAIN_USAGE, RUN_ABOUT,
+    RUN_AFTER, SERIES_ABOUT, SERIES_AFTER, SWEEP_ABOUT, SWEEP_AFTER, VERSION,
 };
 use clap::Command;
 use std::alloc::{AllocError, Global};
@@ -31,7 +34,8 @@ fn run_command<'a>(alloc: Global) -> Result<Command<'a>, AllocError>
     Command::new(alloc, "run")
         .about(RUN_ABOUT)
         .after_help(RUN_AFTER)
-        .arg(workers_option(alloc))
+        .arg(workers_option(alloc))?
+        .arg(progress_flag(alloc))
 }
 
 /// The command `sweep`.
@@ -43,7 +47,8 @@ fn sweep_command<'a>(alloc: Global) -> Result<Command<'a>, AllocError>
         .about(SWEEP_ABOUT)
         .after_help(SWEEP_AFTER)
         .arg(runners_option(alloc))?
-        .arg(workers_option(alloc))
+        .arg(workers_option(alloc))?
+        .arg(progress_flag(alloc))
 }
 
 /// The command `series`.
@@ -56,7 +61,21 @@ fn series_command<'a>(alloc: Global) -> Result<Command<'a>, AllocError>
         .after_help(SERIES_AFTER)
         .arg(every_option(alloc))?
         .arg(from_option(alloc))?
-        .arg(workers_option(alloc))
+        .arg(workers_option(alloc))?
+        .arg(progress_flag(alloc))
+}
+
+/// The command `explain`.
+pub(crate) fn explain_command<'a>(alloc: Global) -> Result<Command<'a>, AllocError>
+    ensures app { IfOk result (λ command. app_of command ≡ explain_command) }
+    ensures local { IfOk result (λ command. (fields_of command).has_globals ≡ false) }
+{
+    Command::new(alloc, "explain")
+        .about(EXPLAIN_ABOUT)
+        .override_usage(EXPLAIN_USAGE)
+        .after_help(EXPLAIN_AFTER)
+        .arg(what_argument(alloc))?
+        .arg(number_argument(alloc))
 }
 
 /// The program, of which one command has to be named, without its commands.
@@ -81,5 +100,6 @@ pub(crate) fn command_line<'a>(alloc: Global) -> Result<Command<'a>, AllocError>
         .subcommand(check_command(alloc))?
         .subcommand(run_command(alloc)?)?
         .subcommand(sweep_command(alloc)?)?
-        .subcommand(series_command(alloc)?)
+        .subcommand(series_command(alloc)?)?
+        .subcommand(explain_command(alloc)?)
 }

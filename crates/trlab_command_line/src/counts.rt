@@ -1,13 +1,15 @@
-//! The options that take a number, and the number that each has among the matches.
+//! The arguments of the commands, and what each has among the matches.
 
 ghost use Rattle.std.specs.Prelude.{◌≡◌, ℕ, ◌≤◌, ◌<◌, ◌^◌, false};
-ghost use Rattle.clap.specs.Words.{Text, rows_of, rule_of};
+ghost use Rattle.clap.specs.Words.{Text, one_of, rows_of, rule_of};
 ghost use Rattle.clap.specs.Matches.{found_of};
-ghost use Rattle.trlab_command_line.specs.CommandLine.{count_option, every_option, from_option, number_option, runners_option, workers_option};
-ghost use Rattle.trlab_command_line.specs.Numbers.{GivesNumber, HasValue, HasValueFrom};
+ghost use Rattle.trlab_command_line.specs.CommandLine.{count_option, every_option, from_option, number_argument, number_option, progress_flag, runners_option, what_argument, workers_option};
+ghost use Rattle.trlab_command_line.specs.Numbers.{GivesNumber, HasFlag, HasValue, HasValueFrom, MayHaveNumber, flag_text, number_in};
 
-use crate::help::{EVERY_HELP, FROM_HELP, RUNNERS_HELP, WORKERS_HELP};
-use clap::{Arg, ArgMatches, value_parser};
+use crate::help::{
+    EVERY_HELP, FROM_HELP, NUMBER_HELP, PROGRESS_HELP, RUNNERS_HELP, WHAT_HELP, WORKERS_HELP,
+};
+use clap::{Arg, ArgAction, ArgMatches, value_parser};
 use std::alloc::Global;
 use trlab_bounds::runs::{MOST_RUNNERS, MOST_STEPS, MOST_WORKERS};
 
@@ -71,6 +73,35 @@ pub(crate) fn from_option<'a>(alloc: Global) -> Arg<'a>
     number_option(alloc, "from", 0, MOST_STEPS, "0", FROM_HELP)
 }
 
+/// The flag `--progress`.
+pub(crate) fn progress_flag<'a>(alloc: Global) -> Arg<'a>
+    ensures rule { rule_of result ≡ progress_flag }
+    ensures local { result.global ≡ false }
+{
+    Arg::new(alloc, "progress")
+        .long("progress")
+        .action(ArgAction::SetTrue)
+        .help(PROGRESS_HELP)
+}
+
+/// The argument of `explain` that says what is explained.
+pub(crate) fn what_argument<'a>(alloc: Global) -> Arg<'a>
+    ensures rule { rule_of result ≡ what_argument }
+    ensures local { result.global ≡ false }
+{
+    Arg::new(alloc, "what").help(WHAT_HELP)
+}
+
+/// The argument of `explain` that is the number of a cause or a reason.
+pub(crate) fn number_argument<'a>(alloc: Global) -> Arg<'a>
+    ensures rule { rule_of result ≡ number_argument }
+    ensures local { result.global ≡ false }
+{
+    Arg::new(alloc, "number")
+        .value_parser(value_parser!(u32))
+        .help(NUMBER_HELP)
+}
+
 /// The number that an option has among the matches of its command.
 pub(crate) fn number_of(matches: &ArgMatches, option: &str) -> u32
     requires { (least : ℕ) × (most : ℕ) × (v : Text) × (most < 2 ^ 32)
@@ -94,4 +125,20 @@ pub(crate) fn count_of(matches: &ArgMatches, option: &str) -> u32
     ensures few { result ≤ 16 }
 {
     number_of(matches, option)
+}
+
+/// The number that an argument has among the matches of its command, where it is given.
+pub(crate) fn given_number(matches: &ArgMatches, argument: &str) -> Option<u32>
+    requires { MayHaveNumber (argument.now) (rows_of (found_of matches.now)) }
+    ensures { result ≡ number_in (argument.now) (rows_of (found_of matches.now)) }
+{
+    matches.get_one::<u32>(argument)
+}
+
+/// Whether a flag is given among the matches of its command.
+pub(crate) fn flag_of(matches: &ArgMatches, flag: &str) -> bool
+    requires { HasFlag (flag.now) (rows_of (found_of matches.now)) }
+    ensures { one_of (flag.now) (rows_of (found_of matches.now)) ≡ flag_text result }
+{
+    matches.get_flag(flag)
 }

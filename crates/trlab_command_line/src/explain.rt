@@ -1,23 +1,25 @@
-//! The words of `explain`: which text is explained, and as what.
+//! What `explain` asks for, by the words that `clap` gives it.
 
-ghost use Rattle.std.specs.Prelude.{◌≡◌, map, string_bytes};
-ghost use Rattle.trlab_command_line.specs.Explains.{explain_word, explain_words, help_words, number_page, subject_named, topic_named};
+ghost use Rattle.std.specs.Prelude.{◌≡◌, IfOk, Ok, codes, option_map};
+ghost use Rattle.clap.specs.Words.{FailsBy, found_of, kind_of, rows_of};
+ghost use Rattle.trlab_command_line.specs.Explains.{explained, explained_in, kinds_of, subject_named, topic_named};
+ghost use Rattle.trlab_command_line.specs.Numbers.{MayHaveNumber};
 
+use crate::commands::explain_command;
+use crate::counts::given_number;
+use clap::error::ErrorKind;
+use clap::{ArgMatches, Error};
+use std::alloc::{AllocError, Global};
 use trlab_advice::Subject;
-use trlab_texts::word::number_from;
 use trlab_wording::Topic;
 
-/// What the words of `explain` ask for.
+/// What is explained.
 #[derive(Clone, Copy, Debug, PartialEq, Eq)]
 pub enum Explaining {
     /// The text on standard input, as what it is wanted to be, or as what its first word says.
     Text(Option<Subject>),
     /// What the cause or the reason of a number means.
     Number(Topic, u32),
-    /// Help.
-    Help,
-    /// Nothing that there is: the words are refused.
-    Nothing,
 }
 
 /// What a text is read as by the command of this name.
@@ -35,17 +37,6 @@ fn subject_named(name: &[u8]) -> Option<Subject>
     }
 }
 
-/// What one word behind `explain` asks for.
-fn explain_word(word: &[u8]) -> Explaining
-    ensures { result ≡ explain_word word.now }
-{
-    match subject_named(word) {
-        Some(subject) => Explaining::Text(Some(subject)),
-        None if word == b"--help".as_slice() || word == b"-h".as_slice() => Explaining::Help,
-        None => Explaining::Nothing,
-    }
-}
-
 /// What is named by the word before a number.
 fn topic_named(name: &[u8]) -> Option<Topic>
     ensures { result ≡ topic_named name.now }
@@ -59,66 +50,60 @@ fn topic_named(name: &[u8]) -> Option<Topic>
     }
 }
 
-/// What a name and a number behind `explain` ask for.
-fn number_page(name: &[u8], word: &[u8]) -> Explaining
-    ensures { result ≡ number_page name.now word.now }
+/// What a word and the number behind it ask for, or the kind of error where they do not go together.
+fn explained(word: Option<&str>, number: Option<u32>) -> Result<Explaining, ErrorKind>
+    ensures { result ≡ explained (option_map (λ s. s.now) word.entry) number }
 {
-    match (topic_named(name), number_from(0, u32::MAX, word)) {
-        (Some(topic), Ok(number)) => Explaining::Number(topic, number),
-        _ => Explaining::Nothing,
-    }
-}
-
-/// Is the word behind a topic a number?
-fn is_number(word: &String) -> bool {
-    number_from(0, u32::MAX, word.as_bytes()).is_ok()
-}
-
-/// The first word behind `explain` that it does not take, where the words are refused; nothing where
-/// a number is missing.
-pub fn word_not_taken(words: &[String]) -> Option<&String> {
-    let name = words.get(1)?.as_bytes();
-    let place = match (explain_word(name), topic_named(name)) {
-        (Explaining::Nothing, None) => 1,
-        (Explaining::Nothing, Some(_)) if words.get(2).is_some_and(is_number) => 3,
-        _ => 2,
+    let Some(word) = word else {
+        return Ok(Explaining::Text(None));
     };
-    words.get(place)
+    let name = word.as_bytes();
+    match (subject_named(name), topic_named(name), number) {
+        (Some(subject), _, None) => Ok(Explaining::Text(Some(subject))),
+        (Some(_), _, Some(_)) => Err(ErrorKind::UnknownArgument),
+        (None, Some(topic), Some(number)) => Ok(Explaining::Number(topic, number)),
+        (None, Some(_), None) => Err(ErrorKind::MissingRequiredArgument),
+        (None, None, _) => Err(ErrorKind::InvalidValue),
+    }
 }
 
-/// What two words ask for that are `help explain`.
-fn help_words(first: &[u8], rest: &[String]) -> Option<Explaining>
-    ensures { result ≡ help_words first.now (map string_bytes rest.now) }
-{
-    match rest.split_first() {
-        Some((second, more)) if more.is_empty() => {
-            if first == b"help".as_slice() && second.as_bytes() == b"explain".as_slice() {
-                Some(Explaining::Help)
-            } else {
-                None
-            }
+/// Why a word, or one with a number behind it or none, is refused.
+fn refusal_text(alloc: Global, kind: ErrorKind, word: &str) -> Result<String, AllocError> {
+    match kind {
+        ErrorKind::UnknownArgument => {
+            format!(in alloc; "`explain {word}` takes no number behind it")
         }
-        _ => None,
+        ErrorKind::MissingRequiredArgument => {
+            format!(in alloc; "`explain {word}` wants a number behind it")
+        }
+        _ => format!(in alloc;
+            "`explain` takes no {word:?} here\n  [possible words: run, sweep, check, cause, reason]"
+        ),
     }
 }
 
-/// What the words after the program's name ask for, where the first is `explain`, or they are
-/// `help explain`.
-pub fn explain_words(words: &[String]) -> Option<Explaining>
-    ensures { result ≡ explain_words (map string_bytes words.now) }
+/// The error of a kind, as `clap` prints it of `explain`.
+fn refusal(alloc: Global, kind: ErrorKind, word: Option<&str>) -> Result<Error, AllocError>
+    ensures { IfOk result (λ error. kind_of error ≡ kind) }
 {
-    let (first, rest) = words.split_first()?;
-    if first.as_bytes() != b"explain".as_slice() {
-        return help_words(first.as_bytes(), rest);
-    }
-    match rest.split_first() {
-        None => Some(Explaining::Text(None)),
-        Some((word, more)) => match more.split_first() {
-            None => Some(explain_word(word.as_bytes())),
-            Some((number, others)) if others.is_empty() => {
-                Some(number_page(word.as_bytes(), number.as_bytes()))
-            }
-            Some(_) => Some(Explaining::Nothing),
-        },
+    let text = refusal_text(alloc, kind, word.unwrap_or(""))?;
+    let mut command = explain_command(alloc)?;
+    command.error(kind, &text)
+}
+
+/// What `explain` asks for, by its matches.
+///
+/// # Errors
+///
+/// Where its arguments do not go together, and want of memory.
+pub(crate) fn explaining_of(alloc: Global, matches: &ArgMatches) -> Result<Explaining, Error>
+    requires { MayHaveNumber (codes "number") (rows_of (found_of matches.now)) }
+    ensures answer { IfOk result (λ asked. explained_in (rows_of (found_of matches.now)) ≡ Ok asked) }
+    ensures fault { FailsBy (kinds_of (explained_in (rows_of (found_of matches.now)))) result }
+{
+    let word = matches.get_str("what");
+    match explained(word, given_number(matches, "number")) {
+        Ok(asked) => Ok(asked),
+        Err(kind) => Err(refusal(alloc, kind, word)?),
     }
 }

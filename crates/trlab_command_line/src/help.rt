@@ -142,14 +142,28 @@ pub const WORKERS_HELP: &str =
 pub const RUNNERS_HELP: &str =
     "How many runners may share the roads, 1 to 16; the output is the same";
 
-/// The help of `explain`.
-pub const EXPLAIN_HELP: &str = "\
-Says in words what is wrong with a text and how to mend it, or what a good one does
+/// What the flag of `run`, `sweep` and `series` is for.
+pub const PROGRESS_HELP: &str =
+    "Tells on standard error how far the work is; the output is the same";
 
-Usage: trlab explain [run|sweep|check]
+/// What `explain` does.
+pub const EXPLAIN_ABOUT: &str =
+    "Says in words what is wrong with a text and how to mend it, or what a good one does";
+
+/// How `explain` is asked.
+pub const EXPLAIN_USAGE: &str = "\
+trlab explain [run|sweep|check]
        trlab explain cause K
-       trlab explain reason R
+       trlab explain reason R";
 
+/// What the first argument of `explain` is.
+pub const WHAT_HELP: &str = "How the text is read: run, sweep or check; or cause or reason";
+
+/// What the second argument of `explain` is.
+pub const NUMBER_HELP: &str = "The number of the cause or of the reason";
+
+/// What `explain` reads and writes.
+pub const EXPLAIN_AFTER: &str = "\
 Standard input:
   A job text, as `trlab run` reads it, a sweep text, as `trlab sweep` does, or
   a check text, as `trlab check` does. Without a word it is a job text where its

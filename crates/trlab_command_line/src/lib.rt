@@ -9,8 +9,7 @@ mod help;
 mod status;
 mod words;
 
-pub use explain::{Explaining, explain_words, word_not_taken};
-pub use help::EXPLAIN_HELP;
+pub use explain::Explaining;
 pub use status::{REFUSED_WORDS, status_of_print, status_of_words};
 pub use trlab_advice::Subject;
 pub use trlab_wording::Topic;

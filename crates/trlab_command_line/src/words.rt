@@ -1,13 +1,16 @@
 //! The words of the command line, as `clap` reads them.
 
-ghost use Rattle.std.specs.Prelude.{◌≡◌, ◌∷◌, [], IfOk, map, codes, string_bytes};
-ghost use Rattle.clap.specs.Words.{FailsBy, fault_of, subcommand_of};
+ghost use Rattle.std.specs.Prelude.{◌≡◌, ◌∷◌, [], IfOk, None, Some, false, map, codes, string_bytes};
+ghost use Rattle.clap.specs.Words.{FailsBy, found_of, rows_of, subcommand_of};
 ghost use Rattle.trlab_command_line.specs.CommandLine.{command_line};
-ghost use Rattle.trlab_command_line.specs.Requests.{Asks, HasCounts, IsNamedFirst};
+ghost use Rattle.trlab_command_line.specs.Explains.{pair_fault};
+ghost use Rattle.trlab_command_line.specs.Requests.{Asks, HasCounts, IsEntered, IsNamedFirst, words_fault};
+ghost use Rattle.trlab_command_line.specs.declared.explain.Explaining.TheVariants.{Text};
 
 use crate::commands::command_line;
-use crate::counts::{count_of, number_of};
-use clap::Error;
+use crate::counts::{count_of, flag_of, number_of};
+use crate::explain::{Explaining, explaining_of};
+use clap::{ArgMatches, Error};
 use std::alloc::Global;
 
 /// What the words of the command line ask for.
@@ -19,6 +22,8 @@ pub enum Wanted {
     Run {
         /// How many workers may share the work, 1 to 16.
         workers: u32,
+        /// Whether to tell how far the work is.
+        progress: bool,
     },
     /// To run the roads of the sweep text on standard input.
     Sweep {
@@ -26,6 +31,8 @@ pub enum Wanted {
         runners: u32,
         /// How many workers may share the work of each, 1 to 16.
         workers: u32,
+        /// Whether to tell how far the work is.
+        progress: bool,
     },
     /// To run the job text on standard input, and to count its windows.
     Series {
@@ -35,44 +42,69 @@ pub enum Wanted {
         every: u32,
         /// The step from which the windows are counted, 0 to 500000.
         from: u32,
+        /// Whether to tell how far the work is.
+        progress: bool,
     },
+    /// To explain a text, a cause or a reason.
+    Explain(Explaining),
+}
+
+/// What the command of a name asks for, by its matches.
+fn wanted_of(alloc: Global, name: &str, matches: &ArgMatches) -> Result<Wanted, Error>
+    requires { IsEntered name.now (rows_of (found_of matches.now)) }
+    ensures answer { IfOk result (Asks (Some (name.now, rows_of (found_of matches.now)))) }
+    ensures fault { FailsBy (pair_fault (Some (name.now, rows_of (found_of matches.now)))) result }
+    ensures counts { IfOk result HasCounts }
+{
+    match name {
+        "check" => Ok(Wanted::Check),
+        "run" => Ok(Wanted::Run {
+            workers: count_of(matches, "workers"),
+            progress: flag_of(matches, "progress"),
+        }),
+        "sweep" => Ok(Wanted::Sweep {
+            runners: count_of(matches, "runners"),
+            workers: count_of(matches, "workers"),
+            progress: flag_of(matches, "progress"),
+        }),
+        "series" => Ok(Wanted::Series {
+            workers: count_of(matches, "workers"),
+            every: number_of(matches, "every"),
+            from: number_of(matches, "from"),
+            progress: flag_of(matches, "progress"),
+        }),
+        "explain" => Ok(Wanted::Explain(explaining_of(alloc, matches)?)),
+        _ => unreachable!(),
+    }
 }
 
 /// What the words after the program's name ask for: `check`, `run` with `--workers n`, `sweep` with
-/// `--runners n` and `--workers n`, or `series` with `--every n`, `--from s` and `--workers n`. Each number of
-/// runners or workers is from 1 to 16, and 1 where it is not given; n of `--every` is from 1 to 500000, or 1, and
-/// s from 0 to 500000, or 0.
+/// `--runners n` and `--workers n`, `series` with `--every n`, `--from s` and `--workers n`, or `explain` with a
+/// command, or a topic and a number. Each number of runners or workers is from 1 to 16, and 1 where it is not
+/// given; n of `--every` is from 1 to 500000, or 1, and s from 0 to 500000, or 0. `run`, `sweep` and `series` take
+/// `--progress` too.
 ///
 /// # Errors
 ///
-/// What `clap` answers where the words ask for help or are refused, and for want of memory.
+/// What `clap` answers where the words ask for help or are refused, an error of `clap` where the arguments of
+/// `explain` do not go together, and want of memory.
 pub fn read_words(alloc: Global, words: &[String]) -> Result<Wanted, Error>
     ensures answer { IfOk result (Asks (subcommand_of command_line (map string_bytes words.now))) }
-    ensures fault { FailsBy (fault_of command_line (map string_bytes words.now)) result }
+    ensures fault { FailsBy (words_fault (map string_bytes words.now)) result }
     ensures counts { IfOk result HasCounts }
     ensures named { IfOk result (IsNamedFirst (map string_bytes words.now)) }
     ensures one { map string_bytes words.now ≡ codes "run" ∷ []
-        → IfOk result (λ wanted. wanted ≡ Wanted.Run 1) }
+        → IfOk result (λ wanted. wanted ≡ Wanted.Run 1 false) }
     ensures ones { map string_bytes words.now ≡ codes "sweep" ∷ []
-        → IfOk result (λ wanted. wanted ≡ Wanted.Sweep 1 1) }
+        → IfOk result (λ wanted. wanted ≡ Wanted.Sweep 1 1 false) }
     ensures every_step { map string_bytes words.now ≡ codes "series" ∷ []
-        → IfOk result (λ wanted. wanted ≡ Wanted.Series 1 1 0) }
+        → IfOk result (λ wanted. wanted ≡ Wanted.Series 1 1 0 false) }
+    ensures any_text { map string_bytes words.now ≡ codes "explain" ∷ []
+        → IfOk result (λ wanted. wanted ≡ Wanted.Explain (Text None)) }
 {
     let matches = command_line(alloc)?.try_get_matches_from(words)?;
     match matches.subcommand() {
-        Some(("check", _)) => Ok(Wanted::Check),
-        Some(("run", run)) => Ok(Wanted::Run {
-            workers: count_of(run, "workers"),
-        }),
-        Some(("sweep", sweep)) => Ok(Wanted::Sweep {
-            runners: count_of(sweep, "runners"),
-            workers: count_of(sweep, "workers"),
-        }),
-        Some(("series", series)) => Ok(Wanted::Series {
-            workers: count_of(series, "workers"),
-            every: number_of(series, "every"),
-            from: number_of(series, "from"),
-        }),
-        _ => unreachable!(),
+        Some((name, entered)) => wanted_of(alloc, name, entered),
+        None => unreachable!(),
     }
 }

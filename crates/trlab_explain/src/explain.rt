@@ -16,7 +16,7 @@ use crate::job::explain_job;
 use crate::sweep::explain_sweep;
 use std::alloc::{AllocError, AllocGlobal, Global};
 use trlab_advice::{Subject, subject_of};
-use trlab_campaign::{Cause, End, ReadFault, Sink, Source, read_text, write_output};
+use trlab_campaign::{Cause, End, Engine, Sink, Source, run_engine, write_output};
 use trlab_prose::Page;
 
 /// Whether a text that is read so is refused, and the page on it.
@@ -54,6 +54,27 @@ pub fn write_told<K: Sink>(told: Result<(bool, Page), AllocError>, writer: &mut 
     }
 }
 
+/// The engine of explanations, with what a text is wanted to be.
+#[derive(Drop)]
+struct Explainer {
+    subject: Option<Subject>,
+}
+
+impl Engine for Explainer {
+    ghost is_ready = { λ _. Unit {0} };
+
+    ghost outputs = { λ engine text. Explains engine.subject text };
+
+    fn write<K: Sink>(self, alloc: Global, text: &[u8], writer: &mut K) -> End {
+        let subject = self.subject.unwrap_or(subject_of(text));
+        write_told(explain_as(alloc, subject, text), writer)
+    }
+
+    fn write_too_big<K: Sink>(self, alloc: Global, writer: &mut K) -> End {
+        write_told(too_big_page(alloc), writer)
+    }
+}
+
 /// Reads a text, and writes what is wrong with it and how it may be mended, or what it will do: as
 /// the text that it is wanted to be, or else as what its first word says.
 ///
@@ -79,14 +100,5 @@ pub fn explain_text<R: AllocGlobal, S: Source, K: Sink>(
     // A reader that tells no bytes gives no more either.
     ensures stops { S.taken reader.new ≤ S.taken reader.old + (TEXT_LIMIT + 1) }
 {
-    let alloc = rt.alloc();
-    match read_text(alloc, reader) {
-        Ok(text) => {
-            let subject = subject.unwrap_or(subject_of(&text));
-            write_told(explain_as(alloc, subject, &text), writer)
-        }
-        Err(ReadFault::TooBig) => write_told(too_big_page(alloc), writer),
-        Err(ReadFault::Memory) => End::Memory,
-        Err(ReadFault::Device) => End::DeviceFault,
-    }
+    run_engine(rt.alloc(), Explainer { subject }, reader, writer)
 }

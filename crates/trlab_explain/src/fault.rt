@@ -5,7 +5,7 @@ ghost use Rattle.trlab_explain.specs.Explanations.{TellsFault};
 
 use crate::head::{push_below, push_fault_head};
 use std::alloc::{AllocError, Global};
-use trlab_advice::Subject;
+use trlab_advice::{Place, Subject};
 use trlab_prose::Page;
 use trlab_texts::Cause;
 use trlab_wording::fault_words;
@@ -25,8 +25,9 @@ pub fn explain_fault(
     ensures { IfOk result (λ told.
         TellsFault text.now (record { line = line; cause = cause }) told.0 told.1) }
 {
+    let place = Place::at(text, line);
     let mut page = Page::new(alloc);
-    push_fault_head(&mut page, text, line, cause)?;
-    push_below(&mut page, fault_words(alloc, subject, text, line, cause))?;
+    push_fault_head(&mut page, line, place.line, cause)?;
+    push_below(&mut page, fault_words(alloc, subject, place, cause))?;
     Ok((true, page))
 }

@@ -28,7 +28,7 @@ fn refused_page(
 {
     let mut page = Page::new(alloc);
     push_refused_line(&mut page, at, reason)?;
-    push_below(&mut page, refused_words(alloc, text, code, at, reason))?;
+    push_below(&mut page, refused_words(alloc, text, code, reason))?;
     Ok(page)
 }
 

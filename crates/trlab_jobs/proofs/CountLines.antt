@@ -18,14 +18,6 @@ abbrev pub ReadSoFar : ℕ → ℕ → Rest → List ℕ → ℕ → Rest → Ty
 ReadSoFar cells steps begin counts point place =
     behind counts (counts_from cells steps point place.number place.left) ≡ counts_from cells steps 1 begin.number begin.left
 
-behind_none : (said : Result (List ℕ) Fault) → behind [] said ≡ said
-behind_none (Ok counts) = refl
-behind_none (Err fault) = refl
-
--- before the first line
-pub none_read : (cells steps : ℕ) (begin : Rest) → ReadSoFar cells steps begin [] 1 begin
-none_read cells steps begin = behind_none (counts_from cells steps 1 begin.number begin.left)
-
 behind_more : (first : List ℕ) (count : ℕ) (said : Result (List ℕ) Fault) → behind first (said >>= λ counts. Ok (count ∷ counts)) ≡ behind (first ++ (count ∷ [])) said
 behind_more first count (Ok counts) = ap Ok (sym (append_assoc first (count ∷ []) counts))
 behind_more first count (Err fault) = refl

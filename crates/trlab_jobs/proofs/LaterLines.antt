@@ -6,7 +6,6 @@ use Rattle.trlab_rules.specs.Rules.{Programs}
 use Rattle.trlab_step.specs.Run.{Sheet}
 use Rattle.trlab_texts.specs.declared.fault.TextFault.{TextFault}
 use Rattle.trlab_texts.specs.declared.fault.TextFault.TheVariants.{At, Memory}
-use Rattle.trlab_bounds.specs.declared.runs.TheConstants.{MOST_LATER}
 use Rattle.trlab_texts.specs.Lines.{Rest}
 use Rattle.trlab_texts.specs.Reading.{Reading, say, ◌>>=◌, Reports}
 use Rattle.trlab_jobs.specs.Later.{later_rule, to_the_end, later_from, later_rules}
@@ -23,17 +22,6 @@ pub record ReadSoFar (lanes steps : ℕ) (start : Rest) (later : Sheet) (room le
   pub goes_on : (out : Result (Sheet × Rest) TextFault) → Reports (later_from room lanes steps least place) out
       → Reports (later_rules lanes steps start) (behind later out)
   pub kept : (rest : Sheet) → AreLaterRules lanes steps least rest → AreLaterRules lanes steps 0 (later ++ rest)
-
-behind_none : (out : Result (Sheet × Rest) TextFault) → out ≡ behind [] out
-behind_none (Ok found) = refl
-behind_none (Err fault) = refl
-
--- before the first line
-pub none_read : (lanes steps : ℕ) (start : Rest) → ReadSoFar lanes steps start [] MOST_LATER 0 start
-none_read lanes steps start = record {
-  goes_on = λ out told. subst (λ o. Reports (later_rules lanes steps start) o) (behind_none out) told;
-  kept = λ rest later. later;
-}
 
 behind_more : (later : Sheet) (entry : ℕ × Programs) (out : Result (Sheet × Rest) TextFault) → behind later (behind (entry ∷ []) out) ≡ behind (later ++ (entry ∷ [])) out
 behind_more later entry (Ok found) = ap (λ t. Ok (t, found.1)) (sym (append_assoc later (entry ∷ []) found.0))

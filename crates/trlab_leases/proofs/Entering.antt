@@ -16,10 +16,6 @@ use Rattle.trlab_leases.specs.declared.event.Reply.TheVariants.{Number}
 use Rattle.trlab_leases.specs.declared.fault.BookFault.TheVariants.{Ended, LanesMismatch, SheetFull}
 use Rattle.trlab_leases.proofs.InForce.{rises_from_0, none_in_force}
 
--- whether an entry begins before a step
-begins_before : ℕ → ℕ × Programs → Bool
-begins_before from = λ (entry : ℕ × Programs). ltb entry.0 from
-
 begin_last : (from : ℕ) (xs : Sheet) (last : ℕ × Programs) → BeginBy from (xs ++ last ∷ []) → last.0 ≤ from
 begin_last from [] last begin = begin.0
 begin_last from (x ∷ xs) last begin = begin_last from xs last begin.1

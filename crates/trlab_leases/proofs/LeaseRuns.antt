@@ -82,12 +82,6 @@ way_of_lease job lease road sum run is own base =
       rules = subst (λ s. AreInForce job.sheet s lease.applied) base own.rules;
     }
 
--- at the end of the way the run has come to the last road
-pub way_ends : (seed : Seed) (sheet : Sheet) (step : ℕ) (sum : StepTally) (last : Cells) → WayOn seed sheet step sum [] last
-    → IsUnderway (record { seed = seed; sheet = sheet; step = step; road = last; sum = sum })
-way_ends seed sheet step sum last way =
-    subst (λ (r : Cells). IsUnderway (record { seed = seed; sheet = sheet; step = step; road = r; sum = sum })) (sym way.leads) way.run
-
 -- the same, where the job is seen through its model
 pub way_begins : (state now : JobState) (lease : LeaseState) (road : Cells) (sum : StepTally) → state ≡ now → IsUnderway (run_of state.seed state.sheet state.done road sum) → IsLease lease
     → IsOwnRun now lease → lease.base.step ≡ now.done → WayOn (start_of now.seed) now.sheet state.done sum lease.applied lease.road

@@ -1,5 +1,6 @@
 pub mod Spelt
 pub mod Sheets
+pub mod Held
 pub mod Leases
 pub mod Machine
 pub mod Jobs

@@ -1,6 +1,7 @@
 //! One ordered step of a lease.
 
-ghost use Rattle.std.specs.Prelude.{◌≡◌, ◌↔◌, ◌+◌, ◌<◌, ◌^◌, ◌++◌, ◌∷◌, [], IsTrue, OnOk, OnErr, length};
+ghost use Rattle.std.specs.Prelude.{◌≡◌, ◌↔◌, ◌+◌, ◌<◌, ◌^◌, ◌++◌, ◌∷◌, [], IfOk, IsTrue, OnOk, OnErr, length};
+ghost use Rattle.std.specs.Arc.{arc_value};
 ghost use Rattle.trlab_step.specs.Answers.{dice_of};
 ghost use Rattle.trlab_step.specs.Laws.{IsRuleFor};
 ghost use Rattle.trlab_step.specs.Next.{IsNext};
@@ -14,9 +15,12 @@ use crate::order::Order;
 use crate::ran::Ran;
 use crate::suits::suits;
 use std::alloc::{AllocError, Global};
+use std::sync::Arc;
 use thiserror::Error;
 use trlab_machine::Dice;
-use trlab_step::{Asker, Nobody, take_step};
+use trlab_road::Road;
+use trlab_rules::Rule;
+use trlab_step::{Asker, Nobody, StepRoom, StepTally, take_step};
 
 /// Why a lease ran no step.
 #[derive(Clone, Copy, Debug, PartialEq, Eq, Error)]
@@ -72,7 +76,8 @@ impl Lease {
         requires rule { IsRuleFor (length self.old.road.lanes) rule.now }
         requires step { self.old.step + 1 < 2 ^ 32 }
         ensures ok { OnOk result ((tally : StepTally)
-            × IsNext rule.now (dice_of self.old.key.0 self.old.road_number self.old.step) self.old.road self.new.road tally
+            × IsNext rule.now (dice_of self.old.key.0 self.old.road_number self.old.step)
+            self.old.road self.new.road tally
             × (self.new ≡ one_more self.old rule.now tally self.new.road)) }
         ensures err { OnErr result (self.new ≡ self.old) }
     {
@@ -81,15 +86,7 @@ impl Lease {
         let shared = rule.share()?;
         let is_steady = stays_steady(&self.applied, self.is_steady, rule);
         let rule = rule.get();
-        let tally = take_step(
-            asker,
-            alloc,
-            &mut self.road,
-            &mut self.room,
-            rule,
-            &dice,
-            &mut Nobody,
-        )?;
+        let tally = step_alone(asker, alloc, &mut self.road, &mut self.room, rule, &dice)?;
         self.applied.push_reserved(Ran {
             rule: shared,
             tally,
@@ -108,6 +105,27 @@ impl Lease {
             && order.lease == self.number
             && order.step == self.step
             && suits(order.rule.get(), &self.road)
+    }
+}
+
+/// Takes a step of the road of a lease, which nothing else has: where something had, that would be told as want
+/// of memory.
+fn step_alone<A: Asker>(
+    asker: &A,
+    alloc: Global,
+    road: &mut Arc<Road, Global>,
+    room: &mut StepRoom,
+    rule: &Rule,
+    dice: &Dice,
+) -> Result<StepTally, AllocError>
+    requires ready { A.is_ready asker.now }
+    requires rule { IsRuleFor (length (arc_value road.old).lanes) rule.now }
+    ensures next { IfOk result (λ tally. IsNext rule.now dice.now (arc_value road.old) (arc_value road.new) tally) }
+    ensures same { OnErr result (arc_value road.new ≡ arc_value road.old) }
+{
+    match Arc::get_mut(road) {
+        Some(road) => take_step(asker, alloc, road, room, rule, dice, &mut Nobody),
+        None => Err(AllocError),
     }
 }
 

@@ -11,7 +11,7 @@ ghost use Rattle.trlab_leases.specs.Jobs.{run_of};
 ghost use Rattle.trlab_leases.specs.Leases.{suits};
 ghost use Rattle.trlab_leases.specs.Machine.{cancelling, giving_back, is_free, is_own, leasing, new_job, ordering, refused, replacing, revoking};
 
-use crate::boxed::BoxedSeed;
+use crate::boxed::{BoxedRoad, BoxedSeed};
 use crate::fault::BookFault;
 use crate::lease::Lease;
 use crate::order::Order;
@@ -20,7 +20,7 @@ use crate::snapshot::Snapshot;
 use crate::suits::suits;
 use std::alloc::{AllocError, Global};
 use std::marker::Model;
-use trlab_road::Road;
+use std::sync::Arc;
 use trlab_rules::Rule;
 use trlab_run::{no_tally, tally_sum};
 use trlab_step::{StepRoom, StepTally};
@@ -39,13 +39,12 @@ pub(crate) struct Job {
     cancelled: bool,
     /// The number of the lease that is out.
     out: Option<u32>,
-    /// The road at the steps done; none while it is that of the seed.
-    road: Option<Road>,
+    /// The road at the steps done.
+    road: BoxedRoad,
     tally: StepTally,
 }
 
 impl Model for Job {
-    ghost use Rattle.std.specs.Prelude.{unwrap_or};
     ghost use Rattle.trlab_leases.specs.Jobs.{IsJob};
     ghost use Rattle.trlab_leases.specs.Machine.{JobState, job_state};
 
@@ -55,7 +54,7 @@ impl Model for Job {
 
     ghost invariant = { λ job. IsJob
         (job_state job.seed job.sheet job.steps job.high job.done job.cancelled job.out)
-        (unwrap_or job.road job.seed.road) job.tally };
+        job.road job.tally };
 }
 
 impl Job {
@@ -66,6 +65,7 @@ impl Job {
         ensures { IfOk result (λ job. job ≡ new_job seed rule steps) }
     {
         let sheet = Sheet::new(alloc, rule)?;
+        let road = BoxedRoad::of_seed(seed.share()?);
         Ok(Job {
             seed,
             sheet,
@@ -74,19 +74,9 @@ impl Job {
             done: 0,
             cancelled: false,
             out: None,
-            road: None,
+            road,
             tally: no_tally(),
         })
-    }
-
-    /// The road and the tally at the steps done.
-    fn reached(&self) -> (&Road, StepTally)
-        ensures { IsUnderway (run_of self.now.seed self.now.sheet self.now.done result.0.now result.1) }
-    {
-        match &self.road {
-            Some(road) => (road, self.tally),
-            None => (&self.seed.get().road, self.tally),
-        }
     }
 
     /// Enters a rule, and answers the step from which on it is in force.
@@ -155,9 +145,9 @@ impl Job {
         ensures job { IfOk result (λ _. self.new ≡ (leasing index number self.old).job) }
         ensures same { OnErr result (self.new ≡ self.old) }
     {
-        let (reached, _) = self.reached();
-        let base_road = reached.copy(alloc)?;
-        let road = reached.copy(alloc)?;
+        let copy = self.road.get().copy(alloc)?;
+        let road = Arc::new(alloc, copy)?;
+        let base_road = self.road.share()?;
         let seed = self.seed.get();
         self.out = Some(number);
         Ok(Lease {
@@ -185,8 +175,7 @@ impl Job {
         if lease.road_number() != seed.number || !same_key(lease.key(), &seed.key) {
             return false;
         }
-        let (reached, _) = self.reached();
-        if !lease.base_road().equals(reached) {
+        if !lease.base_road().equals(self.road.get()) {
             return false;
         }
         self.sheet
@@ -268,7 +257,7 @@ impl Job {
         }
         self.tally = self.tally_with(&lease);
         self.done = lease.step();
-        self.road = Some(lease.into_road());
+        self.road.come_to(lease.into_road());
         self.out = None;
         Ok(())
     }
@@ -279,14 +268,13 @@ impl Job {
     {
         let seed = self.seed.share()?;
         let sheet = self.sheet.copy(alloc)?;
-        let (reached, tally) = self.reached();
-        let road = reached.copy(alloc)?;
+        let road = self.road.share()?;
         Ok(Snapshot {
             seed,
             sheet,
             step: self.done,
             road,
-            tally,
+            tally: self.tally,
         })
     }
 }

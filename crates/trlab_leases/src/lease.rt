@@ -1,10 +1,14 @@
 //! Leases: jobs that are out, whose steps are run outside the book.
 
 ghost use Rattle.std.specs.Prelude.{◌≡◌, IsTrue};
+ghost use Rattle.std.specs.Arc.{arc_value};
 ghost use Rattle.trlab_leases.specs.Leases.{IsLease, IsSteady};
 
+use crate::boxed::BoxedRoad;
 use crate::ran::Ran;
+use std::alloc::Global;
 use std::marker::Model;
+use std::sync::Arc;
 use trlab_road::Road;
 use trlab_step::StepRoom;
 use trlab_words::Key;
@@ -19,9 +23,10 @@ pub struct Lease {
     pub(crate) key: Key,
     pub(crate) road_number: u32,
     pub(crate) base_step: u32,
-    pub(crate) base_road: Road,
+    pub(crate) base_road: BoxedRoad,
     pub(crate) step: u32,
-    pub(crate) road: Road,
+    /// Nothing else has it, until the job takes it over.
+    pub(crate) road: Arc<Road, Global>,
     pub(crate) applied: Vec<Ran>,
     /// Whether it is known that one rule was applied in all of these steps.
     pub(crate) is_steady: bool,
@@ -31,6 +36,7 @@ pub struct Lease {
 
 impl Model for Lease {
     ghost use Rattle.std.specs.Prelude.{IsTrue};
+    ghost use Rattle.std.specs.Arc.{arc_value};
     ghost use Rattle.trlab_leases.specs.Leases.{IsLease, IsSteady, LeaseState};
 
     ghost Value = { LeaseState };
@@ -43,7 +49,7 @@ impl Model for Lease {
       road_number = lease.road_number;
       base = record { step = lease.base_step; road = lease.base_road };
       step = lease.step;
-      road = lease.road;
+      road = arc_value lease.road;
       applied = lease.applied.items;
     } };
 
@@ -55,7 +61,7 @@ impl Model for Lease {
       road_number = lease.road_number;
       base = record { step = lease.base_step; road = lease.base_road };
       step = lease.step;
-      road = lease.road;
+      road = arc_value lease.road;
       applied = lease.applied.items;
     }) × (IsTrue lease.is_steady → IsSteady lease.applied.items) };
 }
@@ -107,7 +113,7 @@ impl Lease {
     pub fn base_road(&self) -> &Road
         ensures { result.now ≡ self.now.base.road }
     {
-        &self.base_road
+        self.base_road.get()
     }
 
     /// The step to which it has come.
@@ -142,8 +148,8 @@ impl Lease {
     }
 
     /// The road to which it has come, of a lease that ends.
-    pub(crate) fn into_road(self) -> Road
-        ensures { result ≡ self.road }
+    pub(crate) fn into_road(self) -> Arc<Road, Global>
+        ensures { arc_value result ≡ self.road }
     {
         self.road
     }

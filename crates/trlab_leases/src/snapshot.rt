@@ -6,7 +6,7 @@ ghost use Rattle.trlab_step.specs.Laws.{IsLegalLike, IsSheetFor};
 ghost use Rattle.trlab_step.specs.Run.{IsRoadAt, IsTallyAt};
 ghost use Rattle.trlab_leases.specs.Jobs.{start_of};
 
-use crate::boxed::BoxedSeed;
+use crate::boxed::{BoxedRoad, BoxedSeed};
 use crate::seed::Seed;
 use crate::sheet::Sheet;
 use std::marker::Model;
@@ -19,7 +19,7 @@ pub struct Snapshot {
     pub(crate) seed: BoxedSeed,
     pub(crate) sheet: Sheet,
     pub(crate) step: u32,
-    pub(crate) road: Road,
+    pub(crate) road: BoxedRoad,
     pub(crate) tally: StepTally,
 }
 
@@ -64,7 +64,7 @@ impl Snapshot {
         ensures like { IsLegalLike self.now.seed.road result.now }
         ensures run { IsRoadAt self.now.seed self.now.sheet self.now.step result.now }
     {
-        &self.road
+        self.road.get()
     }
 
     /// The sum of the tallies of the steps done, without those before `warm`.

@@ -43,9 +43,6 @@ pub no_byte_in : (text : List ℕ) → length text ≡ 0 → text ≡ []
 no_byte_in [] empty = refl
 no_byte_in (c ∷ text) empty = absurd (omega arith)
 
-abbrev is_end : ℕ → Bool
-is_end byte = byte == 10
-
 differs : (c : ℕ) → (c == 10) ≡ false → c ≡ 10 → ⊥
 differs c other same = let both : true ≡ false = sym (eq-eqb c 10 same) ∙ other in cc
 

@@ -26,4 +26,5 @@ pub use columns::{Column, Flags, LANES};
 pub use dice::Dice;
 pub use motion::{Moved, run_motion};
 pub use motions::run_motions;
+pub use registers::{REGISTERS, RegisterColumns};
 pub use views::Views;

@@ -14,13 +14,9 @@ use std::rt::Env;
 use std::sync::Wait;
 use std::thread::Threads;
 use std::{env, io};
-use trlab_campaign::{End, Sink, Source, Watched};
-use trlab_command_line::{
-    EXPLAIN_HELP, Explaining, REFUSED_WORDS, explain_words, read_words, status_of_print,
-    word_not_taken,
-};
+use trlab_campaign::{End, Mark, Observer, Sink, Source, Watched};
+use trlab_command_line::{REFUSED_WORDS, Wanted, read_words, status_of_print};
 use trlab_commands::{carry_out, status_of_end};
-use trlab_explain::{explain_number, explain_text};
 
 // So many bytes of output are gathered at most before they are written.
 const MOST_GATHERED: usize = 65536;
@@ -31,10 +27,7 @@ fn main(rt: HostRuntime) -> ExitCode {
             Ok(out) => {
                 let mut reader = Watched::new(rt.stdin());
                 let mut writer = Watched::new(out);
-                match explain_words(&words) {
-                    Some(wanted) => explain(&rt, &words, wanted, &mut reader, &mut writer),
-                    None => act(&rt, &words, &mut reader, &mut writer),
-                }
+                act(&rt, &words, &mut reader, &mut writer)
             }
             Err(_) => status_of_end(End::Memory),
         },
@@ -70,6 +63,40 @@ fn gathered<W: Write + IsTerminal + Drop>(
     BufWriter::with_capacity(alloc, most, out)
 }
 
+/// Tells on standard error how far a command's work is, where its progress is to be told. A line that can't be
+/// written changes nothing.
+#[derive(Drop)]
+struct Teller<'a, R> {
+    rt: &'a R,
+    counted: Option<&'static str>,
+}
+
+impl<R: Eprint> Observer for Teller<'_, R> {
+    fn is_watching(&self) -> bool {
+        self.counted.is_some()
+    }
+
+    fn reached(&self, mark: Mark) {
+        let Mark {
+            hundredths,
+            number,
+            count,
+        } = mark;
+        if let Some(counted) = self.counted {
+            let _ = eprintln!(self.rt; "trlab: {hundredths} of 100, {counted} {number} of {count}");
+        }
+    }
+}
+
+/// What is counted while a command works, where its progress is to be told.
+fn counted(wanted: Wanted) -> Option<&'static str> {
+    match wanted {
+        Wanted::Run { progress: true, .. } | Wanted::Series { progress: true, .. } => Some("step"),
+        Wanted::Sweep { progress: true, .. } => Some("point"),
+        _ => None,
+    }
+}
+
 /// Does what the words ask for, and answers the exit status.
 fn act<R: AllocGlobal + Threads + Wait + Sync + Print + Eprint, S: Source, K: Sink>(
     rt: &R,
@@ -81,42 +108,14 @@ fn act<R: AllocGlobal + Threads + Wait + Sync + Print + Eprint, S: Source, K: Si
     requires writer_works { K.failed writer.old ≡ false }
 {
     match read_words(rt.alloc(), words) {
-        Ok(wanted) => status_of_end(carry_out(rt, wanted, reader, writer)),
-        Err(error) => tell(rt, &error),
-    }
-}
-
-/// Explains what is wanted by the words, and answers the exit status.
-fn explain<R: AllocGlobal + Print + Eprint, S: Source, K: Sink>(
-    rt: &R,
-    words: &[String],
-    wanted: Explaining,
-    reader: &mut S,
-    writer: &mut K,
-) -> u8
-    requires reader_works { S.failed reader.old ≡ false }
-    requires writer_works { K.failed writer.old ≡ false }
-{
-    match wanted {
-        Explaining::Text(subject) => status_of_end(explain_text(rt, subject, reader, writer)),
-        Explaining::Number(topic, number) => {
-            status_of_end(explain_number(rt, topic, number, writer))
-        }
-        Explaining::Help => match println!(rt; "{EXPLAIN_HELP}") {
-            Ok(()) => status_of_end(End::Done),
-            Err(_) => status_of_end(End::DeviceFault),
-        },
-        Explaining::Nothing => {
-            let _ = match word_not_taken(words) {
-                Some(word) => eprintln!(rt;
-                    "error: `explain` takes no {word:?} here\n\n{EXPLAIN_HELP}"
-                ),
-                None => eprintln!(rt;
-                    "error: `cause` and `reason` want a number behind them\n\n{EXPLAIN_HELP}"
-                ),
+        Ok(wanted) => {
+            let teller = Teller {
+                rt,
+                counted: counted(wanted),
             };
-            REFUSED_WORDS
+            status_of_end(carry_out(rt, wanted, reader, writer, &teller))
         }
+        Err(error) => tell(rt, &error),
     }
 }
 

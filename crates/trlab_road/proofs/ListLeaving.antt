@@ -20,9 +20,6 @@ some_none : {A : Type 0} (a : A) (c : Cell) → c ≡ None → (car : ℕ × ℕ
 some_none a c none car some = cc
 
 module _ (n : ℕ) (cars : List LaneCar) (answers : List Bool) (from : ℕ) (r : Rises 0 n cars) where
-  pub none_left : Leaving n cars answers from 0 []
-  none_left = record { rises = tt; before = λ m h on j low. absurd (omega arith); cells = λ m h. absurd (omega arith); others = λ x e. refl }
-
   module _ (leaving : List LaneCar) (k : ℕ) (low : k < length cars) (l : Leaving n cars answers from k leaving) where
     abbrev car : LaneCar
     car = get_or cars k no_car

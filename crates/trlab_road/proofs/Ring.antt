@@ -73,10 +73,6 @@ not_none : (c : Cell) → is_some c ≡ true → is_none c ≡ false
 not_none None h = absurd cc
 not_none (Some car) h = refl
 
-is_empty : (c : Cell) → is_some c ≡ false → is_none c ≡ true
-is_empty None h = refl
-is_empty (Some car) h = absurd cc
-
 -- a run of cells is clear at each place
 pub clear_at : (lane : Lane) (way : ℕ → ℕ) (g : ℕ) → is_clear lane way g ≡ true → (j : ℕ) → 1 ≤ j
     → j ≤ g → at lane (way j) ≡ None

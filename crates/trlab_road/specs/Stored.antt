@@ -3,9 +3,10 @@ use Rattle.std.specs.Prelude.{◌≡◌, ℕ, suc, ◌+◌, ◌<◌, ◌≤◌, 
 use Rattle.std.specs.Global.{Global}
 use Rattle.std.specs.List.{range_with_len}
 use Rattle.trlab_road.specs.declared.car.Car.{Car}
+use Rattle.trlab_road.specs.declared.side.Beside.{Beside}
 use Rattle.trlab_road.specs.LaneCars.{LaneCar}
 use Rattle.trlab_road.specs.Cells.{Cell, Lane, Cells, at, lane_cars}
-use Rattle.trlab_road.specs.Gaps.{greatest}
+use Rattle.trlab_road.specs.Gaps.{greatest, side, sideback, sidegap}
 use Rattle.trlab_road.specs.Legal.{IsLegal}
 use Rattle.trlab_road.specs.Motion.{LaneFits, LaneMoves}
 use Rattle.trlab_road.specs.Pictures.{point, speed_character}
@@ -77,6 +78,14 @@ pub record IsFirstFrom (cars : List LaneCar) (x index : ℕ) : Type 0 where
   pub within : index ≤ length cars
   pub before : (k : ℕ) → k < index → k < length cars → place_of cars k < x
   pub from : (k : ℕ) → index ≤ k → k < length cars → x ≤ place_of cars k
+
+-- what stands beside a place of the lane of these cars: whether the cell there is empty, and the gaps from it
+pub record StandsBeside (n : ℕ) (cars : List LaneCar) (x : ℕ) (beside : Beside) : Type 0 where
+  pub empty : beside.is_empty ≡ side (cells_of n cars) x
+  pub ahead : beside.ahead ≡ sidegap (cells_of n cars) x
+  pub behind : beside.behind ≡ sideback (cells_of n cars) x
+  pub ahead_within : beside.ahead < n
+  pub behind_within : beside.behind < n
 
 -- the cars of a lane that cross, where they stood, and no others
 pub record LaneLeaves (crosses : ℕ → Bool) (old leaving : Lane) : Type 0 where

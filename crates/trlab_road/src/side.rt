@@ -1,11 +1,11 @@
 //! What stands beside a car, found in the other lane's list: by halves, or near where the car before it
 //! found its own.
 
-ghost use Rattle.std.specs.Prelude.{◌≡◌, ◌<◌, ◌≤◌, ℕ, length, nat_lt};
+ghost use Rattle.std.specs.Prelude.{◌≡◌, ◌<◌, ◌≤◌, ℕ, if◌then◌else◌, length, nat_lt};
 ghost use Rattle.trlab_bounds.specs.declared.roads.TheConstants.{GREATEST_LENGTH};
 ghost use Rattle.trlab_road.specs.Cells.{cars_before};
 ghost use Rattle.trlab_road.specs.Gaps.{side, sideback, sidegap};
-ghost use Rattle.trlab_road.specs.Stored.{Rises, IsRising, IsFirstFrom, cells_of, place_of};
+ghost use Rattle.trlab_road.specs.Stored.{Rises, IsRising, IsFirstFrom, StandsBeside, cells_of, place_of};
 
 use crate::gap::{gap_ahead, gap_behind};
 use crate::lane_car::{LaneCar, place_at};
@@ -35,19 +35,26 @@ pub struct Beside {
     pub next: usize,
 }
 
-/// Goes past one car from an index on, if it stands before a place: by a sum, so that no branch hangs on
-/// where it stands.
+/// How many cars are looked at together, before they are looked at one by one.
+const TOGETHER: usize = 4;
+
+/// Goes past those of the four cars from an index on that stand before a place, where there are four: by a sum, so
+/// that no branch hangs on where they stand.
 #[inline(always)]
-fn past_one(cars: &[LaneCar], place: u32, next: usize) -> usize
-    requires within { next ≤ length cars.now }
-    requires before { (k : ℕ) → k < next → k < length cars.now → place_of cars.now k < place }
+fn past_four(cars: &[LaneCar], place: u32, near: usize) -> usize
+    requires within { near ≤ length cars.now }
+    requires sorted { IsRising cars.now }
+    requires before { (k : ℕ) → k < near → k < length cars.now → place_of cars.now k < place }
     ensures within { result ≤ length cars.now }
     ensures before { (k : ℕ) → k < result → k < length cars.now → place_of cars.now k < place }
 {
-    if next == cars.len() {
-        return next;
+    let mut next = near;
+    if TOGETHER <= cars.len() - near {
+        for k in near..near + TOGETHER {
+            next += usize::from(place_at(cars, k) < place);
+        }
     }
-    next + usize::from(place_at(cars, next) < place)
+    next
 }
 
 /// The index of the first car from a place on, looked for from an index near it: from car to car
@@ -59,13 +66,69 @@ fn first_near(cars: &[LaneCar], place: u32, near: usize) -> usize
     if near == 0 || near > cars.len() || place_at(cars, near - 1) >= place {
         return first_from(cars, place);
     }
-    let near = past_one(cars, place, past_one(cars, place, near));
+    let near = past_four(cars, place, near);
     for next in near..cars.len() {
         if place_at(cars, next) >= place {
             return next;
         }
     }
     cars.len()
+}
+
+/// A number where a test holds, and else 0.
+#[inline(always)]
+fn only_if(test: bool, number: u32) -> u32
+    ensures { result ≡ (if test then number else 0) }
+{
+    if test { number } else { 0 }
+}
+
+/// What stands beside a place that is past one car and not past the next: by differences, so that no branch hangs on
+/// whether the side cell is taken. Only the proof reads how many cells there are.
+#[inline(always)]
+fn look_between(cars: &[LaneCar], cells: usize, place: u32, next: usize) -> Beside
+    requires inside { place < cells }
+    requires sorted { Rises 0 cells cars.now }
+    requires found { IsFirstFrom cars.now place next }
+    requires past { 0 < next }
+    requires not_last { next < length cars.now }
+    ensures beside { StandsBeside cells cars.now place result }
+    ensures next { result.next ≡ next }
+{
+    let to_next = place_at(cars, next) - place;
+    let is_empty = to_next != 0;
+    Beside {
+        is_empty,
+        ahead: to_next.saturating_sub(1),
+        behind: only_if(is_empty, place - place_at(cars, next - 1) - 1),
+        next,
+    }
+}
+
+/// What stands beside a place, where the cars from an index on are those from there on: also past the last car of the
+/// list, and before the first.
+fn look_anywhere(cars: &[LaneCar], cells: usize, place: u32, next: usize) -> Beside
+    requires small { cells ≤ GREATEST_LENGTH }
+    requires inside { place < cells }
+    requires sorted { Rises 0 cells cars.now }
+    requires found { IsFirstFrom cars.now place next }
+    ensures beside { StandsBeside cells cars.now place result }
+    ensures next { result.next ≡ next }
+{
+    if next < cars.len() && place_at(cars, next) == place {
+        return Beside {
+            is_empty: false,
+            ahead: 0,
+            behind: 0,
+            next,
+        };
+    }
+    Beside {
+        is_empty: true,
+        ahead: gap_ahead(cars, cells, place as usize, next) as u32,
+        behind: gap_behind(cars, cells, place as usize, next) as u32,
+        next,
+    }
 }
 
 /// What stands beside a place, which is looked for from an index near it.
@@ -81,18 +144,9 @@ pub fn look_beside(cars: &[LaneCar], cells: usize, place: u32, near: usize) -> B
     ensures behind_within { result.behind < cells }
 {
     let next = first_near(cars, place, near);
-    if next < cars.len() && place_at(cars, next) == place {
-        return Beside {
-            is_empty: false,
-            ahead: 0,
-            behind: 0,
-            next,
-        };
-    }
-    Beside {
-        is_empty: true,
-        ahead: gap_ahead(cars, cells, place as usize, next) as u32,
-        behind: gap_behind(cars, cells, place as usize, next) as u32,
-        next,
+    if 0 < next && next < cars.len() {
+        look_between(cars, cells, place, next)
+    } else {
+        look_anywhere(cars, cells, place, next)
     }
 }

@@ -1,12 +1,9 @@
-//! Rules that are none for a road, and the longest road.
+//! The longest road.
 
 use std::alloc::Global;
-use trlab_asm::assemble;
-use trlab_code::Kind;
 use trlab_road::{Car, Road};
 use trlab_rules::{Rule, nasch, rickert};
-use trlab_step::{StepFault, step_road};
-use trlab_verify::{Change, Motion, verify_change, verify_motion};
+use trlab_step::step_road;
 use trlab_words::{CERTAIN, Chance, Key};
 
 /// The rule of 1992, by which no car brakes by chance.
@@ -17,49 +14,6 @@ pub fn steady(alloc: Global) -> Option<Rule> {
 /// The rule of 1996, by which no car brakes by chance and each one crosses where it may.
 pub fn crossing(alloc: Global) -> Option<Rule> {
     rickert(alloc, Chance::new(0)?, Chance::new(CERTAIN)?).ok()
-}
-
-/// The motion by which cars stand.
-fn still(alloc: Global) -> Option<Motion> {
-    let code = assemble(alloc, Kind::Motion, b"num r0, 0\ngo r0\n").ok()?;
-    verify_motion(alloc, code).ok()
-}
-
-/// The change by which cars keep their lane.
-fn keeping(alloc: Global) -> Option<Change> {
-    let code = assemble(alloc, Kind::Change, b"stay\n").ok()?;
-    verify_change(alloc, code).ok()
-}
-
-/// A rule of two programs, by which cars stand and keep their lane.
-fn standing(alloc: Global) -> Option<Rule> {
-    let motion = still(alloc)?;
-    Some(Rule::new(motion, Some(keeping(alloc)?)))
-}
-
-/// Whether a step of one lane under a rule has this fault, or none.
-fn fails(alloc: Global, rule: &Rule, fault: Option<StepFault>) -> bool {
-    match Road::parse(alloc, 5, &[b"0.0......."]) {
-        Ok(road) => step_road(alloc, &road, rule, &Key([0; 32]), 0, 0).err() == fault,
-        Err(_) => false,
-    }
-}
-
-/// Whether there is a rule, and such a step has this fault, or none.
-fn has_fault(alloc: Global, rule: Option<Rule>, fault: Option<StepFault>) -> bool {
-    match rule {
-        Some(rule) => fails(alloc, &rule, fault),
-        None => false,
-    }
-}
-
-#[test]
-fn a_change_program_wants_two_lanes(rt: HostRuntime) {
-    let alloc = rt.alloc();
-    let mismatch = Some(StepFault::LanesMismatch);
-    assert!(rt; has_fault(alloc, crossing(alloc), mismatch));
-    assert!(rt; has_fault(alloc, standing(alloc), mismatch));
-    assert!(rt; has_fault(alloc, steady(alloc), None));
 }
 
 /// The road to which a road comes under a rule, so many steps on.

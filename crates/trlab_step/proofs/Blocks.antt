@@ -1,5 +1,5 @@
 -- The blocks of cars that are asked one after another.
-use Rattle.std.proofs.Common.{◌≡◌, ℕ, ◌+◌, ◌-◌, ◌*◌, ◌/◌, ◌<◌, ◌≤◌, List, [], min, Bool, arith}
+use Rattle.std.proofs.Common.{◌≡◌, ℕ, ◌+◌, ◌-◌, ◌*◌, ◌/◌, ◌%◌, ◌<◌, ◌≤◌, List, [], min, Bool, arith}
 use Rattle.trlab_road.specs.declared.car.Car.{Car}
 use Rattle.trlab_road.specs.Cells.{Cells}
 use Rattle.trlab_step.specs.Answers.{AreAnswersPart, CrossesFreePart, FitsPart}
@@ -18,23 +18,23 @@ free_none road from crosses e = rw e (record { side_empty = λ k h goes. absurd 
 pub first_begin : (from to : ℕ) → from ≤ to → min to (from + 0) ≡ from
 first_begin from to rising = omega (arith, rising)
 
-pub last_end : (from to block : ℕ) → from ≤ to → (to - from) / 32 + 1 ≤ block → min to (from + 32 * block) ≡ to
-last_end from to block rising past = omega (arith, rising, past)
+pub last_end : (from to block : ℕ) {count : ℕ} → from ≤ to → count ≡ (to - from) / 32 + min 1 ((to - from) % 32) → count ≤ block → min to (from + 32 * block) ≡ to
+last_end from to block rising is past = omega (arith, rising, is, past)
 
-module _ (from to block : ℕ) (rising : from ≤ to) (low : block < (to - from) / 32 + 1) where
+module _ (from to block : ℕ) {count : ℕ} (rising : from ≤ to) (is : count ≡ (to - from) / 32 + min 1 ((to - from) % 32)) (low : block < count) where
   pub begin_low : from + 32 * block ≤ to
-  begin_low = omega (arith, rising, low)
+  begin_low = omega (arith, rising, is, low)
 
   pub begin_is : min to (from + 32 * block) ≡ from + 32 * block
   begin_is = let b = begin_low in omega (arith, b)
 
   -- a block ends behind 32 cars, or behind the last car
-  module _ (size : ℕ) (is : size ≡ min 32 (to - (from + 32 * block))) where
+  module _ (size : ℕ) (sized : size ≡ min 32 (to - (from + 32 * block))) where
     pub end_low : from + 32 * block + size ≤ to
-    end_low = let b = begin_low in omega (arith, b, is)
+    end_low = let b = begin_low in omega (arith, b, sized)
 
     pub end_near : from + 32 * block + size ≤ from + 32 * block + 32
-    end_near = omega (arith, is)
+    end_near = omega (arith, sized)
 
     pub end_after : from + 32 * block ≤ from + 32 * block + size
     end_after = omega arith
@@ -44,4 +44,4 @@ module _ (from to block : ℕ) (rising : from ≤ to) (low : block < (to - from)
     size_is = omega arith
 
     pub next_begin : from + 32 * block + size ≡ min to (from + 32 * (block + 1))
-    next_begin = let b = begin_low in omega (arith, b, is)
+    next_begin = let b = begin_low in omega (arith, b, sized)

@@ -7,7 +7,7 @@ ghost use Rattle.trlab_step.specs.Answers.{AnswersCrossingsPart, CrossesFreePart
 
 use crate::block::{BLOCK, ask_changes};
 use std::alloc::{AllocError, Global};
-use trlab_machine::{Dice, Views, run_changes};
+use trlab_machine::{Dice, LANES, REGISTERS, Views, run_changes};
 use trlab_road::Road;
 use trlab_verify::Change;
 use trlab_words::Key;
@@ -74,11 +74,12 @@ pub fn ask_crossings(
     crosses.clear();
     crosses.reserve((to - from) as usize)?;
     let mut views = Views::new();
-    for block in 0..(to - from) / BLOCK + 1 {
+    let mut registers = [[0; LANES]; REGISTERS];
+    for block in 0..(to - from).div_ceil(BLOCK) {
         let begin = from + BLOCK * block;
         let end = begin + BLOCK.min(to - begin);
         ask_changes(&mut views, road, begin, end, &mut near);
-        let answers = run_changes(change, &views, dice);
+        let answers = run_changes(change, &views, dice, &mut registers);
         crosses.extend_from_slice(&answers[..(end - begin) as usize])?;
     }
     Ok(())

@@ -6,7 +6,7 @@ ghost use Rattle.trlab_step.specs.Answers.{AnswersSpeedsPart, FitsPart, dice_of}
 
 use crate::block::{BLOCK, ask_motions};
 use std::alloc::{AllocError, Global};
-use trlab_machine::{Column, Dice, LANES, Views, run_motions};
+use trlab_machine::{Column, Dice, LANES, REGISTERS, Views, run_motions};
 use trlab_road::Road;
 use trlab_verify::Motion;
 use trlab_words::Key;
@@ -94,11 +94,12 @@ pub fn ask_speeds(
     speeds.clear();
     speeds.reserve((to - from) as usize)?;
     let mut views = Views::new();
-    for block in 0..(to - from) / BLOCK + 1 {
+    let mut registers = [[0; LANES]; REGISTERS];
+    for block in 0..(to - from).div_ceil(BLOCK) {
         let begin = from + BLOCK * block;
         let end = begin + BLOCK.min(to - begin);
         ask_motions(&mut views, road, begin, end);
-        let answers = low_bytes(&run_motions(motion, &views, dice));
+        let answers = low_bytes(&run_motions(motion, &views, dice, &mut registers));
         speeds.extend_from_slice(&answers[..(end - begin) as usize])?;
     }
     Ok(())

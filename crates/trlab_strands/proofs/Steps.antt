@@ -8,11 +8,11 @@ use Rattle.std.proofs.lemmas.Bool.Decides.{nat_tests}
 use mathlib.Core.Option.{some, none, some-injective, some-ne-none}
 use lib.ListN.{get_elem?}
 use prog.Atomic.{either}
-use Rattle.atomic_table.specs.Table.{State, Me, step, keeps, opening, Allows, Splits, Joins}
+use Rattle.atomic_table.specs.Table.{State, Me, step, keeps, Allows, Splits, Joins}
 use Rattle.atomic_table.proofs.Lists.{at_set, at_snoc, set_again, set_else}
 use Rattle.trlab_strands.specs.declared.stock.Noted.{Noted}
 use Rattle.trlab_strands.specs.declared.stock.Stock.{Stock}
-use Rattle.trlab_strands.specs.Stocks.{noted, number_of, times, once_below, StandsIn, StandIn, stock, nothing, opening_stock, without_list, list_alone, less_a_part, one_part, union, with_event}
+use Rattle.trlab_strands.specs.Stocks.{noted, number_of, times, once_below, StandsIn, StandIn, stock, nothing, without_list, list_alone, less_a_part, one_part, union, with_event}
 use Rattle.trlab_strands.specs.Rule.{IsStock, AreStocks, KeepsStrands, NotesEvent, Learns, Looks}
 
 off : false ≡ true → ⊥
@@ -245,23 +245,6 @@ module _ {E : Type 0} where
         (r.0 ++ e ∷ [], notes r.0 s.views id me.0 e at keeping some_part r.1),
         λ f same. (ap (λ (x : E). (with_event me.0 x, me.1)) (some-injective e f same), low),
       )
-
-  -- the rule holds at the start
-  pub opens : (words : List ℕ) → KeepsStrands (opening words [] (opening_stock {E = E}))
-  opens words = (
-    [],
-    record {
-      parts = refl;
-      keepers = refl;
-      count = refl;
-      once = λ k. grind (arith, nat_tests);
-      each = one;
-    },
-  )
-    where
-      one : (seat : ℕ) (s : Stock E) → get_elem? (opening_stock {E = E} ∷ []) seat ≡ some s → IsStock [] s
-      one zero s e = subst (IsStock []) (some-injective _ s e) (record { idle = λ z. absurd (omega arith); rises = zero-le; stand = All-nil _; list = λ _. refl })
-      one (suc seat) s e = absurd (some-ne-none s (sym e))
 
   -- a strand that meets the list
   pub meets : (v k : Stock E) → k.keeps ≡ true → union v (list_alone k) ≡ stock v.parts v.own v.least true k.all

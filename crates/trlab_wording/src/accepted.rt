@@ -22,16 +22,11 @@ fn push_registers(page: &mut Page, note: &Note) -> Result<(), AllocError> {
 }
 
 /// Adds each instruction, and what is known before it.
-fn push_table(
-    alloc: Global,
-    page: &mut Page,
-    program: Placed<'_>,
-    table: &[Note],
-) -> Result<(), AllocError> {
+fn push_table(page: &mut Page, program: Placed<'_>, table: &[Note]) -> Result<(), AllocError> {
     let mut pc = 0u32;
     for note in table {
         push_registers(page, note)?;
-        push_instruction(alloc, page, program, pc)?;
+        push_instruction(page, program, pc)?;
         pc = pc.saturating_add(1);
     }
     Ok(())
@@ -56,7 +51,7 @@ pub fn push_accepted(
     )?;
     page.line("Above each instruction stands what is known of the registers before it:")?;
     match notes(alloc, program.code) {
-        Ok(table) => push_table(alloc, page, program, &table),
+        Ok(table) => push_table(page, program, &table),
         Err(NotesFault::Memory) => Err(AllocError),
         Err(NotesFault::Refused) => Ok(()),
     }

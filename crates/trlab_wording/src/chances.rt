@@ -5,10 +5,11 @@ use std::alloc::AllocError;
 use trlab_bounds::programs::CERTAIN;
 use trlab_lines::cut;
 use trlab_prose::Page;
+use trlab_remedies::behind_rule;
 use trlab_texts::word::{head_word, number_from};
 
-/// The names of the rules behind which chances stand.
-const RULES: [&[u8]; 3] = [b"nasch", b"vdr", b"rickert"];
+/// How many chances stand behind the name of a rule at most.
+const MOST_CHANCES: u32 = 2;
 
 /// The greatest chance, in parts of 2^31, that is so small that it may be meant as a number of another kind:
 /// one in a million.
@@ -56,18 +57,14 @@ fn push_chance(page: &mut Page, parts: u32) -> Result<(), AllocError> {
 ///
 /// Want of memory.
 pub fn push_chances(page: &mut Page, line: &[u8]) -> Result<(), AllocError> {
-    let mut left = line;
-    let mut is_behind_name = false;
-    for _ in 0..8 {
-        let word = head_word(left);
-        match number_from(0, CERTAIN, word) {
-            Ok(parts) if is_behind_name => push_chance(page, parts)?,
-            _ => {}
-        }
-        is_behind_name = is_behind_name || RULES.contains(&word);
+    let mut left = behind_rule(line).unwrap_or(b"");
+    for _ in 0..MOST_CHANCES {
         let Some((_, rest)) = cut(left, b' ') else {
             break;
         };
+        if let Ok(parts) = number_from(0, CERTAIN, head_word(rest)) {
+            push_chance(page, parts)?;
+        }
         left = rest;
     }
     Ok(())

@@ -9,12 +9,11 @@ use crate::mends::push_mend;
 use crate::part::push_part_refusal;
 use crate::spots::{EXPECTED_OF_CHECK, push_wanted};
 use std::alloc::{AllocError, Global};
-use trlab_advice::{
-    Place, Subject, Wanted, finding_of, likely_repair, name_and_operands, wanted_at,
-};
+use trlab_advice::{Place, Subject, name_and_operands};
 use trlab_asm::{Why, mnemonic_named};
 use trlab_code::CodeFault;
 use trlab_prose::Page;
+use trlab_remedies::{Wanted, finding_of, likely_repair, wanted_at};
 use trlab_road::RoadFault;
 use trlab_texts::Cause;
 use trlab_texts::word::head_word;
@@ -89,9 +88,7 @@ fn push_expectation(
         ),
         Cause::Program(Why::Operand | Why::Number) => push_form(page, place.line.unwrap_or(b"")),
         Cause::Program(Why::Word) => page.line(INSTRUCTIONS),
-        Cause::Verdict(reason) => {
-            push_part_refusal(alloc, page, place.text, place.number, reason)
-        }
+        Cause::Verdict(reason) => push_part_refusal(alloc, page, place, reason),
         _ => push_place(page, cause),
     }
 }
@@ -108,6 +105,20 @@ pub fn push_hint(page: &mut Page, cause: Cause) -> Result<(), AllocError> {
     }
 }
 
+/// What to look at where an instruction stands in no program.
+const NO_HEADING: &str =
+    "Look at: the line above this instruction: its program begins with `motion` or `change`.";
+
+/// Whether an instruction stands where a program may begin.
+fn lacks_heading(subject: Subject, place: &Place<'_>, cause: Cause, wanted: &[Wanted]) -> bool {
+    let may_begin = match subject {
+        Subject::Check => place.number == 1,
+        _ => wanted.contains(&Wanted::Motion) || wanted.contains(&Wanted::Change),
+    };
+    let (name, _) = name_and_operands(place.line.unwrap_or(b""));
+    cause == Cause::Line && may_begin && mnemonic_named(name).is_some()
+}
+
 /// Adds a repair that is likely, or else what to look at where nothing was found.
 fn push_repair(
     alloc: Global,
@@ -119,14 +130,15 @@ fn push_repair(
     is_found: bool,
 ) -> Result<(), AllocError> {
     match likely_repair(alloc, subject, place, cause, wanted)? {
-        Some(repair) => push_mend(page, place.text, &repair),
+        Some(repair) => push_mend(page, &place, &repair),
         None if is_found => Ok(()),
+        None if lacks_heading(subject, &place, cause, wanted) => page.line(NO_HEADING),
         None => push_hint(page, cause),
     }
 }
 
-/// Adds what was found at a fault, and a repair, where these lines may stand there.
-fn push_remedy(
+/// Adds what is told of a fault, where these lines may stand there.
+fn push_fault(
     alloc: Global,
     page: &mut Page,
     subject: Subject,
@@ -134,37 +146,41 @@ fn push_remedy(
     cause: Cause,
     wanted: &[Wanted],
 ) -> Result<(), AllocError> {
-    push_expectation(alloc, page, subject, &place, cause, wanted)?;
-    match finding_of(&place, cause, wanted) {
-        Some(finding) => {
-            push_finding(page, finding)?;
-            push_repair(alloc, page, subject, place, cause, wanted, true)
-        }
-        None => push_repair(alloc, page, subject, place, cause, wanted, false),
-    }
-}
-
-/// Adds what is told of a fault.
-fn push_fault(
-    alloc: Global,
-    page: &mut Page,
-    subject: Subject,
-    place: Place<'_>,
-    cause: Cause,
-) -> Result<(), AllocError> {
     if cause != Cause::TooBig {
         push_read_as(page, subject)?;
     }
     push_meaning(page, "Cause ", cause.number(), meaning_of_cause(cause))?;
+    push_expectation(alloc, page, subject, &place, cause, wanted)?;
+    let finding = finding_of(&place, cause, wanted);
+    if let Some(finding) = finding {
+        push_finding(page, finding)?;
+    }
+    push_repair(
+        alloc,
+        page,
+        subject,
+        place,
+        cause,
+        wanted,
+        finding.is_some(),
+    )
+}
+
+/// The lines that may stand at a fault, where they are asked for.
+fn wanted_lines(
+    alloc: Global,
+    subject: Subject,
+    place: &Place<'_>,
+    cause: Cause,
+) -> Result<Vec<Wanted>, AllocError> {
     if cause == Cause::Line && subject != Subject::Check {
-        let wanted = wanted_at(alloc, subject, &place)?;
-        push_remedy(alloc, page, subject, place, cause, &wanted)
+        wanted_at(alloc, subject, place)
     } else {
-        push_remedy(alloc, page, subject, place, cause, &[])
+        Ok(Vec::new(alloc))
     }
 }
 
-/// What is told of the first fault of a text, which its head stands above.
+/// What is told of the first fault of a text, at a place, which its head stands above.
 ///
 /// # Errors
 ///
@@ -172,11 +188,11 @@ fn push_fault(
 pub fn fault_words(
     alloc: Global,
     subject: Subject,
-    text: &[u8],
-    line: u32,
+    place: Place<'_>,
     cause: Cause,
 ) -> Result<Page, AllocError> {
+    let wanted = wanted_lines(alloc, subject, &place, cause)?;
     let mut page = Page::new(alloc);
-    push_fault(alloc, &mut page, subject, Place::at(text, line), cause)?;
+    push_fault(alloc, &mut page, subject, place, cause, &wanted)?;
     Ok(page)
 }

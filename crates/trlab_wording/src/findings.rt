@@ -1,9 +1,10 @@
 //! Findings, in words.
 
-use crate::lines::{push_both, push_count};
+use crate::lines::{Filled, push_filled};
 use std::alloc::AllocError;
-use trlab_advice::{Finding, Oddity, Operand};
+use trlab_advice::Oddity;
 use trlab_prose::Page;
+use trlab_remedies::{Finding, Operand};
 
 /// What is odd about a line.
 fn odd_words(oddity: Oddity) -> &'static str {
@@ -23,120 +24,105 @@ fn odd_words(oddity: Oddity) -> &'static str {
 fn operand_words(operand: Operand) -> &'static str {
     match operand {
         Operand::Register =>
-            "` is no register: r0 to r7 must stand here, and a number is put into one by `num`.",
+            "`$` is no register: r0 to r7 must stand here, and a number is put into one by `num`.",
         Operand::Result =>
-            "` is no register: the first operand is the one, r0 to r7, that the result goes to.",
-        Operand::Number => "` is no number: one has decimal digits alone, no sign and no point.",
-        Operand::Chance => "` is no chance: one is a whole number, in parts of 2147483648.",
-        Operand::Input => "` is no input.",
-        Operand::Target => "` is no label, and no `@` with the number of an instruction behind it.",
+            "`$` is no register: the first operand is the one, r0 to r7, that the result goes to.",
+        Operand::Number | Operand::Divisor | Operand::Word =>
+            "`$` is no number: one has decimal digits alone, no sign and no point.",
+        Operand::Chance => "`$` is no chance: one is a whole number, in parts of 2147483648.",
+        Operand::Input => "`$` is no input.",
+        Operand::Target =>
+            "`$` is no label, and no `@` with the number of an instruction behind it.",
     }
 }
 
-/// Adds a line about a word.
-fn push_word(page: &mut Page, word: &[u8], words: &str) -> Result<(), AllocError> {
-    page.say("`")?;
-    page.quote(word)?;
-    page.line(words)
-}
-
-/// Adds a line about a word and a number.
-fn push_bound(page: &mut Page, word: &[u8], words: &str, bound: u64) -> Result<(), AllocError> {
-    page.say("`")?;
-    page.quote(word)?;
-    push_count(page, words, bound, ".")
-}
-
-/// Adds a line about what was found and what is wanted.
-fn push_two(
-    page: &mut Page,
-    front: &str,
-    first: u64,
-    between: &str,
-    second: u64,
-    behind: &str,
-) -> Result<(), AllocError> {
-    page.say(front)?;
-    page.number(first)?;
-    push_count(page, between, second, behind)
-}
-
-/// Adds how many steps some points have together.
-fn push_work(page: &mut Page, points: u64, steps: u64) -> Result<(), AllocError> {
-    push_two(
-        page,
-        "up to here there are ",
-        points,
-        " points, and steps of them together ",
-        points.saturating_mul(steps),
-        "; a sweep may have 500000.",
-    )
-}
-
-/// Adds a finding that has a word.
-fn push_worded(page: &mut Page, finding: Finding<'_>) -> Result<(), AllocError> {
+/// What is wrong at a fault, in words: in these `$` stands for the word, and `#` for the numbers.
+fn words_of<'a>(finding: Finding<'a>) -> (&'static str, &'a [u8], u64, u64) {
     match finding {
-        Finding::NoNumber(word) => push_word(
-            page,
-            word,
-            "` is no number: one has 1 to 10 decimal digits and no needless 0.",
+        Finding::Odd(oddity) => (odd_words(oddity), b"", 0, 0),
+        Finding::Elsewhere => (
+            "a line of this name stands elsewhere: one is missing above, or this is one too many.",
+            b"",
+            0,
+            0,
         ),
-        Finding::Below(word, least) => push_bound(page, word, "` is below ", least),
-        Finding::Above(word, most) => push_bound(page, word, "` is above ", most),
-        Finding::NoLabel(word) => push_word(
-            page,
-            word,
-            "` is no label: one is at most 32 letters, digits and `_`, and begins with no digit.",
+        Finding::Ended => ("the text has ended, and a line is missing.", b"", 0, 0),
+        Finding::Endless => (
+            "the text has ended, and a program has no line `end`.",
+            b"",
+            0,
+            0,
         ),
-        Finding::NoOperand(operand, word) => push_word(page, word, operand_words(operand)),
-        _ => page.end_line(),
-    }
-}
-
-/// Adds a finding that has two numbers.
-fn push_numbered(page: &mut Page, finding: Finding<'_>) -> Result<(), AllocError> {
-    match finding {
-        Finding::Chances { found, wanted } => push_two(
-            page,
-            "words behind the name of the rule: ",
+        Finding::Chances { found, wanted } => (
+            "words behind the name of the rule: #; it wants #.",
+            b"",
             found,
-            "; it wants ",
             wanted,
-            ".",
         ),
-        Finding::Operands { found, wanted } => push_two(
-            page,
-            "operands: ",
-            found,
-            "; the instruction wants ",
-            wanted,
-            ".",
+        Finding::NoNumber(word) => (
+            "`$` is no number: one has 1 to 10 decimal digits and no needless 0.",
+            word,
+            0,
+            0,
         ),
-        Finding::Order { least, steps } => push_two(
-            page,
-            "the step must be ",
+        Finding::Below(word, least) => ("`$` is below #.", word, least, 0),
+        Finding::Above(word, most) => ("`$` is above #.", word, most, 0),
+        Finding::KeyLength(count) => ("the key has # characters, not 64.", b"", count, 0),
+        Finding::OddDigits(count) => (
+            "these are # digits, and each byte wants two.",
+            b"",
+            count,
+            0,
+        ),
+        Finding::NoDigit(place) => (
+            "the character at place # of the digits, counted from 1, is no hexadecimal digit.",
+            b"",
+            place,
+            0,
+        ),
+        Finding::Order { least, steps } => (
+            "the step must be # or more, and below #.",
+            b"",
             least,
-            " or more, and below ",
             steps,
-            ".",
         ),
-        Finding::BothCells(first, second) => push_two(
-            page,
-            "the first lane has ",
+        Finding::Work { points, steps } => (
+            "up to here there are # points, and steps of them together #; a sweep may have 500000.",
+            b"",
+            points,
+            points.saturating_mul(steps),
+        ),
+        Finding::NoLabel(word) => (
+            "`$` is no label: one is at most 32 letters, digits and `_`, and begins with no digit.",
+            word,
+            0,
+            0,
+        ),
+        Finding::Operands { found, wanted } => (
+            "operands: #; the instruction wants #.",
+            b"",
+            found,
+            wanted,
+        ),
+        Finding::NoOperand(operand, word) => (operand_words(operand), word, 0, 0),
+        Finding::Cells(count) => (
+            "the lane has # cells; at most 100000 are taken.",
+            b"",
+            count,
+            0,
+        ),
+        Finding::BothCells(first, second) => (
+            "the first lane has # cells, this one #.",
+            b"",
             first,
-            " cells, this one ",
             second,
-            ".",
         ),
-        Finding::Speed { speed, limit } => push_two(
-            page,
-            "the speed of this car is ",
+        Finding::Speed { speed, limit } => (
+            "the speed of this car is #, and the limit #.",
+            b"",
             speed,
-            ", and the limit ",
             limit,
-            ".",
         ),
-        _ => push_worded(page, finding),
     }
 }
 
@@ -146,43 +132,16 @@ fn push_numbered(page: &mut Page, finding: Finding<'_>) -> Result<(), AllocError
 ///
 /// Want of memory.
 pub fn push_finding(page: &mut Page, finding: Finding<'_>) -> Result<(), AllocError> {
+    let (words, word, first, second) = words_of(finding);
     page.say("Found: ")?;
-    match finding {
-        Finding::Odd(oddity) => push_both(page, "", odd_words(oddity)),
-        Finding::Elsewhere => page.line(
-            "a line of this name stands elsewhere: one is missing above, or this is one too many.",
-        ),
-        Finding::Ended => page.line("the text has ended, and a line is missing."),
-        Finding::Endless => page.line("the text has ended, and a program has no line `end`."),
-        Finding::KeyLength(count) => push_count(
-            page,
-            "the key has ",
-            count,
-            " characters, not 64.",
-        ),
-        Finding::OddDigits(count) => {
-            push_count(
-                page,
-                "these are ",
-                count,
-                " digits, and each byte wants two.",
-            )
-        }
-        Finding::NoDigit(place) => push_count(
-            page,
-            "the character at place ",
-            place,
-            " of the digits, counted from 1, is no hexadecimal digit.",
-        ),
-        Finding::Cells(count) => {
-            push_count(
-                page,
-                "the lane has ",
-                count,
-                " cells; at most 100000 are taken.",
-            )
-        }
-        Finding::Work { points, steps } => push_work(page, points, steps),
-        _ => push_numbered(page, finding),
-    }
+    push_filled(
+        page,
+        Filled {
+            words,
+            word,
+            put: b"",
+            first,
+            second,
+        },
+    )
 }

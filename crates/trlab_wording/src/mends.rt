@@ -1,9 +1,8 @@
 //! Repairs, in words: why a change may be meant, and the change.
 
-use crate::lines::{push_both, push_count};
+use crate::lines::{Filled, push_both, push_filled};
 use std::alloc::AllocError;
 use trlab_advice::{Change, Edit, Place, Repair, Subject, Why};
-use trlab_lines::next_line;
 use trlab_prose::Page;
 
 /// The command that reads a text.
@@ -47,77 +46,26 @@ fn words_of(why: Why) -> &'static str {
     }
 }
 
-/// The place of a text behind so many of its bytes.
-fn place_behind<'a>(text: &'a [u8], at: usize) -> Place<'a> {
-    let mut left = text;
+/// The number of the line of a text in which a byte stands.
+fn line_of(text: &[u8], at: usize) -> u32 {
+    let (above, _) = text.split_at(at.min(text.len()));
     let mut number = 1u32;
-    for _ in 0..text.len() {
-        let Some((line, rest)) = next_line(left) else {
-            break;
-        };
-        let end = text.len().saturating_sub(rest.len());
-        if at < end || (rest.is_empty() && text.last() != Some(&b'\n')) {
-            return Place {
-                text,
-                number,
-                start: text.len().saturating_sub(left.len()),
-                line: Some(line),
-            };
+    for byte in above {
+        if *byte == b'\n' {
+            number = number.saturating_add(1);
         }
-        number = number.saturating_add(1);
-        left = rest;
     }
-    Place {
-        text,
-        number,
-        start: text.len(),
-        line: None,
-    }
+    number
 }
 
-/// Adds words, and what is put, quoted whole.
-fn push_put(page: &mut Page, words: &str, put: &[u8]) -> Result<(), AllocError> {
-    page.say(words)?;
-    page.show_all(put)?;
-    page.line("`.")
-}
-
-/// Adds words with the number of a line behind them.
-fn push_line_number(page: &mut Page, words: &str, number: u32) -> Result<(), AllocError> {
-    page.say(words)?;
-    page.number(u64::from(number))
-}
-
-/// Adds a change of some bytes of a line, before which so many of its bytes stand.
-fn push_in_line(
-    page: &mut Page,
-    place: &Place<'_>,
-    before: usize,
-    edit: &Edit,
-) -> Result<(), AllocError> {
-    let line = place.line.unwrap_or(b"");
-    push_line_number(page, "In line ", place.number)?;
-    if edit.put.is_empty() && before.saturating_add(edit.gone) == line.len() {
-        return push_count(
-            page,
-            " drop all from byte ",
-            (before as u64).saturating_add(1),
-            " on.",
-        );
+/// The place of a byte of a text with a fault: mostly that of the fault.
+fn place_of<'a>(fault: &Place<'a>, at: usize) -> Place<'a> {
+    let length = fault.line.unwrap_or(b"").len();
+    if fault.start <= at && at <= fault.start.saturating_add(length) {
+        *fault
+    } else {
+        Place::at(fault.text, line_of(fault.text, at))
     }
-    page.say(", at byte ")?;
-    page.number((before as u64).saturating_add(1))?;
-    if edit.gone == 0 {
-        return push_put(page, ", add `", &edit.put);
-    }
-    let (_, rest) = line.split_at(before.min(line.len()));
-    let (gone, _) = rest.split_at(edit.gone.min(rest.len()));
-    if edit.put.is_empty() {
-        return push_put(page, ", drop `", gone);
-    }
-    page.say(", for `")?;
-    page.show_all(gone)?;
-    push_put(page, "` put `", &edit.put)
 }
 
 /// A line without its end.
@@ -126,38 +74,64 @@ fn bare(line: &[u8]) -> &[u8] {
     line.strip_suffix(b"\n").unwrap_or(line)
 }
 
-/// Adds a change of a text.
-fn push_edit(page: &mut Page, text: &[u8], edit: &Edit) -> Result<(), AllocError> {
-    if edit.at == text.len() {
-        return push_put(page, "At the end add the line `", bare(&edit.put));
-    }
-    let place = place_behind(text, edit.at);
-    let before = edit.at.saturating_sub(place.start);
-    let line = place.line.unwrap_or(b"");
+/// A change in words, by how many bytes of its line stand before it, and how many the line has.
+fn words_of_change(before: usize, length: usize, edit: &Edit) -> &'static str {
+    let is_whole = before == 0 && edit.gone == length;
     if edit.gone == 0 && edit.put.last() == Some(&b'\n') {
-        push_line_number(page, "Above line ", place.number)?;
-        return push_put(page, " add the line `", bare(&edit.put));
+        "Above line # add the line `&`."
+    } else if edit.put.is_empty() && before == 0 && edit.gone >= length.max(1) {
+        "Drop line #."
+    } else if is_whole {
+        "Write line # as `&`."
+    } else if edit.put.is_empty() && before.saturating_add(edit.gone) == length {
+        "In line # drop all from byte # on."
+    } else if edit.gone == 0 {
+        "In line #, at byte #, add `&`."
+    } else if edit.put.is_empty() {
+        "In line #, at byte #, drop `%`."
+    } else {
+        "In line #, at byte #, for `%` put `&`."
     }
-    if before == 0 && edit.put.is_empty() && edit.gone >= line.len().max(1) {
-        push_line_number(page, "Drop line ", place.number)?;
-        return page.line(".");
-    }
-    if before == 0 && edit.gone == line.len() {
-        push_line_number(page, "Write line ", place.number)?;
-        return push_put(page, " as `", &edit.put);
-    }
-    push_in_line(page, &place, before, edit)
 }
 
-/// Adds a repair of a text.
+/// The bytes of a line that go, behind so many others.
+fn gone_of(line: &[u8], before: usize, gone: usize) -> &[u8] {
+    let (_, rest) = line.split_at(before.min(line.len()));
+    let (gone, _) = rest.split_at(gone.min(rest.len()));
+    gone
+}
+
+/// Adds a change of a text with a fault.
+fn push_edit(page: &mut Page, fault: &Place<'_>, edit: &Edit) -> Result<(), AllocError> {
+    let place = place_of(fault, edit.at);
+    let before = edit.at.saturating_sub(place.start);
+    let line = place.line.unwrap_or(b"");
+    let words = if edit.at == fault.text.len() {
+        "At the end add the line `&`."
+    } else {
+        words_of_change(before, line.len(), edit)
+    };
+    push_filled(
+        page,
+        Filled {
+            words,
+            word: gone_of(line, before, edit.gone),
+            put: bare(&edit.put),
+            first: u64::from(place.number),
+            second: (before as u64).saturating_add(1),
+        },
+    )
+}
+
+/// Adds a repair of a text with a fault.
 ///
 /// # Errors
 ///
 /// Want of memory.
-pub fn push_mend(page: &mut Page, text: &[u8], repair: &Repair) -> Result<(), AllocError> {
+pub fn push_mend(page: &mut Page, fault: &Place<'_>, repair: &Repair) -> Result<(), AllocError> {
     push_both(page, "Repair: ", words_of(repair.why))?;
     match &repair.change {
-        Change::Edited(edit) => push_edit(page, text, edit),
-        Change::ReadAs(other) => { push_both(page, "Read it by ", command_words(*other)) }
+        Change::Edited(edit) => push_edit(page, fault, edit),
+        Change::ReadAs(other) => push_both(page, "Read it by ", command_words(*other)),
     }
 }

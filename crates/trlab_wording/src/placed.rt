@@ -1,22 +1,20 @@
 //! Programs and where they stand in a text.
 
-use crate::instr_lines::InstrLines;
+use crate::instr_lines::NumberedLine;
 use crate::lines::push_quote;
-use std::alloc::{AllocError, Global};
-use trlab_advice::line_at;
-use trlab_asm::disassemble;
+use std::alloc::AllocError;
 use trlab_code::Code;
 use trlab_prose::Page;
 
 /// A program and where it stands.
 #[derive(Clone, Copy)]
 pub struct Placed<'a> {
-    /// The whole text.
-    pub text: &'a [u8],
     /// The program.
     pub code: &'a Code,
     /// The lines of its instructions.
-    pub lines: &'a InstrLines,
+    pub lines: &'a [NumberedLine<'a>],
+    /// Whether these are lines as the laboratory writes them, since it has none of its own.
+    pub is_listed: bool,
 }
 
 /// Adds a line of a listing, quoted, with the number of its instruction.
@@ -29,18 +27,10 @@ fn push_listed(page: &mut Page, pc: u32, line: &[u8]) -> Result<(), AllocError> 
 }
 
 /// Adds an instruction: its line of the text, or as the laboratory writes it where it has none.
-pub fn push_instruction(
-    alloc: Global,
-    page: &mut Page,
-    program: Placed<'_>,
-    pc: u32,
-) -> Result<(), AllocError> {
-    match program.lines.line_of(pc as usize) {
-        Some(number) => push_quote(page, number, line_at(program.text, number)),
-        None => {
-            let listing = disassemble(alloc, program.code)?;
-            let line = line_at(&listing, pc.saturating_add(1)).unwrap_or(b"");
-            push_listed(page, pc, line)
-        }
+pub fn push_instruction(page: &mut Page, program: Placed<'_>, pc: u32) -> Result<(), AllocError> {
+    match program.lines.get(pc as usize) {
+        Some(found) if program.is_listed => push_listed(page, pc, found.line),
+        Some(found) => push_quote(page, found.number, Some(found.line)),
+        None => Ok(()),
     }
 }

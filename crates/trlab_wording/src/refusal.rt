@@ -10,19 +10,19 @@ use std::alloc::{AllocError, Global};
 use trlab_asm::register_text;
 use trlab_code::{Instr, Register};
 use trlab_prose::Page;
-use trlab_verify::{Mark, Note};
+use trlab_verify::{Mark, Note, notes_of_refused};
 
 /// A program that is refused.
 #[derive(Clone, Copy)]
-pub struct Refused<'a> {
+struct Refused<'a> {
     /// The program, and where it stands.
-    pub program: Placed<'a>,
+    program: Placed<'a>,
     /// The refused instruction, counted from 0.
-    pub at: u32,
+    at: u32,
     /// The number of the reason, 1 to 12.
-    pub reason: u32,
+    reason: u32,
     /// What the verifier knows before each instruction up to the refused one.
-    pub notes: &'a [Note],
+    notes: &'a [Note],
 }
 
 /// Adds what a note says of a register that is read, if one is.
@@ -125,7 +125,7 @@ fn count_ways(refused: &Refused<'_>) -> u32 {
 }
 
 /// Adds the instructions from which ways lead to the refused one, where there are several.
-fn push_ways(alloc: Global, page: &mut Page, refused: &Refused<'_>) -> Result<(), AllocError> {
+fn push_ways(page: &mut Page, refused: &Refused<'_>) -> Result<(), AllocError> {
     if count_ways(refused) < 2 {
         return Ok(());
     }
@@ -136,18 +136,18 @@ fn push_ways(alloc: Global, page: &mut Page, refused: &Refused<'_>) -> Result<()
             pc as usize,
             refused.at as usize,
         ) {
-            push_instruction(alloc, page, refused.program, pc)?;
+            push_instruction(page, refused.program, pc)?;
         }
     }
     Ok(())
 }
 
 /// Adds the instruction above the refused one, which leads elsewhere.
-fn push_skip(alloc: Global, page: &mut Page, refused: &Refused<'_>) -> Result<(), AllocError> {
+fn push_skip(page: &mut Page, refused: &Refused<'_>) -> Result<(), AllocError> {
     match refused.at.checked_sub(1) {
         Some(above) => {
             page.line("The instruction above leads elsewhere, and no jump leads here:")?;
-            push_instruction(alloc, page, refused.program, above)
+            push_instruction(page, refused.program, above)
         }
         None => Ok(()),
     }
@@ -166,24 +166,52 @@ fn push_note(page: &mut Page, refused: &Refused<'_>) -> Result<(), AllocError> {
 }
 
 /// Adds why a program is refused.
+fn push_refusal(page: &mut Page, refused: &Refused<'_>) -> Result<(), AllocError> {
+    push_instruction(page, refused.program, refused.at)?;
+    let meaning = meaning_of_reason(refused.reason);
+    push_meaning(page, "Reason ", u64::from(refused.reason), meaning)?;
+    if refused.reason == 1 {
+        push_skip(page, refused)?;
+    } else {
+        push_note(page, refused)?;
+        push_ways(page, refused)?;
+    }
+    let repair = repair_of_reason(refused.reason, refused.program.code.kind());
+    push_both(page, "Advice: ", repair)
+}
+
+/// The refused instruction, by the reason and by how many instructions have notes: one to which no way leads
+/// has none.
+fn refused_at(reason: u32, notes: usize) -> u32 {
+    let notes = u32::try_from(notes).unwrap_or(u32::MAX);
+    if reason == 1 {
+        notes
+    } else {
+        notes.saturating_sub(1)
+    }
+}
+
+/// Adds why a program is refused for a reason.
 ///
 /// # Errors
 ///
 /// Want of memory.
-pub fn push_refusal(
+pub fn push_refused(
     alloc: Global,
     page: &mut Page,
-    refused: &Refused<'_>,
+    program: Placed<'_>,
+    reason: u32,
 ) -> Result<(), AllocError> {
-    push_instruction(alloc, page, refused.program, refused.at)?;
-    let meaning = meaning_of_reason(refused.reason);
-    push_meaning(page, "Reason ", u64::from(refused.reason), meaning)?;
-    if refused.reason == 1 {
-        push_skip(alloc, page, refused)?;
-    } else {
-        push_note(page, refused)?;
-        push_ways(alloc, page, refused)?;
-    }
-    let repair = repair_of_reason(refused.reason, refused.program.code.kind());
-    push_both(page, "Advice: ", repair)
+    let Some(notes) = notes_of_refused(alloc, program.code)? else {
+        return Ok(());
+    };
+    push_refusal(
+        page,
+        &Refused {
+            program,
+            at: refused_at(reason, notes.len()),
+            reason,
+            notes: &notes,
+        },
+    )
 }

@@ -1,8 +1,8 @@
 //! The lines of texts, in words.
 
 use std::alloc::AllocError;
-use trlab_advice::Wanted;
 use trlab_prose::Page;
+use trlab_remedies::Wanted;
 
 /// What has to stand in a check text.
 pub const EXPECTED_OF_CHECK: &str =

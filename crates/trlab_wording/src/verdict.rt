@@ -1,23 +1,56 @@
 //! What is told of the program of a check text.
 
 use crate::accepted::push_accepted;
-use crate::instr_lines::{InstrLines, behind_line};
+use crate::instr_lines::instr_lines;
 use crate::placed::Placed;
-use crate::refusal::{Refused, push_refusal};
+use crate::refusal::push_refused;
 use std::alloc::{AllocError, Global};
-use trlab_advice::line_at;
+use trlab_asm::disassemble;
 use trlab_code::Code;
+use trlab_lines::next_line;
 use trlab_prose::Page;
 use trlab_texts::word::behind;
-use trlab_verify::notes_of_refused;
 
-/// Where the instructions of the program of a check text stand.
-fn instr_lines_of(alloc: Global, text: &[u8]) -> Result<InstrLines, AllocError> {
-    match line_at(text, 1) {
-        Some(line) if behind(b"code ", line).is_some() => Ok(InstrLines::of_bytes(alloc)),
-        Some(line) if behind(b"notes code ", line).is_some() => Ok(InstrLines::of_bytes(alloc)),
-        _ => InstrLines::of_lines(alloc, 1, behind_line(text, 1)),
+/// The program of a check text, if it stands there in lines: what is behind the first line.
+fn lines_of_program(text: &[u8]) -> Option<&[u8]> {
+    let (line, below) = next_line(text)?;
+    let line = behind(b"notes ", line).unwrap_or(line);
+    if behind(b"code ", line).is_some() {
+        return None;
     }
+    Some(below)
+}
+
+/// What the verifier says of a program.
+#[derive(Clone, Copy)]
+enum Verdict {
+    /// It is accepted, with this budget.
+    Accepted(u32),
+    /// It is refused for this reason.
+    Refused(u32),
+}
+
+/// The page on the verdict on the program of a check text.
+fn verdict_page(
+    alloc: Global,
+    text: &[u8],
+    code: &Code,
+    verdict: Verdict,
+) -> Result<Page, AllocError> {
+    let listing = disassemble(alloc, code)?;
+    let own = lines_of_program(text);
+    let lines = instr_lines(alloc, 1, own.unwrap_or(&listing))?;
+    let program = Placed {
+        code,
+        lines: &lines,
+        is_listed: own.is_none(),
+    };
+    let mut page = Page::new(alloc);
+    match verdict {
+        Verdict::Accepted(budget) => push_accepted(alloc, &mut page, program, budget)?,
+        Verdict::Refused(reason) => push_refused(alloc, &mut page, program, reason)?,
+    }
+    Ok(page)
 }
 
 /// The page on a program that is accepted.
@@ -31,38 +64,7 @@ pub fn accepted_page(
     code: &Code,
     budget: u32,
 ) -> Result<Page, AllocError> {
-    let mut page = Page::new(alloc);
-    let lines = instr_lines_of(alloc, text)?;
-    let program = Placed {
-        text,
-        code,
-        lines: &lines,
-    };
-    push_accepted(alloc, &mut page, program, budget)?;
-    Ok(page)
-}
-
-/// Adds why a program is refused.
-fn push_refused(
-    alloc: Global,
-    page: &mut Page,
-    program: Placed<'_>,
-    at: u32,
-    reason: u32,
-) -> Result<(), AllocError> {
-    match notes_of_refused(alloc, program.code)? {
-        Some(notes) => push_refusal(
-            alloc,
-            page,
-            &Refused {
-                program,
-                at,
-                reason,
-                notes: &notes,
-            },
-        ),
-        None => Ok(()),
-    }
+    verdict_page(alloc, text, code, Verdict::Accepted(budget))
 }
 
 /// What is told of a program that is refused, which its head stands above.
@@ -74,16 +76,7 @@ pub fn refused_words(
     alloc: Global,
     text: &[u8],
     code: &Code,
-    at: u32,
     reason: u32,
 ) -> Result<Page, AllocError> {
-    let mut page = Page::new(alloc);
-    let lines = instr_lines_of(alloc, text)?;
-    let program = Placed {
-        text,
-        code,
-        lines: &lines,
-    };
-    push_refused(alloc, &mut page, program, at, reason)?;
-    Ok(page)
+    verdict_page(alloc, text, code, Verdict::Refused(reason))
 }

@@ -1,6 +1,7 @@
 //! Whole texts: one is read to its end, or written piece by piece until nothing is owed.
 
-ghost use Rattle.std.specs.Prelude.{◌≡◌, ◌+◌, ◌≤◌, ◌<◌, ◌||◌, ◌↔◌, length, false, true, IfOk, OnOk, OnErr, IfErr, IfSome, is_err};
+ghost use Rattle.std.specs.Prelude.{◌≡◌, ◌+◌, ◌≤◌, ◌<◌, ◌||◌, ◌↔◌, length, false, true, IfOk};
+ghost use Rattle.std.specs.Prelude.{OnOk, OnErr, IfErr, IfSome, is_err};
 ghost use Rattle.std.specs.Io.KnownBytes.{Appends, Consumes, IsAtEnd};
 ghost use Rattle.trlab_campaign.specs.Device.{AppendsFront, ConsumesUpTo};
 ghost use Rattle.trlab_campaign.specs.Flushes.{AtMostOnce, HandedOnce};

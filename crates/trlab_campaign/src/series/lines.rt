@@ -1,6 +1,7 @@
 //! The lines of a series: that of a window is written once the steps of the window are taken.
 
-ghost use Rattle.std.specs.Prelude.{◌≡◌, ℕ, ◌+◌, ◌*◌, ◌<◌, ◌≤◌, ◌^◌, ◌↔◌, List, flat_map, true, false, IfOk, IsOk, OnOk, OnErr, IfErr};
+ghost use Rattle.std.specs.Prelude.{◌≡◌, ℕ, ◌+◌, ◌*◌, ◌<◌, ◌≤◌, ◌^◌, ◌↔◌, List, flat_map, true};
+ghost use Rattle.std.specs.Prelude.{false, IfOk, IsOk, OnOk, OnErr, IfErr};
 ghost use Rattle.std.specs.Io.KnownBytes.{Appends};
 ghost use Rattle.trlab_bounds.specs.declared.runs.TheConstants.{MOST_STEPS};
 ghost use Rattle.trlab_diagram.specs.Series.{series_heading, series_text, window_text};

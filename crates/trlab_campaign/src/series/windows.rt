@@ -31,4 +31,14 @@ impl Windows {
     {
         steps.saturating_sub(self.from) / self.every
     }
+
+    /// How many steps these windows take, with those before the first: none where there is no window.
+    pub fn steps(&self, steps: u32) -> u32
+        ensures { result ≤ steps }
+    {
+        match self.count(steps) {
+            0 => 0,
+            count => self.from + count * self.every,
+        }
+    }
 }

@@ -7,9 +7,11 @@ ghost use Rattle.trlab_book.specs.Desks.{parts_of};
 ghost use Rattle.trlab_campaign.specs.SweepOutput.{AreFirstPoints, ArePoints, IsPoint};
 ghost use Rattle.trlab_strands.specs.Tokens.{name_of};
 
+use crate::progress::Observer;
 use crate::sweep::batches::Batch;
 use crate::sweep::points::{even_road, run_point};
 use crate::sweep::snapshots::point_seen;
+use crate::sweep::work::WorkGate;
 use std::alloc::{AllocError, Global};
 use std::marker::Brand;
 use std::sync::Wait;
@@ -18,7 +20,6 @@ use trlab_book::{Desk, SharedBook, run_jobs};
 use trlab_diagram::Point;
 use trlab_jobs::Sweep;
 use trlab_leases::{Event, Seed};
-use trlab_segments::OpenGate;
 use trlab_strands::{Blank, Ledger};
 
 /// Submits the roads of a batch, each at the place that it has among the jobs. Where the book takes no more,
@@ -69,12 +70,12 @@ fn point_of_job<L: Ledger, R: Wait>(
     ensures measured { IfOk result IsMeasured }
 {
     let cars = sweep.cars[number as usize];
-    let road = even_road(alloc, sweep, cars)?;
     if let Ok(seen) = book.read(rt, alloc, desk, job)
-        && let Some(point) = point_seen(sweep, number, cars, &road, &seen)
+        && let Some(point) = point_seen(sweep, number, cars, &seen)
     {
         return Ok(point);
     }
+    let road = even_road(alloc, sweep, cars)?;
     run_point(alloc, sweep, number, cars, road)
 }
 
@@ -104,11 +105,12 @@ fn collect_points<L: Ledger, R: Wait>(
 }
 
 /// Adds the points of the next batch, whose roads are the jobs of one book.
-fn add_batch<L: Ledger + Send + Sync, R: Threads + Wait + Sync>(
+fn add_batch<L: Ledger + Send + Sync, R: Threads + Wait + Sync, O: Observer + Sync>(
     rt: &R,
     alloc: Global,
     blank: Blank<Event>,
     sweep: &Sweep,
+    gate: &WorkGate<O>,
     runners: u32,
     workers: u32,
     points: &mut Vec<Point>,
@@ -124,22 +126,24 @@ fn add_batch<L: Ledger + Send + Sync, R: Threads + Wait + Sync>(
     let batch = Batch::of(sweep, points.len());
     let (book, mut desk) = SharedBook::<L>::start(alloc, blank);
     submit_roads(rt, alloc, &book, &mut desk, sweep, batch)?;
-    let mut desk = match run_jobs(rt, alloc, &book, desk, runners, workers, &OpenGate) {
+    let mut desk = match run_jobs(rt, alloc, &book, desk, runners, workers, gate) {
         Ok(desk) => desk,
         Err((desk, _)) => desk,
     };
     collect_points(rt, alloc, &book, &mut desk, sweep, batch, points)
 }
 
-/// The points of a sweep, whose roads are run by 1 to 16 runners with 1 to 16 workers each, batch by batch.
+/// The points of a sweep, whose roads are run by 1 to 16 runners with 1 to 16 workers each, batch by batch. The
+/// workers pass the gate of the sweep.
 ///
 /// # Errors
 ///
 /// Want of memory.
-pub fn points_by_runners<R: Threads + Wait + Sync>(
+pub fn points_by_runners<R: Threads + Wait + Sync, O: Observer + Sync>(
     rt: &R,
     alloc: Global,
     sweep: &Sweep,
+    gate: &WorkGate<O>,
     runners: u32,
     workers: u32,
 ) -> Result<Vec<Point>, AllocError>
@@ -151,7 +155,8 @@ pub fn points_by_runners<R: Threads + Wait + Sync>(
     let mut points = Vec::new(alloc);
     while points.len() < sweep.cars.len() {
         let blank = Blank::new(alloc)?;
-        add_batch::<Brand, R>(rt, alloc, blank, sweep, runners, workers, &mut points)?;
+        add_batch::<Brand, R, O>(rt, alloc, blank, sweep, gate, runners, workers, &mut points)?;
+        gate.collected(points.len());
     }
     Ok(points)
 }

@@ -7,20 +7,23 @@ ghost use Rattle.trlab_leases.specs.Jobs.{start_of};
 ghost use Rattle.trlab_jobs.specs.Stored.{Spreads};
 ghost use Rattle.trlab_campaign.specs.SweepOutput.{IsPoint, seed_of, sheet_of};
 
+use crate::sweep::evenness::is_even;
 use crate::sweep::points::point_of;
 use trlab_diagram::Point;
 use trlab_jobs::Sweep;
 use trlab_leases::{Seed, Sheet, Snapshot};
-use trlab_road::Road;
 
-/// Whether a seed is that of the point with this number, whose road starts so.
-fn is_seed_of(sweep: &Sweep, number: u32, road: &Road, seed: &Seed) -> bool
-    ensures { IsTrue result ↔ (start_of seed.now ≡ seed_of sweep.now.setup number road.now) }
+/// Whether a seed is that of the point with this number, on whose road so many cars are evenly spread.
+fn is_seed_of(sweep: &Sweep, number: u32, cars: u32, seed: &Seed) -> bool
+    requires { Spreads sweep.now.setup.shape cars }
+    ensures { IsTrue result ↔ ((start_of seed.now ≡ seed_of sweep.now.setup number seed.now.road)
+        × IsEven sweep.now.setup.shape.lanes
+        sweep.now.setup.shape.cells sweep.now.setup.shape.limit cars seed.now.road) }
 {
     seed.number == number
         && seed.warm == sweep.warm
         && seed.key == sweep.key
-        && seed.road.equals(road)
+        && is_even(&seed.road, sweep.lanes, sweep.length, sweep.limit, cars)
 }
 
 /// Whether a sheet is that of a sweep: its rule alone, from step 0 on.
@@ -36,23 +39,15 @@ fn is_sheet_of(sweep: &Sweep, sheet: &Sheet) -> bool
 }
 
 /// The point of a snapshot, where seed, sheet and step are those of the point with this number and so
-/// many cars, whose road starts so.
-pub fn point_seen(
-    sweep: &Sweep,
-    number: u32,
-    cars: u32,
-    road: &Road,
-    seen: &Snapshot,
-) -> Option<Point>
-    requires spreads { Spreads sweep.now.setup.shape cars }
-    requires even { IsEven sweep.now.setup.shape.lanes
-        sweep.now.setup.shape.cells sweep.now.setup.shape.limit cars road.now }
+/// many cars.
+pub fn point_seen(sweep: &Sweep, number: u32, cars: u32, seen: &Snapshot) -> Option<Point>
+    requires { Spreads sweep.now.setup.shape cars }
     ensures is { IfSome result (λ point. IsPoint sweep.now.setup number cars point) }
     ensures measured { IfSome result IsMeasured }
 {
     if seen.step() == sweep.warm + sweep.measure
         && is_sheet_of(sweep, seen.sheet())
-        && is_seed_of(sweep, number, road, seen.seed())
+        && is_seed_of(sweep, number, cars, seen.seed())
     {
         Some(point_of(sweep, cars, seen.tally()))
     } else {

@@ -1,8 +1,8 @@
-use Rattle.std.proofs.Common.{ℕ, List, inl, refl, sym, ◌∙◌}
+use Rattle.std.proofs.Common.{ℕ, List, refl, sym, ◌∙◌}
 use Rattle.std.proofs.lemmas.Bool.{false≢true}
 use Rattle.trlab_campaign.specs.Ending.{EndsSo}
-use Rattle.trlab_campaign.proofs.Endings.{too_big_ends, fault_ends}
-use Rattle.trlab_campaign.proofs.KnownBytes.{consumes_whole, keeps_same}
+use Rattle.trlab_campaign.proofs.Endings.{too_big_ends}
+use Rattle.trlab_campaign.proofs.KnownBytes.{consumes_whole}
 use Rattle.trlab_campaign.proofs.engine.run_engine.Goals as goal
 
 pub returns-in-Ok-clause-answer : goal.returns-in-Ok-clause-answer
@@ -18,7 +18,7 @@ returns-in-Ok-clause-device g c = rw c.in-Ok.ensures.works c.write.ensures.devic
 
 pub returns-in-Err-TooBig-clause-answer : goal.returns-in-Err-TooBig-clause-answer
 returns-in-Err-TooBig-clause-answer g c =
-    too_big_ends (g.E.Engine.outputs c.args.engine) _ _ _ _ (g.met.E.Engine.too_big c.args.engine) (rw c.in-Err-TooBig.field-0-is at c.in-Err-TooBig.ensures.big refl) c.refuse.ensures.answer
+    too_big_ends (g.E.Engine.outputs c.args.engine) _ _ _ _ c.write_too_big.ensures.answer (rw c.in-Err-TooBig.field-0-is at c.in-Err-TooBig.ensures.big refl)
 
 pub returns-in-Ok-clause-handed : goal.returns-in-Ok-clause-handed
 returns-in-Ok-clause-handed g c = c.write.ensures.handed
@@ -30,19 +30,10 @@ pub returns-in-Ok-clause-stops : goal.returns-in-Ok-clause-stops
 returns-in-Ok-clause-stops g c = c.in-Ok.ensures.stops
 
 pub returns-in-Err-TooBig-clause-handed : goal.returns-in-Err-TooBig-clause-handed
-returns-in-Err-TooBig-clause-handed g c = c.refuse.ensures.handed
+returns-in-Err-TooBig-clause-handed g c = c.write_too_big.ensures.handed
 
 pub returns-in-Err-TooBig-clause-read : goal.returns-in-Err-TooBig-clause-read
 returns-in-Err-TooBig-clause-read g c = c.in-Err-TooBig.ensures.read
 
 pub returns-in-Err-TooBig-clause-stops : goal.returns-in-Err-TooBig-clause-stops
 returns-in-Err-TooBig-clause-stops g c = c.in-Err-TooBig.ensures.stops
-
-pub returns-clause-answer : goal.returns-clause-answer
-returns-clause-answer g c = fault_ends (g.E.Engine.outputs c.args.engine) _ _
-
-pub returns-clause-silent : goal.returns-clause-silent
-returns-clause-silent g c = λ _. keeps_same _
-
-pub returns-clause-handed : goal.returns-clause-handed
-returns-clause-handed g c = inl refl

@@ -7,9 +7,11 @@ use Rattle.trlab_command_line.proofs.commands.run_command.Goals as goal
 pub returns-clause-app : goal.returns-clause-app
 returns-clause-app c =
     let plain : app_of c.after_help.result ≡ new_app (codes "run") = search rules in
-    IfOk-weaker c.arg.result _ _ (λ command added. added.shape c.workers_option.ensures.local ∙ ap₂ with_rule plain c.workers_option.ensures.rule) c.arg.ensures
+    let first = c.in_ok-arg.ensures.shape c.workers_option.ensures.local ∙ ap₂ with_rule plain c.workers_option.ensures.rule in
+    IfOk-weaker c.arg-2.result _ _ (λ command added. added.shape c.progress_flag.ensures.local ∙ ap₂ with_rule first c.progress_flag.ensures.rule) c.arg-2.ensures
 
 pub returns-clause-local : goal.returns-clause-local
 returns-clause-local c =
     let plain : (out-Command c.after_help.result).has_globals ≡ false = search rules in
-    IfOk-weaker c.arg.result _ _ (λ command added. added.globals ∙ ap₂ (λ a b. a || b) plain c.workers_option.ensures.local) c.arg.ensures
+    let first = c.in_ok-arg.ensures.globals ∙ ap₂ (λ a b. a || b) plain c.workers_option.ensures.local in
+    IfOk-weaker c.arg-2.result _ _ (λ command added. added.globals ∙ ap₂ (λ a b. a || b) first c.progress_flag.ensures.local) c.arg-2.ensures

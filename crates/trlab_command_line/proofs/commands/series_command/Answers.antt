@@ -9,11 +9,13 @@ returns-clause-app c =
     let plain : app_of c.after_help.result ≡ new_app (codes "series") = search rules in
     let first = c.in_ok-arg.ensures.shape c.every_option.ensures.local ∙ ap₂ with_rule plain c.every_option.ensures.rule in
     let second = c.in_ok-arg-2.ensures.shape c.from_option.ensures.local ∙ ap₂ with_rule first c.from_option.ensures.rule in
-    IfOk-weaker c.arg-3.result _ _ (λ command added. added.shape c.workers_option.ensures.local ∙ ap₂ with_rule second c.workers_option.ensures.rule) c.arg-3.ensures
+    let third = c.in_ok-arg-3.ensures.shape c.workers_option.ensures.local ∙ ap₂ with_rule second c.workers_option.ensures.rule in
+    IfOk-weaker c.arg-4.result _ _ (λ command added. added.shape c.progress_flag.ensures.local ∙ ap₂ with_rule third c.progress_flag.ensures.rule) c.arg-4.ensures
 
 pub returns-clause-local : goal.returns-clause-local
 returns-clause-local c =
     let plain : (out-Command c.after_help.result).has_globals ≡ false = search rules in
     let first = c.in_ok-arg.ensures.globals ∙ ap₂ (λ a b. a || b) plain c.every_option.ensures.local in
     let second = c.in_ok-arg-2.ensures.globals ∙ ap₂ (λ a b. a || b) first c.from_option.ensures.local in
-    IfOk-weaker c.arg-3.result _ _ (λ command added. added.globals ∙ ap₂ (λ a b. a || b) second c.workers_option.ensures.local) c.arg-3.ensures
+    let third = c.in_ok-arg-3.ensures.globals ∙ ap₂ (λ a b. a || b) second c.workers_option.ensures.local in
+    IfOk-weaker c.arg-4.result _ _ (λ command added. added.globals ∙ ap₂ (λ a b. a || b) third c.progress_flag.ensures.local) c.arg-4.ensures

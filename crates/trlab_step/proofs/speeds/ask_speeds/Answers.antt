@@ -15,16 +15,16 @@ loop-block-preserved c =
     let before = c.loop-block.speeds.items in
     let begin = c.args.from + BLOCK * c.loop-block.block in
     let size = begin + c.min.result - begin in
-    let is = size_is c.args.from c.args.to c.loop-block.block c.requires.rising c.loop-block-test.true c.min.result c.min.ensures in
-    let near = end_near c.args.from c.args.to c.loop-block.block c.requires.rising c.loop-block-test.true c.min.result c.min.ensures in
+    let is = size_is c.args.from c.args.to c.loop-block.block c.requires.rising c.div_ceil-block-end.ensures c.loop-block-test.true c.min.result c.min.ensures in
+    let near = end_near c.args.from c.args.to c.loop-block.block c.requires.rising c.div_ceil-block-end.ensures c.loop-block-test.true c.min.result c.min.ensures in
     let few : size ≤ LANES = omega (arith, is, near) in
     let block = take size c.low_bytes-answers.result in
     let whole : length c.low_bytes-answers.result ≡ LANES = search rules in
     let count : length block ≡ c.min.result = length-take-le size c.low_bytes-answers.result (omega (arith, whole, few)) ∙ is in
-    let end = ap (λ n. begin + n) count ∙ next_begin c.args.from c.args.to c.loop-block.block c.requires.rising c.loop-block-test.true c.min.result c.min.ensures in
+    let end = ap (λ n. begin + n) count ∙ next_begin c.args.from c.args.to c.loop-block.block c.requires.rising c.div_ceil-block-end.ensures c.loop-block-test.true c.min.result c.min.ensures in
     let goes = block_goes size few program dice road begin c.ask_motions.new.views c.ask_motions.ensures.cars c.run_motions.result c.low_bytes-answers.result c.ask_motions.ensures.each c.run_motions.ensures
     c.low_bytes-answers.ensures in
-    let start = begin_is c.args.from c.args.to c.loop-block.block c.requires.rising c.loop-block-test.true in
+    let start = begin_is c.args.from c.args.to c.loop-block.block c.requires.rising c.div_ceil-block-end.ensures c.loop-block-test.true in
     let here = subst (λ m. AnswersSpeedsPart program dice road c.args.from m before) start c.loop-block.invariant.answers in
     rw c.in_ok-extend_from_slice.ensures.items (record {
       answers = more_speeds program dice road c.args.from begin _ before block end goes here;
@@ -34,8 +34,8 @@ loop-block-preserved c =
 pub overflow_sub-to : goal.overflow_sub-to
 overflow_sub-to c = c.requires.rising
 
-pub overflow_sub-block-end : goal.overflow_sub-block-end
-overflow_sub-block-end c = c.requires.rising
+pub overflow_sub-to-2 : goal.overflow_sub-to-2
+overflow_sub-to-2 c = c.requires.rising
 
 pub returns-in_err-reserve-clause-speeds : goal.returns-in_err-reserve-clause-speeds
 returns-in_err-reserve-clause-speeds c = let p = err_from_is_err_and c.from_residual.result c.from_residual.ensures.1 in rw p.1 tt
@@ -55,32 +55,32 @@ loop-block-init c =
     record { answers = part_none (AnswersSpeed c.args.motion.now c.args.dice.now c.args.road.now) c.args.road.now c.args.from _ _ none (first_begin c.args.from c.args.to c.requires.rising); fits = fits_none c.args.road.now c.args.from _ none }
 
 pub overflow_sub-to-in-loop-block : goal.overflow_sub-to-in-loop-block
-overflow_sub-to-in-loop-block c = begin_low c.args.from c.args.to c.loop-block.block c.requires.rising c.loop-block-test.true
+overflow_sub-to-in-loop-block c = begin_low c.args.from c.args.to c.loop-block.block c.requires.rising c.div_ceil-block-end.ensures c.loop-block-test.true
 
 pub overflow_mul-begin : goal.overflow_mul-begin
-overflow_mul-begin c = let low = begin_low c.args.from c.args.to c.loop-block.block c.requires.rising c.loop-block-test.true in let to = c.ranges.to in omega (arith, low, to)
+overflow_mul-begin c = let low = begin_low c.args.from c.args.to c.loop-block.block c.requires.rising c.div_ceil-block-end.ensures c.loop-block-test.true in let to = c.ranges.to in omega (arith, low, to)
 
 pub overflow_add-begin : goal.overflow_add-begin
-overflow_add-begin c = let low = begin_low c.args.from c.args.to c.loop-block.block c.requires.rising c.loop-block-test.true in let to = c.ranges.to in omega (arith, low, to)
+overflow_add-begin c = let low = begin_low c.args.from c.args.to c.loop-block.block c.requires.rising c.div_ceil-block-end.ensures c.loop-block-test.true in let to = c.ranges.to in omega (arith, low, to)
 
 pub overflow_add-end : goal.overflow_add-end
-overflow_add-end c = let low = end_low c.args.from c.args.to c.loop-block.block c.requires.rising c.loop-block-test.true c.min.result c.min.ensures in let to = c.ranges.to in omega (arith, low, to)
+overflow_add-end c = let low = end_low c.args.from c.args.to c.loop-block.block c.requires.rising c.div_ceil-block-end.ensures c.loop-block-test.true c.min.result c.min.ensures in let to = c.ranges.to in omega (arith, low, to)
 
 pub ask_motions-requires-clause-rising : goal.ask_motions-requires-clause-rising
-ask_motions-requires-clause-rising c = end_after c.args.from c.args.to c.loop-block.block c.requires.rising c.loop-block-test.true c.min.result c.min.ensures
+ask_motions-requires-clause-rising c = end_after c.args.from c.args.to c.loop-block.block c.requires.rising c.div_ceil-block-end.ensures c.loop-block-test.true c.min.result c.min.ensures
 
 pub ask_motions-requires-clause-few : goal.ask_motions-requires-clause-few
-ask_motions-requires-clause-few c = end_near c.args.from c.args.to c.loop-block.block c.requires.rising c.loop-block-test.true c.min.result c.min.ensures
+ask_motions-requires-clause-few c = end_near c.args.from c.args.to c.loop-block.block c.requires.rising c.div_ceil-block-end.ensures c.loop-block-test.true c.min.result c.min.ensures
 
 pub ask_motions-requires-clause-within : goal.ask_motions-requires-clause-within
-ask_motions-requires-clause-within c = let low = end_low c.args.from c.args.to c.loop-block.block c.requires.rising c.loop-block-test.true c.min.result c.min.ensures in let within = c.requires.within in omega (arith, low, within)
+ask_motions-requires-clause-within c = let low = end_low c.args.from c.args.to c.loop-block.block c.requires.rising c.div_ceil-block-end.ensures c.loop-block-test.true c.min.result c.min.ensures in let within = c.requires.within in omega (arith, low, within)
 
 pub run_motions-requires : goal.run_motions-requires
 run_motions-requires c = λ k near low. (c.ask_motions.ensures.each k (rw c.ask_motions.ensures.cars at low)).is_view
 
 pub returns-clause-speeds : goal.returns-clause-speeds
 returns-clause-speeds c =
-    let end = last_end c.args.from c.args.to c.loop-block.block c.requires.rising c.loop-block-test.false in
+    let end = last_end c.args.from c.args.to c.loop-block.block c.requires.rising c.div_ceil-block-end.ensures c.loop-block-test.false in
     subst (λ m. AnswersSpeedsPart c.args.motion.now c.args.dice.now c.args.road.now c.args.from m c.loop-block.speeds.items) end c.loop-block.invariant.answers
 
 pub returns-clause-fits : goal.returns-clause-fits

@@ -1,7 +1,6 @@
 use Rattle.std.proofs.Common.{◌∙◌, ◌+◌, ◌≤◌, ◌&&◌, cond, sym, ap, arith, nat_eq, List}
 use Rattle.std.specs.Prelude.{count_by, sum_by}
 use Rattle.trlab_road.specs.declared.car.Car.{Car}
-use Rattle.trlab_road.specs.Standing.{standing}
 use Rattle.trlab_campaign.specs.SeriesOutput.{is_on}
 use Rattle.trlab_campaign.proofs.Courses.{at_most, one_car_more, whole_standing}
 use Rattle.trlab_campaign.proofs.series.lanes.count_lane.Goals as goal

@@ -23,3 +23,6 @@ returns-clause-handed g c = c.write_table-end.ensures.handed
 
 pub returns-clause-device : goal.returns-clause-device
 returns-clause-device g c = c.write_table-end.ensures.device
+
+pub write_table-end-requires-clause-made : goal.write_table-end-requires-clause-made
+write_table-end-requires-clause-made g c = (c.requires.ready c.args.alloc _).1 _ c.table-table.ensures

@@ -32,7 +32,7 @@ invariant_of-self c =
     let state = job_state j.seed j.sheet j.steps j.high j.done j.cancelled j.out in
     let own : is_own (offered lease c.args.same) c.args.self.now ≡ true = sym c.owns.ensures ∙ c.if-not-owns.false in
     let parts = own_parts (offered lease c.args.same) state (subst (λ (s : JobState). is_own (offered lease c.args.same) s ≡ true) (sym c.self.view_is) own) in
-    rw (c.step-self-inside.ensures.value, c.into_road.ensures) (record {
+    rw (c.step-self-inside.ensures.value, c.come_to.ensures, c.into_road.ensures) (record {
       ordered = parts.1;
       within = c.self.invariant.within;
       begin = c.self.invariant.begin;

@@ -3,4 +3,4 @@ use Rattle.trlab_leases.specs.Leases.{LeaseState}
 use Rattle.trlab_leases.proofs.lease.Lease.road.Goals as goal
 
 pub returns-clause-value : goal.returns-clause-value
-returns-clause-value c = ap (λ (lease : LeaseState). lease.road) c.self.view_is
+returns-clause-value c = rw c.deref.ensures (ap (λ (lease : LeaseState). lease.road) c.self.view_is)

@@ -1,5 +1,6 @@
 use Rattle.std.proofs.Common.{Bool, List, ◌≡◌, ◌∙◌, ◌∷◌, [], ◌++◌, ap, refl, subst, sym}
 use Rattle.std.proofs.lemmas.Bool.{false≢true}
+use Rattle.std.specs.Arc.{arc_value}
 use Rattle.std.specs.Prelude.{Result, Ok, Err, IsErr, IsTrue, OnErr, OnOk}
 use Rattle.std.specs.declared.alloc.AllocError.{AllocError}
 use Rattle.trlab_leases.specs.declared.ran.Ran.{Ran}
@@ -60,12 +61,12 @@ returns-in_err-tally-clause-err g c = refused _ _ (still _ _ _ _ c.in_err-tally.
 
 pub invariant_of-self-2 : goal.invariant_of-self-2
 invariant_of-self-2 g c = (
-  lease_grows _ c.in_ok-shared.shared c.in_ok-tally.tally c.take_step.new.road _ _ c.new-dice.ensures.key c.new-dice.ensures.road c.new-dice.ensures.step (rw (c.in_ok-shared.ensures, ← c.get-rule.ensures) c.in_ok-tally.ensures.next)
+  lease_grows _ c.in_ok-shared.shared c.in_ok-tally.tally (arc_value c.step_alone.new.road) _ _ c.new-dice.ensures.key c.new-dice.ensures.road c.new-dice.ensures.step (rw (c.in_ok-shared.ensures, ← c.get-rule.ensures) c.in_ok-tally.ensures.next)
       (grown _ _ _ _ c.push_reserved.ensures.items c.reserve.ensures.items) c.self.invariant.0,
   λ is. rw (c.push_reserved.ensures.items, c.in_ok-shared.ensures, ← c.deref.ensures.value) (c.stays_steady-is_steady.ensures is c.in_ok-tally.tally),
 )
 
 pub returns-clause-ok : goal.returns-clause-ok
 returns-clause-ok g c =
-    has_stepped _ _ c.args.rule.now c.in_ok-shared.shared c.in_ok-tally.tally c.take_step.new.road _ _ c.self.view_is c.in_ok-shared.ensures c.new-dice.ensures.key c.new-dice.ensures.road c.new-dice.ensures.step (rw (c.in_ok-shared.ensures, ← c.get-rule.ensures) c.in_ok-tally.ensures.next)
+    has_stepped _ _ c.args.rule.now c.in_ok-shared.shared c.in_ok-tally.tally (arc_value c.step_alone.new.road) _ _ c.self.view_is c.in_ok-shared.ensures c.new-dice.ensures.key c.new-dice.ensures.road c.new-dice.ensures.step (rw (c.in_ok-shared.ensures, ← c.get-rule.ensures) c.in_ok-tally.ensures.next)
     (grown _ _ _ _ c.push_reserved.ensures.items c.reserve.ensures.items)

@@ -1,0 +1,260 @@
+//! Desks in several threads, and books that are closed with some of them.
+
+ghost use Rattle.std.specs.Prelude.{◌≡◌, ◌<◌, ◌≤◌};
+ghost use Rattle.std.specs.Thread.{IsSend, IsSync};
+ghost use Rattle.trlab_book.specs.Desks.{parts_of};
+ghost use Rattle.trlab_strands.specs.Tokens.{name_of};
+
+use crate::ends::{events_of, history_of};
+use crate::trials::blanks::new_blank;
+use crate::trials::calls::{reads, replace, submit};
+use crate::trials::histories::{Made, is_event, is_history};
+use crate::trials::jobs::{NEVER, two_cars};
+use std::alloc::Global;
+use std::marker::Brand;
+use std::sync::Wait;
+use std::thread::{Threads, join};
+use trlab_book::{Desk, SharedBook};
+use trlab_leases::{BookFault, Call, Event, Reply};
+use trlab_strands::{Blank, Ledger};
+
+/// How many calls each of four threads makes.
+const CALLS: u32 = 50;
+
+/// The call with a number that a thread makes on its job, and the reply to it: it submits the job, and
+/// then replaces its rule and reads it by turns.
+fn wanted(number: u32, job: u32) -> (Made, Reply) {
+    if number == 0 {
+        (Made::Submit(4), Reply::Number(job))
+    } else if number % 2 == 1 {
+        (Made::Replace(job), Reply::Number(0))
+    } else {
+        (
+            Made::Read(job),
+            Reply::Seen {
+                step: 0,
+                entries: 1,
+            },
+        )
+    }
+}
+
+/// Makes the call with a number, behind the first, on the job of a thread.
+fn makes<L: Ledger, R: Wait>(
+    rt: &R,
+    alloc: Global,
+    book: &SharedBook<L>,
+    desk: &mut Desk<L>,
+    job: u32,
+    number: u32,
+) -> bool {
+    if number % 2 == 1 {
+        replace(rt, alloc, book, desk, job, NEVER) == Ok(0)
+    } else {
+        reads(rt, alloc, book, desk, job, (0, 1, b"0.0......."))
+    }
+}
+
+/// Makes the calls of one thread.
+fn makes_all<L: Ledger, R: Wait>(
+    rt: &R,
+    alloc: Global,
+    book: &SharedBook<L>,
+    desk: &mut Desk<L>,
+) -> bool {
+    let Ok(job) = submit(rt, alloc, book, desk, &two_cars(0, 4)) else {
+        return false;
+    };
+    for number in 1..CALLS {
+        if !makes(rt, alloc, book, desk, job, number) {
+            return false;
+        }
+    }
+    true
+}
+
+/// Makes the calls of one thread at its own desk.
+fn at_desk<L: Ledger, R: Wait>(
+    rt: &R,
+    alloc: Global,
+    book: &SharedBook<L>,
+    mut desk: Desk<L>,
+) -> (Desk<L>, bool) {
+    let made = makes_all(rt, alloc, book, &mut desk);
+    (desk, made)
+}
+
+/// Makes the calls of so many threads, each at its own desk, and gathers the desks.
+fn at_desks<L: Ledger + Send + Sync, R: Threads + Wait + Sync>(
+    rt: &R,
+    alloc: Global,
+    book: &SharedBook<L>,
+    mut desk: Desk<L>,
+    threads: u32,
+) -> (Desk<L>, bool)
+    requires threads { (0 < threads) × (threads ≤ parts_of desk) }
+{
+    let others = threads - 1;
+    if others == 0 {
+        return at_desk(rt, alloc, book, desk);
+    }
+    let theirs = book.split(&mut desk);
+    let ((theirs, one), (mine, other)) = join(
+        rt,
+        move || at_desk(rt, alloc, book, theirs),
+        move || -> (Desk<L>, bool)
+            requires { IsSync R.row × IsSend L.row × IsSync L.row
+                × (0 < others) × (others ≤ parts_of desk) }
+        { at_desks(rt, alloc, book, desk, others) },
+    );
+    (book.gather(theirs, mine), one && other)
+}
+
+/// Whether four threads leave a history of their calls, in order.
+fn four_threads<L: Ledger + Send + Sync, R: Threads + Wait + Sync>(
+    rt: &R,
+    alloc: Global,
+    blank: Blank<Event>,
+) -> bool
+    requires name { name_of blank ≡ L.name }
+{
+    let (book, desk) = SharedBook::<L>::start(alloc, blank);
+    let (desk, made) = at_desks(rt, alloc, &book, desk, 4);
+    match history_of(book, desk) {
+        Some(history) => made && has_threads(&history),
+        None => false,
+    }
+}
+
+/// Whether a history has the calls of four threads, and nothing else.
+fn has_threads(history: &[Event]) -> bool {
+    history.len() == 200
+        && has_thread(history, 0)
+        && has_thread(history, 1)
+        && has_thread(history, 2)
+        && has_thread(history, 3)
+}
+
+/// Whether an event is of a job: its call is on the job, or has submitted it.
+fn is_of(event: &Event, job: u32) -> bool {
+    match &event.call {
+        Call::Submit(..) => event.reply == Reply::Number(job),
+        Call::Replace(number, _) | Call::Read(number) => *number == job,
+        _ => false,
+    }
+}
+
+/// Whether the events of a job are those of its thread, in order.
+fn has_thread(history: &[Event], job: u32) -> bool {
+    let mut number = 0;
+    for event in history {
+        if is_of(event, job) {
+            if number >= CALLS || !is_event(event, &wanted(number, job)) {
+                return false;
+            }
+            number += 1;
+        }
+    }
+    number == CALLS
+}
+
+#[test]
+fn four_threads_have_their_calls_in_order(rt: HostRuntime) {
+    assert!(rt;
+        four_threads::<Brand, HostRuntime>(
+            &rt,
+            rt.alloc(),
+            new_blank(rt.alloc()).expect(&rt, "memory")
+        )
+    );
+}
+
+/// The parts of two desks, and the history when both close the book, which one of them could not close; before
+/// that, a job is read.
+fn closed_by_both<L: Ledger, R: Wait>(
+    rt: &R,
+    alloc: Global,
+    book: SharedBook<L>,
+    mut mine: Desk<L>,
+    theirs: Desk<L>,
+) -> Option<(u32, u32, Vec<Event>)> {
+    if !reads(rt, alloc, &book, &mut mine, 0, (0, 1, b"0.0.......")) {
+        return None;
+    }
+    let (some, one) = (mine.parts(), theirs.parts());
+    let desk = book.gather(mine, theirs);
+    Some((some, one, history_of(book, desk)?))
+}
+
+/// A job is submitted at one desk and revoked at another, and the first tries to close the book: the parts of
+/// the two, and the history when both close it.
+fn half_a_desk<L: Ledger, R: Wait>(
+    rt: &R,
+    alloc: Global,
+    blank: Blank<Event>,
+) -> Option<(u32, u32, Vec<Event>)>
+    requires name { name_of blank ≡ L.name }
+{
+    let (book, mut mine) = SharedBook::<L>::start(alloc, blank);
+    let mut theirs = book.split(&mut mine);
+    submit(rt, alloc, &book, &mut mine, &two_cars(0, 4)).ok()?;
+    let _ = book.revoke(rt, &mut theirs, 0);
+    match book.close(mine) {
+        Ok(_) => None,
+        Err((book, mine)) => closed_by_both(rt, alloc, book, mine, theirs),
+    }
+}
+
+/// Whether two desks have the parts of one that was split, and the history its submit, the revoke of the other
+/// and the read behind the close that was refused.
+fn stayed(some: u32, one: u32, history: &[Event]) -> bool {
+    let read = Reply::Seen {
+        step: 0,
+        entries: 1,
+    };
+    let wanted = [
+        (Made::Submit(4), Reply::Number(0)),
+        (Made::Revoke(0), Reply::Refused(BookFault::StrangerLease)),
+        (Made::Read(0), read),
+    ];
+    some == 1023 && one == 1 && is_history(history, &wanted)
+}
+
+#[test]
+fn a_book_that_does_not_close_stays_as_it_was(rt: HostRuntime) {
+    let closed = half_a_desk::<Brand, HostRuntime>(
+        &rt,
+        rt.alloc(),
+        new_blank(rt.alloc()).expect(&rt, "memory"),
+    );
+    let stays = match closed {
+        Some((some, one, history)) => stayed(some, one, &history),
+        None => false,
+    };
+    assert!(rt; stays);
+}
+
+/// The parts of a desk without a call, and how many events the history has when another desk, which has
+/// made all calls, closes the book.
+fn a_quiet_desk<L: Ledger, R: Wait>(
+    rt: &R,
+    alloc: Global,
+    blank: Blank<Event>,
+) -> (u32, Option<usize>)
+    requires name { name_of blank ≡ L.name }
+{
+    let (book, mut mine) = SharedBook::<L>::start(alloc, blank);
+    let parts = book.split(&mut mine).parts();
+    let _ = book.revoke(rt, &mut mine, 0);
+    (parts, events_of(book, mine))
+}
+
+#[test]
+fn a_desk_of_all_calls_closes_the_book(rt: HostRuntime) {
+    let closed = a_quiet_desk::<Brand, HostRuntime>(
+        &rt,
+        rt.alloc(),
+        new_blank(rt.alloc()).expect(&rt, "memory"),
+    );
+    assert!(rt; closed == (1, Some(1)));
+}

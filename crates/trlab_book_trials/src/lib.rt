@@ -1,7 +1,0 @@
-//! What tests of the shared book have in common: new books, jobs of few cars, calls, and what histories say of calls.
-#![tactic(auto)]
-
-pub mod blanks;
-pub mod calls;
-pub mod histories;
-pub mod jobs;

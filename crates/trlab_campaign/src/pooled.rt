@@ -1,0 +1,126 @@
+//! Engines of job texts: a pool of workers asks the cars of the run, and an observer is told of its steps.
+
+ghost use Rattle.std.specs.Prelude.{◌≡◌, ◌+◌, ◌≤◌, ◌||◌, ◌↔◌, true, false, IfSome};
+ghost use Rattle.std.specs.Io.KnownBytes.{Keeps};
+ghost use Rattle.trlab_jobs.specs.Job.{Job as Told};
+ghost use Rattle.trlab_campaign.specs.Device.{ConsumesUpTo};
+ghost use Rattle.trlab_campaign.specs.Ending.{EndsSo, HandsOn};
+ghost use Rattle.trlab_campaign.specs.Output.{IsOutputOf};
+ghost use Rattle.trlab_campaign.specs.Refusal.{Outputs};
+ghost use Rattle.trlab_campaign.specs.declared.end.End.TheVariants.{DeviceFault};
+
+use crate::device::{Sink, Source};
+use crate::end::End;
+use crate::engine::{Engine, run_engine};
+use crate::observed::Observed;
+use crate::progress::Observer;
+use crate::refusal::refuse;
+use std::alloc::{AllocGlobal, Global};
+use std::sync::Wait;
+use std::thread::Threads;
+use trlab_bounds::runs::MOST_WORKERS;
+use trlab_bounds::texts::TEXT_LIMIT;
+use trlab_jobs::{Job, read_job};
+use trlab_pool::Pool;
+use trlab_segments::OpenGate;
+use trlab_step::Asker;
+use trlab_texts::{Cause, TextFault};
+
+/// What is written for a job while its run is taken.
+pub trait Account {
+    // The whole outputs that there may be for a job.
+    ghost outputs: { Self → Told → Outputs };
+
+    /// How many steps of a job's run it takes.
+    fn steps(&self, job: &Job) -> u32;
+
+    /// Takes the run of a job, in which the asker asks the cars, writes the output, and hands it on.
+    fn write_job<A: Asker, K: Sink>(
+        &self,
+        asker: &A,
+        alloc: Global,
+        job: Job,
+        writer: &mut K,
+    ) -> End
+        requires ready { A.is_ready asker.now }
+        requires works { K.failed writer.old ≡ false }
+        ensures answer { EndsSo (outputs self.now job) result
+            (K.written writer.old) (K.written writer.new) }
+        ensures handed { HandsOn result
+            (K.handed_on writer.new) (K.flushes writer.old) (K.flushes writer.new) }
+        ensures device { (result ≡ DeviceFault) ↔ (K.failed writer.new ≡ true) };
+}
+
+/// The engine of job texts: what it writes for a job, who asks the cars, and who is told how far it is.
+#[derive(Drop)]
+struct Driver<'a, C, A, O> {
+    account: &'a C,
+    asker: &'a A,
+    observer: &'a O,
+}
+
+impl<'a, C: Account, A: Asker, O: Observer> Engine for Driver<'a, C, A, O> {
+    ghost is_ready = { λ driver. A.is_ready driver.asker.now };
+
+    ghost outputs = { λ driver text. IsOutputOf (C.outputs driver.account.now) text };
+
+    fn write<K: Sink>(self, alloc: Global, text: &[u8], writer: &mut K) -> End {
+        match read_job(alloc, text) {
+            Ok(job) => {
+                let observed = Observed::new(self.asker, self.observer, self.account.steps(&job));
+                let end = self.account.write_job(&observed, alloc, job, writer);
+                observed.ended(end);
+                end
+            }
+            Err(TextFault::At { line, cause }) => refuse(alloc, line, cause, writer),
+            Err(TextFault::Memory) => End::Memory,
+        }
+    }
+
+    fn write_too_big<K: Sink>(self, alloc: Global, writer: &mut K) -> End {
+        refuse(alloc, 0, Cause::TooBig, writer)
+    }
+}
+
+/// Reads a job text, and writes the account of its run, or the line of the text's first fault.
+///
+/// A pool of so many workers asks the cars, of whom only those are started that make the run faster, once
+/// for the whole run.
+pub fn run_pooled<
+    R: AllocGlobal + Threads + Wait + Sync,
+    C: Account,
+    S: Source,
+    K: Sink,
+    O: Observer,
+>(rt: &R, account: &C, reader: &mut S, writer: &mut K, workers: u32, observer: &O) -> End
+    requires reader_works { S.failed reader.old ≡ false }
+    requires writer_works { K.failed writer.old ≡ false }
+    requires some_worker { 1 ≤ workers }
+    requires few_workers { workers ≤ MOST_WORKERS }
+    ensures answer { IfSome (S.left reader.old) (λ text. EndsSo (IsOutputOf (C.outputs account.now) text)
+        result (K.written writer.old) (K.written writer.new)) }
+    ensures silent { S.failed reader.new ≡ true → Keeps (K.written writer.old) (K.written writer.new) }
+    ensures handed { HandsOn result
+        (K.handed_on writer.new) (K.flushes writer.old) (K.flushes writer.new) }
+    ensures device { (result ≡ DeviceFault) ↔ ((S.failed reader.new || K.failed writer.new) ≡ true) }
+    ensures read { ConsumesUpTo (TEXT_LIMIT + 1) (S.left reader.old) (S.left reader.new) }
+    ensures stops { S.taken reader.new ≤ S.taken reader.old + (TEXT_LIMIT + 1) }
+{
+    let alloc = rt.alloc();
+    let gate = OpenGate;
+    let pool = Pool::new(rt, workers, &gate).sparing();
+    let asker = &pool;
+    pool.run(
+        alloc,
+        &mut || run_engine(
+            alloc,
+            Driver {
+                account,
+                asker,
+                observer,
+            },
+            reader,
+            writer,
+        ),
+    )
+}

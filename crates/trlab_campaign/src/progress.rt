@@ -1,0 +1,60 @@
+//! How far a command's work is, and who is told. What an observer does has no part in any output.
+
+ghost use Rattle.std.specs.Prelude.{◌≡◌, ◌↔◌, None, IfSome};
+ghost use Rattle.trlab_campaign.specs.Hundredths.{hundredths};
+
+/// Who is told how far a command's work is. Nothing is promised of what it does with that.
+pub trait Observer {
+    /// Whether it wants to be told: where it does not, nothing is counted.
+    fn is_watching(&self) -> bool;
+
+    /// So much of the work is done. It may be called by any worker.
+    fn reached(&self, mark: Mark);
+}
+
+/// How far the work is.
+#[derive(Clone, Copy, Debug, PartialEq, Eq)]
+pub struct Mark {
+    /// How many hundredths of the work are done, 1 to 100.
+    pub hundredths: u32,
+    /// The number of the step (of a run or a series) or point (of a sweep) that is at hand, from 1 on.
+    pub number: u32,
+    /// How many steps or points there are.
+    pub count: u32,
+}
+
+/// An observer that wants nothing.
+#[derive(Clone, Copy)]
+pub struct Unobserved;
+
+impl Observer for Unobserved {
+    fn is_watching(&self) -> bool {
+        false
+    }
+
+    fn reached(&self, _mark: Mark) {}
+}
+
+/// How many whole hundredths of the work are done, where so many of its parts are.
+fn hundredths(done: u64, whole: u64) -> u32
+    ensures { result ≡ hundredths done whole }
+{
+    if whole <= done {
+        100
+    } else {
+        (u128::from(done) * 100 / u128::from(whole)) as u32
+    }
+}
+
+/// The hundredth to which the work has come by its last parts, where that is another than before.
+pub fn newly_reached(before: u64, after: u64, whole: u64) -> Option<u32>
+    ensures told { IfSome result (λ reached. reached ≡ hundredths after whole) }
+    ensures silent { (result ≡ None) ↔ (hundredths before whole ≡ hundredths after whole) }
+{
+    let reached = hundredths(after, whole);
+    if reached == hundredths(before, whole) {
+        None
+    } else {
+        Some(reached)
+    }
+}

@@ -1,0 +1,154 @@
+-- What the name of a command alone asks for.
+use Rattle.std.proofs.Common.{◌≡◌, ◌∙◌, ℕ, Bool, true, false, refl, sym, ap, List, [], ◌∷◌, Option, None, Some, Result, Ok, Err, codes}
+use Rattle.std.specs.Prelude.{option_map}
+use Rattle.std.specs.Str.{bytes_eq}
+use Rattle.std.specs.Str.Parse.{digits_value, without_leading_plus}
+use Rattle.std.proofs.lemmas.Bool.{false≢true}
+use Rattle.std.proofs.lemmas.Slice.Eq.{bytes_eq-Decides}
+use Rattle.clap.specs.Walk.{Row, Text, one_of}
+use Rattle.clap.specs.Simple.{subcommand_of}
+use Rattle.clap.specs.declared.error.kind.ErrorKind.{ErrorKind}
+use Rattle.clap.proofs.OnLiterals.{clap_on_literals}
+use Rattle.trlab_command_line.specs.CommandLine.{command_line}
+use Rattle.trlab_command_line.specs.Explains.{explained_in}
+use Rattle.trlab_command_line.specs.Numbers.{GivesNumber, flag_text}
+use Rattle.trlab_command_line.specs.Requests.{Asks, name_of}
+use Rattle.trlab_command_line.specs.declared.explain.Explaining.{Explaining}
+use Rattle.trlab_command_line.specs.declared.explain.Explaining.TheVariants.{Text as OfText}
+use Rattle.trlab_command_line.specs.declared.words.Wanted.{Wanted}
+use Rattle.trlab_command_line.specs.declared.words.Wanted.TheVariants.{Check, Explain, Run, Series, Sweep}
+use Rattle.trlab_command_line.proofs.Options.{some_same}
+
+-- a command that was entered, and its matches
+abbrev Entered : Type 0
+Entered = Option (Text × List Row)
+
+asks_at : (o : Entered) (wanted : Wanted) → Asks o wanted → (rows : List Row) × (o ≡ Some (name_of wanted, rows))
+asks_at o Check a = (a.0, a.1)
+asks_at o (Run workers progress) a = (a.0, a.1)
+asks_at o (Sweep runners workers progress) a = (a.0, a.1)
+asks_at o (Series workers every from progress) a = (a.0, a.1)
+asks_at o (Explain explained) a = (a.0, a.1)
+
+-- what is asked for has the name of the command that was entered
+pub asks_its_name : (name : Text) (rows : List Row) (wanted : Wanted) → Asks (Some (name, rows)) wanted → name ≡ name_of wanted
+asks_its_name name rows wanted a = ap (λ t. t.0) (some_same _ _ (asks_at (Some (name, rows)) wanted a).1)
+
+-- no command has another name too
+differ : (a b : Text) → bytes_eq a b ≡ false → a ≡ b → ⊥
+differ a b other is = false≢true (sym other ∙ (bytes_eq-Decides a b).1 is)
+
+-- an option that has a numeral gives its number
+number_is : (option numeral : Text) (rows : List Row) (n : ℕ) → one_of option rows ≡ Some numeral → GivesNumber option rows n
+    → n ≡ digits_value 10 (without_leading_plus numeral)
+number_is option numeral rows n has gives =
+    let same : gives.0 ≡ numeral = some_same gives.0 numeral (sym gives.1 ∙ has) in
+    sym gives.2 ∙ ap (λ t. digits_value 10 (without_leading_plus t)) same
+
+-- a flag that is not given is false
+flag_is : (rows : List Row) (given : Bool) → one_of (codes "progress") rows ≡ Some (codes "false") → one_of (codes "progress") rows ≡ flag_text given → given ≡ false
+flag_is rows false has is = refl
+flag_is rows true has is = absurd (differ (codes "true") (codes "false") refl (some_same (codes "true") (codes "false") (sym is ∙ has)))
+
+ok_same : {E : Type 0} (x y : Explaining) → ◌≡◌ {A = Result Explaining E} (Ok x) (Ok y) → x ≡ y
+ok_same x y e = cc
+
+-- ---- `run`
+
+abbrev of_run : Text × List Row → Text × Option Text × Option Text
+of_run p = (p.0, one_of (codes "workers") p.1, one_of (codes "progress") p.1)
+
+run_has : option_map of_run (subcommand_of command_line (codes "run" ∷ [])) ≡ Some (codes "run", Some (codes "1"), Some (codes "false"))
+unfolding clap_on_literals
+run_has = refl
+
+pub run_alone : (wanted : Wanted) → Asks (subcommand_of command_line (codes "run" ∷ [])) wanted → wanted ≡ Run 1 false
+run_alone wanted a = go wanted a (ap (λ t. t.0) (some_same _ _ (sym run_has ∙ ap (option_map of_run) (asks_at _ wanted a).1)))
+  where
+    go : (wanted : Wanted) → Asks (subcommand_of command_line (codes "run" ∷ [])) wanted → codes "run" ≡ name_of wanted → wanted ≡ Run 1 false
+    go Check a is = absurd (differ (codes "run") (codes "check") refl is)
+    go (Sweep runners workers progress) a is = absurd (differ (codes "run") (codes "sweep") refl is)
+    go (Series workers every from progress) a is = absurd (differ (codes "run") (codes "series") refl is)
+    go (Explain explained) a is = absurd (differ (codes "run") (codes "explain") refl is)
+    go (Run workers progress) a is =
+        let has = some_same _ _ (sym (ap (option_map of_run) a.1) ∙ run_has) in
+        let one : workers ≡ 1 = number_is (codes "workers") (codes "1") a.0 workers (ap (λ t. t.1) has) a.2 in
+        let off : progress ≡ false = flag_is a.0 progress (ap (λ t. t.2) has) a.3 in
+        rw (one, off) refl
+
+-- ---- `sweep`
+
+abbrev of_sweep : Text × List Row → Text × Option Text × Option Text × Option Text
+of_sweep p = (p.0, one_of (codes "runners") p.1, one_of (codes "workers") p.1, one_of (codes "progress") p.1)
+
+sweep_has : option_map of_sweep (subcommand_of command_line (codes "sweep" ∷ [])) ≡ Some (codes "sweep", Some (codes "1"), Some (codes "1"), Some (codes "false"))
+unfolding clap_on_literals
+sweep_has = refl
+
+pub sweep_alone : (wanted : Wanted) → Asks (subcommand_of command_line (codes "sweep" ∷ [])) wanted → wanted ≡ Sweep 1 1 false
+sweep_alone wanted a = go wanted a (ap (λ t. t.0) (some_same _ _ (sym sweep_has ∙ ap (option_map of_sweep) (asks_at _ wanted a).1)))
+  where
+    go : (wanted : Wanted) → Asks (subcommand_of command_line (codes "sweep" ∷ [])) wanted → codes "sweep" ≡ name_of wanted → wanted ≡ Sweep 1 1 false
+    go Check a is = absurd (differ (codes "sweep") (codes "check") refl is)
+    go (Run workers progress) a is = absurd (differ (codes "sweep") (codes "run") refl is)
+    go (Series workers every from progress) a is = absurd (differ (codes "sweep") (codes "series") refl is)
+    go (Explain explained) a is = absurd (differ (codes "sweep") (codes "explain") refl is)
+    go (Sweep runners workers progress) a is =
+        let has = some_same _ _ (sym (ap (option_map of_sweep) a.1) ∙ sweep_has) in
+        let runner : runners ≡ 1 = number_is (codes "runners") (codes "1") a.0 runners (ap (λ t. t.1) has) a.2 in
+        let one : workers ≡ 1 = number_is (codes "workers") (codes "1") a.0 workers (ap (λ t. t.2) has) a.3 in
+        let off : progress ≡ false = flag_is a.0 progress (ap (λ t. t.3) has) a.4 in
+        rw (runner, one, off) refl
+
+-- ---- `series`
+
+abbrev of_series : Text × List Row → Text × Option Text × Option Text × Option Text × Option Text
+of_series p = (
+  p.0,
+  one_of (codes "workers") p.1,
+  one_of (codes "every") p.1,
+  one_of (codes "from") p.1,
+  one_of (codes "progress") p.1,
+)
+
+series_has : option_map of_series (subcommand_of command_line (codes "series" ∷ []))
+    ≡ Some (codes "series", Some (codes "1"), Some (codes "1"), Some (codes "0"), Some (codes "false"))
+unfolding clap_on_literals
+series_has = refl
+
+pub series_alone : (wanted : Wanted) → Asks (subcommand_of command_line (codes "series" ∷ [])) wanted → wanted ≡ Series 1 1 0 false
+series_alone wanted a = go wanted a (ap (λ t. t.0) (some_same _ _ (sym series_has ∙ ap (option_map of_series) (asks_at _ wanted a).1)))
+  where
+    go : (wanted : Wanted) → Asks (subcommand_of command_line (codes "series" ∷ [])) wanted → codes "series" ≡ name_of wanted → wanted ≡ Series 1 1 0 false
+    go Check a is = absurd (differ (codes "series") (codes "check") refl is)
+    go (Run workers progress) a is = absurd (differ (codes "series") (codes "run") refl is)
+    go (Sweep runners workers progress) a is = absurd (differ (codes "series") (codes "sweep") refl is)
+    go (Explain explained) a is = absurd (differ (codes "series") (codes "explain") refl is)
+    go (Series workers every from progress) a is =
+        let has = some_same _ _ (sym (ap (option_map of_series) a.1) ∙ series_has) in
+        let one : workers ≡ 1 = number_is (codes "workers") (codes "1") a.0 workers (ap (λ t. t.1) has) a.2 in
+        let each : every ≡ 1 = number_is (codes "every") (codes "1") a.0 every (ap (λ t. t.2) has) a.3 in
+        let first : from ≡ 0 = number_is (codes "from") (codes "0") a.0 from (ap (λ t. t.3) has) a.4 in
+        let off : progress ≡ false = flag_is a.0 progress (ap (λ t. t.4) has) a.5 in
+        rw (one, each, first, off) refl
+
+-- ---- `explain`
+
+abbrev of_explain : Text × List Row → Text × Result Explaining ErrorKind
+of_explain p = (p.0, explained_in p.1)
+
+explain_has : option_map of_explain (subcommand_of command_line (codes "explain" ∷ [])) ≡ Some (codes "explain", Ok (OfText None))
+unfolding clap_on_literals
+explain_has = refl
+
+pub explain_alone : (wanted : Wanted) → Asks (subcommand_of command_line (codes "explain" ∷ [])) wanted → wanted ≡ Explain (OfText None)
+explain_alone wanted a = go wanted a (ap (λ t. t.0) (some_same _ _ (sym explain_has ∙ ap (option_map of_explain) (asks_at _ wanted a).1)))
+  where
+    go : (wanted : Wanted) → Asks (subcommand_of command_line (codes "explain" ∷ [])) wanted → codes "explain" ≡ name_of wanted → wanted ≡ Explain (OfText None)
+    go Check a is = absurd (differ (codes "explain") (codes "check") refl is)
+    go (Run workers progress) a is = absurd (differ (codes "explain") (codes "run") refl is)
+    go (Sweep runners workers progress) a is = absurd (differ (codes "explain") (codes "sweep") refl is)
+    go (Series workers every from progress) a is = absurd (differ (codes "explain") (codes "series") refl is)
+    go (Explain explained) a is =
+        let has = some_same _ _ (sym (ap (option_map of_explain) a.1) ∙ explain_has) in
+        ap Explain (ok_same explained (OfText None) (sym a.2 ∙ ap (λ t. t.1) has))

@@ -1,0 +1,178 @@
+-- What the arguments of each command have among its matches, where its words have no fault.
+use Rattle.std.proofs.Common.{◌≡◌, ◌∙◌, ◌⊎◌, ℕ, Bool, true, false, refl, sym, ap, subst, inl, inr, List, [], ◌∷◌, Some, None, codes}
+use Rattle.std.specs.Prelude.{pos}
+use Rattle.std.specs.List.{slice_index_or}
+use Rattle.std.specs.Str.{bytes_eq}
+use Rattle.std.proofs.lemmas.Slice.Eq.{bytes_eq-Decides}
+use Rattle.clap.specs.Walk.{Row, Rule, Text, arg_by_id, nothing_held, rows_after}
+use Rattle.clap.specs.Simple.{Shape, filled, with_index}
+use Rattle.clap.specs.Faults.{level_fault}
+use Rattle.clap.specs.declared.builder.value_parser.ValueParser.TheVariants.{Bool as OfBool, Signed}
+use Rattle.clap.proofs.ValueTestLemmas.{accepts-Accepts}
+use Rattle.trlab_command_line.specs.CommandLine.{number_argument, number_option, progress_flag}
+use Rattle.trlab_command_line.specs.Numbers.{HasFlag, HasValueFrom, MayHaveNumber}
+use Rattle.trlab_command_line.specs.Requests.{IsEntered}
+use Rattle.trlab_command_line.proofs.CommandLine.{line, named_by}
+use Rattle.trlab_command_line.proofs.Options.{AllKnown, own_if_given, own_value, some_same}
+
+-- a command: its name, what a parse reads of it, and of which kind its arguments are
+pub record Command : Type 0 where
+  pub name : Text
+  pub level : Shape
+  pub named : named_by line name ≡ Some level
+  pub once : record level { args_override_self = false } ≡ level
+  pub all : AllKnown level.rules level.rules
+
+-- what holds of the matches at words without a fault holds of those of a command that was entered
+of_entered : (c : Command) (P : List Row → Type 0) (rows : List Row) → IsEntered c.name rows
+    → ((words : List Text) → level_fault (record c.level { args_override_self = false }) [] nothing_held words false [] ≡ [] → P (rows_after c.level.rules [] words)) → P rows
+of_entered c P rows e holds =
+    let words = e.1.0 in
+    let taken = e.1.1 in
+    let same : taken.0 ≡ c.level = some_same taken.0 c.level (sym taken.1 ∙ c.named) in
+    let passes : level_fault (record c.level { args_override_self = false }) [] nothing_held words false [] ≡ [] =
+    subst (λ s. level_fault s [] nothing_held words false [] ≡ []) (same ∙ sym c.once) taken.2 in
+    let here : rows ≡ rows_after c.level.rules [] words = taken.3 ∙ ap (λ (s : Shape). rows_after s.rules [] words) same in
+    subst P (sym here) (holds words passes)
+
+-- an option that takes a number
+pub option_of : (c : Command) (name default : Text) (least most : ℕ) → arg_by_id c.level.rules name ≡ Some (filled (number_option name least most default))
+    → (rows : List Row) → IsEntered c.name rows → (v : Text) × HasValueFrom name least most rows v
+option_of c name default least most at rows e =
+    of_entered c (λ rs. (v : Text) × HasValueFrom name least most rs v) rows e (λ words passes.
+    let value = own_value c.level.rules c.all c.level (filled (number_option name least most default)) default words at refl passes in
+    (value.0, (value.1, accepts-Accepts false (Signed (pos least) (pos most)) value.0 value.2)))
+
+-- the flag
+pub flag_of : (c : Command) → arg_by_id c.level.rules (codes "progress") ≡ Some (filled progress_flag) → (rows : List Row) → IsEntered c.name rows
+    → HasFlag (codes "progress") rows
+flag_of c at rows e =
+    of_entered c (HasFlag (codes "progress")) rows e (λ words passes.
+    let value = own_value c.level.rules c.all c.level (filled progress_flag) (codes "false") words at refl passes in
+    (value.0, value.1, accepts-Accepts false OfBool value.0 value.2))
+
+-- the number of `explain`
+abbrev second : Rule
+second = with_index 2 (filled number_argument)
+
+pub number_of : (c : Command) → arg_by_id c.level.rules (codes "number") ≡ Some second → (rows : List Row) → IsEntered c.name rows
+    → MayHaveNumber (codes "number") rows
+number_of c at rows e =
+    of_entered c (MayHaveNumber (codes "number")) rows e (λ words passes. elim (own_if_given c.level.rules c.all c.level second words at passes) [
+      | inl none ↦ inl none
+      | inr value ↦ inr (value.0, (value.1, accepts-Accepts false (Signed (pos 0) (pos 4294967295)) value.0 value.2))
+    ])
+
+-- the commands
+abbrev nothing : Shape
+nothing = line.top
+
+abbrev pub run : Command
+run = record {
+  name = codes "run";
+  level = slice_index_or line.subs 1 nothing;
+  named = refl;
+  once = refl;
+  all = (
+    (inl (record { action = refl; range = refl }), refl),
+    (
+      (inr (inl (record { action = refl; range = refl; text = codes "true"; missing = refl })), refl),
+      ((inr (inr (record { action = refl; range = refl })), refl), tt),
+    ),
+  );
+}
+
+abbrev pub sweep : Command
+sweep = record {
+  name = codes "sweep";
+  level = slice_index_or line.subs 2 nothing;
+  named = refl;
+  once = refl;
+  all = (
+    (inl (record { action = refl; range = refl }), refl),
+    (
+      (inl (record { action = refl; range = refl }), refl),
+      (
+        (inr (inl (record { action = refl; range = refl; text = codes "true"; missing = refl })), refl),
+        ((inr (inr (record { action = refl; range = refl })), refl), tt),
+      ),
+    ),
+  );
+}
+
+abbrev pub series : Command
+series = record {
+  name = codes "series";
+  level = slice_index_or line.subs 3 nothing;
+  named = refl;
+  once = refl;
+  all = (
+    (inl (record { action = refl; range = refl }), refl),
+    (
+      (inl (record { action = refl; range = refl }), refl),
+      (
+        (inl (record { action = refl; range = refl }), refl),
+        (
+          (inr (inl (record { action = refl; range = refl; text = codes "true"; missing = refl })), refl),
+          ((inr (inr (record { action = refl; range = refl })), refl), tt),
+        ),
+      ),
+    ),
+  );
+}
+
+abbrev pub explain : Command
+explain = record {
+  name = codes "explain";
+  level = slice_index_or line.subs 4 nothing;
+  named = refl;
+  once = refl;
+  all = (
+    (inl (record { action = refl; range = refl }), refl),
+    (
+      (inl (record { action = refl; range = refl }), refl),
+      ((inr (inr (record { action = refl; range = refl })), refl), tt),
+    ),
+  );
+}
+
+-- the name of a command that was entered
+pub entered_name : (name : Text) (rows : List Row) → IsEntered name rows
+    → (name ≡ codes "check") ⊎ ((name ≡ codes "run") ⊎ ((name ≡ codes "sweep") ⊎ ((name ≡ codes "series") ⊎ (name ≡ codes "explain"))))
+entered_name name rows e = by_check (bytes_eq (codes "check") name) refl
+  where
+    is_word : (a : Text) → bytes_eq a name ≡ true → name ≡ a
+    is_word a same = sym ((bytes_eq-Decides a name).0 same)
+
+    Named : Type 0
+    Named = (name ≡ codes "check") ⊎ ((name ≡ codes "run") ⊎ ((name ≡ codes "sweep") ⊎ ((name ≡ codes "series") ⊎ (name ≡ codes "explain"))))
+
+    by_help : (b : Bool) → bytes_eq (codes "help") name ≡ b → bytes_eq (codes "check") name ≡ false → bytes_eq (codes "run") name ≡ false → bytes_eq (codes "sweep") name ≡ false
+        → bytes_eq (codes "series") name ≡ false → bytes_eq (codes "explain") name ≡ false → Named
+    by_help true is not_check not_run not_sweep not_series not_explain = absurd (e.0 (is_word (codes "help") is))
+    by_help false is not_check not_run not_sweep not_series not_explain =
+        let none : named_by line name ≡ None = rw (not_check, not_run, not_sweep, not_series, not_explain, is) refl in
+        let bad = sym none ∙ e.1.1.1 in
+        absurd cc
+
+    by_explain : (b : Bool) → bytes_eq (codes "explain") name ≡ b → bytes_eq (codes "check") name ≡ false → bytes_eq (codes "run") name ≡ false → bytes_eq (codes "sweep") name ≡ false
+        → bytes_eq (codes "series") name ≡ false → Named
+    by_explain true is not_check not_run not_sweep not_series = inr (inr (inr (inr (is_word (codes "explain") is))))
+    by_explain false is not_check not_run not_sweep not_series = by_help (bytes_eq (codes "help") name) refl not_check not_run not_sweep not_series is
+
+    by_series : (b : Bool) → bytes_eq (codes "series") name ≡ b → bytes_eq (codes "check") name ≡ false → bytes_eq (codes "run") name ≡ false → bytes_eq (codes "sweep") name ≡ false
+        → Named
+    by_series true is not_check not_run not_sweep = inr (inr (inr (inl (is_word (codes "series") is))))
+    by_series false is not_check not_run not_sweep = by_explain (bytes_eq (codes "explain") name) refl not_check not_run not_sweep is
+
+    by_sweep : (b : Bool) → bytes_eq (codes "sweep") name ≡ b → bytes_eq (codes "check") name ≡ false → bytes_eq (codes "run") name ≡ false → Named
+    by_sweep true is not_check not_run = inr (inr (inl (is_word (codes "sweep") is)))
+    by_sweep false is not_check not_run = by_series (bytes_eq (codes "series") name) refl not_check not_run is
+
+    by_run : (b : Bool) → bytes_eq (codes "run") name ≡ b → bytes_eq (codes "check") name ≡ false → Named
+    by_run true is not_check = inr (inl (is_word (codes "run") is))
+    by_run false is not_check = by_sweep (bytes_eq (codes "sweep") name) refl not_check is
+
+    by_check : (b : Bool) → bytes_eq (codes "check") name ≡ b → Named
+    by_check true is = inl (is_word (codes "check") is)
+    by_check false is = by_run (bytes_eq (codes "run") name) refl is

@@ -1,0 +1,91 @@
+//! A book of jobs that two threads share.
+
+ghost use Rattle.std.specs.Prelude.{◌≡◌};
+ghost use Rattle.trlab_strands.specs.Tokens.{name_of};
+
+use std::alloc::Global;
+use std::sync::Wait;
+use std::thread::Threads;
+use trlab_book::{Desk, SharedBook, run_jobs};
+use trlab_leases::{Event, Seed};
+use trlab_road::Road;
+use trlab_rules::nasch;
+use trlab_segments::OpenGate;
+use trlab_strands::{Blank, Ledger};
+use trlab_words::{Chance, Key};
+
+const JOBS: u32 = 2;
+
+const RUNNERS: u32 = 2;
+
+/// Ten cars that stand, evenly spread on a lane of 100 cells. The random words of a job go by its number.
+fn seed_of(alloc: Global, number: u32) -> Option<Seed> {
+    Some(Seed {
+        road: Road::even(alloc, 1, 100, 5, 10).ok()?,
+        key: Key([0; 32]),
+        number,
+        warm: 0,
+    })
+}
+
+/// Submits a job of 200 steps, whose cars brake by chance in every fourth case.
+fn submit<L: Ledger, R: Wait>(
+    rt: &R,
+    alloc: Global,
+    book: &SharedBook<L>,
+    desk: &mut Desk<L>,
+    number: u32,
+) -> Option<u32> {
+    let rule = nasch(alloc, Chance::new(536870912)?).ok()?;
+    let seed = seed_of(alloc, number)?;
+    book.submit(rt, alloc, desk, seed, rule, 200).ok()
+}
+
+/// Has two threads run all jobs of a book to their end.
+fn run<L: Ledger + Send + Sync, R: Threads + Wait + Sync>(
+    rt: &R,
+    alloc: Global,
+    book: &SharedBook<L>,
+    desk: Desk<L>,
+) -> Option<Desk<L>> {
+    if desk.parts() < RUNNERS {
+        return None;
+    }
+    run_jobs(rt, alloc, book, desk, RUNNERS, 1, &OpenGate).ok()
+}
+
+/// Prints how far a job has come, and how many cells its cars went.
+fn tell<L: Ledger, R: Wait + Print>(
+    rt: &R,
+    alloc: Global,
+    book: &SharedBook<L>,
+    desk: &mut Desk<L>,
+    job: u32,
+) -> Option<()> {
+    let seen = book.read(rt, alloc, desk, job).ok()?;
+    let (step, distance) = (seen.step(), seen.tally().distance);
+    println!(rt; "job {job}: {step} steps, {distance} cells").ok()
+}
+
+/// Submits jobs to a new book, has two threads run them, and prints what came of each. None where memory ran out or
+/// nothing can be printed.
+pub fn share<L: Ledger + Send + Sync, R: Threads + Wait + Sync + Print>(
+    rt: &R,
+    alloc: Global,
+    blank: Blank<Event>,
+) -> Option<()>
+    requires name { name_of blank ≡ L.name }
+{
+    let (book, mut desk) = SharedBook::<L>::start(alloc, blank);
+    for number in 0..JOBS {
+        submit(rt, alloc, &book, &mut desk, number)?;
+    }
+    let mut desk = run(rt, alloc, &book, desk)?;
+    for job in 0..JOBS {
+        tell(rt, alloc, &book, &mut desk, job)?;
+    }
+    match book.close(desk) {
+        Ok(_) => Some(()),
+        Err(_) => None,
+    }
+}

@@ -1,0 +1,20 @@
+//! What a refused text most likely needs: which line may stand where its fault is, what is wrong with the
+//! line that stands there, and a repair where one is likely: those that may be are tried.
+#![tactic(auto)]
+
+mod alike;
+mod candidates;
+mod digits;
+mod draft;
+mod finding;
+mod numbers;
+mod operands;
+mod rules;
+mod tried;
+mod wanted;
+
+pub use candidates::likely_repair;
+pub use finding::{Finding, finding_of};
+pub use operands::Operand;
+pub use rules::behind_rule;
+pub use wanted::{Wanted, wanted_at};

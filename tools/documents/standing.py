@@ -1,0 +1,142 @@
+"""What documents say of each other and of the sources: numbers of decisions, links, versions, sources that are shown.
+
+Each function yields a verdict and what is wrong where it is no."""
+import functools
+import os
+import re
+import subprocess
+
+from finder import TOP
+
+DECISIONS = "docs/DECISIONS.md"
+MOST_LINES_OF_A_DECISION = 10
+MOST_LINES_OF_README = 200
+# In DECISIONS.md and HISTORY.md a decision is cited as (12) or (12, 14); elsewhere behind the name of the file.
+CITED_AT_HOME = re.compile(r"\((\d{1,3}(?:, \d{1,3})*)\)")
+CITED_ELSEWHERE = re.compile(r"DECISIONS\.md\)?,? ((?:\d{1,3}(?:, | and )?)+)")
+FENCED = re.compile(r"^```.*?^```$", re.M | re.S)
+LINK = re.compile(r"\]\(([^)\s]+)\)")
+SHOWN = re.compile(r"^`(crates/[^`]+)`:\n\n```\w*\n(.*?)^```$", re.M | re.S)
+
+
+@functools.cache
+def content(name):
+    with open(os.path.join(TOP, name), encoding="utf-8") as file:
+        return file.read()
+
+
+def known_files():
+    """The files that git knows or would take; all of them where this is no clone."""
+    words = ["git", "ls-files", "-z", "--cached", "--others", "--exclude-standard"]
+    told = subprocess.run(words, cwd=TOP, capture_output=True, text=True)
+    if told.returncode == 0:
+        return [name for name in told.stdout.split("\0") if os.path.isfile(os.path.join(TOP, name))]
+    return [
+        os.path.relpath(os.path.join(folder, name), TOP)
+        for folder, _, names in os.walk(TOP) if "/out" not in folder for name in names
+    ]
+
+
+def documents():
+    return [name for name in known_files() if name.endswith(".md")]
+
+
+def decisions():
+    """The numbers of the decisions, each with its lines."""
+    found = {}
+    for line in content(DECISIONS).split("\n"):
+        begun = re.match(r"(\d+)\. \*\*", line)
+        if begun:
+            found.setdefault(int(begun[1]), []).append([])
+            lines = found[int(begun[1])][-1]
+        elif not line:
+            lines = []
+        if begun or (found and line.startswith("   ")):
+            lines.append(line)
+    return found
+
+
+def decisions_are_told_once():
+    """Each number stands once, none is left out, and each decision is short."""
+    found = decisions()
+    yield sorted(found) == list(range(1, len(found) + 1)), f"{DECISIONS} leaves a number out"
+    for number, texts in found.items():
+        is_short = all(len(lines) <= MOST_LINES_OF_A_DECISION for lines in texts)
+        yield len(texts) == 1 and is_short, f"decision {number} stands twice, or is longer than {MOST_LINES_OF_A_DECISION} lines"
+
+
+def citations(name):
+    """The numbers of decisions that a file cites."""
+    text = content(name)
+    if name == "docs/HISTORY.md":
+        text = text.split("## Numbers of decisions before")[0]
+    form = CITED_AT_HOME if name in (DECISIONS, "docs/HISTORY.md") else CITED_ELSEWHERE
+    for cited in form.findall(text):
+        yield from map(int, re.findall(r"\d+", cited))
+
+
+def citations_exist():
+    """Each decision that a document, a source or a script cites is there."""
+    there = decisions()
+    for name in known_files():
+        try:
+            cited = set(citations(name))
+        except UnicodeDecodeError:
+            continue
+        for number in sorted(cited):
+            yield number in there, f"{name} cites decision {number}, which is not there"
+
+
+def anchor(heading):
+    """The anchor of a heading, as browsers of repositories make it."""
+    words = re.sub(r"[^\w\- ]", "", heading.strip().lower())
+    return words.replace(" ", "-")
+
+
+def links_lead_somewhere():
+    """Each link of a document to a file, or to a heading, leads there."""
+    for name in documents():
+        for link in LINK.findall(FENCED.sub("", content(name))):
+            if re.match(r"[a-z]+:", link):
+                continue
+            path, _, heading = link.partition("#")
+            target = os.path.normpath(os.path.join(os.path.dirname(name), path)) if path else name
+            is_there = os.path.exists(os.path.join(TOP, target))
+            if is_there and heading:
+                headings = re.findall(r"^#+ (.*)$", FENCED.sub("", content(target)), re.M)
+                is_there = heading in map(anchor, headings)
+            yield is_there, f"{name} has a link to {link}, which leads nowhere"
+
+
+def versions_agree():
+    """The version that the program tells is that of the Python module and of the newest changes."""
+    told = re.search(r'VERSION: &str = "(\S+)', content("crates/trlab_command_line/src/help.rt"))[1]
+    module = re.search(r'^version = "(.*)"$', content("python/pyproject.toml"), re.M)[1]
+    changes = re.search(r"^## (\d\S*)", content("CHANGELOG.md"), re.M)[1]
+    yield module == told, f"python/pyproject.toml has version {module}, the program {told}"
+    yield changes == told, f"CHANGELOG.md has version {changes}, the program {told}"
+
+
+def sources_are_shown_as_they_are():
+    """A block behind the name of a file of crates/ is that file."""
+    for name in documents():
+        for path, shown in SHOWN.findall(content(name)):
+            is_same = os.path.exists(os.path.join(TOP, path)) and content(path) == shown
+            yield is_same, f"{name} shows {path} otherwise than it is"
+
+
+def readme_is_short():
+    lines = content("README.md").count("\n")
+    yield lines <= MOST_LINES_OF_README, f"README.md has {lines} lines, and is to have {MOST_LINES_OF_README} at most"
+
+
+def verdicts():
+    for tried in (
+        decisions_are_told_once,
+        citations_exist,
+        links_lead_somewhere,
+        versions_agree,
+        sources_are_shown_as_they_are,
+        readme_is_short,
+    ):
+        yield from tried()
