@@ -3,7 +3,9 @@ from __future__ import annotations
 
 import argparse
 import csv
+import shutil
 import statistics
+from hashlib import sha256
 from pathlib import Path
 from typing import Callable, Dict, Iterable, List, Mapping, NamedTuple, Sequence, Type, TypeVar, Union
 
@@ -50,12 +52,16 @@ class Study(NamedTuple):
     def table(
         self, file: str, kind: Type[Row], texts: Mapping[str, Text], call: Callable[[Text], Iterable[Row]]
     ) -> Dict[str, List[Row]]:
-        """The lines of a table by the names of their texts: as a file has them, or after all texts were run."""
+        """The lines of a table by the names of their texts: as a file has them, or after all texts were run.
+
+        A long run that was cut off and is asked for again does not run a text twice."""
         if not self.is_drawn_only:
             self.write_texts(texts)
-            tables = zip(texts, trlab.map(call, texts.values()))
+            parts = self.folder / f"{file}.parts"
+            tables = zip(texts, trlab.map(lambda text: kept(parts, kind, text, call), texts.values()))
             lines = [[name, *line] for name, lines in tables for line in lines]
             write_rows(self.folder / file, ["text", *kind._fields], lines)
+            shutil.rmtree(parts)
         found: Dict[str, List[Row]] = {}
         for name, *numbers in read_rows(self.folder / file):
             found.setdefault(name, []).append(kind(*(int(number) for number in numbers)))
@@ -73,6 +79,18 @@ class Study(NamedTuple):
 
     def draw(self, figure: Figure, name: str = "figure.svg") -> None:
         (self.folder / name).write_text(figure.svg())
+
+
+def kept(
+    folder: Path, kind: Type[Row], text: Union[Job, Sweep], call: Callable[[Text], Iterable[Row]]
+) -> List[List[str]]:
+    """The lines of one text, whose file has the digest of the text as its name, since the text alone decides them."""
+    file = folder / f"{sha256(text.text().encode()).hexdigest()}.csv"
+    if not file.exists():
+        begun = file.with_suffix(".begun")
+        write_rows(begun, kind._fields, call(text))
+        begun.replace(file)
+    return read_rows(file)
 
 
 def write_rows(file: Path, heading: Sequence[str], rows: Iterable[Sequence[object]]) -> None:
