@@ -1,6 +1,6 @@
 -- What callers see of a desk: the calls that were made through it, each with all that stood before it in the history.
 use Rattle.std.specs.Prelude.{◌≡◌, ◌↔◌, ℕ, ◌<◌, ◌≤◌, Bool, true, false, IsTrue, Result, Option, IfOk, List, ◌++◌, All, MatchBool}
-use Rattle.trlab_run.specs.Progress.{Progress}
+use Rattle.trlab_step.specs.Progress.{Progress}
 use Rattle.trlab_leases.specs.declared.fault.BookFault.{BookFault}
 use Rattle.trlab_leases.specs.declared.order.Order.{Order}
 use Rattle.trlab_leases.specs.Leases.{LeaseState}

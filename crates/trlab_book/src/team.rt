@@ -8,8 +8,7 @@ use std::alloc::Global;
 use std::sync::Wait;
 use std::thread::Threads;
 use trlab_leases::{Lease, LeaseFault, Order};
-use trlab_pool::Pool;
-use trlab_segments::Gate;
+use trlab_segments::{Gate, Pool};
 
 /// 1 to 16 workers and their gate.
 #[derive(Drop)]

@@ -22,7 +22,7 @@ use Rattle.trlab_step.specs.Next.{IsNext}
 use Rattle.trlab_step.specs.Run.{Seed, Sheet, ComesTo, IsRoadAt, IsTallyAt, dice_at, tally_sum}
 use Rattle.trlab_step.proofs.NextLaws.{next_road_is_one}
 use Rattle.trlab_step.proofs.RunLaws.{run_comes_to_road, road_is_one, road_at_is_one}
-use Rattle.trlab_run.specs.Progress.{Progress, IsUnderway}
+use Rattle.trlab_step.specs.Progress.{Progress, IsUnderway}
 use Rattle.trlab_campaign.specs.Counting.{IsFewCars, IsStepsOn}
 use Rattle.trlab_campaign.specs.SeriesOutput.{AreRoads, IsCourse, IsStepAt, cars_on, is_on, lane_count, roads_behind, speed_on, stopped_on, tallies_from, window_of}
 

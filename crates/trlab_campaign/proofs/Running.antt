@@ -6,7 +6,7 @@ use Rattle.std.specs.Io.KnownBytes.{Appends}
 use Rattle.trlab_road.specs.Cells.{Cells}
 use Rattle.trlab_step.specs.Run.{IsRoadAt}
 use Rattle.trlab_step.proofs.RunLaws.{run_comes_to_road, road_at_is_one}
-use Rattle.trlab_run.specs.Progress.{Progress, IsOneStepOn, at_start}
+use Rattle.trlab_step.specs.Progress.{Progress, IsOneStepOn, at_start}
 use Rattle.trlab_jobs.specs.Job.{Job, seed_of, sheet_of}
 use Rattle.trlab_jobs.specs.Stored.{IsStored}
 use Rattle.trlab_campaign.specs.Device.{AppendsFront}

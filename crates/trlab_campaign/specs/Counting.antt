@@ -1,7 +1,7 @@
 -- How the windows of a series are counted.
 use Rattle.std.specs.Prelude.{◌≡◌, ℕ, ◌+◌, ◌*◌, ◌≤◌, List, Option}
 use Rattle.std.specs.Io.KnownBytes.{Appends}
-use Rattle.trlab_run.specs.Progress.{Progress}
+use Rattle.trlab_step.specs.Progress.{Progress}
 use Rattle.trlab_jobs.specs.Job.{Job}
 use Rattle.trlab_campaign.specs.declared.end.End.{End}
 use Rattle.trlab_campaign.specs.declared.end.End.TheVariants.{Done, Refused, Memory, DeviceFault}

@@ -21,8 +21,7 @@ use std::thread::Threads;
 use trlab_bounds::runs::MOST_WORKERS;
 use trlab_bounds::texts::TEXT_LIMIT;
 use trlab_jobs::{Job, read_job};
-use trlab_pool::Pool;
-use trlab_segments::OpenGate;
+use trlab_segments::{OpenGate, Pool};
 use trlab_step::Asker;
 use trlab_texts::{Cause, TextFault};
 

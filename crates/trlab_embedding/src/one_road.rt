@@ -5,8 +5,7 @@ ghost use Rattle.std.specs.Prelude.{◌≡◌, IfSome};
 use std::alloc::{AllocGlobal, Global};
 use trlab_road::Road;
 use trlab_rules::nasch;
-use trlab_run::{Run, Sheet};
-use trlab_step::Caller;
+use trlab_step::{Caller, Run, Sheet};
 use trlab_words::{Chance, Key};
 
 const STEPS: u32 = 4;

@@ -7,7 +7,7 @@ use Rattle.std.specs.Prelude.{if◌then◌else◌}
 use Rattle.std.specs.List.{position}
 use Rattle.trlab_road.specs.Cells.{Cells}
 use Rattle.trlab_step.specs.declared.tally.StepTally.{StepTally}
-use Rattle.trlab_run.specs.Progress.{IsUnderway, Progress}
+use Rattle.trlab_step.specs.Progress.{IsUnderway, Progress}
 use Rattle.trlab_leases.specs.declared.event.Call.{Call}
 use Rattle.trlab_leases.specs.declared.event.Offered.{Offered}
 use Rattle.trlab_leases.specs.Answers.{back_reply, done_reply, number_reply, order_reply, seen_reply}

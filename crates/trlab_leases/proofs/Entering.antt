@@ -8,7 +8,7 @@ use Rattle.trlab_road.specs.Cells.{Cells}
 use Rattle.trlab_step.specs.declared.tally.StepTally.{StepTally}
 use Rattle.trlab_step.specs.Run.{Seed, Sheet, IsSheet, Rises, in_force, ComesTo}
 use Rattle.trlab_step.specs.Laws.{IsRuleFor}
-use Rattle.trlab_run.specs.Progress.{IsUnderway}
+use Rattle.trlab_step.specs.Progress.{IsUnderway}
 use Rattle.trlab_leases.specs.Sheets.{BeginBy, IsBookSheet, entered}
 use Rattle.trlab_leases.specs.Leases.{suits}
 use Rattle.trlab_leases.specs.Machine.{JobState, Outcome, refused, replacing}

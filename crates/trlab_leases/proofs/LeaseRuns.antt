@@ -12,8 +12,8 @@ use Rattle.trlab_step.specs.Next.{IsNext}
 use Rattle.trlab_step.specs.Run.{Seed, Sheet, ComesTo, in_force, tally_sum}
 use Rattle.trlab_step.specs.declared.tally.StepTally.{StepTally}
 use Rattle.trlab_step.proofs.RunLaws.{run_goes_on, road_at_is_one}
-use Rattle.trlab_run.specs.Progress.{IsUnderway}
-use Rattle.trlab_run.proofs.OnTheWay.{IsSmallSum, like_start, room_for}
+use Rattle.trlab_step.specs.Progress.{IsUnderway}
+use Rattle.trlab_step.proofs.OnTheWay.{IsSmallSum, like_start, room_for}
 use Rattle.trlab_leases.specs.declared.ran.Ran.{Ran}
 use Rattle.trlab_leases.specs.Sheets.{AreInForce}
 use Rattle.trlab_leases.specs.Leases.{LeadsTo, LeaseState, IsLease, one_more}

@@ -1,6 +1,6 @@
 -- Replies that the answers of calls stand for.
 use Rattle.std.specs.Prelude.{◌≡◌, ℕ, Bool, true, false, Result, Ok, Err, length, Option, Some, None, MatchBool}
-use Rattle.trlab_run.specs.Progress.{Progress}
+use Rattle.trlab_step.specs.Progress.{Progress}
 use Rattle.trlab_leases.specs.declared.fault.BookFault.{BookFault}
 use Rattle.trlab_leases.specs.declared.fault.BookFault.TheVariants.{Memory, HistoryFull}
 use Rattle.trlab_leases.specs.declared.event.Call.{Call}

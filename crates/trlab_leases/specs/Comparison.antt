@@ -1,7 +1,7 @@
 -- What a lease, an order and a snapshot have of a job of the book.
 use Rattle.std.specs.Prelude.{◌≡◌, ℕ, Bool, List, slice_get, MatchOption, Option, Some, None}
 use Rattle.trlab_step.specs.Run.{IsRoadAt, in_force}
-use Rattle.trlab_run.specs.Progress.{Progress}
+use Rattle.trlab_step.specs.Progress.{Progress}
 use Rattle.trlab_leases.specs.declared.event.Offered.{Offered}
 use Rattle.trlab_leases.specs.declared.event.Call.{Call}
 use Rattle.trlab_leases.specs.declared.event.Call.TheVariants as call

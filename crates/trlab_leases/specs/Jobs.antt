@@ -3,7 +3,7 @@ use Rattle.std.specs.Prelude.{ℕ, ◌≤◌}
 use Rattle.trlab_road.specs.Cells.{Cells}
 use Rattle.trlab_step.specs.Run.{Sheet, Seed as Start}
 use Rattle.trlab_step.specs.declared.tally.StepTally.{StepTally}
-use Rattle.trlab_run.specs.Progress.{Progress, IsUnderway}
+use Rattle.trlab_step.specs.Progress.{Progress, IsUnderway}
 use Rattle.trlab_leases.specs.declared.seed.Seed.{Seed}
 use Rattle.trlab_leases.specs.Machine.{JobState}
 use Rattle.trlab_leases.specs.Sheets.{BeginBy}

@@ -2,7 +2,7 @@
 use Rattle.std.specs.Prelude.{◌≡◌, ℕ, List, Some, slice_get}
 use Rattle.trlab_road.specs.Cells.{Cells}
 use Rattle.trlab_rules.specs.Rules.{Programs}
-use Rattle.trlab_run.specs.Progress.{Progress, IsUnderway}
+use Rattle.trlab_step.specs.Progress.{Progress, IsUnderway}
 use Rattle.trlab_step.specs.Driven.{IsDriven}
 use Rattle.trlab_leases.specs.declared.seed.Seed.{Seed}
 use Rattle.trlab_leases.specs.declared.event.Event.{Event}

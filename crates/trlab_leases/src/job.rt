@@ -2,7 +2,7 @@
 
 ghost use Rattle.std.specs.Prelude.{◌≡◌, ◌==◌, ◌||◌, true, false, IsTrue, IfOk, IfErr, OnErr, Some, length, ◌↔◌, MatchBool};
 ghost use Rattle.trlab_road.specs.Legal.{IsLegal};
-ghost use Rattle.trlab_run.specs.Progress.{IsUnderway};
+ghost use Rattle.trlab_step.specs.Progress.{IsUnderway};
 ghost use Rattle.trlab_step.specs.Laws.{IsRuleFor};
 ghost use Rattle.trlab_step.specs.Run.{in_force};
 ghost use Rattle.trlab_leases.specs.Answers.{back_reply, done_reply, is_memory, number_reply, order_reply};
@@ -22,8 +22,7 @@ use std::alloc::{AllocError, Global};
 use std::marker::Model;
 use std::sync::Arc;
 use trlab_rules::Rule;
-use trlab_run::{no_tally, tally_sum};
-use trlab_step::{StepRoom, StepTally};
+use trlab_step::{StepRoom, StepTally, no_tally, tally_sum};
 use trlab_words::Key;
 
 /// A job. Contracts see all of it but its road and its tally, which are those of its seed and its sheet.

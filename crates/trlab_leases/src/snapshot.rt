@@ -24,7 +24,7 @@ pub struct Snapshot {
 }
 
 impl Model for Snapshot {
-    ghost use Rattle.trlab_run.specs.Progress.{IsUnderway, Progress};
+    ghost use Rattle.trlab_step.specs.Progress.{IsUnderway, Progress};
     ghost use Rattle.trlab_leases.specs.Jobs.{run_of};
 
     ghost Value = { Progress };

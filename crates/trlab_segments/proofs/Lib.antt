@@ -1,3 +1,7 @@
 pub mod Steps
 pub mod Borders
 pub mod Wholes
+pub mod Locks
+pub mod Cuts
+pub mod Copies
+pub mod Joining

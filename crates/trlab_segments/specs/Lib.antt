@@ -5,3 +5,5 @@ pub mod Segments
 pub mod Laws
 pub mod Answered
 pub mod Joined
+pub mod Lockers
+pub mod Trays

@@ -3,19 +3,31 @@
 //! ticket is drawn once.
 #![tactic(auto)]
 
+mod ask;
 mod asked;
+mod asker;
+mod board;
+mod brief;
 mod calls;
 mod crew;
 mod drawer;
+mod drawing;
 mod gate;
+mod hall;
+mod help;
 pub mod laws;
 pub mod lineup;
+mod locker;
 mod part;
 mod phase;
+mod pool;
+mod right;
 mod segment;
 mod step;
 mod stock;
+mod task;
 mod tickets;
+mod tray;
 pub mod work;
 
 pub use asked::Asked;
@@ -25,5 +37,6 @@ pub use drawer::{Drawer, Tickets};
 pub use gate::{Gate, OpenGate};
 pub use part::Part;
 pub use phase::Phase;
+pub use pool::{CARS_A_WORKER, Pool};
 pub use segment::{Segment, segment_count};
 pub use step::step_shared;

@@ -15,3 +15,6 @@ pub mod BlockAnswers
 pub mod InLine
 pub mod OneAsked
 pub mod PublishedLaws
+pub mod InForce
+pub mod Counts
+pub mod OnTheWay

@@ -6,3 +6,4 @@ pub mod Run
 pub mod Laws
 pub mod Published
 pub mod Driven
+pub mod Progress

@@ -4,7 +4,7 @@ ghost use Rattle.std.specs.Prelude.{◌≡◌, ℕ, ◌+◌, ◌<◌, ◌^◌, �
 ghost use Rattle.std.specs.Io.KnownBytes.{Appends};
 ghost use Rattle.trlab_jobs.specs.Job.{Job as Told, seed_of, sheet_of};
 ghost use Rattle.trlab_jobs.specs.Stored.{IsStored};
-ghost use Rattle.trlab_run.specs.Progress.{IsOneStepOn, at_start};
+ghost use Rattle.trlab_step.specs.Progress.{IsOneStepOn, at_start};
 ghost use Rattle.trlab_step.specs.Run.{IsRoadAt};
 ghost use Rattle.trlab_campaign.specs.Device.{AppendsFront};
 ghost use Rattle.trlab_campaign.specs.Ending.{HandsOn, JobEnds, WrotePictures, WroteSome};
@@ -18,8 +18,7 @@ use crate::run::step_text::StepText;
 use std::alloc::Global;
 use trlab_jobs::Job;
 use trlab_road::Road;
-use trlab_run::{Run, Sheet};
-use trlab_step::{Asker, Onlooker};
+use trlab_step::{Asker, Onlooker, Run, Sheet};
 
 /// Why the pictures were not all written.
 #[derive(Clone, Copy)]

@@ -11,8 +11,7 @@ ghost use Rattle.trlab_campaign.specs.SeriesOutput.{AreRoads, IsCourse, lane_cou
 use crate::series::lanes::{count_lane, lane_sum, no_cars};
 use std::alloc::{AllocError, Global};
 use trlab_diagram::{LaneCount, Point, Window};
-use trlab_run::Run;
-use trlab_step::{Asker, StepTally};
+use trlab_step::{Asker, Run, StepTally};
 
 /// Takes so many steps of a run, and tells nothing of them.
 pub fn skip_steps<A: Asker>(

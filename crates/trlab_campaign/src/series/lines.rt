@@ -23,8 +23,7 @@ use crate::series::windows::Windows;
 use std::alloc::Global;
 use trlab_diagram::{DiagramFault, series_heading, window_text};
 use trlab_jobs::Job;
-use trlab_run::Run;
-use trlab_step::Asker;
+use trlab_step::{Asker, Run};
 
 /// Takes the steps of a window, and tells its line.
 fn next_line<A: Asker>(

@@ -5,7 +5,7 @@ ghost use Rattle.trlab_diagram.specs.Flow.{IsMeasured};
 ghost use Rattle.trlab_road.specs.Legal.{IsLegal};
 ghost use Rattle.trlab_road.specs.Spreading.{IsEven};
 ghost use Rattle.trlab_step.specs.Run.{IsTallyAt};
-ghost use Rattle.trlab_run.specs.Progress.{at_start};
+ghost use Rattle.trlab_step.specs.Progress.{at_start};
 ghost use Rattle.trlab_jobs.specs.Shapes.{all_steps};
 ghost use Rattle.trlab_jobs.specs.Stored.{Spreads};
 ghost use Rattle.trlab_campaign.specs.SweepOutput.{IsPoint, point_of, seed_of, sheet_of};
@@ -14,8 +14,7 @@ use std::alloc::{AllocError, Global};
 use trlab_diagram::Point;
 use trlab_jobs::Sweep;
 use trlab_road::{Road, RoadFault};
-use trlab_run::{Run, Sheet};
-use trlab_step::{Caller, StepTally};
+use trlab_step::{Caller, Run, Sheet, StepTally};
 
 /// The road of a point at its start, on which so many cars are evenly spread.
 pub fn even_road(alloc: Global, sweep: &Sweep, cars: u32) -> Result<Road, AllocError>

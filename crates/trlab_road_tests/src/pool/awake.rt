@@ -4,8 +4,7 @@
 use super::phases::{Traffic, spread_over, tells_the_same};
 use std::sync::Wait;
 use std::thread::Threads;
-use trlab_pool::Pool;
-use trlab_segments::OpenGate;
+use trlab_segments::{OpenGate, Pool};
 
 /// Whether a sparing pool of four workers answers as one thread in a run of twenty steps.
 fn agree_on(rt: &(impl AllocGlobal + Threads + Wait + Sync), traffic: &Traffic) -> bool {

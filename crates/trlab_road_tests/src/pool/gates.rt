@@ -9,8 +9,7 @@ use std::hint;
 use std::sync::Wait;
 use std::sync::atomic::{AtomicBool, AtomicU64, Ordering};
 use std::thread::Threads;
-use trlab_pool::Pool;
-use trlab_segments::Gate;
+use trlab_segments::{Gate, Pool};
 
 /// Has a pool ask cars in so many phases, and says whether it always answers.
 fn ask_about<R: Wait, G: Gate>(

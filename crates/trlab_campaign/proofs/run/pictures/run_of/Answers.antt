@@ -1,5 +1,5 @@
 use Rattle.std.proofs.Common.{length, ◌∙◌, ap}
-use Rattle.trlab_run.specs.Progress.{at_start}
+use Rattle.trlab_step.specs.Progress.{at_start}
 use Rattle.trlab_jobs.specs.Job.{Job, seed_of, sheet_of}
 use Rattle.trlab_step.specs.Run.{Sheet}
 use Rattle.trlab_campaign.proofs.Sheets.{later_rise, plain_sheet}

@@ -1,5 +1,5 @@
 use Rattle.std.proofs.Common.{◌≡◌, true, ap, refl, subst, sym, ◌∙◌}
-use Rattle.trlab_run.specs.Progress.{IsUnderway}
+use Rattle.trlab_step.specs.Progress.{IsUnderway}
 use Rattle.trlab_leases.specs.Comparison.{offered}
 use Rattle.trlab_leases.specs.Jobs.{run_of}
 use Rattle.trlab_leases.specs.Machine.{JobState, Outcome, is_own, job_state}

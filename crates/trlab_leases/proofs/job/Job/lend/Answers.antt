@@ -1,5 +1,5 @@
 use Rattle.std.proofs.Common.{refl, subst}
-use Rattle.trlab_run.specs.Progress.{IsUnderway}
+use Rattle.trlab_step.specs.Progress.{IsUnderway}
 use Rattle.trlab_leases.specs.Jobs.{run_of}
 use Rattle.trlab_leases.specs.Machine.{JobState, job_state}
 use Rattle.trlab_leases.proofs.Booking.{lent}

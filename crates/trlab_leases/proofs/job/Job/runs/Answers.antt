@@ -1,6 +1,6 @@
 use Rattle.std.proofs.Common.{ap, subst, sym, ◌∙◌}
 use Rattle.std.proofs.lemmas.Bool.{false≢true}
-use Rattle.trlab_run.specs.Progress.{IsUnderway}
+use Rattle.trlab_step.specs.Progress.{IsUnderway}
 use Rattle.trlab_leases.specs.declared.seed.Seed.{Seed}
 use Rattle.trlab_leases.specs.Jobs.{run_of}
 use Rattle.trlab_leases.specs.Machine.{JobState, job_state}

@@ -1,7 +1,7 @@
 use Rattle.std.proofs.Common.{rules, ◌≡◌, ◌-◌, ◌+◌, ◌∙◌, sym, ap, leb, arith}
 use Rattle.std.specs.Prelude.{option_map}
 use Rattle.std.proofs.lemmas.List.Sorted.{IsPartitionPoint-from_clause, IsPartitionedBy-leb}
-use Rattle.trlab_run.proofs.InForce.{steps_rise}
+use Rattle.trlab_step.proofs.InForce.{steps_rise}
 use Rattle.trlab_rules.specs.Rules.{Programs}
 use Rattle.trlab_leases.proofs.InForce.{first_begun, rises_from_0, rule_in_force, some_begun}
 use Rattle.trlab_leases.proofs.sheet.Sheet.entry_in_force.Goals as goal

@@ -1,6 +1,6 @@
 use Rattle.std.proofs.Common.{ap}
-use Rattle.trlab_run.specs.Progress.{Progress}
-use Rattle.trlab_run.proofs.OnTheWay.{like_start}
+use Rattle.trlab_step.specs.Progress.{Progress}
+use Rattle.trlab_step.proofs.OnTheWay.{like_start}
 use Rattle.trlab_leases.proofs.snapshot.Snapshot.road.Goals as goal
 
 pub returns-clause-run : goal.returns-clause-run

@@ -1,5 +1,5 @@
 use Rattle.std.proofs.Common.{ap}
-use Rattle.trlab_run.specs.Progress.{Progress}
+use Rattle.trlab_step.specs.Progress.{Progress}
 use Rattle.trlab_leases.proofs.snapshot.Snapshot.sheet.Goals as goal
 
 pub returns-clause-value : goal.returns-clause-value

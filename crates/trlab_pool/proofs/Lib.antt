@@ -1,4 +1,0 @@
-pub mod Locks
-pub mod Cuts
-pub mod Copies
-pub mod Joining

@@ -1,2 +1,0 @@
-pub mod Lockers
-pub mod Trays

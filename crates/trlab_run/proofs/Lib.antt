@@ -1,3 +1,0 @@
-pub mod InForce
-pub mod Counts
-pub mod OnTheWay

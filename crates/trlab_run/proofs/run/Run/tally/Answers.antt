@@ -1,4 +1,0 @@
-use Rattle.trlab_run.proofs.run.Run.tally.Goals as goal
-
-pub returns-clause-run : goal.returns-clause-run
-returns-clause-run c = rw (← c.self.view_is) (c.self.inside.road, c.self.invariant.comes)

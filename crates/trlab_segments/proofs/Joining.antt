@@ -1,0 +1,72 @@
+-- A drawer with the tickets of two has the parts of both.
+use Rattle.std.proofs.Common.{◌≡◌, Bool, true, false, List, [], ◌++◌, ◌||◌, Option, Some, None, IfSome, MatchOption, Result, Ok, Err, IfOk, IsOkAnd, Vec, refl, All, map, ap, sym, ◌∙◌, subst}
+use Rattle.std.proofs.lemmas.List.{map-append}
+use Rattle.std.proofs.lemmas.List.Elements.{All-append}
+use Rattle.trlab_segments.specs.Answered.{HasParts, number_of}
+use Rattle.trlab_segments.specs.Drawers.{IsFrom, tickets_of, is_ended}
+use Rattle.trlab_segments.specs.declared.drawer.Drawer.{Drawer}
+use Rattle.trlab_segments.specs.declared.drawer.Tickets.{Tickets}
+use Rattle.trlab_segments.specs.declared.part.Part.{Part}
+use Rattle.trlab_segments.specs.Trays.{IsJoined, IsNew, Joins}
+
+or_true : (x : Bool) → (x || true) ≡ true
+or_true true = refl
+or_true false = refl
+
+module _ {A : Type 0} (Fits : Part A → Type 0) (t : Tickets) where
+  -- who drew nothing, or another, has its parts: these are those of both
+  both_parts : (d e f : Drawer) (some more all : List (Part A)) → HasParts Fits d some → HasParts Fits e more
+      → all ≡ some ++ more → Joins t d e f → HasParts Fits f all
+  both_parts d e f some more all first second items joins = record {
+    tickets = ap (map number_of) items ∙ (map-append number_of some more
+        ∙ (ap (λ xs. xs ++ map number_of more) first.tickets ∙ ap (λ xs. tickets_of d ++ xs) second.tickets ∙ sym joins.tickets));
+    right = subst (All Fits) (sym items) (All-append Fits some more first.right second.right);
+    ended = joins.ended ∙ ap (λ x. x || is_ended e) first.ended;
+  }
+
+  -- parts that were laid down before, and more
+  pub all_parts : (before : Option Drawer) (e f : Drawer) (some more all : List (Part A))
+      → MatchOption before (some ≡ []) (λ d. IsFrom t d × HasParts Fits d some) → IsFrom t e × HasParts Fits e more
+      → all ≡ some ++ more → IsJoined t before e f → IsFrom t f × HasParts Fits f all
+  all_parts None e f some more all none done items same =
+      subst (λ d. IsFrom t d × HasParts Fits d all) (sym same) (subst (λ xs. IsFrom t e × HasParts Fits e xs)
+      (sym (items ∙ ap (λ xs. xs ++ more) none)) done)
+  all_parts (Some d) e f some more all laid done items joins =
+      (joins.from, both_parts d e f some more all laid.1 done.1 items joins)
+
+  -- the same, where more was told
+  pub all_told : {B E : Type 0} (before : Option Drawer) (e f : Drawer) (some all : List (Part A)) (told : Result (Vec (Part A) B) E)
+      → MatchOption before (some ≡ []) (λ d. IsFrom t d × HasParts Fits d some)
+      → IsFrom t e × IfOk told (λ more. HasParts Fits e more.items) → IsOkAnd told (λ more. all ≡ some ++ more.items)
+      → IsJoined t before e f → IsFrom t f × HasParts Fits f all
+  all_told before e f some all (Ok more) laid done items joins = all_parts before e f some more.items all laid (done.0, done.1) items joins
+  all_told before e f some all (Err x) laid done items joins = absurd items
+
+  -- a drawer that drew nothing changes no parts
+  pub with_reserve : (reserve : Option Drawer) (e f : Drawer) (parts : List (Part A)) → IfSome reserve (IsNew t)
+      → IsFrom t e × HasParts Fits e parts → IsJoined t reserve e f → IsFrom t f × HasParts Fits f parts
+  with_reserve None e f parts new done same = subst (λ d. IsFrom t d × HasParts Fits d parts) (sym same) done
+  with_reserve (Some d) e f parts new done joins = (
+    joins.from,
+    record {
+      tickets = done.1.tickets ∙ sym (joins.tickets ∙ ap (λ xs. xs ++ tickets_of e) new.1);
+      right = done.1.right;
+      ended = joins.ended ∙ (ap (λ x. is_ended d || x) done.1.ended ∙ or_true (is_ended d));
+    },
+  )
+
+-- what was laid down came from these tickets
+pub laid_from : (t : Tickets) (before : Option Drawer) (Empty : Type 0) (Has : Drawer → Type 0)
+    → MatchOption before Empty (λ d. IsFrom t d × Has d) → IfSome before (IsFrom t)
+laid_from t None Empty Has laid = tt
+laid_from t (Some d) Empty Has laid = laid.0
+
+-- what is joined came from these tickets
+pub joined_from : (t : Tickets) (before : Option Drawer) (d all : Drawer) → IsFrom t d → IsJoined t before d all → IsFrom t all
+joined_from t None d all from same = subst (IsFrom t) (sym same) from
+joined_from t (Some b) d all from joins = joins.from
+
+-- a reserve came from these tickets
+pub new_from : (t : Tickets) (reserve : Option Drawer) → IfSome reserve (IsNew t) → IfSome reserve (IsFrom t)
+new_from t None new = tt
+new_from t (Some d) new = new.0

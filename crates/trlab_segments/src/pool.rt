@@ -1,0 +1,183 @@
+//! The pool of a run: the calling thread, and the helpers that live as long as the run.
+
+ghost use Rattle.std.specs.Prelude.{◌≡◌, ◌<◌, ◌≤◌, IfOk};
+ghost use Rattle.trlab_bounds.specs.declared.runs.TheConstants.{MOST_WORKERS};
+ghost use Rattle.trlab_road.specs.Cells.{cars};
+ghost use Rattle.trlab_segments.specs.Answered.{IsCrossesPart, HasTwoLanes, IsSpeedsPart};
+
+use crate::hall::{Hall, help_all};
+use std::alloc::{AllocError, Global};
+use std::sync::Wait;
+use std::thread;
+use std::thread::{Threads, join_mut};
+use trlab_machine::Dice;
+use trlab_road::Road;
+use crate::Gate;
+use trlab_step::Onlooker;
+use trlab_verify::{Change, Motion};
+
+/// How many cars keep a worker busy for longer than it takes to wake one.
+pub const CARS_A_WORKER: u32 = 1000;
+
+/// 1 to 16 workers and their gate. The calling thread is worker 0; the others are started once, for a
+/// whole run, and help with its phases.
+#[derive(Drop)]
+pub struct Pool<'a, R, G> {
+    pub(crate) rt: &'a R,
+    pub(crate) gate: &'a G,
+    pub(crate) hall: Hall,
+    workers: u32,
+    /// Whether only those help that make the work faster.
+    is_sparing: bool,
+    ghost some: { 0 < workers },
+    ghost few: { workers ≤ MOST_WORKERS },
+}
+
+/// As many of these workers as there are processors; one where their count is not told.
+fn within_processors<R: Threads>(rt: &R, workers: u32) -> u32
+    requires { 0 < workers }
+    ensures some { 0 < result }
+    ensures few { result ≤ workers }
+{
+    let processors = match thread::available_parallelism(rt) {
+        Ok(count) => count.get(),
+        Err(_) => 1,
+    };
+    if processors < workers as usize {
+        processors as u32
+    } else {
+        workers
+    }
+}
+
+impl<'a, R: Threads + Wait + Sync, G: Gate + Sync> Pool<'a, R, G> {
+    /// So many workers, each of whom passes the gate before each segment. One alone asks all cars at
+    /// once, and passes no gate.
+    pub fn new(rt: &'a R, workers: u32, gate: &'a G) -> Pool<'a, R, G>
+        requires some { 0 < workers }
+        requires few { workers ≤ MOST_WORKERS }
+    {
+        Pool {
+            rt,
+            gate,
+            hall: Hall::new(),
+            workers,
+            is_sparing: false,
+        }
+    }
+
+    /// As many of these workers as make the work faster: no more than there are processors, and one for
+    /// every 1000 cars of a road. Between two phases that are close they stay awake.
+    pub fn sparing(self) -> Pool<'a, R, G> {
+        Pool {
+            rt: self.rt,
+            gate: self.gate,
+            hall: Hall::watchful(),
+            workers: within_processors(self.rt, self.workers),
+            is_sparing: true,
+        }
+    }
+
+    /// Drives a run, while helpers wait for its phases. All have gone home when it ends, and a second run
+    /// finds none. Where no thread can be started the run goes on without.
+    pub fn run<T, D: FnMut() -> T>(&self, alloc: Global, drive: &mut D) -> T
+        requires { D.pre drive.old }
+        ensures { D.step drive.old result drive.new }
+    {
+        if self.workers == 1 {
+            return drive();
+        }
+        let rt = self.rt;
+        let gate = self.gate;
+        let hall = &self.hall;
+        let helpers = self.workers - 1;
+        let (_, told) = join_mut(
+            rt,
+            &mut || help_all(rt, alloc, hall, helpers, gate),
+            &mut || -> T
+                requires { D.pre drive.now }
+                ensures { D.step drive.entry.now result drive.exit.now }
+            {
+                let told = drive();
+                hall.close();
+                told
+            },
+        );
+        told
+    }
+}
+
+impl<'a, R: Wait, G: Gate> Pool<'a, R, G> {
+    /// How many workers ask so many cars.
+    pub(crate) fn workers_for(&self, cars: u32) -> u32
+        ensures some { 0 < result }
+        ensures few { result ≤ MOST_WORKERS }
+    {
+        if self.is_sparing {
+            self.workers.min((cars / CARS_A_WORKER).max(1))
+        } else {
+            self.workers
+        }
+    }
+
+    /// Wakes the helpers of so many workers, of whom the calling thread is one.
+    pub(crate) fn wake(&self, workers: u32)
+        requires { 0 < workers }
+    {
+        if workers == self.workers {
+            self.hall.call_all();
+        } else {
+            self.hall.call(workers - 1);
+        }
+    }
+
+    /// Whether the calling thread asks so many cars alone, and at once.
+    pub fn asks_alone(&self, cars: u32) -> bool {
+        self.workers_for(cars) == 1
+    }
+
+    /// The road, and the speeds that a motion program answers to all its cars, in standing order, each in
+    /// a byte. An onlooker sees the road while they are asked.
+    ///
+    /// # Errors
+    ///
+    /// Where an allocation was refused to any worker.
+    pub fn speeds_of<O: Onlooker>(
+        &self,
+        alloc: Global,
+        road: Road,
+        motion: Motion,
+        dice: Dice,
+        onlooker: &mut O,
+    ) -> (Road, Result<Vec<u8>, AllocError>)
+        ensures road { result.0 ≡ road }
+        ensures seen { O.sees onlooker.old road onlooker.new }
+        ensures speeds { IfOk result.1 (λ speeds.
+            IsSpeedsPart motion dice road 0 (cars road) speeds.items) }
+    {
+        self.answers_of(alloc, &self.hall.motions, motion, dice, road, onlooker)
+    }
+
+    /// The road of two lanes, and whether its cars cross, in standing order, as a change program answers. An
+    /// onlooker sees the road while they are asked.
+    ///
+    /// # Errors
+    ///
+    /// Where an allocation was refused to any worker.
+    pub fn crossings_of<O: Onlooker>(
+        &self,
+        alloc: Global,
+        road: Road,
+        change: Change,
+        dice: Dice,
+        onlooker: &mut O,
+    ) -> (Road, Result<Vec<bool>, AllocError>)
+        requires { HasTwoLanes road }
+        ensures road { result.0 ≡ road }
+        ensures seen { O.sees onlooker.old road onlooker.new }
+        ensures crosses { IfOk result.1 (λ crosses.
+            IsCrossesPart change dice road 0 (cars road) crosses.items) }
+    {
+        self.answers_of(alloc, &self.hall.changes, change, dice, road, onlooker)
+    }
+}

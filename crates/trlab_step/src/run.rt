@@ -1,0 +1,150 @@
+//! Runs: a road goes from step to step under the rules of a sheet, and its tallies are summed.
+
+ghost use Rattle.std.specs.Prelude.{◌≡◌, ◌+◌, ◌<◌, ◌^◌, OnOk, OnErr, length};
+ghost use Rattle.trlab_step.specs.Laws.{IsSheetFor};
+ghost use Rattle.trlab_step.specs.Run.{IsRoadAt, IsTallyAt};
+ghost use Rattle.trlab_step.specs.Progress.{IsUnderway, IsOneStepOn, at_start};
+
+use crate::sheet::Sheet;
+use crate::totals::{no_tally, tally_sum};
+use std::alloc::{AllocError, Global};
+use std::marker::Model;
+use std::snapshot::Snapshot;
+use trlab_machine::Dice;
+use trlab_road::Road;
+use crate::{Asker, Nobody, Onlooker, StepRoom, StepTally, take_step};
+use trlab_words::Key;
+
+/// A run of a road under a sheet of rules: the step to which it has come, the road at this step,
+/// and the sum of the tallies so far.
+#[derive(Drop)]
+pub struct Run {
+    start: Snapshot<Road>,
+    key: Key,
+    number: u32,
+    warm: u32,
+    sheet: Sheet,
+    step: u32,
+    road: Road,
+    sum: StepTally,
+    /// The memory of the steps.
+    room: StepRoom,
+}
+
+impl Model for Run {
+    ghost use Rattle.trlab_step.specs.Progress.{IsUnderway, Progress};
+
+    ghost Value = { Progress };
+
+    ghost view = { λ run. record {
+      seed = record { road = run.start.value; key = run.key.0; number = run.number; warm = run.warm };
+      sheet = run.sheet;
+      step = run.step;
+      road = run.road;
+      sum = run.sum;
+    } };
+
+    ghost invariant = { λ run. IsUnderway (record {
+      seed = record { road = run.start.value; key = run.key.0; number = run.number; warm = run.warm };
+      sheet = run.sheet;
+      step = run.step;
+      road = run.road;
+      sum = run.sum;
+    }) };
+}
+
+impl Run {
+    /// The run of a road from step 0 on: its words go by the key and the number of the road, and the
+    /// tallies of steps before `warm` are not counted.
+    pub fn new(alloc: Global, key: Key, number: u32, warm: u32, road: Road, sheet: Sheet) -> Run
+        requires suits { IsSheetFor (length road.lanes) sheet }
+        ensures { result ≡ at_start (record { road = road; key = key.0; number = number; warm = warm }) sheet }
+    {
+        Run {
+            start: road.snapshot(),
+            key,
+            number,
+            warm,
+            sheet,
+            step: 0,
+            road,
+            sum: no_tally(),
+            room: StepRoom::new(alloc),
+        }
+    }
+
+    /// The step to which the run has come, from 0 on.
+    pub fn step(&self) -> u32
+        ensures value { result ≡ self.now.step }
+        ensures underway { IsUnderway self.now }
+    {
+        self.step
+    }
+
+    /// The road at this step.
+    pub fn road(&self) -> &Road
+        ensures value { result.now ≡ self.now.road }
+        ensures run { IsRoadAt self.now.seed self.now.sheet self.now.step result.now }
+    {
+        &self.road
+    }
+
+    /// The sum of the tallies of the steps so far, without those before `warm`.
+    pub fn tally(&self) -> StepTally
+        ensures value { result ≡ self.now.sum }
+        ensures run { IsTallyAt self.now.seed self.now.sheet self.now.step result }
+    {
+        self.sum
+    }
+
+    /// Takes one step, in which the asker asks the cars.
+    ///
+    /// # Errors
+    ///
+    /// Where an allocation was refused; then nothing changes.
+    pub fn advance<A: Asker>(&mut self, asker: &A, alloc: Global) -> Result<(), AllocError>
+        requires ready { A.is_ready asker.now }
+        requires steps { self.old.step + 1 < 2 ^ 32 }
+        ensures on { OnOk result (IsOneStepOn self.old self.new) }
+        ensures same { OnErr result (self.new ≡ self.old) }
+    {
+        self.advance_showing(asker, alloc, &mut Nobody)
+    }
+
+    /// Takes one step, and shows an onlooker the road of the run before it, while the cars are asked.
+    ///
+    /// # Errors
+    ///
+    /// Where an allocation was refused; then nothing changes, and the onlooker has seen the road.
+    pub fn advance_showing<A: Asker, O: Onlooker>(
+        &mut self,
+        asker: &A,
+        alloc: Global,
+        onlooker: &mut O,
+    ) -> Result<(), AllocError>
+        requires ready { A.is_ready asker.now }
+        requires steps { self.old.step + 1 < 2 ^ 32 }
+        ensures on { OnOk result (IsOneStepOn self.old self.new) }
+        ensures seen { O.sees onlooker.old self.old.road onlooker.new }
+        ensures run { IsRoadAt self.old.seed self.old.sheet self.old.step self.old.road }
+        ensures same { OnErr result (self.new ≡ self.old) }
+    {
+        let dice = Dice::new(&self.key, self.number, self.step);
+        let tally = take_step(
+            asker,
+            alloc,
+            &mut self.road,
+            &mut self.room,
+            self.sheet.in_force(self.step),
+            &dice,
+            onlooker,
+        )?;
+        self.sum = if self.warm <= self.step {
+            tally_sum(self.sum, tally)
+        } else {
+            self.sum
+        };
+        self.step += 1;
+        Ok(())
+    }
+}
