@@ -2,8 +2,8 @@
 //! each end.
 #![tactic(auto)]
 
-mod command;
-mod status;
+mod carry_out;
+mod end_status;
 
-pub use command::carry_out;
-pub use status::status_of_end;
+pub use carry_out::carry_out;
+pub use end_status::status_of_end;
