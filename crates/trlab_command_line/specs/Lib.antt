@@ -3,3 +3,5 @@ pub mod Numbers
 pub mod Requests
 pub mod Explains
 pub mod Statuses
+pub mod Commands
+pub mod EndStatuses

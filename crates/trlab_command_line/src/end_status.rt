@@ -1,7 +1,7 @@
 //! The exit statuses of the ends of engines: 0 done, 1 refused, 3 want of memory, 4 a failed device.
 
 ghost use Rattle.std.specs.Prelude.{◌≡◌};
-ghost use Rattle.trlab_commands.specs.EndStatuses.{status_of_end};
+ghost use Rattle.trlab_command_line.specs.EndStatuses.{status_of_end};
 
 use trlab_campaign::End;
 

@@ -7,7 +7,7 @@ ghost use Rattle.trlab_campaign.specs.Ending.{EndsSo, HandsOn};
 ghost use Rattle.trlab_campaign.specs.declared.end.End.TheVariants.{DeviceFault};
 ghost use Rattle.trlab_bounds.specs.declared.texts.TheConstants.{TEXT_LIMIT};
 ghost use Rattle.trlab_command_line.specs.Requests.{HasCounts};
-ghost use Rattle.trlab_commands.specs.Commands.{output_of};
+ghost use Rattle.trlab_command_line.specs.Commands.{output_of};
 
 use std::alloc::AllocGlobal;
 use std::sync::Wait;
@@ -16,7 +16,7 @@ use trlab_campaign::{
     End, Observer, Sink, Source, Windows, check_text, run_job_text_observed,
     run_series_text_observed, run_sweep_text_observed,
 };
-use trlab_command_line::{Explaining, Wanted};
+use crate::{Explaining, Wanted};
 use trlab_explain::{explain_number, explain_text};
 
 /// Does what is wanted, from a reader to a writer. Where a number is explained, nothing is read. The observer
