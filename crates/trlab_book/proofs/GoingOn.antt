@@ -1,14 +1,14 @@
 -- A desk goes on from call to call of its runners.
 use Rattle.std.proofs.Common.{◌≡◌, ℕ, ◌+◌, ◌<◌, ◌≤◌, max, Bool, true, false, List, [], ◌∷◌, ◌++◌, refl, sym, ap, ◌∙◌, arith, append_assoc, append-nil, MatchBool}
 use Rattle.std.proofs.lemmas.List.Elements.{All-nil, All-push, All-append, All-weaker}
-use Rattle.trlab_leases.specs.declared.event.Call.{Call}
-use Rattle.trlab_leases.specs.declared.event.Event.{Event}
-use Rattle.trlab_leases.specs.declared.event.Reply.{Reply}
-use Rattle.trlab_leases.specs.Answers.{is_event}
-use Rattle.trlab_leases.specs.Comparison.{OrderCall, offered}
-use Rattle.trlab_leases.specs.Leases.{LeaseState}
-use Rattle.trlab_leases.specs.Machine.{State}
-use Rattle.trlab_leases.specs.Replay.{event}
+use Rattle.trlab_sequential_book.specs.declared.event.Call.{Call}
+use Rattle.trlab_sequential_book.specs.declared.event.Event.{Event}
+use Rattle.trlab_sequential_book.specs.declared.event.Reply.{Reply}
+use Rattle.trlab_sequential_book.specs.Answers.{is_event}
+use Rattle.trlab_sequential_book.specs.Comparison.{OrderCall, offered}
+use Rattle.trlab_sequential_book.specs.Leases.{LeaseState}
+use Rattle.trlab_sequential_book.specs.Machine.{State}
+use Rattle.trlab_sequential_book.specs.Replay.{event}
 use Rattle.trlab_strands.specs.declared.ledger.Ledger.{Ghosts}
 use Rattle.trlab_strands.specs.declared.stock.Noted.{Noted}
 use Rattle.trlab_strands.specs.Stocks.{noted, number_of}

@@ -1,11 +1,11 @@
 -- What is noted at a desk is the last event of the history.
 use Rattle.std.proofs.Common.{◌≡◌, ◌+◌, Bool, true, false, List, [], ◌∷◌, ◌++◌, refl, sym, ap, ◌∙◌, subst, MatchBool}
-use Rattle.trlab_leases.specs.declared.event.Call.{Call}
-use Rattle.trlab_leases.specs.declared.event.Event.{Event}
-use Rattle.trlab_leases.specs.declared.event.Reply.{Reply}
-use Rattle.trlab_leases.specs.Answers.{is_event}
-use Rattle.trlab_leases.specs.Machine.{State}
-use Rattle.trlab_leases.specs.Replay.{Replays, event}
+use Rattle.trlab_sequential_book.specs.declared.event.Call.{Call}
+use Rattle.trlab_sequential_book.specs.declared.event.Event.{Event}
+use Rattle.trlab_sequential_book.specs.declared.event.Reply.{Reply}
+use Rattle.trlab_sequential_book.specs.Answers.{is_event}
+use Rattle.trlab_sequential_book.specs.Machine.{State}
+use Rattle.trlab_sequential_book.specs.Replay.{Replays, event}
 use Rattle.trlab_strands.specs.declared.ledger.Ledger.{Ghosts}
 use Rattle.trlab_strands.specs.Tokens as strand
 use Rattle.trlab_book.specs.declared.desk.Desk.{Desk}

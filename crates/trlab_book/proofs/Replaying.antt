@@ -5,21 +5,21 @@ use Rattle.std.specs.Prelude.{is_some, not, ltb, length, if◌then◌else◌}
 use Rattle.std.proofs.lemmas.Bool.{cond-false, cond_both, false≢true}
 use Rattle.std.proofs.lemmas.List.{map-append}
 use Rattle.std.proofs.Math.Logic.{∥∥₁_map}
-use Rattle.trlab_leases.specs.declared.event.Call.{Call}
-use Rattle.trlab_leases.specs.declared.event.Event.{Event}
-use Rattle.trlab_leases.specs.declared.event.Call.TheVariants.{GiveBack, Read, Replace, Revoke, Submit}
-use Rattle.trlab_leases.specs.declared.event.Offered.{Offered}
-use Rattle.trlab_leases.specs.declared.event.Reply.{Reply}
-use Rattle.trlab_leases.specs.declared.event.Reply.TheVariants.{Done, Number, Ordered, Refused}
-use Rattle.trlab_leases.specs.declared.fault.BookFault.TheVariants.{Ended, Full, HistoryFull, LanesMismatch, NoSuchJob, SheetFull, StrangerLease}
-use Rattle.trlab_leases.specs.Answers.{is_event}
-use Rattle.trlab_leases.specs.Comparison.{IsSame, LeaseCall, OrderCall, offered}
-use Rattle.trlab_leases.specs.Leases.{LeaseState, suits}
-use Rattle.trlab_leases.specs.Machine.{JobState, Outcome, Served, State, after, giving_back, is_free, is_full, is_own, leasing, new_job, next_after, on_free, on_job, ordering, reading, refused, replacing, reply_of, revoking, served, start, submitting}
-use Rattle.trlab_leases.specs.Sheets.{begin_in_force, entered}
-use Rattle.trlab_leases.specs.declared.seed.Seed.{Seed}
+use Rattle.trlab_sequential_book.specs.declared.event.Call.{Call}
+use Rattle.trlab_sequential_book.specs.declared.event.Event.{Event}
+use Rattle.trlab_sequential_book.specs.declared.event.Call.TheVariants.{GiveBack, Read, Replace, Revoke, Submit}
+use Rattle.trlab_sequential_book.specs.declared.event.Offered.{Offered}
+use Rattle.trlab_sequential_book.specs.declared.event.Reply.{Reply}
+use Rattle.trlab_sequential_book.specs.declared.event.Reply.TheVariants.{Done, Number, Ordered, Refused}
+use Rattle.trlab_sequential_book.specs.declared.fault.BookFault.TheVariants.{Ended, Full, HistoryFull, LanesMismatch, NoSuchJob, SheetFull, StrangerLease}
+use Rattle.trlab_sequential_book.specs.Answers.{is_event}
+use Rattle.trlab_sequential_book.specs.Comparison.{IsSame, LeaseCall, OrderCall, offered}
+use Rattle.trlab_sequential_book.specs.Leases.{LeaseState, suits}
+use Rattle.trlab_sequential_book.specs.Machine.{JobState, Outcome, Served, State, after, giving_back, is_free, is_full, is_own, leasing, new_job, next_after, on_free, on_job, ordering, reading, refused, replacing, reply_of, revoking, served, start, submitting}
+use Rattle.trlab_sequential_book.specs.Sheets.{begin_in_force, entered}
+use Rattle.trlab_sequential_book.specs.declared.seed.Seed.{Seed}
 use Rattle.trlab_rules.specs.Rules.{Programs}
-use Rattle.trlab_leases.specs.Replay.{Replays, call_of, event, replies_from, state_from, told_by}
+use Rattle.trlab_sequential_book.specs.Replay.{Replays, call_of, event, replies_from, state_from, told_by}
 use Rattle.trlab_book.specs.declared.kept.Kept.{Kept}
 use Rattle.trlab_book.specs.Events.{Appends, IsUnchanged, Makes, TellsFull}
 

@@ -1,18 +1,18 @@
 -- What callers see of a desk: the calls that were made through it, each with all that stood before it in the history.
 use Rattle.std.specs.Prelude.{◌≡◌, ◌↔◌, ℕ, ◌<◌, ◌≤◌, Bool, true, false, IsTrue, Result, Option, IfOk, List, ◌++◌, All, MatchBool}
 use Rattle.trlab_step.specs.Progress.{Progress}
-use Rattle.trlab_leases.specs.declared.fault.BookFault.{BookFault}
-use Rattle.trlab_leases.specs.declared.order.Order.{Order}
-use Rattle.trlab_leases.specs.Leases.{LeaseState}
-use Rattle.trlab_leases.specs.Comparison.{IsLent, IsRuleAt, IsSeen}
-use Rattle.trlab_leases.specs.Comparison as comparison
-use Rattle.trlab_leases.specs.declared.event.Call.{Call}
-use Rattle.trlab_leases.specs.declared.event.Call.TheVariants as call
-use Rattle.trlab_leases.specs.declared.event.Event.{Event}
-use Rattle.trlab_leases.specs.declared.event.Reply.{Reply}
-use Rattle.trlab_leases.specs.Machine.{State, reply_of}
-use Rattle.trlab_leases.specs.Answers.{is_event}
-use Rattle.trlab_leases.specs.Replay.{Replays, event}
+use Rattle.trlab_sequential_book.specs.declared.fault.BookFault.{BookFault}
+use Rattle.trlab_sequential_book.specs.declared.order.Order.{Order}
+use Rattle.trlab_sequential_book.specs.Leases.{LeaseState}
+use Rattle.trlab_sequential_book.specs.Comparison.{IsLent, IsRuleAt, IsSeen}
+use Rattle.trlab_sequential_book.specs.Comparison as comparison
+use Rattle.trlab_sequential_book.specs.declared.event.Call.{Call}
+use Rattle.trlab_sequential_book.specs.declared.event.Call.TheVariants as call
+use Rattle.trlab_sequential_book.specs.declared.event.Event.{Event}
+use Rattle.trlab_sequential_book.specs.declared.event.Reply.{Reply}
+use Rattle.trlab_sequential_book.specs.Machine.{State, reply_of}
+use Rattle.trlab_sequential_book.specs.Answers.{is_event}
+use Rattle.trlab_sequential_book.specs.Replay.{Replays, event}
 use Rattle.trlab_strands.specs.declared.stock.Noted.{Noted}
 use Rattle.trlab_strands.specs.Stocks.{number_of}
 use Rattle.trlab_strands.specs.declared.ledger.Ledger.{Ghosts}

@@ -1,13 +1,13 @@
 -- What a call does to a book with its history.
 use Rattle.std.specs.Prelude.{◌≡◌, ◌↔◌, true, ◌++◌, ◌∷◌, [], MatchBool}
-use Rattle.trlab_leases.specs.declared.fault.BookFault.TheVariants.{HistoryFull}
-use Rattle.trlab_leases.specs.declared.event.Call.{Call}
-use Rattle.trlab_leases.specs.declared.event.Reply.{Reply}
-use Rattle.trlab_leases.specs.declared.event.Reply.TheVariants.{Refused}
+use Rattle.trlab_sequential_book.specs.declared.fault.BookFault.TheVariants.{HistoryFull}
+use Rattle.trlab_sequential_book.specs.declared.event.Call.{Call}
+use Rattle.trlab_sequential_book.specs.declared.event.Reply.{Reply}
+use Rattle.trlab_sequential_book.specs.declared.event.Reply.TheVariants.{Refused}
 use Rattle.trlab_book.specs.declared.kept.Kept.{Kept}
-use Rattle.trlab_leases.specs.Machine.{after, is_full, reply_of}
-use Rattle.trlab_leases.specs.Answers.{is_event}
-use Rattle.trlab_leases.specs.Replay.{event}
+use Rattle.trlab_sequential_book.specs.Machine.{after, is_full, reply_of}
+use Rattle.trlab_sequential_book.specs.Answers.{is_event}
+use Rattle.trlab_sequential_book.specs.Replay.{event}
 
 -- one event more, which is this call with the machine's reply, and that reply is the answer
 pub record Appends (old : Kept) (c : Call) (told : Reply) (new : Kept) : Type 0 where

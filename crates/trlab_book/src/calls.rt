@@ -2,18 +2,18 @@
 //! subhistory: this call, as it was made, with the reply that its caller has.
 
 ghost use Rattle.std.specs.Prelude.{◌≡◌, Bool, IfErr};
-ghost use Rattle.trlab_leases.specs.Answers.{back_reply, done_reply, lease_reply};
-ghost use Rattle.trlab_leases.specs.Answers.{number_reply, order_reply, seen_reply};
-ghost use Rattle.trlab_leases.specs.Comparison.{LeaseCall, OrderCall, offered};
-ghost use Rattle.trlab_leases.specs.declared.event.Call.TheVariants.{Cancel, GiveBack, Read, Replace, Revoke, Submit};
+ghost use Rattle.trlab_sequential_book.specs.Answers.{back_reply, done_reply, lease_reply};
+ghost use Rattle.trlab_sequential_book.specs.Answers.{number_reply, order_reply, seen_reply};
+ghost use Rattle.trlab_sequential_book.specs.Comparison.{LeaseCall, OrderCall, offered};
+ghost use Rattle.trlab_sequential_book.specs.declared.event.Call.TheVariants.{Cancel, GiveBack, Read, Replace, Revoke, Submit};
 ghost use Rattle.trlab_book.specs.Desks.{IsOfLease, IsOfOrder, IsOfRead, Makes, MakesOf, TellsSame};
 
 use crate::desk::{Desk, SharedBook};
 use crate::events::{copied_replace, copied_submit};
 use std::alloc::Global;
 use std::sync::Wait;
-use trlab_leases::{BookFault, BoxedSeed, Lease, Order, Seed, Snapshot};
 use trlab_rules::Rule;
+use trlab_sequential_book::{BookFault, BoxedSeed, Lease, Order, Seed, Snapshot};
 use trlab_strands::Ledger;
 
 impl<L: Ledger> SharedBook<L> {

@@ -6,7 +6,7 @@ ghost use Rattle.trlab_strands.specs.declared.limits.TheConstants.{ALL_PARTS};
 
 use crate::kept::Kept;
 use std::sync::Mutex;
-use trlab_leases::Event;
+use trlab_sequential_book::Event;
 use trlab_strands::{Keeper, Ledger, Strand, Strands};
 
 /// A book with its history, beside the keeper of the strands of its events.

@@ -3,13 +3,13 @@
 ghost use Rattle.std.specs.Prelude.{◌≡◌, ◌↔◌, ◌<◌, Bool, true, false, IsTrue, IfOk, IfErr, OnOk, [], vec_len};
 ghost use Rattle.std.specs.Bool.{OnTrue};
 ghost use Rattle.std.specs.Vec.{vec_capacity};
-ghost use Rattle.trlab_leases.specs.Answers.{back_reply, done_reply, is_event, lease_reply};
-ghost use Rattle.trlab_leases.specs.Answers.{number_reply, order_reply, seen_reply};
-ghost use Rattle.trlab_leases.specs.Comparison.{IsLent, IsRuleAt, IsSame, IsSeen, LeaseCall, OrderCall, offered};
-ghost use Rattle.trlab_leases.specs.Machine.{is_full, start};
-ghost use Rattle.trlab_leases.specs.declared.fault.BookFault.TheVariants.{HistoryFull};
-ghost use Rattle.trlab_leases.specs.declared.event.Call.TheVariants.{Cancel, GiveBack, Read, Replace, Revoke, Submit};
-ghost use Rattle.trlab_leases.specs.declared.event.Reply.TheVariants.{Refused};
+ghost use Rattle.trlab_sequential_book.specs.Answers.{back_reply, done_reply, is_event, lease_reply};
+ghost use Rattle.trlab_sequential_book.specs.Answers.{number_reply, order_reply, seen_reply};
+ghost use Rattle.trlab_sequential_book.specs.Comparison.{IsLent, IsRuleAt, IsSame, IsSeen, LeaseCall, OrderCall, offered};
+ghost use Rattle.trlab_sequential_book.specs.Machine.{is_full, start};
+ghost use Rattle.trlab_sequential_book.specs.declared.fault.BookFault.TheVariants.{HistoryFull};
+ghost use Rattle.trlab_sequential_book.specs.declared.event.Call.TheVariants.{Cancel, GiveBack, Read, Replace, Revoke, Submit};
+ghost use Rattle.trlab_sequential_book.specs.declared.event.Reply.TheVariants.{Refused};
 ghost use Rattle.trlab_book.specs.Events.{IsUnchanged, Makes, TellsFull};
 
 use crate::kept::Kept;
@@ -17,11 +17,11 @@ use crate::replies::{
     reply_to_back, reply_to_done, reply_to_lease, reply_to_number, reply_to_order, reply_to_read,
 };
 use std::alloc::{AllocError, Global};
-use trlab_leases::{
+use trlab_rules::Rule;
+use trlab_sequential_book::{
     Book, BookFault, BoxedRule, BoxedSeed, Call, Event, Lease, Offered, Order, Seed, Snapshot,
     is_for_memory,
 };
-use trlab_rules::Rule;
 
 impl Kept {
     /// An empty book, of which no call was made.

@@ -1,8 +1,8 @@
 //! A book with its history.
 
-ghost use Rattle.trlab_leases.specs.Replay.{Replays};
+ghost use Rattle.trlab_sequential_book.specs.Replay.{Replays};
 
-use trlab_leases::{Book, Event};
+use trlab_sequential_book::{Book, Event};
 
 /// A book, and the list of all its events: replaying them gives the book, always.
 #[derive(Drop)]

@@ -22,7 +22,7 @@ pub use fault::RunFault;
 pub use ordered::advance;
 pub use running::run_jobs;
 pub use trlab_bounds::runs::MOST_RUNNERS;
-pub use trlab_leases::{
+pub use trlab_sequential_book::{
     Book, BookFault, BoxedRule, BoxedSeed, Call, Event, Lease, LeaseFault, Offered, Order, Reply,
     Seed, Sheet, Snapshot,
 };

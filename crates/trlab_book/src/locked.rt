@@ -1,12 +1,12 @@
 //! Calls of a desk while the lock is held: each that is an event is put into the desk's subhistory.
 
 ghost use Rattle.std.specs.Prelude.{◌≡◌, ◌++◌, ◌∷◌, [], Bool, IfOk, IfErr, MatchBool};
-ghost use Rattle.trlab_leases.specs.Answers.{back_reply, done_reply, is_event, lease_reply};
-ghost use Rattle.trlab_leases.specs.Answers.{number_reply, order_reply, seen_reply};
-ghost use Rattle.trlab_leases.specs.Comparison.{LeaseCall, OrderCall, offered};
-ghost use Rattle.trlab_leases.specs.Replay.{event};
-ghost use Rattle.trlab_leases.specs.declared.event.Call.{Call};
-ghost use Rattle.trlab_leases.specs.declared.event.Call.TheVariants.{Cancel, GiveBack, Read, Replace, Revoke, Submit};
+ghost use Rattle.trlab_sequential_book.specs.Answers.{back_reply, done_reply, is_event, lease_reply};
+ghost use Rattle.trlab_sequential_book.specs.Answers.{number_reply, order_reply, seen_reply};
+ghost use Rattle.trlab_sequential_book.specs.Comparison.{LeaseCall, OrderCall, offered};
+ghost use Rattle.trlab_sequential_book.specs.Replay.{event};
+ghost use Rattle.trlab_sequential_book.specs.declared.event.Call.{Call};
+ghost use Rattle.trlab_sequential_book.specs.declared.event.Call.TheVariants.{Cancel, GiveBack, Read, Replace, Revoke, Submit};
 ghost use Rattle.trlab_book.specs.Desks.{IsOfLease, IsOfOrder, IsOfRead, Makes, MakesOf, PutsDown, TellsSame};
 ghost use Rattle.trlab_strands.specs.Tokens.{list_of};
 
@@ -16,8 +16,8 @@ use crate::replies::{
     reply_to_read,
 };
 use std::alloc::{AllocError, Global};
-use trlab_leases::{BookFault, BoxedSeed, Call, Event, Lease, Order, Reply, Snapshot};
 use trlab_rules::Rule;
+use trlab_sequential_book::{BookFault, BoxedSeed, Call, Event, Lease, Order, Reply, Snapshot};
 use trlab_strands::{Keeper, Ledger, Strands};
 
 /// Puts the last event of the history into the desk's subhistory, where this reply is of an event. What

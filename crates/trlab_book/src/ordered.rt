@@ -2,16 +2,16 @@
 
 ghost use Rattle.std.specs.Prelude.{◌≡◌, ◌↔◌, ◌<◌, ◌≤◌, OnOk, OnErr};
 ghost use Rattle.trlab_bounds.specs.declared.runs.TheConstants.{MOST_WORKERS};
-ghost use Rattle.trlab_leases.specs.Leases.{FitsOrder, HasRun};
-ghost use Rattle.trlab_leases.specs.declared.advance.LeaseFault.TheVariants.{WrongOrder};
+ghost use Rattle.trlab_sequential_book.specs.Leases.{FitsOrder, HasRun};
+ghost use Rattle.trlab_sequential_book.specs.declared.advance.LeaseFault.TheVariants.{WrongOrder};
 ghost use Rattle.trlab_segments.specs.Answered.{HasTwoLanes};
 
 use std::alloc::{AllocError, Global};
 use std::thread::Threads;
-use trlab_leases::{Lease, LeaseFault, Order};
 use trlab_machine::Dice;
 use trlab_road::Road;
 use trlab_segments::{Calls, Crew, Gate};
+use trlab_sequential_book::{Lease, LeaseFault, Order};
 use trlab_verify::{Change, Motion};
 
 /// Runs the ordered step of a lease by 1 to 16 workers, who pass the gate. It needs no book, and no lock

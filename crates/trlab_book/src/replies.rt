@@ -1,10 +1,10 @@
 //! The replies that answers of calls stand for.
 
 ghost use Rattle.std.specs.Prelude.{◌≡◌};
-ghost use Rattle.trlab_leases.specs.Answers.{back_reply, done_reply, is_event, lease_reply};
-ghost use Rattle.trlab_leases.specs.Answers.{number_reply, order_reply, seen_reply};
+ghost use Rattle.trlab_sequential_book.specs.Answers.{back_reply, done_reply, is_event, lease_reply};
+ghost use Rattle.trlab_sequential_book.specs.Answers.{number_reply, order_reply, seen_reply};
 
-use trlab_leases::{BookFault, Lease, Order, Reply, Snapshot};
+use trlab_sequential_book::{BookFault, Lease, Order, Reply, Snapshot};
 
 /// Whether a call with this reply is an event.
 pub fn is_event(reply: Reply) -> bool

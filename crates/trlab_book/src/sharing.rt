@@ -2,7 +2,7 @@
 //! that has all calls closes the book, and knows of each event of its history whose it is.
 
 ghost use Rattle.std.specs.Prelude.{◌≡◌, ◌+◌, ◌<◌, ◌++◌, [], max, IfOk, IfErr, IsOk};
-ghost use Rattle.trlab_leases.specs.Replay.{Replays};
+ghost use Rattle.trlab_sequential_book.specs.Replay.{Replays};
 ghost use Rattle.trlab_book.specs.Desks.{IsSame, subhistory_of, least_of, parts_of};
 ghost use Rattle.trlab_strands.specs.Stocks.{IsLinearization};
 ghost use Rattle.trlab_strands.specs.Tokens.{name_of};
@@ -12,7 +12,7 @@ use crate::desk::{Desk, Locked, SharedBook};
 use crate::kept::Kept;
 use std::alloc::Global;
 use std::sync::Mutex;
-use trlab_leases::{Book, Event};
+use trlab_sequential_book::{Book, Event};
 use trlab_strands::{ALL_PARTS, Blank, Ledger};
 
 impl<L: Ledger> SharedBook<L> {

@@ -7,8 +7,8 @@ use crate::alone::Alone;
 use std::alloc::Global;
 use std::sync::Wait;
 use std::thread::Threads;
-use trlab_leases::{Lease, LeaseFault, Order};
 use trlab_segments::{Gate, Pool};
+use trlab_sequential_book::{Lease, LeaseFault, Order};
 
 /// 1 to 16 workers and their gate.
 #[derive(Drop)]

@@ -10,8 +10,8 @@ use crate::team::Team;
 use std::alloc::Global;
 use std::sync::Wait;
 use std::thread::Threads;
-use trlab_leases::{BookFault, Lease, LeaseFault};
 use trlab_segments::Gate;
+use trlab_sequential_book::{BookFault, Lease, LeaseFault};
 use trlab_strands::Ledger;
 
 /// How many steps a runner takes at most before it gives a lease back.

@@ -6,9 +6,9 @@ ghost use Rattle.trlab_strands.specs.Tokens.{name_of};
 use std::alloc::Global;
 use std::sync::Wait;
 use trlab_book::{Desk, SharedBook};
-use trlab_leases::{BookFault, Event, Seed};
 use trlab_road::Road;
 use trlab_rules::nasch;
+use trlab_sequential_book::{BookFault, Event, Seed};
 use trlab_strands::{Blank, Ledger};
 use trlab_words::{Chance, Key};
 

@@ -3,8 +3,8 @@
 
 use crate::trials::jobs::{NEVER, is_seen, rule_of, seed_of, two_cars};
 use std::alloc::Global;
-use trlab_leases::{Book, BookFault, Lease, Snapshot};
 use trlab_rules::{Rule, rickert};
+use trlab_sequential_book::{Book, BookFault, Lease, Snapshot};
 use trlab_step::Caller;
 use trlab_words::{CERTAIN, Chance};
 

@@ -1,6 +1,6 @@
 //! What calls at a desk answered, told as the replies of the book's machine are.
 
-use trlab_leases::{BookFault, Lease, Order, Reply, Snapshot};
+use trlab_sequential_book::{BookFault, Lease, Order, Reply, Snapshot};
 
 /// The answer of a submission or a replacement.
 pub fn number_told(answer: Result<u32, BookFault>) -> Reply {

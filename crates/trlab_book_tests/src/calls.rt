@@ -13,7 +13,7 @@ use crate::trials::jobs::{ALWAYS, NEVER, shows};
 use std::alloc::Global;
 use std::marker::Brand;
 use std::sync::Wait;
-use trlab_leases::{BookFault, Call, Event, Offered, Reply};
+use trlab_sequential_book::{BookFault, Call, Event, Offered, Reply};
 use trlab_strands::{Blank, Ledger};
 
 /// Whether a submission is of the two cars under the rule by which no car brakes, and a replacement by the

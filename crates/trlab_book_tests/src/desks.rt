@@ -15,7 +15,7 @@ use std::marker::Brand;
 use std::sync::Wait;
 use std::thread::{Threads, join};
 use trlab_book::{Desk, SharedBook};
-use trlab_leases::{BookFault, Call, Event, Reply};
+use trlab_sequential_book::{BookFault, Call, Event, Reply};
 use trlab_strands::{Blank, Ledger};
 
 /// How many calls each of four threads makes.

@@ -2,7 +2,7 @@
 
 use trlab_book::laws::first_fault;
 use trlab_book::{Desk, RunFault, SharedBook};
-use trlab_leases::Event;
+use trlab_sequential_book::Event;
 use trlab_strands::Ledger;
 
 /// The desk of runners, and whether all went well.

@@ -13,8 +13,8 @@ use std::marker::Brand;
 use std::sync::Wait;
 use std::thread::{Threads, join};
 use trlab_book::{Desk, SharedBook, run_jobs};
-use trlab_leases::{Event, Reply, Snapshot};
 use trlab_segments::OpenGate;
+use trlab_sequential_book::{Event, Reply, Snapshot};
 use trlab_strands::{Blank, Ledger};
 
 /// Replaces the rule of job 0, whose steps are perhaps all ordered by then: the step from which the rule

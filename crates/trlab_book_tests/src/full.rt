@@ -12,8 +12,8 @@ use std::marker::Brand;
 use std::sync::Wait;
 use std::thread::Threads;
 use trlab_book::{Desk, RunFault, SharedBook, run_jobs};
-use trlab_leases::{BookFault, Event, Offered, Reply};
 use trlab_segments::OpenGate;
+use trlab_sequential_book::{BookFault, Event, Offered, Reply};
 use trlab_strands::{Blank, Ledger};
 
 /// Whether so many calls of a job that there is not are events.

@@ -14,8 +14,8 @@ use std::sync::Wait;
 use std::sync::atomic::{AtomicBool, Ordering};
 use std::thread::{Threads, join};
 use trlab_book::{Desk, SharedBook, run_jobs};
-use trlab_leases::{BookFault, Call, Event, Reply};
 use trlab_segments::Gate;
+use trlab_sequential_book::{BookFault, Call, Event, Reply};
 use trlab_strands::{Blank, Ledger};
 
 /// Tells that a segment has come, and holds it until it may go on.

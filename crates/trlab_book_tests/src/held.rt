@@ -4,7 +4,7 @@ use crate::answers::{lease_told, order_told};
 use std::alloc::Global;
 use std::sync::Wait;
 use trlab_book::{Desk, SharedBook};
-use trlab_leases::{Lease, Offered, Order, Reply};
+use trlab_sequential_book::{Lease, Offered, Order, Reply};
 use trlab_step::Caller;
 use trlab_strands::Ledger;
 

@@ -8,8 +8,8 @@ use std::alloc::Global;
 use std::thread::Threads;
 use trlab_book::advance;
 use trlab_book::laws::Kept;
-use trlab_leases::{BookFault, Lease, Snapshot};
 use trlab_segments::OpenGate;
+use trlab_sequential_book::{BookFault, Lease, Snapshot};
 
 /// Submits the job of two cars, who never brake by chance.
 fn submits(alloc: Global, kept: &mut Kept) -> bool {

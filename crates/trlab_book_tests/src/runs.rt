@@ -17,8 +17,8 @@ use std::marker::Brand;
 use std::sync::Wait;
 use std::thread::Threads;
 use trlab_book::{Desk, RunFault, SharedBook, run_jobs};
-use trlab_leases::Event;
 use trlab_segments::{Gate, OpenGate};
+use trlab_sequential_book::Event;
 use trlab_strands::{Blank, Ledger};
 
 /// What is tried on a new book.

@@ -3,8 +3,8 @@
 
 use crate::trials::jobs::{ALWAYS, NEVER, is_seen, rule_of};
 use std::alloc::Global;
-use trlab_leases::{Sheet, Snapshot};
 use trlab_rules::Rule;
+use trlab_sequential_book::{Sheet, Snapshot};
 
 /// What a read shows: the step, the picture of the one lane, and beside the first step of each rule
 /// whether cars brake by it.

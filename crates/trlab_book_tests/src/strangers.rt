@@ -12,7 +12,7 @@ use crate::trials::histories::Made;
 use std::alloc::Global;
 use std::marker::Brand;
 use std::sync::Wait;
-use trlab_leases::{BookFault, Event, Offered, Reply};
+use trlab_sequential_book::{BookFault, Event, Offered, Reply};
 use trlab_strands::{Blank, Ledger};
 
 /// What is done with two books.

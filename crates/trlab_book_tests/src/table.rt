@@ -16,7 +16,7 @@ use crate::trials::jobs::{ALWAYS, Job, NEVER};
 use std::alloc::Global;
 use std::sync::Wait;
 use trlab_book::{Desk, SharedBook};
-use trlab_leases::{BookFault, Event, Reply, Snapshot};
+use trlab_sequential_book::{BookFault, Event, Reply, Snapshot};
 use trlab_strands::{Blank, Ledger};
 
 /// A shared book with its desk, the leases that are not back, and what was read. Each job is of the cars of

@@ -13,7 +13,7 @@ use std::alloc::{AllocError, Global};
 use trlab_asm::disassemble;
 use trlab_code::{Code, Kind};
 use trlab_jobs::{Check, Question};
-use trlab_prose::Page;
+use trlab_pages::Page;
 use trlab_verify::{VerifyFault, verify_change, verify_motion};
 
 /// What is written for an accepted program: its budget, and its canonical text.

@@ -9,6 +9,7 @@ ghost use Rattle.trlab_bounds.specs.declared.texts.TheConstants.{TEXT_LIMIT};
 ghost use Rattle.trlab_command_line.specs.Requests.{HasCounts};
 ghost use Rattle.trlab_command_line.specs.Commands.{output_of};
 
+use crate::{Explaining, Wanted};
 use std::alloc::AllocGlobal;
 use std::sync::Wait;
 use std::thread::Threads;
@@ -16,7 +17,6 @@ use trlab_campaign::{
     End, Observer, Sink, Source, Windows, check_text, run_job_text_observed,
     run_series_text_observed, run_sweep_text_observed,
 };
-use crate::{Explaining, Wanted};
 use trlab_explain::{explain_number, explain_text};
 
 /// Does what is wanted, from a reader to a writer. Where a number is explained, nothing is read. The observer

@@ -10,8 +10,8 @@ use crate::counts::given_number;
 use clap::error::ErrorKind;
 use clap::{ArgMatches, Error};
 use std::alloc::{AllocError, Global};
-use trlab_advice::Subject;
-use trlab_wording::Topic;
+use trlab_repairs::Subject;
+use trlab_sentences::Topic;
 
 /// What is explained.
 #[derive(Clone, Copy, Debug, PartialEq, Eq)]

@@ -15,6 +15,6 @@ pub use carry_out::carry_out;
 pub use end_status::status_of_end;
 pub use explain::Explaining;
 pub use status::{REFUSED_WORDS, status_of_print, status_of_words};
-pub use trlab_advice::Subject;
-pub use trlab_wording::Topic;
+pub use trlab_repairs::Subject;
+pub use trlab_sentences::Topic;
 pub use words::{Wanted, read_words};

@@ -7,10 +7,10 @@ use std::alloc::Global;
 use std::sync::Wait;
 use std::thread::Threads;
 use trlab_book::{Desk, SharedBook, run_jobs};
-use trlab_leases::{Event, Seed};
 use trlab_road::Road;
 use trlab_rules::nasch;
 use trlab_segments::OpenGate;
+use trlab_sequential_book::{Event, Seed};
 use trlab_strands::{Blank, Ledger};
 use trlab_words::{Chance, Key};
 

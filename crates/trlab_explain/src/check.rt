@@ -2,14 +2,14 @@
 
 ghost use Rattle.std.specs.Prelude.{IfOk};
 ghost use Rattle.trlab_explain.specs.Explanations.{TellsAs};
-ghost use Rattle.trlab_advice.specs.declared.subject.Subject.TheVariants.{Check as OfCheck};
+ghost use Rattle.trlab_repairs.specs.declared.subject.Subject.TheVariants.{Check as OfCheck};
 
 use crate::fault::explain_fault;
 use crate::verdict::explain_program;
 use std::alloc::{AllocError, Global};
-use trlab_advice::Subject;
 use trlab_jobs::read_check;
-use trlab_prose::Page;
+use trlab_pages::Page;
+use trlab_repairs::Subject;
 use trlab_texts::TextFault;
 
 /// Whether a check text or its program is refused, and the page on it.

@@ -7,7 +7,7 @@ ghost use Rattle.trlab_campaign.specs.Device.{ConsumesUpTo};
 ghost use Rattle.trlab_campaign.specs.Ending.{EndsSo, HandsOn, OutputEnds};
 ghost use Rattle.trlab_campaign.specs.Refusal.{too_big_line};
 ghost use Rattle.trlab_campaign.specs.declared.end.End.TheVariants.{DeviceFault, Memory};
-ghost use Rattle.trlab_prose.specs.Plain.{IsPlain};
+ghost use Rattle.trlab_pages.specs.Plain.{IsPlain};
 ghost use Rattle.trlab_explain.specs.Explanations.{BeginsWith, Explains, TellsAs};
 
 use crate::check::explain_check;
@@ -15,9 +15,9 @@ use crate::fault::explain_fault;
 use crate::job::explain_job;
 use crate::sweep::explain_sweep;
 use std::alloc::{AllocError, AllocGlobal, Global};
-use trlab_advice::{Subject, subject_of};
 use trlab_campaign::{Cause, End, Engine, Sink, Source, run_engine, write_output};
-use trlab_prose::Page;
+use trlab_pages::Page;
+use trlab_repairs::{Subject, subject_of};
 
 /// Whether a text that is read so is refused, and the page on it.
 fn explain_as(alloc: Global, subject: Subject, text: &[u8]) -> Result<(bool, Page), AllocError>

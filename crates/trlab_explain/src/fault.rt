@@ -5,10 +5,10 @@ ghost use Rattle.trlab_explain.specs.Explanations.{TellsFault};
 
 use crate::head::{push_below, push_fault_head};
 use std::alloc::{AllocError, Global};
-use trlab_advice::{Place, Subject};
-use trlab_prose::Page;
+use trlab_pages::Page;
+use trlab_repairs::{Place, Subject};
+use trlab_sentences::fault_words;
 use trlab_texts::Cause;
-use trlab_wording::fault_words;
 
 /// That a text is refused for its first fault, and the page on it.
 ///

@@ -3,7 +3,7 @@
 ghost use Rattle.std.specs.Prelude.{◌≡◌, IfOk, false};
 
 use std::alloc::AllocError;
-use trlab_prose::Page;
+use trlab_pages::Page;
 
 /// That a text or a program is not refused, and the page on it.
 ///

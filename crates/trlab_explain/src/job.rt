@@ -2,16 +2,16 @@
 
 ghost use Rattle.std.specs.Prelude.{IfOk};
 ghost use Rattle.trlab_explain.specs.Explanations.{TellsAs};
-ghost use Rattle.trlab_advice.specs.declared.subject.Subject.TheVariants.{Job as OfJob};
+ghost use Rattle.trlab_repairs.specs.declared.subject.Subject.TheVariants.{Job as OfJob};
 
 use crate::fault::explain_fault;
 use crate::good::explain_good;
 use std::alloc::{AllocError, Global};
-use trlab_advice::Subject;
 use trlab_jobs::read_job;
-use trlab_prose::Page;
+use trlab_pages::Page;
+use trlab_repairs::Subject;
+use trlab_sentences::job_page;
 use trlab_texts::TextFault;
-use trlab_wording::job_page;
 
 /// Whether a job text is refused, and the page on it.
 ///

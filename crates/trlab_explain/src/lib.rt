@@ -1,5 +1,5 @@
 //! Explanations: what is wrong with a refused text and how it may be mended, or what a good one
-//! will do, in plain words. What is promised of them stands here; the words are `trlab_wording`'s.
+//! will do, in plain words. What is promised of them stands here; the words are `trlab_sentences`'s.
 #![tactic(auto)]
 
 mod check;
@@ -15,5 +15,5 @@ mod verdict;
 
 pub use explain::explain_text;
 pub use topics::explain_number;
-pub use trlab_advice::Subject;
-pub use trlab_wording::Topic;
+pub use trlab_repairs::Subject;
+pub use trlab_sentences::Topic;

@@ -8,8 +8,8 @@ ghost use Rattle.trlab_explain.specs.Explanations.{BeginsWith, TellsNumber, topi
 use crate::explain::write_told;
 use std::alloc::{AllocError, AllocGlobal, Global};
 use trlab_campaign::{End, Sink};
-use trlab_prose::Page;
-use trlab_wording::{Topic, number_words};
+use trlab_pages::Page;
+use trlab_sentences::{Topic, number_words};
 
 /// Adds how the page on a number begins.
 fn push_topic(page: &mut Page, topic: Topic, number: u32) -> Result<(), AllocError>

@@ -12,9 +12,9 @@ use crate::head::{push_below, push_refused_line};
 use std::alloc::{AllocError, Global};
 use trlab_code::{Code, Kind};
 use trlab_jobs::Check;
-use trlab_prose::Page;
+use trlab_pages::Page;
+use trlab_sentences::{accepted_page, refused_words};
 use trlab_verify::{VerifyFault, verify_change, verify_motion};
-use trlab_wording::{accepted_page, refused_words};
 
 /// The page on a program that is refused.
 fn refused_page(

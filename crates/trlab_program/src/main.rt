@@ -15,7 +15,9 @@ use std::sync::Wait;
 use std::thread::Threads;
 use std::{env, io};
 use trlab_campaign::{End, Mark, Observer, Sink, Source, Watched};
-use trlab_command_line::{REFUSED_WORDS, Wanted, carry_out, read_words, status_of_end, status_of_print};
+use trlab_command_line::{
+    REFUSED_WORDS, Wanted, carry_out, read_words, status_of_end, status_of_print,
+};
 
 // So many bytes of output are gathered at most before they are written.
 const MOST_GATHERED: usize = 65536;

@@ -12,12 +12,12 @@ use crate::brief::Brief;
 use crate::drawing::{ask_whole, draw_all};
 use crate::pool::Pool;
 use crate::task::Task;
+use crate::{Asked, Drawer, Gate, Phase, Tickets, segment_count};
 use std::alloc::{AllocError, AllocFailed, Global};
 use std::sync::{Arc, Wait};
 use std::{hint, thread};
 use trlab_machine::{Dice, LANES};
 use trlab_road::Road;
-use crate::{Asked, Drawer, Gate, Phase, Tickets, segment_count};
 use trlab_step::Onlooker;
 
 /// How often the caller looks for the last helper before it lets another thread go on.

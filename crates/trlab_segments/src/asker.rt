@@ -5,12 +5,12 @@ ghost use Rattle.trlab_road.specs.Cells.{cars};
 
 use crate::board::Board;
 use crate::pool::Pool;
+use crate::{Asked, Gate};
 use std::alloc::{AllocError, Global};
 use std::mem;
 use std::sync::Wait;
 use trlab_machine::Dice;
 use trlab_road::Road;
-use crate::{Asked, Gate};
 use trlab_step::{Asker, Onlooker, ask_crossings, ask_speeds};
 use trlab_verify::{Change, Motion};
 

@@ -1,9 +1,9 @@
 //! Where helpers find the phase that is open.
 
+use crate::Asked;
 use crate::task::Task;
 use std::alloc::Global;
 use std::sync::{Arc, Mutex, Wait};
-use crate::Asked;
 
 /// At most one phase of a kind.
 #[derive(Drop)]

@@ -1,9 +1,9 @@
 //! What threads have in common in a phase: what is asked, and the tray where helpers take the right to draw
 //! and lay down what they did.
 
+use crate::{Drawer, Part, Tickets};
 use trlab_machine::Dice;
 use trlab_road::Road;
-use crate::{Drawer, Part, Tickets};
 
 /// A program that all cars of a road are asked by, with these dice, and the tickets of the segments into
 /// which the cars are cut.

@@ -7,11 +7,11 @@ ghost use Rattle.trlab_segments.specs.Answered.{HasParts};
 ghost use Rattle.trlab_segments.specs.Drawers.{IsFrom, count_of};
 
 use crate::brief::Brief;
-use std::alloc::{AllocError, Global};
-use trlab_road::Road;
 use crate::lineup::line_up;
 use crate::work::work;
 use crate::{Asked, Drawer, Gate, Part, Phase, Segment};
+use std::alloc::{AllocError, Global};
+use trlab_road::Road;
 
 /// Asks the cars of one segment after the other, as their numbers are drawn, until none is left.
 ///

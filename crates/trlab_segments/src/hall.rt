@@ -2,6 +2,7 @@
 
 ghost use Rattle.std.specs.Thread.{IsSync};
 
+use crate::Gate;
 use crate::board::Board;
 use std::alloc::Global;
 use std::hint;
@@ -9,7 +10,6 @@ use std::sync::Wait;
 use std::sync::atomic::{AtomicBool, AtomicU64, Ordering};
 use std::thread::{Threads, join};
 use std::time::Duration;
-use crate::Gate;
 use trlab_verify::{Change, Motion};
 
 /// How long a helper sleeps at most before it looks for a phase, in microseconds.

@@ -10,10 +10,10 @@ use crate::drawing::{draw_all, finish};
 use crate::locker::{Loan, Locker};
 use crate::task::Task;
 use crate::tray::{gathered, lay, pick};
+use crate::{Asked, Drawer, Gate, Part};
 use std::alloc::{AllocError, Global};
 use std::sync::Wait;
 use trlab_road::Road;
-use crate::{Asked, Drawer, Gate, Part};
 
 impl<A: Copy + Drop, P: Asked<A> + Drop> Task<A, P> {
     /// A phase in which helpers may take the passes of a drawer.

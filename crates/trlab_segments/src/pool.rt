@@ -5,6 +5,7 @@ ghost use Rattle.trlab_bounds.specs.declared.runs.TheConstants.{MOST_WORKERS};
 ghost use Rattle.trlab_road.specs.Cells.{cars};
 ghost use Rattle.trlab_segments.specs.Answered.{IsCrossesPart, HasTwoLanes, IsSpeedsPart};
 
+use crate::Gate;
 use crate::hall::{Hall, help_all};
 use std::alloc::{AllocError, Global};
 use std::sync::Wait;
@@ -12,7 +13,6 @@ use std::thread;
 use std::thread::{Threads, join_mut};
 use trlab_machine::Dice;
 use trlab_road::Road;
-use crate::Gate;
 use trlab_step::Onlooker;
 use trlab_verify::{Change, Motion};
 

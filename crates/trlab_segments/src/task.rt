@@ -2,9 +2,9 @@
 
 ghost use Rattle.std.specs.Prelude.{◌≡◌};
 
+use crate::Asked;
 use crate::brief::{Brief, Tray};
 use crate::locker::Locker;
-use crate::Asked;
 
 /// What is asked, and the tray that is kept right for it.
 #[derive(Drop)]

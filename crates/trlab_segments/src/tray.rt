@@ -5,9 +5,9 @@ ghost use Rattle.trlab_segments.specs.Trays.{HasDone, IsJoined, IsNew, IsTray, T
 ghost use Rattle.trlab_segments.specs.Drawers.{IsFrom};
 
 use crate::brief::{Brief, Tray};
+use crate::{Asked, Drawer, Part, Tickets};
 use std::alloc::{AllocError, Global};
 use trlab_road::Road;
-use crate::{Asked, Drawer, Part, Tickets};
 
 /// A pass of the reserve for a helper, if one is left, and the number of its worker, from 1 on.
 pub fn pick<A: Drop, P: Asked<A>>(

@@ -7,12 +7,12 @@ ghost use Rattle.trlab_step.specs.Progress.{IsUnderway, IsOneStepOn, at_start};
 
 use crate::sheet::Sheet;
 use crate::totals::{no_tally, tally_sum};
+use crate::{Asker, Nobody, Onlooker, StepRoom, StepTally, take_step};
 use std::alloc::{AllocError, Global};
 use std::marker::Model;
 use std::snapshot::Snapshot;
 use trlab_machine::Dice;
 use trlab_road::Road;
-use crate::{Asker, Nobody, Onlooker, StepRoom, StepTally, take_step};
 use trlab_words::Key;
 
 /// A run of a road under a sheet of rules: the step to which it has come, the road at this step,

@@ -1,7 +1,7 @@
 //! What a new book is made of.
 
 use std::alloc::{AllocError, Global};
-use trlab_leases::Event;
+use trlab_sequential_book::Event;
 use trlab_strands::Blank;
 
 /// The blank of a new book. Where memory runs out it is asked for once more, as calls of the book are.

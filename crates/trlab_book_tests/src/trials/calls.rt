@@ -4,7 +4,7 @@ use super::jobs::{Job, is_seen, rule_of, seed_of};
 use std::alloc::Global;
 use std::sync::Wait;
 use trlab_book::{Desk, SharedBook};
-use trlab_leases::{BookFault, Snapshot};
+use trlab_sequential_book::{BookFault, Snapshot};
 use trlab_strands::Ledger;
 
 /// Submits a job.

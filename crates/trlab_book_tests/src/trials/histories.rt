@@ -1,6 +1,6 @@
 //! What histories say, without the seeds and the rules of their calls.
 
-use trlab_leases::{Call, Event, Offered, Reply};
+use trlab_sequential_book::{Call, Event, Offered, Reply};
 
 /// A call without its seed and its rule.
 #[derive(Clone, Copy)]

@@ -1,9 +1,9 @@
 //! Jobs of few cars on one lane.
 
 use std::alloc::Global;
-use trlab_leases::{Seed, Snapshot};
 use trlab_road::Road;
 use trlab_rules::{Rule, nasch};
+use trlab_sequential_book::{Seed, Snapshot};
 use trlab_step::step_road;
 use trlab_words::{Chance, Key};
 

@@ -19,7 +19,7 @@ use std::thread::Threads;
 use trlab_book::{Desk, SharedBook, run_jobs};
 use trlab_diagram::Point;
 use trlab_jobs::Sweep;
-use trlab_leases::{Event, Seed};
+use trlab_sequential_book::{Event, Seed};
 use trlab_strands::{Blank, Ledger};
 
 /// Submits the roads of a batch, each at the place that it has among the jobs. Where the book takes no more,

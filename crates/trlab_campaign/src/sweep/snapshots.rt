@@ -3,7 +3,7 @@
 ghost use Rattle.std.specs.Prelude.{◌≡◌, ◌↔◌, IsTrue, IfSome};
 ghost use Rattle.trlab_diagram.specs.Flow.{IsMeasured};
 ghost use Rattle.trlab_road.specs.Spreading.{IsEven};
-ghost use Rattle.trlab_leases.specs.Jobs.{start_of};
+ghost use Rattle.trlab_sequential_book.specs.Jobs.{start_of};
 ghost use Rattle.trlab_jobs.specs.Stored.{Spreads};
 ghost use Rattle.trlab_campaign.specs.SweepOutput.{IsPoint, seed_of, sheet_of};
 
@@ -11,7 +11,7 @@ use crate::sweep::evenness::is_even;
 use crate::sweep::points::point_of;
 use trlab_diagram::Point;
 use trlab_jobs::Sweep;
-use trlab_leases::{Seed, Sheet, Snapshot};
+use trlab_sequential_book::{Seed, Sheet, Snapshot};
 
 /// Whether a seed is that of the point with this number, on whose road so many cars are evenly spread.
 fn is_seed_of(sweep: &Sweep, number: u32, cars: u32, seed: &Seed) -> bool

@@ -1,5 +1,5 @@
 use Rattle.std.proofs.Common.{ap}
-use Rattle.trlab_leases.specs.declared.event.Call.TheVariants.{Replace}
+use Rattle.trlab_sequential_book.specs.declared.event.Call.TheVariants.{Replace}
 use Rattle.trlab_book.proofs.events.copied_replace.Goals as goal
 
 pub returns : goal.returns

@@ -1,4 +1,4 @@
-use Rattle.trlab_leases.specs.Answers.{order_reply}
+use Rattle.trlab_sequential_book.specs.Answers.{order_reply}
 use Rattle.trlab_book.specs.Desks.{IsOfOrder}
 use Rattle.trlab_book.proofs.GoingOn.{orders_on}
 use Rattle.trlab_book.proofs.turn.run_steps.Goals as goal

@@ -1,7 +1,7 @@
 use Rattle.std.proofs.Common.{refl}
-use Rattle.trlab_leases.specs.Answers.{back_reply}
-use Rattle.trlab_leases.specs.Comparison.{offered}
-use Rattle.trlab_leases.specs.declared.event.Call.TheVariants.{GiveBack}
+use Rattle.trlab_sequential_book.specs.Answers.{back_reply}
+use Rattle.trlab_sequential_book.specs.Comparison.{offered}
+use Rattle.trlab_sequential_book.specs.declared.event.Call.TheVariants.{GiveBack}
 use Rattle.trlab_book.specs.Desks.{TellsSame}
 use Rattle.trlab_book.proofs.GoingOn.{goes_on, makes_goes}
 use Rattle.trlab_book.proofs.turn.take_turn.Goals as goal

@@ -1,7 +1,7 @@
 use Rattle.std.proofs.lemmas.Bool.{OnTrue_at}
-use Rattle.trlab_leases.specs.Comparison.{offered}
-use Rattle.trlab_leases.specs.declared.event.Call.TheVariants.{GiveBack}
-use Rattle.trlab_leases.specs.Answers.{back_reply}
+use Rattle.trlab_sequential_book.specs.Comparison.{offered}
+use Rattle.trlab_sequential_book.specs.declared.event.Call.TheVariants.{GiveBack}
+use Rattle.trlab_sequential_book.specs.Answers.{back_reply}
 use Rattle.trlab_book.specs.Desks.{TellsSame}
 use Rattle.trlab_book.proofs.Noting.{is_made, next_event}
 use Rattle.trlab_book.proofs.desk.Locked.give_back.Goals as goal

@@ -1,5 +1,5 @@
-use Rattle.trlab_leases.specs.Comparison.{LeaseCall}
-use Rattle.trlab_leases.specs.Answers.{lease_reply}
+use Rattle.trlab_sequential_book.specs.Comparison.{LeaseCall}
+use Rattle.trlab_sequential_book.specs.Answers.{lease_reply}
 use Rattle.trlab_book.specs.Desks.{IsOfLease}
 use Rattle.trlab_book.proofs.Noting.{is_made, next_event}
 use Rattle.trlab_book.proofs.desk.Locked.lease.Goals as goal

@@ -1,6 +1,6 @@
 use Rattle.std.proofs.lemmas.Bool.{OnTrue_at}
-use Rattle.trlab_leases.specs.Comparison.{OrderCall, offered}
-use Rattle.trlab_leases.specs.Answers.{order_reply}
+use Rattle.trlab_sequential_book.specs.Comparison.{OrderCall, offered}
+use Rattle.trlab_sequential_book.specs.Answers.{order_reply}
 use Rattle.trlab_book.specs.Desks.{IsOfOrder}
 use Rattle.trlab_book.proofs.Noting.{is_made, next_event}
 use Rattle.trlab_book.proofs.desk.Locked.order.Goals as goal

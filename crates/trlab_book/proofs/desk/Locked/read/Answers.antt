@@ -1,5 +1,5 @@
-use Rattle.trlab_leases.specs.declared.event.Call.TheVariants.{Read}
-use Rattle.trlab_leases.specs.Answers.{seen_reply}
+use Rattle.trlab_sequential_book.specs.declared.event.Call.TheVariants.{Read}
+use Rattle.trlab_sequential_book.specs.Answers.{seen_reply}
 use Rattle.trlab_book.specs.Desks.{IsOfRead}
 use Rattle.trlab_book.proofs.Noting.{is_made, next_event}
 use Rattle.trlab_book.proofs.desk.Locked.read.Goals as goal

@@ -1,5 +1,5 @@
-use Rattle.trlab_leases.specs.declared.event.Call.TheVariants.{Replace}
-use Rattle.trlab_leases.specs.Answers.{number_reply}
+use Rattle.trlab_sequential_book.specs.declared.event.Call.TheVariants.{Replace}
+use Rattle.trlab_sequential_book.specs.Answers.{number_reply}
 use Rattle.trlab_book.proofs.Noting.{is_made, next_event}
 use Rattle.trlab_book.proofs.desk.Locked.replace.Goals as goal
 

@@ -1,5 +1,5 @@
 use Rattle.std.proofs.Common.{rules, ◌∙◌}
-use Rattle.trlab_leases.specs.declared.event.Call.TheVariants.{Cancel}
+use Rattle.trlab_sequential_book.specs.declared.event.Call.TheVariants.{Cancel}
 use Rattle.trlab_book.proofs.Replaying.{replays_on}
 use Rattle.trlab_book.proofs.kept.Kept.cancel.Goals as goal
 

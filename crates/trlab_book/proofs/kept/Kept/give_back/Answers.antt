@@ -1,10 +1,10 @@
 use Rattle.std.proofs.Common.{[], ◌∷◌, ◌++◌, ◌↔◌, IsTrue, ap, subst, sym, ◌∙◌}
 use Rattle.std.proofs.lemmas.Bool.{OnTrue_from}
-use Rattle.trlab_leases.specs.Answers.{back_reply, is_event}
-use Rattle.trlab_leases.specs.Comparison.{IsSame, offered}
-use Rattle.trlab_leases.specs.Machine.{State, is_full}
-use Rattle.trlab_leases.specs.declared.event.Call.TheVariants.{GiveBack}
-use Rattle.trlab_leases.specs.Replay.{event}
+use Rattle.trlab_sequential_book.specs.Answers.{back_reply, is_event}
+use Rattle.trlab_sequential_book.specs.Comparison.{IsSame, offered}
+use Rattle.trlab_sequential_book.specs.Machine.{State, is_full}
+use Rattle.trlab_sequential_book.specs.declared.event.Call.TheVariants.{GiveBack}
+use Rattle.trlab_sequential_book.specs.Replay.{event}
 use Rattle.trlab_book.proofs.Replaying.{back_is_event, makes_offered, replays_on, tells_event}
 use Rattle.trlab_book.proofs.kept.Kept.give_back.Goals as goal
 

@@ -1,8 +1,8 @@
 use Rattle.std.proofs.Common.{◌≡◌, ap, refl, false, sym, ◌∙◌}
 use Rattle.std.proofs.lemmas.Bool.{MatchBool-at_false}
-use Rattle.trlab_leases.specs.Answers.{is_event, is_memory, lease_reply}
-use Rattle.trlab_leases.specs.Machine.{is_full}
-use Rattle.trlab_leases.specs.Comparison.{LeaseCall}
+use Rattle.trlab_sequential_book.specs.Answers.{is_event, is_memory, lease_reply}
+use Rattle.trlab_sequential_book.specs.Machine.{is_full}
+use Rattle.trlab_sequential_book.specs.Comparison.{LeaseCall}
 use Rattle.trlab_book.proofs.Replaying.{lease_is_event, makes, replays_on, tells_event}
 use Rattle.trlab_book.proofs.kept.Kept.lease.Goals as goal
 

@@ -1,9 +1,9 @@
 use Rattle.std.proofs.Common.{◌≡◌, [], ◌∷◌, ◌++◌, ◌↔◌, IsTrue, IfOk, false, subst, sym, ap, ◌∙◌}
 use Rattle.std.proofs.lemmas.Bool.{MatchBool-at_false, OnTrue_from}
-use Rattle.trlab_leases.specs.Answers.{is_event, is_memory, order_reply}
-use Rattle.trlab_leases.specs.Comparison.{IsRuleAt, IsSame, OrderCall, offered}
-use Rattle.trlab_leases.specs.Machine.{State, is_full}
-use Rattle.trlab_leases.specs.Replay.{event}
+use Rattle.trlab_sequential_book.specs.Answers.{is_event, is_memory, order_reply}
+use Rattle.trlab_sequential_book.specs.Comparison.{IsRuleAt, IsSame, OrderCall, offered}
+use Rattle.trlab_sequential_book.specs.Machine.{State, is_full}
+use Rattle.trlab_sequential_book.specs.Replay.{event}
 use Rattle.trlab_book.proofs.Replaying.{makes_offered, order_is_event, replays_on, tells_event}
 use Rattle.trlab_book.proofs.kept.Kept.order.Goals as goal
 

@@ -1,8 +1,8 @@
 use Rattle.std.proofs.Common.{rules, ◌≡◌, ap, refl, sym, false, true, ◌∙◌}
 use Rattle.std.proofs.lemmas.Bool.{MatchBool-at_false, MatchBool-at_true}
-use Rattle.trlab_leases.specs.Answers.{is_event, is_memory, seen_reply}
-use Rattle.trlab_leases.specs.Machine.{is_full}
-use Rattle.trlab_leases.specs.declared.event.Call.TheVariants.{Read}
+use Rattle.trlab_sequential_book.specs.Answers.{is_event, is_memory, seen_reply}
+use Rattle.trlab_sequential_book.specs.Machine.{is_full}
+use Rattle.trlab_sequential_book.specs.declared.event.Call.TheVariants.{Read}
 use Rattle.trlab_book.proofs.Replaying.{makes, read_is_event, replays_on, tells_event}
 use Rattle.trlab_book.proofs.kept.Kept.read.Goals as goal
 

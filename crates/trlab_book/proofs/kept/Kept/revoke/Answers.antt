@@ -1,7 +1,7 @@
 use Rattle.std.proofs.Common.{ap, refl, sym, ◌∙◌}
-use Rattle.trlab_leases.specs.Answers.{done_reply, is_event}
-use Rattle.trlab_leases.specs.Machine.{is_full}
-use Rattle.trlab_leases.specs.declared.event.Call.TheVariants.{Revoke}
+use Rattle.trlab_sequential_book.specs.Answers.{done_reply, is_event}
+use Rattle.trlab_sequential_book.specs.Machine.{is_full}
+use Rattle.trlab_sequential_book.specs.declared.event.Call.TheVariants.{Revoke}
 use Rattle.trlab_book.proofs.Replaying.{makes, replays_on, revoke_is_event, tells_event}
 use Rattle.trlab_book.proofs.kept.Kept.revoke.Goals as goal
 

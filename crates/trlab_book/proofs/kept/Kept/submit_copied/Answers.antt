@@ -1,9 +1,9 @@
 use Rattle.std.proofs.Common.{rules, ◌≡◌, [], ◌∷◌, ◌++◌, false, sym, ap, ◌∙◌}
 use Rattle.std.proofs.lemmas.Bool.{MatchBool-at_false}
-use Rattle.trlab_leases.specs.Answers.{is_event, is_memory, number_reply}
-use Rattle.trlab_leases.specs.Machine.{is_full}
-use Rattle.trlab_leases.specs.declared.event.Call.TheVariants.{Submit}
-use Rattle.trlab_leases.specs.Replay.{event}
+use Rattle.trlab_sequential_book.specs.Answers.{is_event, is_memory, number_reply}
+use Rattle.trlab_sequential_book.specs.Machine.{is_full}
+use Rattle.trlab_sequential_book.specs.declared.event.Call.TheVariants.{Submit}
+use Rattle.trlab_sequential_book.specs.Replay.{event}
 use Rattle.trlab_book.proofs.Replaying.{makes, replays_on, submit_is_event, tells_event}
 use Rattle.trlab_book.proofs.kept.Kept.submit_copied.Goals as goal
 

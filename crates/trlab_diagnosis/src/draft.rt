@@ -1,0 +1,137 @@
+//! Drafts: repairs that may be tried, of which nothing is written yet.
+
+use std::alloc::{AllocError, Global};
+use trlab_repairs::{Change, Edit, Repair, Why};
+
+/// What stands in the place of other bytes.
+#[derive(Clone, Copy)]
+pub enum Put {
+    /// These bytes.
+    Bytes(&'static [u8]),
+    /// One byte.
+    Byte(u8),
+    /// A word, and the digits of a number behind it.
+    Number(&'static str, u64),
+    /// The words that go, with one space between two.
+    Spaced,
+    /// The operands that go, with a comma between two.
+    Listed,
+    /// Behind so many bytes of the text, so many.
+    Copied(usize, usize),
+    /// The line of a lane of so many empty cells.
+    Lane(usize),
+}
+
+/// A repair that may be tried: behind the first bytes of a text some make room for others. Where the text is
+/// for another command nothing changes.
+#[derive(Clone, Copy)]
+pub struct Draft {
+    pub why: Why,
+    /// How many bytes stand before the change.
+    pub at: usize,
+    /// How many bytes go.
+    pub gone: usize,
+    pub put: Put,
+}
+
+/// Whether a byte stands between two words of a line.
+fn separates(byte: u8) -> bool {
+    byte == b' ' || byte == b'\t' || byte == b'\r'
+}
+
+/// Whether a line with words has blanks that it should not have: at an end, two side by side, or no spaces.
+pub fn has_odd_blanks(line: &[u8]) -> bool {
+    let mut is_odd = false;
+    let mut has_word = false;
+    let mut is_behind_blank = true;
+    for byte in line {
+        let is_blank = separates(*byte);
+        is_odd = is_odd || (is_blank && (is_behind_blank || *byte != b' '));
+        has_word = has_word || !is_blank;
+        is_behind_blank = is_blank;
+    }
+    has_word && (is_odd || is_behind_blank)
+}
+
+/// Adds words, each two with this between them, or with a space where a comma stands already.
+fn put_words(bytes: &mut Vec<u8>, words: &[u8], between: &[u8]) -> Result<(), AllocError> {
+    let mut is_behind_blank = false;
+    for byte in words {
+        if separates(*byte) {
+            is_behind_blank = !bytes.is_empty();
+            continue;
+        }
+        if is_behind_blank {
+            let is_parted = bytes.last() == Some(&b',');
+            bytes.extend_from_slice(if is_parted { b" " } else { between })?;
+        }
+        bytes.push(*byte)?;
+        is_behind_blank = false;
+    }
+    Ok(())
+}
+
+/// Adds the line of a lane of so many empty cells.
+fn put_lane(bytes: &mut Vec<u8>, cells: usize) -> Result<(), AllocError> {
+    bytes.extend_from_slice(b"lane ")?;
+    for _ in 0..cells {
+        bytes.push(b'.')?;
+    }
+    bytes.extend_from_slice(b"\n")
+}
+
+/// Behind so many bytes of a text, so many.
+fn bytes_at(text: &[u8], at: usize, count: usize) -> &[u8] {
+    let (_, behind) = text.split_at(at.min(text.len()));
+    let (bytes, _) = behind.split_at(count.min(behind.len()));
+    bytes
+}
+
+/// Adds what stands in the place of these bytes of a text.
+fn put_all(
+    alloc: Global,
+    bytes: &mut Vec<u8>,
+    put: Put,
+    text: &[u8],
+    gone: &[u8],
+) -> Result<(), AllocError> {
+    match put {
+        Put::Bytes(put) => bytes.extend_from_slice(put),
+        Put::Byte(byte) => bytes.extend_from_slice(&[byte]),
+        Put::Number(word, number) => {
+            let put = format!(in alloc; "{word}{number}")?;
+            bytes.extend_from_slice(put.as_bytes())
+        }
+        Put::Spaced => put_words(bytes, gone, b" "),
+        Put::Listed => put_words(bytes, gone, b", "),
+        Put::Copied(at, count) => bytes.extend_from_slice(bytes_at(text, at, count)),
+        Put::Lane(cells) => put_lane(bytes, cells),
+    }
+}
+
+impl Draft {
+    /// The repair of a text, written out.
+    ///
+    /// # Errors
+    ///
+    /// Want of memory.
+    pub fn repair(self, alloc: Global, text: &[u8]) -> Result<Repair, AllocError> {
+        let Draft { why, at, gone, put } = self;
+        if let Why::Other(other) = why {
+            return Ok(Repair {
+                why,
+                change: Change::ReadAs(other),
+            });
+        }
+        let mut bytes = Vec::new(alloc);
+        put_all(alloc, &mut bytes, put, text, bytes_at(text, at, gone))?;
+        Ok(Repair {
+            why,
+            change: Change::Edited(Edit {
+                at,
+                gone,
+                put: bytes,
+            }),
+        })
+    }
+}

@@ -1,0 +1,133 @@
+//! Findings in the lines of job and sweep texts.
+
+use crate::alike::is_spelled;
+use crate::finding::Finding;
+use crate::numbers::{NumberWord, Range, first_wrong_number};
+use crate::rules::{behind_rule, rule_named};
+use crate::wanted::{Wanted, is_name};
+use trlab_lines::{cut, next_line};
+use trlab_repairs::{Place, oddity_of};
+use trlab_texts::word::{head_word, long_number};
+
+/// How many words a text has, with one space between two.
+fn count_words(text: &[u8]) -> u64 {
+    let mut count = 1u64;
+    for byte in text {
+        if *byte == b' ' {
+            count = count.saturating_add(1);
+        }
+    }
+    count
+}
+
+/// How many chances the rule of a line has, where it wants more or fewer.
+fn rule_finding(line: &[u8]) -> Option<Finding<'_>> {
+    let words = behind_rule(line)?;
+    let found = count_words(words).saturating_sub(1);
+    let wanted = rule_named(head_word(words))?.chances;
+    if found == wanted {
+        None
+    } else {
+        Some(Finding::Chances { found, wanted })
+    }
+}
+
+/// What is wrong with a line that is not the one that must stand there, where these may.
+pub fn line_finding<'a>(place: &Place<'a>, wanted: &[Wanted]) -> Option<Finding<'a>> {
+    let Some(line) = place.line else {
+        return Some(if wanted.contains(&Wanted::End) {
+            Finding::Endless
+        } else {
+            Finding::Ended
+        });
+    };
+    if let Some(oddity) = oddity_of(line) {
+        return Some(Finding::Odd(oddity));
+    }
+    if let Some(finding) = rule_finding(line) {
+        return Some(finding);
+    }
+    let word = head_word(line);
+    if is_name(word) && !is_spelled(wanted, word) && !wanted.is_empty() {
+        Some(Finding::Elsewhere)
+    } else {
+        None
+    }
+}
+
+/// What is wrong with a word that is not such a number.
+pub fn number_finding(word: &[u8], range: Range) -> Finding<'_> {
+    match long_number(word) {
+        Ok(number) if number < range.least => Finding::Below(word, range.least),
+        Ok(_) => Finding::Above(word, range.most),
+        Err(_) => Finding::NoNumber(word),
+    }
+}
+
+/// Which word of a line is no number in its range.
+pub fn wrong_number(line: &[u8]) -> Option<Finding<'_>> {
+    let NumberWord { word, range, .. } = first_wrong_number(line)?;
+    Some(number_finding(word, range))
+}
+
+/// The number behind the name of a line.
+fn number_of(line: &[u8]) -> Option<u64> {
+    let (_, behind) = cut(line, b' ')?;
+    long_number(head_word(behind)).ok()
+}
+
+/// The numbers of the last lines of a text with two names, and how many lines stand behind the second.
+#[derive(Clone, Copy)]
+struct Last {
+    first: Option<u64>,
+    second: Option<u64>,
+    behind: u64,
+}
+
+/// The numbers of the last lines of a text with two names.
+fn last_numbers(text: &[u8], first: &[u8], second: &[u8]) -> Last {
+    let mut last = Last {
+        first: None,
+        second: None,
+        behind: 0,
+    };
+    let mut left = text;
+    for _ in 0..text.len() {
+        let Some((line, rest)) = next_line(left) else {
+            break;
+        };
+        let name = head_word(line);
+        last.behind = last.behind.saturating_add(1);
+        if name == first {
+            last.first = number_of(line);
+        } else if name == second {
+            last.second = number_of(line);
+            last.behind = 0;
+        }
+        left = rest;
+    }
+    last
+}
+
+/// From which step to which a rule of a later step may stand there.
+pub fn order_finding<'a>(place: &Place<'a>) -> Option<Finding<'a>> {
+    let last = last_numbers(place.above(), b"steps", b"at");
+    let least = match last.second {
+        Some(step) => step.saturating_add(1),
+        None => 0,
+    };
+    let steps = last.first?;
+    Some(Finding::Order { least, steps })
+}
+
+/// How many points there are up to this one, and how many steps each of them has.
+pub fn work_finding<'a>(place: &Place<'a>) -> Option<Finding<'a>> {
+    let last = last_numbers(place.above(), b"warm", b"measure");
+    let (Some(warm), Some(measure)) = (last.first, last.second) else {
+        return None;
+    };
+    Some(Finding::Work {
+        points: last.behind.saturating_add(1),
+        steps: warm.saturating_add(measure),
+    })
+}

@@ -1,6 +1,0 @@
-use Rattle.std.proofs.Common.{ap}
-use Rattle.trlab_leases.specs.Leases.{LeaseState}
-use Rattle.trlab_leases.proofs.lease.Lease.base_road.Goals as goal
-
-pub returns : goal.returns
-returns c = rw c.get.ensures (ap (λ (lease : LeaseState). lease.base.road) c.self.view_is)

@@ -1,6 +1,0 @@
-use Rattle.std.proofs.Common.{ap}
-use Rattle.trlab_leases.specs.Leases.{LeaseState}
-use Rattle.trlab_leases.proofs.lease.Lease.step.Goals as goal
-
-pub returns-clause-value : goal.returns-clause-value
-returns-clause-value c = ap (λ (lease : LeaseState). lease.step) c.self.view_is

@@ -1,5 +1,0 @@
-use Rattle.std.proofs.Common.{refl}
-use Rattle.trlab_leases.proofs.order.Order.lease.Goals as goal
-
-pub returns : goal.returns
-returns c = refl

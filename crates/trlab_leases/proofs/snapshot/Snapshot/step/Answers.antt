@@ -1,6 +1,0 @@
-use Rattle.std.proofs.Common.{ap}
-use Rattle.trlab_step.specs.Progress.{Progress}
-use Rattle.trlab_leases.proofs.snapshot.Snapshot.step.Goals as goal
-
-pub returns : goal.returns
-returns c = ap (λ (seen : Progress). seen.step) c.self.view_is

@@ -1,0 +1,41 @@
+//! Edits: changes of texts.
+
+ghost use Rattle.std.specs.Prelude.{◌≡◌, ◌+◌, ◌≤◌, IfOk, length};
+ghost use Rattle.trlab_repairs.specs.Edits.{edited};
+
+use std::alloc::{AllocError, Global};
+
+/// A change of a text: behind its first bytes some bytes make room for others.
+#[derive(Drop)]
+pub struct Edit {
+    /// How many bytes stand before the change.
+    pub at: usize,
+    /// How many bytes go.
+    pub gone: usize,
+    /// The bytes that stand in their place.
+    pub put: Vec<u8>,
+}
+
+/// The text after a change.
+///
+/// # Errors
+///
+/// Want of memory.
+pub fn edited(
+    alloc: Global,
+    text: &[u8],
+    at: usize,
+    gone: usize,
+    put: &[u8],
+) -> Result<Vec<u8>, AllocError>
+    requires { at + gone ≤ length text.now }
+    ensures { IfOk result (λ mended. mended.items ≡ edited at gone put.now text.now) }
+{
+    let (above, _) = text.split_at(at);
+    let (_, behind) = text.split_at(at + gone);
+    let mut mended = Vec::new(alloc);
+    mended.extend_from_slice(above)?;
+    mended.extend_from_slice(put)?;
+    mended.extend_from_slice(behind)?;
+    Ok(mended)
+}

@@ -1,0 +1,129 @@
+//! Repairs: changes by which a text gets further than its first fault. Each was tried.
+
+ghost use Rattle.std.specs.Prelude.{◌≡◌, IfOk, IfSome, true};
+ghost use Rattle.trlab_repairs.specs.Repairs.{Helps};
+
+use crate::edit::{Edit, edited};
+use crate::subject::Subject;
+use crate::trial::gets_further;
+use std::alloc::{AllocError, Global};
+
+/// What a repair changes.
+#[derive(Drop)]
+pub enum Change {
+    /// The text.
+    Edited(Edit),
+    /// As what it is read.
+    ReadAs(Subject),
+}
+
+/// Why a change may be what is meant.
+#[derive(Clone, Copy)]
+pub enum Why {
+    /// The text begins with a byte order mark.
+    ByteOrderMark,
+    /// The line has a carriage return.
+    CarriageReturn,
+    /// There is a blank too much, or a tab.
+    Blanks,
+    /// There are comments in programs only.
+    Comment,
+    /// Comments begin with `;`.
+    OtherComment,
+    /// The line is empty.
+    Empty,
+    /// The text is for another command.
+    Other(Subject),
+    /// A name is meant that is spelled nearly alike, or means the same elsewhere.
+    Name,
+    /// The first line of a program is missing.
+    Heading,
+    /// A line is missing above this one.
+    Missing,
+    /// The line stands too late, or a second time.
+    Late,
+    /// The text has ended too early.
+    Ended,
+    /// The program has no line `end`.
+    Endless,
+    /// The line `end` has something beside it, or is misspelled.
+    End,
+    /// In a check text no line `end` is wanted.
+    NoEnd,
+    /// A chance is written in parts of 2^31.
+    Parts,
+    /// Cars are counted.
+    Count,
+    /// A number is written in decimal digits alone.
+    Digits,
+    /// A label is meant that is spelled nearly alike.
+    Label,
+    /// Operands want commas between them.
+    Comma,
+    /// The number of an instruction has `@` in front.
+    Target,
+    /// The rule wants two lanes.
+    Lanes,
+    /// A car is a small letter.
+    Letter,
+    /// The version is 1 where no instruction reads `headspeed`.
+    Version,
+}
+
+/// What most likely mends a fault.
+#[derive(Drop)]
+pub struct Repair {
+    pub why: Why,
+    pub change: Change,
+}
+
+/// Whether a text with its first fault at the line of a number gets further once it is changed.
+fn edit_helps(
+    alloc: Global,
+    subject: Subject,
+    text: &[u8],
+    number: u32,
+    edit: &Edit,
+) -> Result<bool, AllocError>
+    ensures { IfOk result (λ is_so. is_so ≡ true → Helps subject text.now number (Change.Edited edit.now)) }
+{
+    if edit.at > text.len() || edit.gone > text.len() - edit.at {
+        return Ok(false);
+    }
+    let mended = edited(alloc, text, edit.at, edit.gone, &edit.put)?;
+    gets_further(alloc, text, number, subject, &mended)
+}
+
+/// Whether a text with its first fault at the line of a number gets further by a change.
+fn helps(
+    alloc: Global,
+    subject: Subject,
+    text: &[u8],
+    number: u32,
+    change: &Change,
+) -> Result<bool, AllocError>
+    ensures { IfOk result (λ is_so. is_so ≡ true → Helps subject text.now number change.now) }
+{
+    match change {
+        Change::Edited(edit) => edit_helps(alloc, subject, text, number, edit),
+        Change::ReadAs(other) => gets_further(alloc, text, number, *other, text),
+    }
+}
+
+/// A repair, where it helps a text with its first fault at the line of a number.
+///
+/// # Errors
+///
+/// Want of memory.
+pub fn where_it_helps(
+    alloc: Global,
+    subject: Subject,
+    text: &[u8],
+    number: u32,
+    repair: Repair,
+) -> Result<Option<Repair>, AllocError>
+    ensures { IfOk result (λ found. IfSome found (λ repair. Helps subject text.now number repair.change)) }
+{
+    let is_help = helps(alloc, subject, text, number, &repair.change)?;
+    Ok(if is_help { Some(repair) } else { None })
+}

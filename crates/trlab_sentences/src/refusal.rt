@@ -1,0 +1,217 @@
+//! The explanation of a refused program: the instruction, the reason, what the verifier knows there,
+//! and the usual repair.
+
+use crate::lines::{push_both, push_count, push_meaning, push_pieces};
+use crate::marks::push_known;
+use crate::operands::{leads_to, operands};
+use crate::placed::{Placed, push_instruction};
+use crate::reasons::{meaning_of_reason, repair_of_reason};
+use std::alloc::{AllocError, Global};
+use trlab_asm::register_text;
+use trlab_code::{Instr, Register};
+use trlab_pages::Page;
+use trlab_verify::{Mark, Note, notes_of_refused};
+
+/// A program that is refused.
+#[derive(Clone, Copy)]
+struct Refused<'a> {
+    /// The program, and where it stands.
+    program: Placed<'a>,
+    /// The refused instruction, counted from 0.
+    at: u32,
+    /// The number of the reason, 1 to 12.
+    reason: u32,
+    /// What the verifier knows before each instruction up to the refused one.
+    notes: &'a [Note],
+}
+
+/// Adds what a note says of a register that is read, if one is.
+fn push_operand(
+    page: &mut Page,
+    note: &Note,
+    register: Option<Register>,
+) -> Result<(), AllocError> {
+    match register {
+        Some(register) => push_known(page, "", note, register),
+        None => Ok(()),
+    }
+}
+
+/// Adds what the note before an instruction says of the registers that it reads.
+fn push_operands(page: &mut Page, note: &Note, instr: Instr) -> Result<(), AllocError> {
+    let (first, second) = operands(instr);
+    if first.is_some() {
+        page.line("What is known before it:")?;
+    }
+    push_operand(page, note, first)?;
+    if first == second {
+        return Ok(());
+    }
+    push_operand(page, note, second)
+}
+
+/// The greatest number that a note knows of a register.
+fn most_of(note: &Note, register: Register) -> u32 {
+    match note.regs[register.number()] {
+        Mark::Num(_, high) => high,
+        _ => 0,
+    }
+}
+
+/// Adds how large a result may be.
+fn push_largest(page: &mut Page, note: &Note, instr: Instr) -> Result<(), AllocError> {
+    let largest = match instr {
+        Instr::Add(_, a, b) => u64::from(most_of(note, a)) + u64::from(most_of(note, b)),
+        Instr::Mul(_, a, n) => u64::from(most_of(note, a)) * u64::from(n),
+        _ => return Ok(()),
+    };
+    push_count(page, "The result may be as large as ", largest, ".")
+}
+
+/// Adds which difference may be below zero.
+fn push_difference(page: &mut Page, instr: Instr) -> Result<(), AllocError> {
+    let Instr::Sub(_, a, b) = instr else {
+        return Ok(());
+    };
+    let (a, b) = (register_text(a), register_text(b));
+    push_pieces(
+        page,
+        &[
+            b,
+            b" is not known to be at most ",
+            a,
+            b", so ",
+            a,
+            b" - ",
+            b,
+            b" may be below zero.",
+        ],
+    )
+}
+
+/// Adds which speed may be above an input, as these words say.
+fn push_speed(page: &mut Page, instr: Instr, words: &str) -> Result<(), AllocError> {
+    let Instr::Go(a) = instr else {
+        return Ok(());
+    };
+    page.show_all(register_text(a))?;
+    page.line(words)
+}
+
+/// Adds what the operands have to do with the reason.
+fn push_why(page: &mut Page, reason: u32, note: &Note, instr: Instr) -> Result<(), AllocError> {
+    match reason {
+        8 => push_largest(page, note, instr),
+        9 => push_difference(page, instr),
+        10 => push_speed(page, instr, " is not known to be at most the gap."),
+        11 => push_speed(page, instr, " is not known to be at most the limit."),
+        _ => Ok(()),
+    }
+}
+
+/// How many ways lead to the refused instruction.
+fn count_ways(refused: &Refused<'_>) -> u32 {
+    let mut ways = 0u32;
+    for pc in 0..refused.at {
+        if leads_to(
+            refused.program.code.instrs(),
+            pc as usize,
+            refused.at as usize,
+        ) {
+            ways = ways.saturating_add(1);
+        }
+    }
+    ways
+}
+
+/// Adds the instructions from which ways lead to the refused one, where there are several.
+fn push_ways(page: &mut Page, refused: &Refused<'_>) -> Result<(), AllocError> {
+    if count_ways(refused) < 2 {
+        return Ok(());
+    }
+    page.line("Several ways lead to it, and only what all of them know is known there:")?;
+    for pc in 0..refused.at {
+        if leads_to(
+            refused.program.code.instrs(),
+            pc as usize,
+            refused.at as usize,
+        ) {
+            push_instruction(page, refused.program, pc)?;
+        }
+    }
+    Ok(())
+}
+
+/// Adds the instruction above the refused one, which leads elsewhere.
+fn push_skip(page: &mut Page, refused: &Refused<'_>) -> Result<(), AllocError> {
+    match refused.at.checked_sub(1) {
+        Some(above) => {
+            page.line("The instruction above leads elsewhere, and no jump leads here:")?;
+            push_instruction(page, refused.program, above)
+        }
+        None => Ok(()),
+    }
+}
+
+/// Adds what the notes of a program say where the refused instruction stands.
+fn push_note(page: &mut Page, refused: &Refused<'_>) -> Result<(), AllocError> {
+    let at = refused.at as usize;
+    match (refused.notes.get(at), refused.program.code.instrs().get(at)) {
+        (Some(note), Some(instr)) => {
+            push_operands(page, note, *instr)?;
+            push_why(page, refused.reason, note, *instr)
+        }
+        _ => Ok(()),
+    }
+}
+
+/// Adds why a program is refused.
+fn push_refusal(page: &mut Page, refused: &Refused<'_>) -> Result<(), AllocError> {
+    push_instruction(page, refused.program, refused.at)?;
+    let meaning = meaning_of_reason(refused.reason);
+    push_meaning(page, "Reason ", u64::from(refused.reason), meaning)?;
+    if refused.reason == 1 {
+        push_skip(page, refused)?;
+    } else {
+        push_note(page, refused)?;
+        push_ways(page, refused)?;
+    }
+    let repair = repair_of_reason(refused.reason, refused.program.code.kind());
+    push_both(page, "Advice: ", repair)
+}
+
+/// The refused instruction, by the reason and by how many instructions have notes: one to which no way leads
+/// has none.
+fn refused_at(reason: u32, notes: usize) -> u32 {
+    let notes = u32::try_from(notes).unwrap_or(u32::MAX);
+    if reason == 1 {
+        notes
+    } else {
+        notes.saturating_sub(1)
+    }
+}
+
+/// Adds why a program is refused for a reason.
+///
+/// # Errors
+///
+/// Want of memory.
+pub fn push_refused(
+    alloc: Global,
+    page: &mut Page,
+    program: Placed<'_>,
+    reason: u32,
+) -> Result<(), AllocError> {
+    let Some(notes) = notes_of_refused(alloc, program.code)? else {
+        return Ok(());
+    };
+    push_refusal(
+        page,
+        &Refused {
+            program,
+            at: refused_at(reason, notes.len()),
+            reason,
+            notes: &notes,
+        },
+    )
+}

@@ -1,0 +1,53 @@
+//! The lines of texts, in words.
+
+use std::alloc::AllocError;
+use trlab_diagnosis::Wanted;
+use trlab_pages::Page;
+
+/// What has to stand in a check text.
+pub const EXPECTED_OF_CHECK: &str =
+    "Expected: `motion`, `change`, `notes motion` or `notes change`, and on the next lines a program; \
+     or `code X` or `notes code X` alone.";
+
+/// A line of a job or sweep text.
+fn form_of_line(line: Wanted) -> &'static str {
+    match line {
+        Wanted::Road => "`road 1`, the first line of a job text.",
+        Wanted::Sweep => "`sweep 1`, the first line of a sweep text.",
+        Wanted::Key => "`key H`, H 64 hexadecimal digits.",
+        Wanted::Limit => "`limit n`, the greatest speed, n from 1 to 35.",
+        Wanted::Lane => {
+            "`lane P`, P 1 to 100000 cells: `.` is empty, a car is its speed, 0 to 9, a to z."
+        }
+        Wanted::Rule => {
+            "`rule nasch t`, `rule vdr t t0`, `rule rickert t c` or `rule own`; \
+             t, t0, c from 0 to 2147483648."
+        }
+        Wanted::Motion => "`motion`, the lines of a program and `end`; or `code X`.",
+        Wanted::Change => "a change part: `change`, the lines of a program and `end`; or `code X`.",
+        Wanted::End => "a line of the program, or the line `end` and nothing else behind its last.",
+        Wanted::Length => "`length n`, the cells of a lane, n from 1 to 100000.",
+        Wanted::Lanes => "`lanes n`, n 1 or 2.",
+        Wanted::Steps => "`steps n`, n from 0 to 500000.",
+        Wanted::At => "`at s` and on the same line a rule, s a step; or the end of the text.",
+        Wanted::Warm => "`warm n`, the steps of a point before it is counted, n from 0 to 500000.",
+        Wanted::Measure =>
+            "`measure n`, the steps of a point that are counted, n from 1 to 500000.",
+        Wanted::Cars => "`cars n`, a point with n cars, n from 0 to 200000.",
+    }
+}
+
+/// Adds the lines that may stand at a place of a job or sweep text.
+///
+/// # Errors
+///
+/// Want of memory.
+pub fn push_wanted(page: &mut Page, wanted: &[Wanted]) -> Result<(), AllocError> {
+    let mut is_first = true;
+    for line in wanted {
+        page.say(if is_first { "Expected: " } else { "or " })?;
+        page.line(form_of_line(*line))?;
+        is_first = false;
+    }
+    Ok(())
+}

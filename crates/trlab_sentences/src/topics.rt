@@ -1,0 +1,81 @@
+//! What a number means that refused texts and programs tell.
+
+use crate::causes::meaning_of_cause;
+use crate::fault::push_hint;
+use crate::lines::push_both;
+use crate::numbered::{MOST_REASON, cause_numbered};
+use crate::reasons::{meaning_of_reason, repair_of_reason};
+use std::alloc::{AllocError, Global};
+use trlab_code::Kind;
+use trlab_pages::Page;
+use trlab_texts::Cause;
+
+/// What has a number that a refusal tells.
+#[derive(Clone, Copy, Debug, PartialEq, Eq)]
+pub enum Topic {
+    /// The cause of a line `fault line N cause K`.
+    Cause,
+    /// The reason of a line `refused at N reason R`.
+    Reason,
+}
+
+/// Adds what is advised for a reason.
+fn push_repairs(page: &mut Page, reason: u32) -> Result<(), AllocError> {
+    let motion = repair_of_reason(reason, Kind::Motion);
+    let change = repair_of_reason(reason, Kind::Change);
+    if motion == change {
+        return push_both(page, "Advice: ", motion);
+    }
+    push_both(page, "Advice for a motion program: ", motion)?;
+    push_both(page, "Advice for a change program: ", change)
+}
+
+/// Adds what is told of a cause behind its number.
+fn push_cause(page: &mut Page, cause: Cause) -> Result<(), AllocError> {
+    page.line(meaning_of_cause(cause))?;
+    if let Cause::Verdict(reason) = cause {
+        push_both(
+            page,
+            "It is refused for this reason: ",
+            meaning_of_reason(reason),
+        )?;
+        push_repairs(page, reason)?;
+    }
+    push_hint(page, cause)?;
+    page.line(
+        "`trlab explain < FILE` tells it of a text that has it; docs/TEXTS.md has all causes.",
+    )
+}
+
+/// Adds what is told of a reason behind its number.
+fn push_reason(page: &mut Page, reason: u32) -> Result<(), AllocError> {
+    page.line(meaning_of_reason(reason))?;
+    push_repairs(page, reason)?;
+    page.line(
+        "`trlab explain < FILE` tells it of a program that has it; docs/PROGRAMS.md has all reasons.",
+    )
+}
+
+/// Adds what is told of a number behind it, and answers whether there is no such number.
+fn push_number(page: &mut Page, topic: Topic, number: u32) -> Result<bool, AllocError> {
+    match (topic, cause_numbered(number)) {
+        (Topic::Cause, Some(cause)) => push_cause(page, cause)?,
+        (Topic::Reason, _) if 1 <= number && number <= MOST_REASON => push_reason(page, number)?,
+        _ => {
+            page.line("there is none of this number.")?;
+            return Ok(true);
+        }
+    }
+    Ok(false)
+}
+
+/// Whether there is no such number, and what is told of it, which its head stands above.
+///
+/// # Errors
+///
+/// Want of memory.
+pub fn number_words(alloc: Global, topic: Topic, number: u32) -> Result<(bool, Page), AllocError> {
+    let mut page = Page::new(alloc);
+    let is_none = push_number(&mut page, topic, number)?;
+    Ok((is_none, page))
+}

@@ -1,0 +1,6 @@
+use Rattle.std.proofs.Common.{ap}
+use Rattle.trlab_sequential_book.specs.Leases.{LeaseState}
+use Rattle.trlab_sequential_book.proofs.lease.Lease.number.Goals as goal
+
+pub returns : goal.returns
+returns c = ap (λ (lease : LeaseState). lease.number) c.self.view_is

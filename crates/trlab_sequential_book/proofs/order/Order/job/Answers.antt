@@ -1,0 +1,5 @@
+use Rattle.std.proofs.Common.{refl}
+use Rattle.trlab_sequential_book.proofs.order.Order.job.Goals as goal
+
+pub returns : goal.returns
+returns c = refl

@@ -1,0 +1,71 @@
+-- Leases: the steps that they have run, and one step more.
+use Rattle.std.specs.Prelude.{◌≡◌, ℕ, ◌+◌, ◌==◌, ◌&&◌, not, is_some, Bool, true, List, [], ◌∷◌, ◌++◌, length, All}
+use Rattle.trlab_road.specs.Cells.{Cells}
+use Rattle.trlab_rules.specs.Rules.{Programs}
+use Rattle.trlab_words.specs.declared.key.Key.{Key}
+use Rattle.trlab_step.specs.Answers.{dice_of}
+use Rattle.trlab_step.specs.Next.{IsNext}
+use Rattle.trlab_step.specs.declared.tally.StepTally.{StepTally}
+use Rattle.trlab_sequential_book.specs.declared.ran.Ran.{Ran}
+use Rattle.trlab_sequential_book.specs.declared.order.Order.{Order}
+
+-- these steps in turn, the first of this number, lead from one road to another
+abbrev pub LeadsTo : List ℕ → ℕ → ℕ → Cells → List Ran → Cells → Type 0
+LeadsTo key number step road [] last = last ≡ road
+LeadsTo key number step road (ran ∷ more) last =
+    (next : Cells) × IsNext ran.rule (dice_of key number step) road next ran.tally
+    × LeadsTo key number (step + 1) next more last
+
+-- from where a lease began: a step of its job, and the road there
+pub record Base : Type 0 where
+  pub step : ℕ
+  pub road : Cells
+
+-- a lease: the job and its steps, the number of the lease, the words of the job's road, from where the
+-- lease began, the step and the road to which it has come, and the steps that it has run between them
+pub record LeaseState : Type 0 where
+  pub job : ℕ
+  pub number : ℕ
+  pub steps : ℕ
+  pub key : Key
+  pub road_number : ℕ
+  pub base : Base
+  pub step : ℕ
+  pub road : Cells
+  pub applied : List Ran
+
+-- the road of a lease is what its applied rules give from its base
+pub record IsLease (lease : LeaseState) : Type 0 where
+  pub steps_run : lease.step ≡ lease.base.step + length lease.applied
+  pub leads : LeadsTo lease.key.0 lease.road_number lease.base.step lease.base.road lease.applied lease.road
+
+-- all steps were run under one rule
+abbrev pub IsSteady : List Ran → Type 0
+IsSteady [] = Unit {0}
+IsSteady (first ∷ more) = All (λ (ran : Ran). ran.rule ≡ first.rule) more
+
+-- a rule suits a road: a change program does not suit one lane
+abbrev pub suits : Programs → Cells → Bool
+suits rule road = not (is_some rule.change && length road.lanes == 1)
+
+-- the order is for this lease at the step where it stands, and its rule suits the road
+pub record FitsOrder (lease : LeaseState) (order : Order) : Type 0 where
+  pub job : order.job ≡ lease.job
+  pub number : order.lease ≡ lease.number
+  pub step : order.step ≡ lease.step
+  pub rule : suits order.rule lease.road ≡ true
+
+-- a lease with one step more, run under a rule
+abbrev pub one_more : LeaseState → Programs → StepTally → Cells → LeaseState
+one_more lease rule tally next = record lease {
+  step = lease.step + 1;
+  road = next;
+  applied = lease.applied ++ record { rule = rule; tally = tally } ∷ [];
+}
+
+-- the order fits, and the lease has run one step more, under its rule
+pub record HasRun (old : LeaseState) (order : Order) (new : LeaseState) : Type 0 where
+  pub fits : FitsOrder old order
+  pub tally : StepTally
+  pub next : IsNext order.rule (dice_of old.key.0 old.road_number old.step) old.road new.road tally
+  pub grown : new ≡ one_more old order.rule tally new.road

@@ -1,0 +1,61 @@
+-- Which event of a history a job of the book comes from.
+use Rattle.std.specs.Prelude.{◌≡◌, ℕ, List, Some, slice_get}
+use Rattle.trlab_road.specs.Cells.{Cells}
+use Rattle.trlab_rules.specs.Rules.{Programs}
+use Rattle.trlab_step.specs.Progress.{Progress, IsUnderway}
+use Rattle.trlab_step.specs.Driven.{IsDriven}
+use Rattle.trlab_sequential_book.specs.declared.seed.Seed.{Seed}
+use Rattle.trlab_sequential_book.specs.declared.event.Event.{Event}
+use Rattle.trlab_sequential_book.specs.declared.event.Call.TheVariants as call
+use Rattle.trlab_sequential_book.specs.declared.event.Reply.TheVariants as reply
+use Rattle.trlab_sequential_book.specs.Machine.{JobState, State}
+use Rattle.trlab_sequential_book.specs.Comparison.{IsSeen, IsSnapshotOf}
+use Rattle.trlab_sequential_book.specs.Replay.{Replays, event}
+
+-- the k-th event of a history is a submit of this seed, rule and steps, which was replied a number
+abbrev pub IsSubmit : List Event → ℕ → Seed → Programs → ℕ → ℕ → Type 0
+IsSubmit history k seed rule steps number =
+    slice_get history k ≡ Some (event (call.Submit seed rule steps) (reply.Number number))
+
+-- the job of a number was submitted by some event, which was replied this number: its seed and its steps are
+-- those of that call
+pub record IsSubmitted (history : List Event) (number : ℕ) (job : JobState) : Type 0 where
+  pub k : ℕ
+  pub rule : Programs
+  pub submit : IsSubmit history k job.seed rule job.steps number
+
+-- each job of a book was submitted
+abbrev pub JobsAreSubmitted : Type 0
+JobsAreSubmitted =
+    (history : List Event) (book : State) (number : ℕ) (job : JobState) → Replays history book
+    → slice_get book.jobs number ≡ Some job → IsSubmitted history number job
+
+-- no two submits of a history were replied the same number
+abbrev pub SubmitsHaveTheirNumbers : Type 0
+SubmitsHaveTheirNumbers =
+    (history : List Event) (book : State) (j k number : ℕ) (seed other : Seed) (rule another : Programs)
+    (steps more : ℕ) → Replays history book → IsSubmit history j seed rule steps number
+    → IsSubmit history k other another more number → j ≡ k
+
+-- a snapshot of a job starts where the submit of the job's number says
+abbrev pub SnapshotsAreOfSubmits : Type 0
+SnapshotsAreOfSubmits =
+    (history : List Event) (book : State) (number : ℕ) (seen : Progress) → Replays history book
+    → IsSeen book.jobs number seen
+    → (job : JobState) × IsSubmitted history number job × IsSnapshotOf job seen
+
+-- what is read of a job: the road to which one worker drives, in the steps done, from where the job's submit starts
+-- and under the job's sheet
+pub record IsReadOf (history : List Event) (number : ℕ) (seen : Progress) : Type 0 where
+  pub job : JobState
+  pub submitted : IsSubmitted history number job
+  pub snapshot : IsSnapshotOf job seen
+  pub roads : ℕ → Cells
+  pub driven : IsDriven seen.seed seen.sheet seen.step roads
+  pub road : roads seen.step ≡ seen.road
+
+-- each snapshot of a job is so
+abbrev pub ReadsAreDriven : Type 0
+ReadsAreDriven =
+    (history : List Event) (book : State) (number : ℕ) (seen : Progress) → Replays history book
+    → IsSeen book.jobs number seen → IsUnderway seen → IsReadOf history number seen

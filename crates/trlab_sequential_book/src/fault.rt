@@ -1,0 +1,46 @@
+//! Why the book refuses a call.
+
+ghost use Rattle.std.specs.Prelude.{◌≡◌};
+ghost use Rattle.trlab_sequential_book.specs.declared.fault.BookFault.TheVariants.{Memory};
+
+use std::alloc::AllocError;
+use thiserror::Error;
+
+/// Why the book refuses a call. Where several hold, the first is told in the order `HistoryFull`,
+/// `NoSuchJob`, `Ended`, `LanesMismatch`, `Full`, `SheetFull`, `StrangerLease`; `Memory` may stand in the
+/// place of any but `HistoryFull`.
+#[derive(Clone, Copy, Debug, PartialEq, Eq, Error)]
+pub enum BookFault {
+    /// The book has 256 jobs.
+    #[error("the book is full")]
+    Full,
+    /// There is no such job.
+    #[error("there is no such job")]
+    NoSuchJob,
+    /// The job was cancelled, or all its steps are ordered or done.
+    #[error("the job has ended")]
+    Ended,
+    /// The rule has a change program, and the road has one lane.
+    #[error("a change program needs two lanes")]
+    LanesMismatch,
+    /// The job's sheet has 1024 entries.
+    #[error("the sheet is full")]
+    SheetFull,
+    /// The lease is not the one that is out, or not one of this job's road and rules.
+    #[error("the lease is a stranger's")]
+    StrangerLease,
+    /// The book has had 1000000 events.
+    #[error("the history is full")]
+    HistoryFull,
+    /// Memory ran out.
+    #[error("memory ran out")]
+    Memory,
+}
+
+impl From<AllocError> for BookFault {
+    ghost from_gives = { λ _ fault. fault ≡ Memory };
+
+    fn from(_: AllocError) -> BookFault {
+        BookFault::Memory
+    }
+}

@@ -1,0 +1,286 @@
+//! One job of the book.
+
+ghost use Rattle.std.specs.Prelude.{◌≡◌, ◌==◌, ◌||◌, true, false, IsTrue, IfOk, IfErr, OnErr, Some, length, ◌↔◌, MatchBool};
+ghost use Rattle.trlab_road.specs.Legal.{IsLegal};
+ghost use Rattle.trlab_step.specs.Progress.{IsUnderway};
+ghost use Rattle.trlab_step.specs.Laws.{IsRuleFor};
+ghost use Rattle.trlab_step.specs.Run.{in_force};
+ghost use Rattle.trlab_sequential_book.specs.Answers.{back_reply, done_reply, is_memory, number_reply, order_reply};
+ghost use Rattle.trlab_sequential_book.specs.Comparison.{IsFresh, IsOwnRun, IsSnapshotOf, offered};
+ghost use Rattle.trlab_sequential_book.specs.Jobs.{run_of};
+ghost use Rattle.trlab_sequential_book.specs.Leases.{suits};
+ghost use Rattle.trlab_sequential_book.specs.Machine.{cancelling, giving_back, is_free, is_own, leasing, new_job, ordering, refused, replacing, revoking};
+
+use crate::boxed::{BoxedRoad, BoxedSeed};
+use crate::fault::BookFault;
+use crate::lease::Lease;
+use crate::order::Order;
+use crate::sheet::Sheet;
+use crate::snapshot::Snapshot;
+use crate::suits::suits;
+use std::alloc::{AllocError, Global};
+use std::marker::Model;
+use std::sync::Arc;
+use trlab_rules::Rule;
+use trlab_step::{StepRoom, StepTally, no_tally, tally_sum};
+use trlab_words::Key;
+
+/// A job. Contracts see all of it but its road and its tally, which are those of its seed and its sheet.
+#[derive(Drop)]
+pub(crate) struct Job {
+    seed: BoxedSeed,
+    sheet: Sheet,
+    steps: u32,
+    /// How many steps were ever ordered.
+    high: u32,
+    /// How many steps are done.
+    done: u32,
+    cancelled: bool,
+    /// The number of the lease that is out.
+    out: Option<u32>,
+    /// The road at the steps done.
+    road: BoxedRoad,
+    tally: StepTally,
+}
+
+impl Model for Job {
+    ghost use Rattle.trlab_sequential_book.specs.Jobs.{IsJob};
+    ghost use Rattle.trlab_sequential_book.specs.Machine.{JobState, job_state};
+
+    ghost Value = { JobState };
+
+    ghost view = { λ job. job_state job.seed job.sheet job.steps job.high job.done job.cancelled job.out };
+
+    ghost invariant = { λ job. IsJob
+        (job_state job.seed job.sheet job.steps job.high job.done job.cancelled job.out)
+        job.road job.tally };
+}
+
+impl Job {
+    /// A job as it is submitted: no step is done.
+    pub fn new(alloc: Global, seed: BoxedSeed, rule: Rule, steps: u32) -> Result<Job, AllocError>
+        requires legal { IsLegal seed.road }
+        requires rule { IsRuleFor (length seed.road.lanes) rule }
+        ensures { IfOk result (λ job. job ≡ new_job seed rule steps) }
+    {
+        let sheet = Sheet::new(alloc, rule)?;
+        let road = BoxedRoad::of_seed(seed.share()?);
+        Ok(Job {
+            seed,
+            sheet,
+            steps,
+            high: 0,
+            done: 0,
+            cancelled: false,
+            out: None,
+            road,
+            tally: no_tally(),
+        })
+    }
+
+    /// Enters a rule, and answers the step from which on it is in force.
+    pub fn replace(&mut self, rule: Rule) -> Result<u32, BookFault>
+        ensures reply { MatchBool (is_memory result) (Unit {0})
+            (number_reply result ≡ (replacing rule self.old).reply) }
+        ensures job { MatchBool (is_memory result) (self.new ≡ self.old)
+            (self.new ≡ (replacing rule self.old).job) }
+    {
+        self.admits(&rule)?;
+        self.sheet.enter(self.high, rule)?;
+        Ok(self.high)
+    }
+
+    /// Whether the job has not ended, and a rule suits its road.
+    fn admits(&self, rule: &Rule) -> Result<(), BookFault>
+        ensures ok { IfOk result (λ _. (self.now.cancelled || (self.now.high == self.now.steps) ≡ false)
+            × (suits rule.now self.now.seed.road ≡ true)) }
+        ensures rule { IfOk result (λ _. IsRuleFor (length self.now.seed.road.lanes) rule.now) }
+        ensures err { IfErr result (λ fault. replacing rule.now self.now ≡ refused fault self.now) }
+    {
+        if self.cancelled || self.high == self.steps {
+            return Err(BookFault::Ended);
+        }
+        if !suits(rule, &self.seed.get().road) {
+            return Err(BookFault::LanesMismatch);
+        }
+        Ok(())
+    }
+
+    /// Ends the lease that is out.
+    pub fn revoke(&mut self) -> Result<(), BookFault>
+        ensures reply { done_reply result ≡ (revoking self.old).reply }
+        ensures job { self.new ≡ (revoking self.old).job }
+    {
+        if self.out.is_none() {
+            return Err(BookFault::StrangerLease);
+        }
+        self.out = None;
+        Ok(())
+    }
+
+    /// Ends the job, and its lease.
+    pub fn cancel(&mut self) -> Result<(), BookFault>
+        ensures reply { done_reply result ≡ (cancelling self.old).reply }
+        ensures job { self.new ≡ (cancelling self.old).job }
+    {
+        if self.cancelled || self.done == self.steps {
+            return Err(BookFault::Ended);
+        }
+        self.cancelled = true;
+        self.out = None;
+        Ok(())
+    }
+
+    /// Whether the job can go out.
+    pub fn is_free(&self) -> bool
+        ensures { result ≡ is_free self.now }
+    {
+        self.out.is_none() && !self.cancelled && self.done < self.steps
+    }
+
+    /// The job, which has this index, goes out under a number.
+    pub fn lend(&mut self, alloc: Global, index: u32, number: u32) -> Result<Lease, AllocError>
+        ensures lease { IfOk result (λ lease. (lease.job ≡ index) × IsFresh self.old number lease) }
+        ensures job { IfOk result (λ _. self.new ≡ (leasing index number self.old).job) }
+        ensures same { OnErr result (self.new ≡ self.old) }
+    {
+        let copy = self.road.get().copy(alloc)?;
+        let road = Arc::new(alloc, copy)?;
+        let base_road = self.road.share()?;
+        let seed = self.seed.get();
+        self.out = Some(number);
+        Ok(Lease {
+            job: index,
+            number,
+            steps: self.steps,
+            key: seed.key,
+            road_number: seed.number,
+            base_step: self.done,
+            base_road,
+            step: self.done,
+            road,
+            applied: Vec::new(alloc),
+            is_steady: true,
+            room: StepRoom::new(alloc),
+        })
+    }
+
+    /// Whether a lease runs this job's road.
+    pub fn runs(&self, lease: &Lease) -> bool
+        ensures { IsTrue result ↔ IsOwnRun self.now lease.now }
+    {
+        let _end = lease.step();
+        let seed = self.seed.get();
+        if lease.road_number() != seed.number || !same_key(lease.key(), &seed.key) {
+            return false;
+        }
+        if !lease.base_road().equals(self.road.get()) {
+            return false;
+        }
+        self.sheet
+            .are_in_force(lease.base_step(), lease.applied(), lease.is_steady())
+    }
+
+    /// Whether a lease is the one that is out, and may be ordered or given back.
+    fn owns(&self, lease: &Lease, same: bool) -> bool
+        ensures { result ≡ is_own (offered lease.now same) self.now }
+    {
+        match self.out {
+            Some(number) => {
+                number == lease.number()
+                    && lease.base_step() == self.done
+                    && lease.step() <= self.high
+                    && same
+            }
+            None => false,
+        }
+    }
+
+    /// The order for the step at which a lease stands, which shares its rule with the sheet.
+    pub fn order(&mut self, lease: &Lease, same: bool) -> Result<Order, BookFault>
+        ensures reply { MatchBool (is_memory result) (Unit {0})
+            (order_reply result ≡ (ordering (offered lease.now same) self.old).reply) }
+        ensures job { MatchBool (is_memory result) (self.new ≡ self.old)
+            (self.new ≡ (ordering (offered lease.now same) self.old).job) }
+        ensures index { IfOk result (λ order. order.job ≡ lease.now.job) }
+        ensures rule { IfOk result (λ order. in_force self.old.sheet order.step ≡ Some order.rule) }
+    {
+        let step = lease.step();
+        if self.cancelled || step == self.steps {
+            return Err(BookFault::Ended);
+        }
+        if !self.owns(lease, same) {
+            return Err(BookFault::StrangerLease);
+        }
+        let entry = self.sheet.entry_in_force(step);
+        let from = entry.0;
+        let rule = entry.1.share()?;
+        self.high = self.high.max(step + 1);
+        Ok(Order {
+            job: lease.job(),
+            lease: lease.number(),
+            step,
+            from,
+            rule,
+        })
+    }
+
+    /// The tally at the step to which a lease of this job's road has come.
+    fn tally_with(&self, lease: &Lease) -> StepTally
+        requires base { lease.now.base.step ≡ self.now.done }
+        requires own { IsOwnRun self.now lease.now }
+        ensures { IsUnderway (run_of self.now.seed self.now.sheet lease.now.step lease.now.road result) }
+    {
+        let _end = lease.step();
+        let mut step = self.done;
+        let mut sum = self.tally;
+        let seed = self.seed.get();
+        for ran in lease.applied() {
+            if seed.warm <= step {
+                sum = tally_sum(sum, ran.tally);
+            }
+            step += 1;
+        }
+        sum
+    }
+
+    /// The job comes to stand where a lease stands.
+    pub fn give_back(&mut self, lease: Lease, same: bool) -> Result<(), (Lease, BookFault)>
+        requires { IsTrue same → IsOwnRun self.old lease }
+        ensures reply { back_reply result ≡ (giving_back (offered lease same) self.old).reply }
+        ensures job { self.new ≡ (giving_back (offered lease same) self.old).job }
+        ensures handed { IfErr result (λ handed. handed.0 ≡ lease) }
+    {
+        if !self.owns(&lease, same) {
+            return Err((lease, BookFault::StrangerLease));
+        }
+        self.tally = self.tally_with(&lease);
+        self.done = lease.step();
+        self.road.come_to(lease.into_road());
+        self.out = None;
+        Ok(())
+    }
+
+    /// A snapshot of the job.
+    pub fn read(&self, alloc: Global) -> Result<Snapshot, AllocError>
+        ensures { IfOk result (λ seen. IsSnapshotOf self.now seen) }
+    {
+        let seed = self.seed.share()?;
+        let sheet = self.sheet.copy(alloc)?;
+        let road = self.road.share()?;
+        Ok(Snapshot {
+            seed,
+            sheet,
+            step: self.done,
+            road,
+            tally: self.tally,
+        })
+    }
+}
+
+/// Whether two keys are one.
+fn same_key(key: &Key, other: &Key) -> bool
+    ensures { IsTrue result ↔ (key.now ≡ other.now) }
+{
+    key.0 == other.0
+}

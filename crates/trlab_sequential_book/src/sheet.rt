@@ -1,0 +1,185 @@
+//! Sheets of the book: up to 1024 rules, each in force from its step on, up to that of the next.
+
+ghost use Rattle.std.specs.Prelude.{◌≡◌, ◌≤◌, ◌<◌, ◌↔◌, ◌+◌, ◌^◌, ◌∷◌, ◌++◌, [], IsTrue, IfOk, IfErr, OnOk, OnErr, length, Some, slice_get, vec_len, vec_capacity};
+ghost use Rattle.trlab_step.specs.Run.{IsSheet, in_force};
+ghost use Rattle.trlab_sequential_book.specs.Leases.{IsSteady};
+ghost use Rattle.trlab_sequential_book.specs.Sheets.{AreInForce, BeginBy, IsBookSheet, MayRefuse, entered, entry_in_force};
+ghost use Rattle.trlab_rules.specs.Rules.{Programs};
+
+use crate::boxed::BoxedRule;
+use crate::fault::BookFault;
+use crate::limits::MOST_ENTRIES;
+use crate::ran::Ran;
+use std::alloc::{AllocError, Global};
+use std::marker::Model;
+use trlab_rules::Rule;
+
+/// The rules of a job, each with the step from which on it is in force; the first begins at step 0.
+#[derive(Drop)]
+pub struct Sheet {
+    entries: Vec<(u32, BoxedRule)>,
+}
+
+impl Model for Sheet {
+    ghost use Rattle.trlab_step.specs.Run.{Sheet as Rules};
+    ghost use Rattle.trlab_sequential_book.specs.Sheets.{IsBookSheet};
+
+    ghost Value = { Rules };
+
+    ghost view = { λ sheet. sheet.entries.items };
+
+    ghost invariant = { λ sheet. IsBookSheet sheet.entries.items };
+}
+
+impl Sheet {
+    /// The sheet of one rule.
+    pub(crate) fn new(alloc: Global, rule: Rule) -> Result<Sheet, AllocError>
+        ensures { IfOk result (λ sheet. sheet ≡ (0, rule) ∷ []) }
+    {
+        let rule = BoxedRule::new(alloc, rule)?;
+        let mut entries = Vec::new(alloc);
+        entries.push((0, rule))?;
+        Ok(Sheet { entries })
+    }
+
+    /// How many entries there are, from 1 to 1024: the first is in force from step 0 on, and their steps rise.
+    pub fn len(&self) -> usize
+        ensures value { result ≡ length self.now }
+        ensures few { result ≤ 1024 }
+        ensures rules { IsSheet self.now }
+    {
+        self.entries.len()
+    }
+
+    /// An entry: the step from which on it is in force, and its rule.
+    pub fn entry(&self, index: usize) -> (u32, &Rule)
+        requires { index < length self.now }
+        ensures { slice_get self.now index ≡ Some (result.0, result.1.now) }
+    {
+        let (from, rule) = self.kept_entry(index);
+        (from, rule.get())
+    }
+
+    /// The same, with the rule as the sheet keeps it.
+    fn kept_entry(&self, index: usize) -> (u32, &BoxedRule)
+        requires { index < length self.now }
+        ensures { slice_get self.now index ≡ Some (result.0, result.1.now) }
+    {
+        let entry = &self.entries[index];
+        (entry.0, &entry.1)
+    }
+
+    /// The entry in force at a step.
+    pub(crate) fn entry_in_force(&self, step: u32) -> &(u32, BoxedRule)
+        ensures entry { entry_in_force self.now step ≡ Some result.now }
+        ensures rule { in_force self.now step ≡ Some result.now.1 }
+    {
+        let begun = self.entries.partition_point(|entry| entry.0 <= step);
+        &self.entries[begun - 1]
+    }
+
+    /// A copy of the sheet, which shares its rules.
+    ///
+    /// # Errors
+    ///
+    /// Where memory runs out.
+    pub(crate) fn copy(&self, alloc: Global) -> Result<Sheet, AllocError>
+        ensures { IfOk result (λ copy. copy ≡ self.now) }
+    {
+        let entries = copy_entries(alloc, &self.entries)?;
+        Ok(Sheet { entries })
+    }
+
+    /// Whether the rules that were applied, the first at a step, are those in force. Where it is known that
+    /// they are one rule, and the last entry begins by that step, they are compared by one comparison.
+    pub(crate) fn are_in_force(&self, first: u32, applied: &[Ran], is_steady: bool) -> bool
+        requires steps { first + length applied.now < 2 ^ 32 }
+        requires steady { IsTrue is_steady → IsSteady applied.now }
+        ensures { IsTrue result ↔ AreInForce self.now first applied.now }
+    {
+        let Some(ran) = applied.first() else {
+            return true;
+        };
+        let (from, rule) = self.kept_entry(self.len() - 1);
+        if is_steady && from <= first {
+            rule.equals(&ran.rule)
+        } else {
+            self.are_each_in_force(first, applied)
+        }
+    }
+
+    /// The same, where each rule is compared.
+    fn are_each_in_force(&self, first: u32, applied: &[Ran]) -> bool
+        requires { first + length applied.now < 2 ^ 32 }
+        ensures { IsTrue result ↔ AreInForce self.now first applied.now }
+    {
+        let mut step = first;
+        for ran in applied {
+            let entry = self.entry_in_force(step);
+            if !entry.1.equals(&ran.rule) {
+                return false;
+            }
+            step += 1;
+        }
+        true
+    }
+
+    /// Enters a rule that is in force from a step on.
+    ///
+    /// # Errors
+    ///
+    /// `SheetFull` where the sheet would have more than 1024 entries, `Memory` where an allocation was
+    /// refused. Then nothing changes.
+    pub(crate) fn enter(&mut self, from: u32, rule: Rule) -> Result<(), BookFault>
+        requires { BeginBy from self.old }
+        ensures ok { OnOk result
+            ((self.new ≡ entered self.old from rule) × (length self.new ≤ 1024) × IsSheet self.new) }
+        ensures err { IfErr result (λ fault. MayRefuse fault (entered self.old from rule)) }
+        ensures same { OnErr result (self.new ≡ self.old) }
+    {
+        let alloc = *self.entries.allocator();
+        let rule = BoxedRule::new(alloc, rule)?;
+        make_way(&mut self.entries, from)?;
+        self.entries.push_reserved((from, rule));
+        Ok(())
+    }
+}
+
+/// Has room for an entry from a step on: the last one goes where it begins there.
+fn make_way(entries: &mut Vec<(u32, BoxedRule)>, from: u32) -> Result<(), BookFault>
+    requires sheet { IsBookSheet entries.old.items }
+    requires begin { BeginBy from entries.old.items }
+    ensures ok { (rule : Programs) → OnOk result
+        (entries.new.items ++ (from, rule) ∷ [] ≡ entered entries.old.items from rule) }
+    ensures sheet { (rule : Programs) → OnOk result (IsBookSheet (entries.new.items ++ (from, rule) ∷ [])) }
+    ensures room { OnOk result (vec_len entries.new < vec_capacity entries.new) }
+    ensures err { (rule : Programs) → IfErr result (λ fault. MayRefuse fault (entered entries.old.items from rule)) }
+    ensures same { OnErr result (entries.new.items ≡ entries.old.items) }
+{
+    let Some(last) = entries.pop() else {
+        unreachable!()
+    };
+    if last.0 == from {
+        return Ok(());
+    }
+    entries.push_reserved(last);
+    if entries.len() >= MOST_ENTRIES {
+        return Err(BookFault::SheetFull);
+    }
+    Ok(entries.reserve(1)?)
+}
+
+/// A copy of a list of entries, which shares their rules.
+fn copy_entries(
+    alloc: Global,
+    entries: &[(u32, BoxedRule)],
+) -> Result<Vec<(u32, BoxedRule)>, AllocError>
+    ensures { IfOk result (λ copies. copies.items ≡ entries.now) }
+{
+    let mut copies = Vec::with_capacity(alloc, entries.len())?;
+    for entry in entries {
+        let rule = entry.1.share()?;
+        copies.push_reserved((entry.0, rule));
+    }
+    Ok(copies)
+}
