@@ -125,6 +125,13 @@ def sources_are_shown_as_they_are():
             yield is_same, f"{name} shows {path} otherwise than it is"
 
 
+def figure_is_of_the_table():
+    """The figure of speeds is what the script draws of the table."""
+    words = ["awk", "-f", "docs/speed.awk", "docs/SPEED.md"]
+    drawn = subprocess.run(words, cwd=TOP, capture_output=True, text=True).stdout
+    yield drawn == content("docs/speed.svg"), "docs/speed.svg is not the figure of the table in docs/SPEED.md"
+
+
 def readme_is_short():
     lines = content("README.md").count("\n")
     yield lines <= MOST_LINES_OF_README, f"README.md has {lines} lines, and is to have {MOST_LINES_OF_README} at most"
@@ -137,6 +144,7 @@ def verdicts():
         links_lead_somewhere,
         versions_agree,
         sources_are_shown_as_they_are,
+        figure_is_of_the_table,
         readme_is_short,
     ):
         yield from tried()
