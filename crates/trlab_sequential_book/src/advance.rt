@@ -113,8 +113,8 @@ impl Lease {
     }
 }
 
-/// Takes a step of the road of a lease, which nothing else has: where something had, that would be told as memory
-/// that ran out.
+/// Takes a step of the road of a lease, which nothing else has: where something had, that would be told as if
+/// memory had run out.
 fn step_alone<A: Asker>(
     asking: &Asking<A>,
     road: &mut Arc<Road, Global>,
