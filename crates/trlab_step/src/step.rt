@@ -21,6 +21,7 @@ use trlab_verify::{Change, Motion};
 use trlab_words::Key;
 
 /// How the cars of a step are asked: by whom, and with which dice.
+#[derive(Drop)]
 pub struct Asking<'a, A> {
     pub asker: &'a A,
     pub alloc: Global,
