@@ -1,9 +1,10 @@
-pub mod Places
+pub mod Variables
 pub mod Bits
 pub mod Filling
 pub mod Tables
 pub mod Fits
 pub mod Steps
 pub mod Order
+pub mod Growth
 pub mod Monotone
 pub mod Closure
