@@ -17,11 +17,11 @@ use Rattle.trlab_campaign.specs.SeriesOutput.{SeriesOutput}
 use Rattle.trlab_campaign.specs.Counting.{SeriesEnds, WroteSeries, WroteSomeSeries}
 use Rattle.trlab_campaign.specs.Ending.{EndsSo, OutputEnds, WrotePictures, WroteSome, JobEnds}
 use Rattle.trlab_diagram.specs.Series.{series_text}
-use Rattle.trlab_campaign.proofs.KnownBytes.{front_kept}
+use Rattle.trlab_campaign.proofs.KnownBytes.{prefix_kept}
 
 -- all pictures were written, and the last call kept the bytes
 pub pictures_kept : (job : Job) (old a b : Option (List ℕ)) → WrotePictures job old a → Keeps a b → WroteSome job old b
-pictures_kept job old a b wrote keeps = (wrote.0, wrote.1, wrote.2, front_kept old a b wrote.0 wrote.3 keeps)
+pictures_kept job old a b wrote keeps = (wrote.0, wrote.1, wrote.2, prefix_kept old a b wrote.0 wrote.3 keeps)
 
 -- a whole output of a text, whose writing ended so
 pub output_ends : (IsWhole : Outputs) (refused : Bool) (out : List ℕ) (e : End) (old new : Option (List ℕ)) → IsWhole refused out
@@ -37,11 +37,11 @@ pub text_ends : (Output : Job → Outputs) (e : End) (text : List ℕ) (job : Jo
 text_ends Output Done text job old new says ends = (ends.0, ((Ok job, (says, ends.1.0)), ends.1.1))
 text_ends Output Refused text job old new says ends = (ends.0, ((Ok job, (says, ends.1.0)), ends.1.1))
 text_ends Output Memory text job old new says (inl kept) = inl kept
-text_ends Output Memory text job old new says (inr front) =
-    inr (front.0, (front.1.0, ((Ok job, (says, front.1.1.0)), front.1.1.1)))
+text_ends Output Memory text job old new says (inr prefix) =
+    inr (prefix.0, (prefix.1.0, ((Ok job, (says, prefix.1.1.0)), prefix.1.1.1)))
 text_ends Output DeviceFault text job old new says (inl kept) = inl kept
-text_ends Output DeviceFault text job old new says (inr front) =
-    inr (front.0, (front.1.0, ((Ok job, (says, front.1.1.0)), front.1.1.1)))
+text_ends Output DeviceFault text job old new says (inr prefix) =
+    inr (prefix.0, (prefix.1.0, ((Ok job, (says, prefix.1.1.0)), prefix.1.1.1)))
 
 -- the run of a job
 pub job_ends : (e : End) (job : Job) (old new : Option (List ℕ)) → JobEnds e job old new → EndsSo (JobOutput job) e old new
@@ -92,4 +92,4 @@ series_ends every from DeviceFault job old new ends =
 
 -- the whole table was written, and the last call kept the bytes
 pub series_kept : (every from : ℕ) (job : Job) (old a b : Option (List ℕ)) → WroteSeries every from job old a → Keeps a b → WroteSomeSeries every from job old b
-series_kept every from job old a b wrote keeps = (wrote.0, wrote.1, front_kept old a b (series_text wrote.0) wrote.2 keeps)
+series_kept every from job old a b wrote keeps = (wrote.0, wrote.1, prefix_kept old a b (series_text wrote.0) wrote.2 keeps)

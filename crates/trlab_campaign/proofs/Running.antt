@@ -9,11 +9,11 @@ use Rattle.trlab_step.proofs.RunLaws.{run_comes_to_road, road_at_is_one}
 use Rattle.trlab_step.specs.Progress.{Progress, IsOneStepOn, at_start}
 use Rattle.trlab_jobs.specs.Job.{Job, seed_of, sheet_of}
 use Rattle.trlab_jobs.specs.Stored.{IsStored}
-use Rattle.trlab_campaign.specs.Device.{AppendsFront}
+use Rattle.trlab_campaign.specs.Device.{AppendsPrefix}
 use Rattle.trlab_campaign.specs.Output.{step_text, steps_text}
 use Rattle.trlab_campaign.specs.Ending.{WrotePictures, WroteSome}
 use Rattle.trlab_campaign.proofs.Sheets.{plain_sheet}
-use Rattle.trlab_campaign.proofs.Owed.{Owes, owes_all, owes_less, owes_front, owes_none}
+use Rattle.trlab_campaign.proofs.Owed.{Owes, owes_all, owes_less, owes_prefix, owes_none}
 
 -- the text of so many steps from one on
 abbrev pub text_from : (ℕ → Cells) → ℕ → ℕ → List ℕ
@@ -114,13 +114,13 @@ went_on job step left old now w = record { roads = w.roads; each = w.each; ends 
 
 -- it stops within the text of a step
 stop_within : (job : Job) (step left : ℕ) (road : Cells) (old a b : Option (List ℕ)) → Underway job step left old a
-    → IsRoadAt (seed_of job) (sheet_of job) step road → AppendsFront a b (step_text step road) → WroteSome job old b
+    → IsRoadAt (seed_of job) (sheet_of job) step road → AppendsPrefix a b (step_text step road) → WroteSome job old b
 stop_within job step left road old a b u at text =
     let whole = steps_text u.roads (job.steps + 1) in (
       whole,
       u.roads,
       record { road_at = λ s _. u.each s; pictures = refl },
-      owes_front whole (step_text step (u.roads step)) (text_from u.roads (step + 1) left) old a b (rw (next_text u.roads step left) at u.owes)
+      owes_prefix whole (step_text step (u.roads step)) (text_from u.roads (step + 1) left) old a b (rw (next_text u.roads step left) at u.owes)
           (rw (here job u.roads step road u.each at) text),
     )
 
@@ -142,7 +142,7 @@ step_on steps step left start run next old a b writes road text on job begins =
 
 -- it stops within the text of a step of the run
 pub step_stops : (steps step left : ℕ) (start run : Progress) (old a b : Option (List ℕ)) → Writes steps start step left run old a
-    → IsRoadAt run.seed run.sheet run.step run.road → AppendsFront a b (step_text step run.road) → (job : Job) → Begins job steps start → WroteSome job old b
+    → IsRoadAt run.seed run.sheet run.step run.road → AppendsPrefix a b (step_text step run.road) → (job : Job) → Begins job steps start → WroteSome job old b
 step_stops steps step left start run old a b writes road text job begins =
     let here = writes job begins in
     stop_within job step left run.road old a b here.0 (driven_road job step run run.road here.1 road) text
@@ -159,9 +159,9 @@ last_whole (Ok x) steps start run road old a b writes at text job begins =
     all_written job steps road old a b here.0 (driven_road job steps run road here.1 at) text
 last_whole (Err e) steps start run road old a b writes at text job begins = tt
 
-pub last_front : {E : Type 0} (r : Result (Unit {0}) E) (steps : ℕ) (start run : Progress) (road : Cells) (old a b : Option (List ℕ)) → Writes steps start steps 0 run old a
-    → IsRoadAt run.seed run.sheet run.step road → OnErr r (AppendsFront a b (step_text steps road)) → (job : Job) → Begins job steps start → OnErr r (WroteSome job old b)
-last_front (Ok x) steps start run road old a b writes at text job begins = tt
-last_front (Err e) steps start run road old a b writes at text job begins =
+pub last_prefix : {E : Type 0} (r : Result (Unit {0}) E) (steps : ℕ) (start run : Progress) (road : Cells) (old a b : Option (List ℕ)) → Writes steps start steps 0 run old a
+    → IsRoadAt run.seed run.sheet run.step road → OnErr r (AppendsPrefix a b (step_text steps road)) → (job : Job) → Begins job steps start → OnErr r (WroteSome job old b)
+last_prefix (Ok x) steps start run road old a b writes at text job begins = tt
+last_prefix (Err e) steps start run road old a b writes at text job begins =
     let here = writes job begins in
     stop_within job steps 0 road old a b here.0 (driven_road job steps run road here.1 at) text

@@ -6,7 +6,7 @@ use Rattle.std.specs.Io.KnownBytes.{Appends}
 use Rattle.trlab_diagram.specs.Series.{series_text, window_text}
 use Rattle.trlab_road.specs.Cells.{Cells}
 use Rattle.trlab_step.specs.declared.tally.StepTally.{StepTally}
-use Rattle.trlab_campaign.specs.Device.{AppendsFront}
+use Rattle.trlab_campaign.specs.Device.{AppendsPrefix}
 use Rattle.trlab_step.specs.Progress.{Progress, at_start}
 use Rattle.trlab_jobs.specs.Job.{Job, seed_of, sheet_of}
 use Rattle.trlab_jobs.specs.Stored.{IsStored}
@@ -15,7 +15,7 @@ use Rattle.trlab_campaign.specs.SeriesOutput.{IsCourse, IsSeries, first_windows,
 use Rattle.trlab_campaign.proofs.Courses.{course_of}
 use Rattle.trlab_campaign.proofs.KnownBytes.{appends_more}
 use Rattle.trlab_campaign.proofs.Sheets.{plain_sheet}
-use Rattle.trlab_campaign.proofs.Owed.{Owes, owes_all, owes_front, owes_less}
+use Rattle.trlab_campaign.proofs.Owed.{Owes, owes_all, owes_prefix, owes_less}
 
 -- the lines of so many windows from window k on
 abbrev pub lines_from : (ℕ → Cells) → (ℕ → StepTally) → ℕ → ℕ → ℕ → ℕ → List ℕ
@@ -34,32 +34,32 @@ line_on roads tallies every from k left step whole old a b is owes text =
     owes_less whole (window_text (nth_window roads tallies every from k)) (lines_from roads tallies every from (k + 1) left) old a b
     (rw (next_line roads tallies every from k left) at owes) (rw is at text)
 
--- or a front of it
+-- or a prefix of it
 pub line_stops : (roads : ℕ → Cells) (tallies : ℕ → StepTally) (every from k left step : ℕ) (whole : List ℕ) (old a b : Option (List ℕ)) → step ≡ from + k * every
-    → Owes whole (lines_from roads tallies every from k (left + 1)) old a → AppendsFront a b (window_text (window_of roads tallies step every)) → AppendsFront old b whole
+    → Owes whole (lines_from roads tallies every from k (left + 1)) old a → AppendsPrefix a b (window_text (window_of roads tallies step every)) → AppendsPrefix old b whole
 line_stops roads tallies every from k left step whole old a b is owes text =
-    owes_front whole (window_text (nth_window roads tallies every from k)) (lines_from roads tallies every from (k + 1) left) old a b
+    owes_prefix whole (window_text (nth_window roads tallies every from k)) (lines_from roads tallies every from (k + 1) left) old a b
     (rw (next_line roads tallies every from k left) at owes) (rw is at text)
 
 -- the next window begins where this one ends
 pub next_at : (from k every step next : ℕ) → step ≡ from + k * every → next ≡ step + every → next ≡ from + (k + 1) * every
 next_at from k every step next at later = omega (arith, at, later)
 
--- a front of a text is one of a text that begins with it
-pub front_of_first : (first rest : List ℕ) (old new : Option (List ℕ)) → AppendsFront old new first → AppendsFront old new (first ++ rest)
-front_of_first first rest old new front = owes_front (first ++ rest) first rest old old new (owes_all (first ++ rest) old) front
+-- a prefix of a text is one of a text that begins with it
+pub prefix_of_first : (first rest : List ℕ) (old new : Option (List ℕ)) → AppendsPrefix old new first → AppendsPrefix old new (first ++ rest)
+prefix_of_first first rest old new prefix = owes_prefix (first ++ rest) first rest old old new (owes_all (first ++ rest) old) prefix
 
--- a text was written, and then another one, or a front of that
+-- a text was written, and then another one, or a prefix of that
 pub then_whole : {E : Type 0} (r : Result (Unit {0}) E) (first rest : List ℕ) (old mid new : Option (List ℕ)) → Appends old mid first → OnOk r (Appends mid new rest)
     → OnOk r (Appends old new (first ++ rest))
 then_whole (Ok x) first rest old mid new a b = appends_more old mid new first rest a b
 then_whole (Err e) first rest old mid new a b = tt
 
-pub then_front : {E : Type 0} (r : Result (Unit {0}) E) (first rest : List ℕ) (old mid new : Option (List ℕ)) → Appends old mid first → OnErr r (AppendsFront mid new rest)
-    → OnErr r (AppendsFront old new (first ++ rest))
-then_front (Ok x) first rest old mid new a b = tt
-then_front (Err e) first rest old mid new a b =
-    owes_front (first ++ rest) rest [] old mid new (record { done = first; parts = ap (λ t. first ++ t) (sym (append-nil rest)); wrote = a }) b
+pub then_prefix : {E : Type 0} (r : Result (Unit {0}) E) (first rest : List ℕ) (old mid new : Option (List ℕ)) → Appends old mid first → OnErr r (AppendsPrefix mid new rest)
+    → OnErr r (AppendsPrefix old new (first ++ rest))
+then_prefix (Ok x) first rest old mid new a b = tt
+then_prefix (Err e) first rest old mid new a b =
+    owes_prefix (first ++ rest) rest [] old mid new (record { done = first; parts = ap (λ t. first ++ t) (sym (append-nil rest)); wrote = a }) b
 
 -- the series of a job, of which the run is that from its start
 module _ (job : Job) (every from count steps : ℕ) (run : Progress) (stored : IsStored job) (starts : run ≡ at_start (seed_of job) (sheet_of job)) (ends : steps ≡ job.steps)
@@ -79,8 +79,8 @@ module _ (job : Job) (every from count steps : ℕ) (run : Progress) (stored : I
   whole_series (Ok x) old new told = (first_windows job_course.0 job_course.1 every from count, is_series, told job_course.0 job_course.1 run_course)
   whole_series (Err e) old new told = tt
 
-  pub front_series : {E : Type 0} (r : Result (Unit {0}) E) (old new : Option (List ℕ))
-      → ((roads : ℕ → Cells) (tallies : ℕ → StepTally) → IsCourse run.seed run.sheet roads tallies → OnErr r (AppendsFront old new (series_text (first_windows roads tallies every from count))))
+  pub prefix_series : {E : Type 0} (r : Result (Unit {0}) E) (old new : Option (List ℕ))
+      → ((roads : ℕ → Cells) (tallies : ℕ → StepTally) → IsCourse run.seed run.sheet roads tallies → OnErr r (AppendsPrefix old new (series_text (first_windows roads tallies every from count))))
       → OnErr r (WroteSomeSeries every from job old new)
-  front_series (Ok x) old new told = tt
-  front_series (Err e) old new told = (first_windows job_course.0 job_course.1 every from count, is_series, told job_course.0 job_course.1 run_course)
+  prefix_series (Ok x) old new told = tt
+  prefix_series (Err e) old new told = (first_windows job_course.0 job_course.1 every from count, is_series, told job_course.0 job_course.1 run_course)

@@ -5,7 +5,7 @@ use Rattle.trlab_step.specs.Progress.{Progress}
 use Rattle.trlab_jobs.specs.Job.{Job}
 use Rattle.trlab_campaign.specs.declared.end.End.{End}
 use Rattle.trlab_campaign.specs.declared.end.End.TheVariants.{Done, Refused, Memory, DeviceFault}
-use Rattle.trlab_campaign.specs.Device.{AppendsFront}
+use Rattle.trlab_campaign.specs.Device.{AppendsPrefix}
 use Rattle.trlab_campaign.specs.SeriesOutput.{IsSeries}
 use Rattle.trlab_diagram.specs.declared.window.LaneCount.{LaneCount}
 use Rattle.trlab_diagram.specs.declared.window.Window.{Window}
@@ -28,10 +28,10 @@ abbrev pub WroteSeries : ℕ → ℕ → Job → Option (List ℕ) → Option (L
 WroteSeries every from job old new =
     (windows : List Window) × IsSeries job every from windows × Appends old new (series_text windows)
 
--- a front of it was written
+-- a prefix of it was written
 abbrev pub WroteSomeSeries : ℕ → ℕ → Job → Option (List ℕ) → Option (List ℕ) → Type 0
 WroteSomeSeries every from job old new =
-    (windows : List Window) × IsSeries job every from windows × AppendsFront old new (series_text windows)
+    (windows : List Window) × IsSeries job every from windows × AppendsPrefix old new (series_text windows)
 
 -- the series of a job ended so
 abbrev pub SeriesEnds : ℕ → ℕ → End → Job → Option (List ℕ) → Option (List ℕ) → Type 0

@@ -4,7 +4,7 @@ use Rattle.std.specs.Io.KnownBytes.{Appends, Keeps}
 use Rattle.trlab_road.specs.Cells.{Cells}
 use Rattle.trlab_campaign.specs.declared.end.End.{End}
 use Rattle.trlab_campaign.specs.declared.end.End.TheVariants.{Done, Refused, Memory, DeviceFault}
-use Rattle.trlab_campaign.specs.Device.{AppendsFront}
+use Rattle.trlab_campaign.specs.Device.{AppendsPrefix}
 use Rattle.trlab_campaign.specs.Flushes.{AtMostOnce, HandedOnce}
 use Rattle.trlab_campaign.specs.declared.device.flushes.Flushes.{Flushes}
 use Rattle.trlab_jobs.specs.Job.{Job}
@@ -15,18 +15,18 @@ use Rattle.trlab_campaign.specs.Refusal.{Outputs}
 abbrev pub WroteAll : Outputs → Bool → Option (List ℕ) → Option (List ℕ) → Type 0
 WroteAll IsWhole refused old new = (out : List ℕ) × (IsWhole refused out × Appends old new out)
 
--- nothing was written, or a front of a whole output
-abbrev pub WroteFront : Outputs → Option (List ℕ) → Option (List ℕ) → Type 0
-WroteFront IsWhole old new =
+-- nothing was written, or a prefix of a whole output
+abbrev pub WrotePrefix : Outputs → Option (List ℕ) → Option (List ℕ) → Type 0
+WrotePrefix IsWhole old new =
     Keeps old new
-    ⊎ ((refused : Bool) × ((out : List ℕ) × (IsWhole refused out × AppendsFront old new out)))
+    ⊎ ((refused : Bool) × ((out : List ℕ) × (IsWhole refused out × AppendsPrefix old new out)))
 
 -- an engine ended so: a text with a fault, or a program that is refused, has an output that is a refusal
 abbrev pub EndsSo : Outputs → End → Option (List ℕ) → Option (List ℕ) → Type 0
 EndsSo IsWhole Done old new = WroteAll IsWhole false old new
 EndsSo IsWhole Refused old new = WroteAll IsWhole true old new
-EndsSo IsWhole Memory old new = WroteFront IsWhole old new
-EndsSo IsWhole DeviceFault old new = WroteFront IsWhole old new
+EndsSo IsWhole Memory old new = WrotePrefix IsWhole old new
+EndsSo IsWhole DeviceFault old new = WrotePrefix IsWhole old new
 
 -- an engine left its writer so: a whole output was handed on by one flush, there was none where memory
 -- ran out, and one or none where a device failed
@@ -40,18 +40,18 @@ HandsOn DeviceFault handed_on old new = AtMostOnce old new
 abbrev pub OutputEnds : Bool → List ℕ → End → Option (List ℕ) → Option (List ℕ) → Type 0
 OutputEnds refused out Done old new = (refused ≡ false) × Appends old new out
 OutputEnds refused out Refused old new = (refused ≡ true) × Appends old new out
-OutputEnds refused out Memory old new = AppendsFront old new out
-OutputEnds refused out DeviceFault old new = AppendsFront old new out
+OutputEnds refused out Memory old new = AppendsPrefix old new out
+OutputEnds refused out DeviceFault old new = AppendsPrefix old new out
 
 -- the pictures of a job's road at each step were written
 abbrev pub WrotePictures : Job → Option (List ℕ) → Option (List ℕ) → Type 0
 WrotePictures job old new =
     (out : List ℕ) × (roads : ℕ → Cells) × IsRunText job roads out × Appends old new out
 
--- a front of them was written
+-- a prefix of them was written
 abbrev pub WroteSome : Job → Option (List ℕ) → Option (List ℕ) → Type 0
 WroteSome job old new =
-    (out : List ℕ) × (roads : ℕ → Cells) × IsRunText job roads out × AppendsFront old new out
+    (out : List ℕ) × (roads : ℕ → Cells) × IsRunText job roads out × AppendsPrefix old new out
 
 -- the run of a job ended so
 abbrev pub JobEnds : End → Job → Option (List ℕ) → Option (List ℕ) → Type 0

@@ -49,7 +49,7 @@ impl Engine for Judge {
 /// first fault.
 ///
 /// The whole text is read and judged before a byte is written. Where memory runs out or a call of
-/// the reader or writer fails, what was written is the front of the whole output.
+/// the reader or writer fails, what was written is a prefix of the whole output.
 pub fn check_text<R: AllocGlobal, S: Source, K: Sink>(rt: &R, reader: &mut S, writer: &mut K) -> End
     requires reader_works { S.failed reader.old ≡ false }
     requires writer_works { K.failed writer.old ≡ false }

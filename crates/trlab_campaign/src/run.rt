@@ -49,7 +49,7 @@ impl Account for StepPictures {
 /// first fault.
 ///
 /// The whole text is read and judged before a byte is written. Where memory runs out or a call of
-/// the reader or writer fails, what was written is the front of the whole output. The output does
+/// the reader or writer fails, what was written is a prefix of the whole output. The output does
 /// not depend on the number of workers, 1 to 16, of whom only those are started that make the
 /// run faster, once for the whole run.
 pub fn run_job_text<R: AllocGlobal + Threads + Wait + Sync, S: Source, K: Sink>(

@@ -55,7 +55,7 @@ impl<'a> Account for Series<'a> {
 ///
 /// The whole text is read and judged before a byte is written, and the line of a window is written once
 /// the steps of the window are taken. Where memory runs out or a call of the reader or writer fails, what
-/// was written is the front of the whole output. The output does not depend on the number of workers, 1
+/// was written is a prefix of the whole output. The output does not depend on the number of workers, 1
 /// to 16, of whom only those are started that make the run faster, once for the whole run.
 pub fn run_series_text<R: AllocGlobal + Threads + Wait + Sync, S: Source, K: Sink>(
     rt: &R,

@@ -78,7 +78,7 @@ impl<T: Fn(Global, &Sweep) -> Result<Vec<u8>, AllocError> + Drop> Engine for Sur
 /// Reads a sweep text, and writes the table of its points, or the line of the text's first fault.
 ///
 /// The whole text is read and judged, and all points are there, before a byte is written. Where
-/// memory runs out or a call of the reader or writer fails, what was written is the front of the
+/// memory runs out or a call of the reader or writer fails, what was written is a prefix of the
 /// whole output. The roads are the jobs of a book, which so many runners take, each with so many
 /// workers, 1 to 16; the output depends on neither number.
 pub fn run_sweep_text<R: AllocGlobal + Threads + Wait + Sync, S: Source, K: Sink>(

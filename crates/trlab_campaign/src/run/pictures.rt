@@ -6,7 +6,7 @@ ghost use Rattle.trlab_jobs.specs.Job.{Job as Told, seed_of, sheet_of};
 ghost use Rattle.trlab_jobs.specs.Stored.{IsStored};
 ghost use Rattle.trlab_step.specs.Progress.{IsOneStepOn, at_start};
 ghost use Rattle.trlab_step.specs.Run.{IsRoadAt};
-ghost use Rattle.trlab_campaign.specs.Device.{AppendsFront};
+ghost use Rattle.trlab_campaign.specs.Device.{AppendsPrefix};
 ghost use Rattle.trlab_campaign.specs.Ending.{HandsOn, JobEnds, WrotePictures, WroteSome};
 ghost use Rattle.trlab_campaign.specs.Output.{step_text};
 ghost use Rattle.trlab_campaign.specs.declared.end.End.TheVariants.{DeviceFault};
@@ -47,8 +47,8 @@ fn write_made<K: Sink>(text: &StepText, writer: &mut K) -> Result<(), WriteFault
     requires { K.failed writer.old ≡ false }
     ensures whole { (bytes : List ℕ) → OnOk text.now.made (text.now.bytes.items ≡ bytes)
         → OnOk result (Appends (K.written writer.old) (K.written writer.new) bytes) }
-    ensures front { (bytes : List ℕ) → OnOk text.now.made (text.now.bytes.items ≡ bytes)
-        → OnErr result (AppendsFront (K.written writer.old) (K.written writer.new) bytes) }
+    ensures prefix { (bytes : List ℕ) → OnOk text.now.made (text.now.bytes.items ≡ bytes)
+        → OnErr result (AppendsPrefix (K.written writer.old) (K.written writer.new) bytes) }
     ensures works { OnOk result (K.failed writer.new ≡ false) }
     ensures fails { IfErr result (λ fault. (fault ≡ Device) ↔ (K.failed writer.new ≡ true)) }
     ensures flushed { K.flushes writer.new ≡ K.flushes writer.old }
@@ -77,8 +77,8 @@ fn show_step<A: Asker, K: Sink>(
     ensures road { IsRoadAt run.old.seed run.old.sheet run.old.step run.old.road }
     ensures whole { OnOk result
         (Appends (K.written writer.old) (K.written writer.new) (step_text step run.old.road)) }
-    ensures front { OnErr result
-        (AppendsFront (K.written writer.old) (K.written writer.new) (step_text step run.old.road)) }
+    ensures prefix { OnErr result
+        (AppendsPrefix (K.written writer.old) (K.written writer.new) (step_text step run.old.road)) }
     ensures on { OnOk result (IsOneStepOn run.old run.new) }
     ensures works { OnOk result (K.failed writer.new ≡ false) }
     ensures fails { IfErr result (λ fault. (fault ≡ Device) ↔ (K.failed writer.new ≡ true)) }
@@ -103,8 +103,8 @@ fn show_last<K: Sink>(
     requires { K.failed writer.old ≡ false }
     ensures whole { OnOk result
         (Appends (K.written writer.old) (K.written writer.new) (step_text step road.now)) }
-    ensures front { OnErr result
-        (AppendsFront (K.written writer.old) (K.written writer.new) (step_text step road.now)) }
+    ensures prefix { OnErr result
+        (AppendsPrefix (K.written writer.old) (K.written writer.new) (step_text step road.now)) }
     ensures works { OnOk result (K.failed writer.new ≡ false) }
     ensures fails { IfErr result (λ fault. (fault ≡ Device) ↔ (K.failed writer.new ≡ true)) }
     ensures flushed { K.flushes writer.new ≡ K.flushes writer.old }
@@ -127,7 +127,7 @@ fn write_run<A: Asker, K: Sink>(
     requires start { run.old.step ≡ 0 }
     ensures whole { (job : Told) → IsStored job → run.old ≡ at_start (seed_of job) (sheet_of job) → steps ≡ job.steps
         → OnOk result (WrotePictures job (K.written writer.old) (K.written writer.new)) }
-    ensures front { (job : Told) → IsStored job → run.old ≡ at_start (seed_of job) (sheet_of job) → steps ≡ job.steps
+    ensures prefix { (job : Told) → IsStored job → run.old ≡ at_start (seed_of job) (sheet_of job) → steps ≡ job.steps
         → OnErr result (WroteSome job (K.written writer.old) (K.written writer.new)) }
     ensures works { OnOk result (K.failed writer.new ≡ false) }
     ensures fails { IfErr result (λ fault. (fault ≡ Device) ↔ (K.failed writer.new ≡ true)) }
@@ -151,7 +151,7 @@ fn write_pictures<A: Asker, K: Sink>(
     requires works { K.failed writer.old ≡ false }
     ensures whole { OnOk result
         (WrotePictures job (K.written writer.old) (K.written writer.new)) }
-    ensures front { OnErr result
+    ensures prefix { OnErr result
         (WroteSome job (K.written writer.old) (K.written writer.new)) }
     ensures works { OnOk result (K.failed writer.new ≡ false) }
     ensures fails { IfErr result (λ fault. (fault ≡ Device) ↔ (K.failed writer.new ≡ true)) }

@@ -9,7 +9,7 @@ ghost use Rattle.trlab_diagram.specs.Table.{line_text};
 ghost use Rattle.trlab_road.specs.Cells.{Cells};
 ghost use Rattle.trlab_step.specs.declared.tally.StepTally.{StepTally};
 ghost use Rattle.trlab_campaign.specs.Counting.{IsStepsOn, SeriesEnds, WroteSeries, WroteSomeSeries};
-ghost use Rattle.trlab_campaign.specs.Device.{AppendsFront};
+ghost use Rattle.trlab_campaign.specs.Device.{AppendsPrefix};
 ghost use Rattle.trlab_campaign.specs.Ending.{HandsOn};
 ghost use Rattle.trlab_campaign.specs.SeriesOutput.{IsCourse, first_windows, window_of};
 ghost use Rattle.trlab_campaign.specs.declared.end.End.TheVariants.{DeviceFault};
@@ -53,8 +53,8 @@ fn write_line<K: Sink>(
     requires { K.failed writer.old ≡ false }
     ensures whole { (bytes : List ℕ) → IfOk line (λ line. line.items ≡ bytes)
         → OnOk result (Appends (K.written writer.old) (K.written writer.new) bytes) }
-    ensures front { (bytes : List ℕ) → IfOk line (λ line. line.items ≡ bytes)
-        → OnErr result (AppendsFront (K.written writer.old) (K.written writer.new) bytes) }
+    ensures prefix { (bytes : List ℕ) → IfOk line (λ line. line.items ≡ bytes)
+        → OnErr result (AppendsPrefix (K.written writer.old) (K.written writer.new) bytes) }
     ensures works { OnOk result (K.failed writer.new ≡ false) }
     ensures fails { IfErr result (λ fault. (fault ≡ Device) ↔ (K.failed writer.new ≡ true)) }
     ensures flushed { K.flushes writer.new ≡ K.flushes writer.old }
@@ -86,8 +86,8 @@ fn write_window<A: Asker, K: Sink>(
     ensures whole { (roads : ℕ → Cells) (tallies : ℕ → StepTally) → IsCourse run.old.seed run.old.sheet roads tallies
         → OnOk result (Appends (K.written writer.old) (K.written writer.new)
         (window_text (window_of roads tallies run.old.step every))) }
-    ensures front { (roads : ℕ → Cells) (tallies : ℕ → StepTally) → IsCourse run.old.seed run.old.sheet roads tallies
-        → OnErr result (AppendsFront (K.written writer.old) (K.written writer.new)
+    ensures prefix { (roads : ℕ → Cells) (tallies : ℕ → StepTally) → IsCourse run.old.seed run.old.sheet roads tallies
+        → OnErr result (AppendsPrefix (K.written writer.old) (K.written writer.new)
         (window_text (window_of roads tallies run.old.step every))) }
     ensures on { OnOk result (IsStepsOn every run.old run.new) }
     ensures works { OnOk result (K.failed writer.new ≡ false) }
@@ -115,8 +115,8 @@ fn write_windows<A: Asker, K: Sink>(
     ensures whole { (roads : ℕ → Cells) (tallies : ℕ → StepTally) → IsCourse run.old.seed run.old.sheet roads tallies
         → OnOk result (Appends (K.written writer.old) (K.written writer.new)
         (flat_map window_text (first_windows roads tallies windows.now.every windows.now.from count))) }
-    ensures front { (roads : ℕ → Cells) (tallies : ℕ → StepTally) → IsCourse run.old.seed run.old.sheet roads tallies
-        → OnErr result (AppendsFront (K.written writer.old) (K.written writer.new)
+    ensures prefix { (roads : ℕ → Cells) (tallies : ℕ → StepTally) → IsCourse run.old.seed run.old.sheet roads tallies
+        → OnErr result (AppendsPrefix (K.written writer.old) (K.written writer.new)
         (flat_map window_text (first_windows roads tallies windows.now.every windows.now.from count))) }
     ensures works { OnOk result (K.failed writer.new ≡ false) }
     ensures fails { IfErr result (λ fault. (fault ≡ Device) ↔ (K.failed writer.new ≡ true)) }
@@ -151,8 +151,8 @@ fn write_table<A: Asker, K: Sink>(
     ensures whole { (roads : ℕ → Cells) (tallies : ℕ → StepTally) → IsCourse run.old.seed run.old.sheet roads tallies
         → OnOk result (Appends (K.written writer.old) (K.written writer.new)
         (series_text (first_windows roads tallies windows.now.every windows.now.from count))) }
-    ensures front { (roads : ℕ → Cells) (tallies : ℕ → StepTally) → IsCourse run.old.seed run.old.sheet roads tallies
-        → OnErr result (AppendsFront (K.written writer.old) (K.written writer.new)
+    ensures prefix { (roads : ℕ → Cells) (tallies : ℕ → StepTally) → IsCourse run.old.seed run.old.sheet roads tallies
+        → OnErr result (AppendsPrefix (K.written writer.old) (K.written writer.new)
         (series_text (first_windows roads tallies windows.now.every windows.now.from count))) }
     ensures works { OnOk result (K.failed writer.new ≡ false) }
     ensures fails { IfErr result (λ fault. (fault ≡ Device) ↔ (K.failed writer.new ≡ true)) }
@@ -174,7 +174,7 @@ fn write_series<A: Asker, K: Sink>(
     requires works { K.failed writer.old ≡ false }
     ensures whole { OnOk result (WroteSeries windows.now.every windows.now.from job
         (K.written writer.old) (K.written writer.new)) }
-    ensures front { OnErr result (WroteSomeSeries windows.now.every windows.now.from job
+    ensures prefix { OnErr result (WroteSomeSeries windows.now.every windows.now.from job
         (K.written writer.old) (K.written writer.new)) }
     ensures works { OnOk result (K.failed writer.new ≡ false) }
     ensures fails { IfErr result (λ fault. (fault ≡ Device) ↔ (K.failed writer.new ≡ true)) }

@@ -1,6 +1,6 @@
 use Rattle.std.proofs.lemmas.Result.{err_from_is_err_and}
 use Rattle.std.proofs.Common.{refl}
-use Rattle.trlab_campaign.proofs.KnownBytes.{front_whole}
+use Rattle.trlab_campaign.proofs.KnownBytes.{prefix_whole}
 use Rattle.trlab_campaign.proofs.Faults.{by_memory}
 use Rattle.trlab_campaign.proofs.run.pictures.show_step.Goals as goal
 
@@ -10,7 +10,7 @@ returns-in_err-write_made g c =
     record {
       road = c.advance_showing-advanced.ensures.run;
       whole = rw fault.1 tt;
-      front = rw fault.1 (c.in_err-write_made.ensures.front _ c.advance_showing-advanced.ensures.seen);
+      prefix = rw fault.1 (c.in_err-write_made.ensures.prefix _ c.advance_showing-advanced.ensures.seen);
       on = rw fault.1 tt;
       works = rw fault.1 tt;
       fails = rw (fault.1, fault.2) c.in_err-write_made.ensures.fails;
@@ -21,7 +21,7 @@ pub returns-in-Err : goal.returns-in-Err
 returns-in-Err g c = record {
   road = c.advance_showing-advanced.ensures.run;
   whole = tt;
-  front = front_whole _ _ _ (c.in_ok-write_made.ensures.whole _ c.advance_showing-advanced.ensures.seen);
+  prefix = prefix_whole _ _ _ (c.in_ok-write_made.ensures.whole _ c.advance_showing-advanced.ensures.seen);
   on = tt;
   works = tt;
   fails = by_memory _ _ refl c.in_ok-write_made.ensures.works;
@@ -32,7 +32,7 @@ pub returns-in-Ok : goal.returns-in-Ok
 returns-in-Ok g c = record {
   road = c.advance_showing-advanced.ensures.run;
   whole = c.in_ok-write_made.ensures.whole _ c.advance_showing-advanced.ensures.seen;
-  front = tt;
+  prefix = tt;
   on = c.in-Ok.ensures.on;
   works = c.in_ok-write_made.ensures.works;
   fails = tt;

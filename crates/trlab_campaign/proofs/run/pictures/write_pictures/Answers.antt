@@ -8,10 +8,10 @@ returns-clause-whole g c =
     let stored : IsStored c.args.job = rw (← c.job.view_is) c.job.invariant in
     c.write_run-written.ensures.whole c.args.job stored c.run_of-run.ensures (ap (λ (job : Job). job.steps) c.job.view_is)
 
-pub returns-clause-front : goal.returns-clause-front
-returns-clause-front g c =
+pub returns-clause-prefix : goal.returns-clause-prefix
+returns-clause-prefix g c =
     let stored : IsStored c.args.job = rw (← c.job.view_is) c.job.invariant in
-    c.write_run-written.ensures.front c.args.job stored c.run_of-run.ensures (ap (λ (job : Job). job.steps) c.job.view_is)
+    c.write_run-written.ensures.prefix c.args.job stored c.run_of-run.ensures (ap (λ (job : Job). job.steps) c.job.view_is)
 
 pub returns-clause-works : goal.returns-clause-works
 returns-clause-works g c = c.write_run-written.ensures.works

@@ -1,6 +1,6 @@
 use Rattle.std.proofs.Common.{◌≡◌, ◌+◌, ◌-◌, ◌∙◌, ap, arith, refl}
 use Rattle.std.proofs.lemmas.Result.{err_from_is_err_and}
-use Rattle.trlab_campaign.proofs.Running.{begin_run, step_on, step_stops, no_step_left, last_whole, last_front}
+use Rattle.trlab_campaign.proofs.Running.{begin_run, step_on, step_stops, no_step_left, last_whole, last_prefix}
 use Rattle.trlab_campaign.proofs.run.pictures.write_run.Goals as goal
 
 pub loop-step-init : goal.loop-step-init
@@ -18,8 +18,8 @@ returns-in_err-show_step g c =
     let fault = err_from_is_err_and c.from_residual.result c.from_residual.ensures.1 in
     record {
       whole = λ job stored starts ends. rw fault.1 tt;
-      front = λ job stored starts ends. rw fault.1
-          (step_stops c.args.steps c.loop-step.step _ c.args.run.now c.loop-step.run _ _ _ c.loop-step.invariant.writes c.show_step.ensures.road c.in_err-show_step.ensures.front
+      prefix = λ job stored starts ends. rw fault.1
+          (step_stops c.args.steps c.loop-step.step _ c.args.run.now c.loop-step.run _ _ _ c.loop-step.invariant.writes c.show_step.ensures.road c.in_err-show_step.ensures.prefix
           job (record { stored = stored; starts = starts; ends = ends }));
       works = rw fault.1 tt;
       fails = rw (fault.1, fault.2) c.in_err-show_step.ensures.fails;
@@ -44,11 +44,11 @@ returns-clause-whole g c = λ job stored starts ends.
     let writes = rw (last.1, last.0) at c.loop-step.invariant.writes in
     last_whole c.show_last.result c.args.steps c.args.run.now c.loop-step.run _ _ _ _ writes c.road.ensures.run c.show_last.ensures.whole job (record { stored = stored; starts = starts; ends = ends })
 
-pub returns-clause-front : goal.returns-clause-front
-returns-clause-front g c = λ job stored starts ends.
+pub returns-clause-prefix : goal.returns-clause-prefix
+returns-clause-prefix g c = λ job stored starts ends.
     let last = no_step_left c.loop-step.step c.args.steps c.loop-step.auto.step-end c.loop-step-test.false in
     let writes = rw (last.1, last.0) at c.loop-step.invariant.writes in
-    last_front c.show_last.result c.args.steps c.args.run.now c.loop-step.run _ _ _ _ writes c.road.ensures.run c.show_last.ensures.front job (record { stored = stored; starts = starts; ends = ends })
+    last_prefix c.show_last.result c.args.steps c.args.run.now c.loop-step.run _ _ _ _ writes c.road.ensures.run c.show_last.ensures.prefix job (record { stored = stored; starts = starts; ends = ends })
 
 pub returns-clause-works : goal.returns-clause-works
 returns-clause-works g c = c.show_last.ensures.works

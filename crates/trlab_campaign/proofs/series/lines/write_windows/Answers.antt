@@ -4,15 +4,15 @@ use Rattle.trlab_campaign.specs.SeriesOutput.{IsCourse}
 use Rattle.trlab_campaign.proofs.SeriesLines.{line_on, line_stops, lines_from, next_at}
 use Rattle.trlab_campaign.proofs.series.lines.write_windows.Goals as goal
 
-pub returns-in_err-write_window-clause-front : goal.returns-in_err-write_window-clause-front
-returns-in_err-write_window-clause-front g c = λ roads tallies course.
+pub returns-in_err-write_window-clause-prefix : goal.returns-in_err-write_window-clause-prefix
+returns-in_err-write_window-clause-prefix g c = λ roads tallies course.
     let fault = err_from_is_err_and c.from_residual.result c.from_residual.ensures.1 in
     let inv = c.loop.invariant in
     let windows = c.args.windows.now in
     let left : c.args.count - c.loop.counter ≡ c.args.count - (c.loop.counter + 1) + 1 = omega (arith, c.loop-test.true) in
     let here : IsCourse c.loop.run.seed c.loop.run.sheet roads tallies = rw (inv.seed, inv.sheet) course in
     rw fault.1 (line_stops roads tallies windows.every windows.from c.loop.counter (c.args.count - (c.loop.counter + 1)) c.loop.run.step (lines_from roads tallies windows.every windows.from 0 c.args.count) _ _ _ inv.at
-    (rw left at (inv.owes roads tallies course)) (c.in_err-write_window.ensures.front roads tallies here))
+    (rw left at (inv.owes roads tallies course)) (c.in_err-write_window.ensures.prefix roads tallies here))
 
 pub loop-preserved : goal.loop-preserved
 loop-preserved g c =
