@@ -1,8 +1,9 @@
 -- The lines of a series, written one after another.
-use Rattle.std.proofs.Common.{◌≡◌, ◌↔◌, ℕ, ◌+◌, ◌*◌, ◌<◌, ◌≤◌, List, [], ◌++◌, flat_map, map, refl, sym, ap, subst, arith, add-one, append-nil}
+use Rattle.std.proofs.Common.{◌≡◌, ◌↔◌, ℕ, ◌+◌, ◌*◌, ◌<◌, ◌≤◌, List, [], ◌++◌, flat_map, map, refl, sym, ap, subst, arith, add-one, append-nil, inr, false}
 use Rattle.std.specs.List.{range_with_len}
 use Rattle.std.specs.Prelude.{Option, Result, Ok, Err, OnOk, OnErr}
 use Rattle.std.specs.Io.KnownBytes.{Appends}
+use Rattle.trlab_diagram.specs.declared.window.Window.{Window}
 use Rattle.trlab_diagram.specs.Series.{series_text, window_text}
 use Rattle.trlab_road.specs.Cells.{Cells}
 use Rattle.trlab_step.specs.declared.tally.StepTally.{StepTally}
@@ -10,8 +11,8 @@ use Rattle.trlab_campaign.specs.Device.{AppendsPrefix}
 use Rattle.trlab_step.specs.Progress.{Progress, at_start}
 use Rattle.trlab_jobs.specs.Job.{Job, seed_of, sheet_of}
 use Rattle.trlab_jobs.specs.Stored.{IsStored}
-use Rattle.trlab_campaign.specs.Counting.{WroteSeries, WroteSomeSeries}
-use Rattle.trlab_campaign.specs.SeriesOutput.{IsCourse, IsSeries, first_windows, nth_window, window_of}
+use Rattle.trlab_campaign.specs.Ending.{WroteAll, WrotePrefix}
+use Rattle.trlab_campaign.specs.SeriesOutput.{IsCourse, IsSeries, SeriesOutput, first_windows, nth_window, window_of}
 use Rattle.trlab_campaign.proofs.Courses.{course_of}
 use Rattle.trlab_campaign.proofs.KnownBytes.{appends_more}
 use Rattle.trlab_campaign.proofs.Sheets.{plain_sheet}
@@ -70,17 +71,23 @@ module _ (job : Job) (every from count steps : ℕ) (run : Progress) (stored : I
   run_course : IsCourse run.seed run.sheet job_course.0 job_course.1
   run_course = subst (λ (r : Progress). IsCourse r.seed r.sheet job_course.0 job_course.1) (sym starts) job_course.2
 
-  is_series : IsSeries job every from (first_windows job_course.0 job_course.1 every from count)
+  the_windows : List Window
+  the_windows = first_windows job_course.0 job_course.1 every from count
+
+  is_series : IsSeries job every from the_windows
   is_series = record { roads = job_course.0; tallies = job_course.1; course = job_course.2; count = count; whole = rw ends at whole; told = refl }
+
+  is_output : SeriesOutput every from job false (series_text the_windows)
+  is_output = (refl, (the_windows, (is_series, refl)))
 
   pub whole_series : {E : Type 0} (r : Result (Unit {0}) E) (old new : Option (List ℕ))
       → ((roads : ℕ → Cells) (tallies : ℕ → StepTally) → IsCourse run.seed run.sheet roads tallies → OnOk r (Appends old new (series_text (first_windows roads tallies every from count))))
-      → OnOk r (WroteSeries every from job old new)
-  whole_series (Ok x) old new told = (first_windows job_course.0 job_course.1 every from count, is_series, told job_course.0 job_course.1 run_course)
+      → OnOk r (WroteAll (SeriesOutput every from job) false old new)
+  whole_series (Ok x) old new told = (series_text the_windows, (is_output, told job_course.0 job_course.1 run_course))
   whole_series (Err e) old new told = tt
 
   pub prefix_series : {E : Type 0} (r : Result (Unit {0}) E) (old new : Option (List ℕ))
       → ((roads : ℕ → Cells) (tallies : ℕ → StepTally) → IsCourse run.seed run.sheet roads tallies → OnErr r (AppendsPrefix old new (series_text (first_windows roads tallies every from count))))
-      → OnErr r (WroteSomeSeries every from job old new)
+      → OnErr r (WrotePrefix (SeriesOutput every from job) old new)
   prefix_series (Ok x) old new told = tt
-  prefix_series (Err e) old new told = (first_windows job_course.0 job_course.1 every from count, is_series, told job_course.0 job_course.1 run_course)
+  prefix_series (Err e) old new told = inr (false, (series_text the_windows, (is_output, told job_course.0 job_course.1 run_course)))

@@ -30,7 +30,7 @@ pub enum ReadFault {
 ///
 /// # Errors
 ///
-/// `TooBig` where that byte has come, and else want of memory or a failed reader.
+/// `TooBig` where that byte has come, `Memory` or `Device` where memory ran out or the reader failed.
 pub fn read_text<S: Source>(alloc: Global, reader: &mut S) -> Result<Vec<u8>, ReadFault>
     requires { S.failed reader.old ≡ false }
     ensures text { IfOk result

@@ -7,9 +7,8 @@ ghost use Rattle.trlab_jobs.specs.Stored.{IsStored};
 ghost use Rattle.trlab_step.specs.Progress.{IsOneStepOn, at_start};
 ghost use Rattle.trlab_step.specs.Run.{IsRoadAt};
 ghost use Rattle.trlab_campaign.specs.Device.{AppendsPrefix};
-ghost use Rattle.trlab_campaign.specs.Ending.{HandsOn, JobEnds, WrotePictures, WroteSome};
-ghost use Rattle.trlab_campaign.specs.Output.{step_text};
-ghost use Rattle.trlab_campaign.specs.declared.end.End.TheVariants.{DeviceFault};
+ghost use Rattle.trlab_campaign.specs.Ending.{EndsSo, LeavesWriter, WroteAll, WrotePrefix};
+ghost use Rattle.trlab_campaign.specs.Output.{JobOutput, step_text};
 ghost use Rattle.trlab_campaign.specs.declared.run.pictures.WriteFault.TheVariants.{Device};
 
 use crate::device::{Sink, write_text};
@@ -126,9 +125,9 @@ fn write_run<A: Asker, K: Sink>(
     requires works { K.failed writer.old ≡ false }
     requires start { run.old.step ≡ 0 }
     ensures whole { (job : Told) → IsStored job → run.old ≡ at_start (seed_of job) (sheet_of job) → steps ≡ job.steps
-        → OnOk result (WrotePictures job (K.written writer.old) (K.written writer.new)) }
+        → OnOk result (WroteAll (JobOutput job) false (K.written writer.old) (K.written writer.new)) }
     ensures prefix { (job : Told) → IsStored job → run.old ≡ at_start (seed_of job) (sheet_of job) → steps ≡ job.steps
-        → OnErr result (WroteSome job (K.written writer.old) (K.written writer.new)) }
+        → OnErr result (WrotePrefix (JobOutput job) (K.written writer.old) (K.written writer.new)) }
     ensures works { OnOk result (K.failed writer.new ≡ false) }
     ensures fails { IfErr result (λ fault. (fault ≡ Device) ↔ (K.failed writer.new ≡ true)) }
     ensures flushed { K.flushes writer.new ≡ K.flushes writer.old }
@@ -150,9 +149,9 @@ fn write_pictures<A: Asker, K: Sink>(
     requires ready { A.is_ready asker.now }
     requires works { K.failed writer.old ≡ false }
     ensures whole { OnOk result
-        (WrotePictures job (K.written writer.old) (K.written writer.new)) }
+        (WroteAll (JobOutput job) false (K.written writer.old) (K.written writer.new)) }
     ensures prefix { OnErr result
-        (WroteSome job (K.written writer.old) (K.written writer.new)) }
+        (WrotePrefix (JobOutput job) (K.written writer.old) (K.written writer.new)) }
     ensures works { OnOk result (K.failed writer.new ≡ false) }
     ensures fails { IfErr result (λ fault. (fault ≡ Device) ↔ (K.failed writer.new ≡ true)) }
     ensures flushed { K.flushes writer.new ≡ K.flushes writer.old }
@@ -169,10 +168,7 @@ fn write_pictures<A: Asker, K: Sink>(
 pub fn run_job<A: Asker, K: Sink>(asker: &A, alloc: Global, job: Job, writer: &mut K) -> End
     requires ready { A.is_ready asker.now }
     requires works { K.failed writer.old ≡ false }
-    ensures handed { HandsOn result
-        (K.handed_on writer.new) (K.flushes writer.old) (K.flushes writer.new) }
-    ensures answer { JobEnds result job (K.written writer.old) (K.written writer.new) }
-    ensures device { (result ≡ DeviceFault) ↔ (K.failed writer.new ≡ true) }
+    ensures { LeavesWriter K.Sink (EndsSo (JobOutput job)) result writer.old writer.new }
 {
     match write_pictures(asker, alloc, job, writer) {
         Ok(()) => match writer.flush() {

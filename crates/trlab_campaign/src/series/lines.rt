@@ -8,11 +8,10 @@ ghost use Rattle.trlab_diagram.specs.Series.{series_heading, series_text, window
 ghost use Rattle.trlab_diagram.specs.Table.{line_text};
 ghost use Rattle.trlab_road.specs.Cells.{Cells};
 ghost use Rattle.trlab_step.specs.declared.tally.StepTally.{StepTally};
-ghost use Rattle.trlab_campaign.specs.Counting.{IsStepsOn, SeriesEnds, WroteSeries, WroteSomeSeries};
+ghost use Rattle.trlab_campaign.specs.Counting.{IsStepsOn};
 ghost use Rattle.trlab_campaign.specs.Device.{AppendsPrefix};
-ghost use Rattle.trlab_campaign.specs.Ending.{HandsOn};
-ghost use Rattle.trlab_campaign.specs.SeriesOutput.{IsCourse, first_windows, window_of};
-ghost use Rattle.trlab_campaign.specs.declared.end.End.TheVariants.{DeviceFault};
+ghost use Rattle.trlab_campaign.specs.Ending.{EndsSo, LeavesWriter, WroteAll, WrotePrefix};
+ghost use Rattle.trlab_campaign.specs.SeriesOutput.{IsCourse, SeriesOutput, first_windows, window_of};
 ghost use Rattle.trlab_campaign.specs.declared.run.pictures.WriteFault.TheVariants.{Device};
 
 use crate::device::{Sink, write_text};
@@ -172,9 +171,9 @@ fn write_series<A: Asker, K: Sink>(
 ) -> Result<(), WriteFault>
     requires ready { A.is_ready asker.now }
     requires works { K.failed writer.old ≡ false }
-    ensures whole { OnOk result (WroteSeries windows.now.every windows.now.from job
+    ensures whole { OnOk result (WroteAll (SeriesOutput windows.now.every windows.now.from job) false
         (K.written writer.old) (K.written writer.new)) }
-    ensures prefix { OnErr result (WroteSomeSeries windows.now.every windows.now.from job
+    ensures prefix { OnErr result (WrotePrefix (SeriesOutput windows.now.every windows.now.from job)
         (K.written writer.old) (K.written writer.new)) }
     ensures works { OnOk result (K.failed writer.new ≡ false) }
     ensures fails { IfErr result (λ fault. (fault ≡ Device) ↔ (K.failed writer.new ≡ true)) }
@@ -197,11 +196,8 @@ pub fn run_series<A: Asker, K: Sink>(
 ) -> End
     requires ready { A.is_ready asker.now }
     requires works { K.failed writer.old ≡ false }
-    ensures handed { HandsOn result
-        (K.handed_on writer.new) (K.flushes writer.old) (K.flushes writer.new) }
-    ensures answer { SeriesEnds windows.now.every windows.now.from result job
-        (K.written writer.old) (K.written writer.new) }
-    ensures device { (result ≡ DeviceFault) ↔ (K.failed writer.new ≡ true) }
+    ensures { LeavesWriter K.Sink (EndsSo (SeriesOutput windows.now.every windows.now.from job))
+        result writer.old writer.new }
 {
     match write_series(asker, alloc, windows, job, writer) {
         Ok(()) => match writer.flush() {
