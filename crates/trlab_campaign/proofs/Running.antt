@@ -1,6 +1,6 @@
 -- A run whose pictures are written step by step.
 use Rattle.std.proofs.Common.{◌≡◌, ℕ, ◌+◌, ◌-◌, ◌≤◌, List, ◌++◌, flat_map, refl, ◌∙◌, ap, arith, add-one, inr, false}
-use Rattle.std.specs.Prelude.{Option, Result, OnOk, OnErr, Ok, Err}
+use Rattle.std.specs.Prelude.{Option, Result, Ok, Err}
 use Rattle.std.specs.List.{range_with_len}
 use Rattle.std.specs.Io.KnownBytes.{Appends}
 use Rattle.trlab_road.specs.Cells.{Cells}
@@ -9,9 +9,9 @@ use Rattle.trlab_step.proofs.RunLaws.{run_comes_to_road, road_at_is_one}
 use Rattle.trlab_step.specs.Progress.{Progress, IsOneStepOn, at_start}
 use Rattle.trlab_jobs.specs.Job.{Job, seed_of, sheet_of}
 use Rattle.trlab_jobs.specs.Stored.{IsStored}
-use Rattle.trlab_campaign.specs.Device.{AppendsPrefix}
+use Rattle.trlab_campaign.specs.Device.{AppendsBy, AppendsPrefix}
 use Rattle.trlab_campaign.specs.Output.{JobOutput, step_text, steps_text}
-use Rattle.trlab_campaign.specs.Ending.{WroteAll, WrotePrefix}
+use Rattle.trlab_campaign.specs.Ending.{WroteAll, WroteBy, WrotePrefix}
 use Rattle.trlab_campaign.proofs.Sheets.{plain_sheet}
 use Rattle.trlab_campaign.proofs.Owed.{Owes, owes_all, owes_less, owes_prefix, owes_none}
 
@@ -157,17 +157,12 @@ step_stops steps step left start run old a b writes road text job begins =
 pub no_step_left : (step steps : ℕ) → step ≤ steps → steps ≤ step → (step ≡ steps) × (steps - step ≡ 0)
 no_step_left step steps inside all = (omega arith, omega arith)
 
--- what is known where the text of the last step was written or not
-pub last_whole : {E : Type 0} (r : Result (Unit {0}) E) (steps : ℕ) (start run : Progress) (road : Cells) (old a b : Option (List ℕ)) → Writes steps start steps 0 run old a
-    → IsRoadAt run.seed run.sheet run.step road → OnOk r (Appends a b (step_text steps road)) → (job : Job) → Begins job steps start → OnOk r (WroteAll (JobOutput job) false old b)
-last_whole (Ok x) steps start run road old a b writes at text job begins =
+-- the text of the last step was written, or a prefix of it
+pub last_wrote : {A E : Type 0} (r : Result A E) (steps : ℕ) (start run : Progress) (road : Cells) (old a b : Option (List ℕ)) → Writes steps start steps 0 run old a
+    → IsRoadAt run.seed run.sheet run.step road → AppendsBy r a b (step_text steps road) → (job : Job) → Begins job steps start → WroteBy (JobOutput job) r old b
+last_wrote (Ok x) steps start run road old a b writes at text job begins =
     let here = writes job begins in
     all_written job steps road old a b here.0 (driven_road job steps run road here.1 at) text
-last_whole (Err e) steps start run road old a b writes at text job begins = tt
-
-pub last_prefix : {E : Type 0} (r : Result (Unit {0}) E) (steps : ℕ) (start run : Progress) (road : Cells) (old a b : Option (List ℕ)) → Writes steps start steps 0 run old a
-    → IsRoadAt run.seed run.sheet run.step road → OnErr r (AppendsPrefix a b (step_text steps road)) → (job : Job) → Begins job steps start → OnErr r (WrotePrefix (JobOutput job) old b)
-last_prefix (Ok x) steps start run road old a b writes at text job begins = tt
-last_prefix (Err e) steps start run road old a b writes at text job begins =
+last_wrote (Err e) steps start run road old a b writes at text job begins =
     let here = writes job begins in
     stop_within job steps 0 road old a b here.0 (driven_road job steps run road here.1 at) text

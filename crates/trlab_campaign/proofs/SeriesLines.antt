@@ -1,17 +1,17 @@
 -- The lines of a series, written one after another.
 use Rattle.std.proofs.Common.{◌≡◌, ◌↔◌, ℕ, ◌+◌, ◌*◌, ◌<◌, ◌≤◌, List, [], ◌++◌, flat_map, map, refl, sym, ap, subst, arith, add-one, append-nil, inr, false}
 use Rattle.std.specs.List.{range_with_len}
-use Rattle.std.specs.Prelude.{Option, Result, Ok, Err, OnOk, OnErr}
+use Rattle.std.specs.Prelude.{Option, Result, Ok, Err}
 use Rattle.std.specs.Io.KnownBytes.{Appends}
 use Rattle.trlab_diagram.specs.declared.window.Window.{Window}
 use Rattle.trlab_diagram.specs.Series.{series_text, window_text}
 use Rattle.trlab_road.specs.Cells.{Cells}
 use Rattle.trlab_step.specs.declared.tally.StepTally.{StepTally}
-use Rattle.trlab_campaign.specs.Device.{AppendsPrefix}
+use Rattle.trlab_campaign.specs.Device.{AppendsBy, AppendsPrefix}
 use Rattle.trlab_step.specs.Progress.{Progress, at_start}
 use Rattle.trlab_jobs.specs.Job.{Job, seed_of, sheet_of}
 use Rattle.trlab_jobs.specs.Stored.{IsStored}
-use Rattle.trlab_campaign.specs.Ending.{WroteAll, WrotePrefix}
+use Rattle.trlab_campaign.specs.Ending.{WroteBy}
 use Rattle.trlab_campaign.specs.SeriesOutput.{IsCourse, IsSeries, SeriesOutput, first_windows, nth_window, window_of}
 use Rattle.trlab_campaign.proofs.Courses.{course_of}
 use Rattle.trlab_campaign.proofs.KnownBytes.{appends_more}
@@ -51,15 +51,10 @@ pub prefix_of_first : (first rest : List ℕ) (old new : Option (List ℕ)) → 
 prefix_of_first first rest old new prefix = owes_prefix (first ++ rest) first rest old old new (owes_all (first ++ rest) old) prefix
 
 -- a text was written, and then another one, or a prefix of that
-pub then_whole : {E : Type 0} (r : Result (Unit {0}) E) (first rest : List ℕ) (old mid new : Option (List ℕ)) → Appends old mid first → OnOk r (Appends mid new rest)
-    → OnOk r (Appends old new (first ++ rest))
-then_whole (Ok x) first rest old mid new a b = appends_more old mid new first rest a b
-then_whole (Err e) first rest old mid new a b = tt
-
-pub then_prefix : {E : Type 0} (r : Result (Unit {0}) E) (first rest : List ℕ) (old mid new : Option (List ℕ)) → Appends old mid first → OnErr r (AppendsPrefix mid new rest)
-    → OnErr r (AppendsPrefix old new (first ++ rest))
-then_prefix (Ok x) first rest old mid new a b = tt
-then_prefix (Err e) first rest old mid new a b =
+pub then_wrote : {A E : Type 0} (r : Result A E) (first rest : List ℕ) (old mid new : Option (List ℕ)) → Appends old mid first → AppendsBy r mid new rest
+    → AppendsBy r old new (first ++ rest)
+then_wrote (Ok x) first rest old mid new a b = appends_more old mid new first rest a b
+then_wrote (Err e) first rest old mid new a b =
     owes_prefix (first ++ rest) rest [] old mid new (record { done = first; parts = ap (λ t. first ++ t) (sym (append-nil rest)); wrote = a }) b
 
 -- the series of a job, of which the run is that from its start
@@ -80,14 +75,8 @@ module _ (job : Job) (every from count steps : ℕ) (run : Progress) (stored : I
   is_output : SeriesOutput every from job false (series_text the_windows)
   is_output = (refl, (the_windows, (is_series, refl)))
 
-  pub whole_series : {E : Type 0} (r : Result (Unit {0}) E) (old new : Option (List ℕ))
-      → ((roads : ℕ → Cells) (tallies : ℕ → StepTally) → IsCourse run.seed run.sheet roads tallies → OnOk r (Appends old new (series_text (first_windows roads tallies every from count))))
-      → OnOk r (WroteAll (SeriesOutput every from job) false old new)
-  whole_series (Ok x) old new told = (series_text the_windows, (is_output, told job_course.0 job_course.1 run_course))
-  whole_series (Err e) old new told = tt
-
-  pub prefix_series : {E : Type 0} (r : Result (Unit {0}) E) (old new : Option (List ℕ))
-      → ((roads : ℕ → Cells) (tallies : ℕ → StepTally) → IsCourse run.seed run.sheet roads tallies → OnErr r (AppendsPrefix old new (series_text (first_windows roads tallies every from count))))
-      → OnErr r (WrotePrefix (SeriesOutput every from job) old new)
-  prefix_series (Ok x) old new told = tt
-  prefix_series (Err e) old new told = inr (false, (series_text the_windows, (is_output, told job_course.0 job_course.1 run_course)))
+  pub series_wrote : {A E : Type 0} (r : Result A E) (old new : Option (List ℕ))
+      → ((roads : ℕ → Cells) (tallies : ℕ → StepTally) → IsCourse run.seed run.sheet roads tallies → AppendsBy r old new (series_text (first_windows roads tallies every from count)))
+      → WroteBy (SeriesOutput every from job) r old new
+  series_wrote (Ok x) old new told = (series_text the_windows, (is_output, told job_course.0 job_course.1 run_course))
+  series_wrote (Err e) old new told = inr (false, (series_text the_windows, (is_output, told job_course.0 job_course.1 run_course)))

@@ -1,6 +1,6 @@
 -- How an engine ends: what it has written by then, how that was handed on, and what its reader gave.
 use Rattle.std.specs.Prelude.{◌≡◌, ◌+◌, ◌<◌, ◌≤◌, ◌||◌, ◌⊎◌, ◌↔◌, ℕ, Bool, true, false}
-use Rattle.std.specs.Prelude.{List, length, Option, IfSome}
+use Rattle.std.specs.Prelude.{List, length, Option, IfSome, Result, Ok, Err, IfErr, OnOk}
 use Rattle.std.specs.Io.KnownBytes.{Appends, Keeps}
 use Rattle.trlab_bounds.specs.declared.texts.TheConstants.{TEXT_LIMIT}
 use Rattle.trlab_campaign.specs.declared.device.Sink as Sink
@@ -8,6 +8,8 @@ use Rattle.trlab_campaign.specs.declared.device.Source as Source
 use Rattle.trlab_campaign.specs.declared.device.flushes.Flushes.{Flushes}
 use Rattle.trlab_campaign.specs.declared.end.End.{End}
 use Rattle.trlab_campaign.specs.declared.end.End.TheVariants.{Done, Refused, Memory, DeviceFault}
+use Rattle.trlab_campaign.specs.declared.run.pictures.WriteFault.{WriteFault}
+use Rattle.trlab_campaign.specs.declared.run.pictures.WriteFault.TheVariants.{Device}
 use Rattle.trlab_campaign.specs.Device.{AppendsPrefix, ConsumesUpTo}
 use Rattle.trlab_campaign.specs.Flushes.{AtMostOnce, HandedOnce}
 use Rattle.trlab_campaign.specs.Refusal.{Outputs}
@@ -21,6 +23,11 @@ abbrev pub WrotePrefix : Outputs → Option (List ℕ) → Option (List ℕ) →
 WrotePrefix IsWhole old new =
     Keeps old new
     ⊎ ((refused : Bool) × ((out : List ℕ) × (IsWhole refused out × AppendsPrefix old new out)))
+
+-- by its result, a writing wrote a whole output that is no refusal, or a prefix of one
+abbrev pub WroteBy : {A E : Type 0} → Outputs → Result A E → Option (List ℕ) → Option (List ℕ) → Type 0
+WroteBy IsWhole (Ok done) old new = WroteAll IsWhole false old new
+WroteBy IsWhole (Err fault) old new = WrotePrefix IsWhole old new
 
 -- an engine ended so: a text with a fault, or a program that is refused, has an output that is a refusal
 abbrev pub EndsSo : Outputs → End → Option (List ℕ) → Option (List ℕ) → Type 0
@@ -43,6 +50,13 @@ OutputEnds refused out Done old new = (refused ≡ false) × Appends old new out
 OutputEnds refused out Refused old new = (refused ≡ true) × Appends old new out
 OutputEnds refused out Memory old new = AppendsPrefix old new out
 OutputEnds refused out DeviceFault old new = AppendsPrefix old new out
+
+-- a writing that hands nothing on yet left its writer so: it works where all was written, it has failed just
+-- where that is the fault, and it was not flushed
+pub record WritesOn {A K : Type 0} (sink : Sink.Ghosts K) (result : Result A WriteFault) (old new : K) : Type 0 where
+  pub works : OnOk result (sink.failed new ≡ false)
+  pub fails : IfErr result (λ fault. (fault ≡ Device) ↔ (sink.failed new ≡ true))
+  pub flushed : sink.flushes new ≡ sink.flushes old
 
 -- a call ended so, and left its writer so: by this end so much was written, what was written whole was handed
 -- on by one flush, and it ended in a device fault just where the writer has failed

@@ -9,8 +9,7 @@ pub returns-in_err-write_text : goal.returns-in_err-write_text
 returns-in_err-write_text g c =
     let fault = err_from_is_err_and c.from_residual.result c.from_residual.ensures.1 in
     record {
-      whole = rw fault.1 tt;
-      prefix = rw fault.1 c.in_err-write_text.ensures.prefix;
+      wrote = rw fault.1 c.in_err-write_text.ensures.wrote;
       handed = rw fault.1 tt;
       flushed = inl c.in_err-write_text.ensures.flushed;
       fails = rw fault.1 c.in_err-write_text.ensures.fails;
@@ -18,8 +17,7 @@ returns-in_err-write_text g c =
 
 pub returns-in-Ok : goal.returns-in-Ok
 returns-in-Ok g c = record {
-  whole = appends_kept _ _ _ _ c.in_ok-write_text.ensures.whole c.in-Ok.ensures.bytes;
-  prefix = tt;
+  wrote = appends_kept _ _ _ _ c.in_ok-write_text.ensures.wrote c.in-Ok.ensures.bytes;
   handed = (c.in-Ok.ensures.handed, c.in-Ok.ensures.flushed ∙ ap once_more c.in_ok-write_text.ensures.flushed);
   flushed = inr (c.in-Ok.ensures.flushed ∙ ap once_more c.in_ok-write_text.ensures.flushed);
   fails = c.in-Ok.ensures.fails ∙ (or-false _ ∙ c.in_ok-write_text.ensures.fails);
@@ -27,8 +25,7 @@ returns-in-Ok g c = record {
 
 pub returns-in-Err : goal.returns-in-Err
 returns-in-Err g c = record {
-  whole = tt;
-  prefix = prefix_kept _ _ _ _ c.in_ok-write_text.ensures.whole c.in-Err.ensures.bytes;
+  wrote = prefix_kept _ _ _ _ c.in_ok-write_text.ensures.wrote c.in-Err.ensures.bytes;
   handed = tt;
   flushed = inr (c.in-Err.ensures.flushed ∙ ap once_more c.in_ok-write_text.ensures.flushed);
   fails = rw (c.in_ok-write_text.ensures.fails, or-false) at c.in-Err.ensures.fails;

@@ -6,7 +6,7 @@ use Rattle.trlab_campaign.proofs.run.pictures.run_job.Goals as goal
 
 pub returns-in-Err : goal.returns-in-Err
 returns-in-Err g c = record {
-  answer = all_kept (JobOutput c.args.job) false _ _ _ c.in-Ok.ensures.whole c.in-Err.ensures.bytes;
-  handed = inr (c.in-Err.ensures.flushed ∙ ap once_more c.in-Ok.ensures.flushed);
-  device = (λ _. rw c.in-Ok.ensures.works at c.in-Err.ensures.fails, λ _. refl);
+  answer = all_kept (JobOutput c.args.job) false _ _ _ c.in-Ok.ensures.wrote c.in-Err.ensures.bytes;
+  handed = inr (c.in-Err.ensures.flushed ∙ ap once_more c.in-Ok.ensures.writer.flushed);
+  device = (λ _. rw c.in-Ok.ensures.writer.works at c.in-Err.ensures.fails, λ _. refl);
 }
