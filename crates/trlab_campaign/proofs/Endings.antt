@@ -29,14 +29,14 @@ output_ends IsWhole refused out Memory old new whole ends = inr (refused, (out, 
 output_ends IsWhole refused out DeviceFault old new whole ends = inr (refused, (out, (whole, ends)))
 
 -- whoever ended so by some outputs ended so by all that these are among
-ends_among : (Some All : Outputs) (e : End) (old new : Option (List ℕ)) → ((refused : Bool) (out : List ℕ) → Some refused out → All refused out)
-    → EndsSo Some e old new → EndsSo All e old new
-ends_among Some All Done old new among ends = (ends.0, (among false ends.0 ends.1.0, ends.1.1))
-ends_among Some All Refused old new among ends = (ends.0, (among true ends.0 ends.1.0, ends.1.1))
-ends_among Some All Memory old new among (inl kept) = inl kept
-ends_among Some All Memory old new among (inr wrote) = inr (wrote.0, (wrote.1.0, (among wrote.0 wrote.1.0 wrote.1.1.0, wrote.1.1.1)))
-ends_among Some All DeviceFault old new among (inl kept) = inl kept
-ends_among Some All DeviceFault old new among (inr wrote) = inr (wrote.0, (wrote.1.0, (among wrote.0 wrote.1.0 wrote.1.1.0, wrote.1.1.1)))
+ends_among : (IsOwn IsWhole : Outputs) (e : End) (old new : Option (List ℕ)) → ((refused : Bool) (out : List ℕ) → IsOwn refused out → IsWhole refused out)
+    → EndsSo IsOwn e old new → EndsSo IsWhole e old new
+ends_among IsOwn IsWhole Done old new among ends = (ends.0, (among false ends.0 ends.1.0, ends.1.1))
+ends_among IsOwn IsWhole Refused old new among ends = (ends.0, (among true ends.0 ends.1.0, ends.1.1))
+ends_among IsOwn IsWhole Memory old new among (inl kept) = inl kept
+ends_among IsOwn IsWhole Memory old new among (inr wrote) = inr (wrote.0, (wrote.1.0, (among wrote.0 wrote.1.0 wrote.1.1.0, wrote.1.1.1)))
+ends_among IsOwn IsWhole DeviceFault old new among (inl kept) = inl kept
+ends_among IsOwn IsWhole DeviceFault old new among (inr wrote) = inr (wrote.0, (wrote.1.0, (among wrote.0 wrote.1.0 wrote.1.1.0, wrote.1.1.1)))
 
 -- what is written for a job or a sweep that a text says
 pub text_ends : (Output : Job → Outputs) (e : End) (text : List ℕ) (job : Job) (old new : Option (List ℕ))

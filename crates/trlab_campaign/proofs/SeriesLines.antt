@@ -66,7 +66,7 @@ module _ (job : Job) (every from count steps : ℕ) (run : Progress) (stored : I
   run_course : IsCourse run.seed run.sheet job_course.0 job_course.1
   run_course = subst (λ (r : Progress). IsCourse r.seed r.sheet job_course.0 job_course.1) (sym starts) job_course.2
 
-  the_windows : List Window
+  abbrev the_windows : List Window
   the_windows = first_windows job_course.0 job_course.1 every from count
 
   is_series : IsSeries job every from the_windows

@@ -7,8 +7,8 @@ use Rattle.trlab_campaign.proofs.engine.run_engine.Goals as goal
 
 -- what is not true is false
 not_true : (b : Bool) → (b ≡ true → ⊥) → b ≡ false
-not_true true no = absurd (no refl)
-not_true false no = refl
+not_true true never = absurd (never refl)
+not_true false never = refl
 
 pub returns-in-Ok : goal.returns-in-Ok
 returns-in-Ok g c =

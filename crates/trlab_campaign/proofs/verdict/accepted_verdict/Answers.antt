@@ -2,4 +2,4 @@ use Rattle.std.proofs.Common.{refl}
 use Rattle.trlab_campaign.proofs.verdict.accepted_verdict.Goals as goal
 
 pub returns : goal.returns
-returns c = (refl, c.in_ok-answer_text.ensures)
+returns c = (refl, c.in_ok-text.ensures)
