@@ -7,7 +7,7 @@ use Rattle.trlab_campaign.specs.declared.end.End.TheVariants.{Done, Refused, Mem
 use Rattle.trlab_bounds.specs.declared.texts.TheConstants.{TEXT_LIMIT}
 use Rattle.trlab_texts.specs.Reading.{Fault}
 use Rattle.trlab_jobs.specs.Job.{Job, JobText}
-use Rattle.trlab_campaign.specs.Refusal.{Outputs, fault_line, too_big_line}
+use Rattle.trlab_campaign.specs.Refusal.{Outputs, fault_line}
 use Rattle.trlab_campaign.specs.Output.{IsOutputOf}
 use Rattle.trlab_jobs.specs.Check.{Check, CheckText}
 use Rattle.trlab_campaign.specs.CheckOutput.{VerdictOutput, IsCheckOutput}

@@ -1,7 +1,6 @@
 //! The verdict on a program, and its notes, as they are written.
 
 ghost use Rattle.std.specs.Prelude.{◌≡◌, IfOk, false, true};
-ghost use Rattle.std.specs.String.{string_bytes};
 ghost use Rattle.trlab_verify.specs.Faults.{Tells};
 ghost use Rattle.trlab_jobs.specs.Check.{Check as Request};
 ghost use Rattle.trlab_verify.specs.Verdict.{IsAccepted};

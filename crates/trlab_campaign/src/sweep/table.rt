@@ -1,6 +1,6 @@
 //! The table of a sweep's points.
 
-ghost use Rattle.std.specs.Prelude.{◌≡◌, ◌<◌, ◌≤◌, IfOk, false};
+ghost use Rattle.std.specs.Prelude.{◌<◌, ◌≤◌, IfOk, false};
 ghost use Rattle.trlab_bounds.specs.declared.runs.TheConstants.{MOST_RUNNERS, MOST_WORKERS};
 ghost use Rattle.trlab_campaign.specs.SweepOutput.{SweepOutput};
 
