@@ -3,7 +3,7 @@ use Rattle.std.proofs.Common.{◌≡◌, ℕ, ◌+◌, ◌<◌, ◌≤◌, List,
 use Rattle.std.proofs.Math.Seq.{take-length}
 use Rattle.std.specs.Prelude.{Option, None, Some, IfSome}
 use Rattle.std.specs.Io.KnownBytes.{Appends, Consumes, IsAtEnd, Keeps}
-use Rattle.trlab_campaign.specs.Device.{AppendsFront}
+use Rattle.trlab_campaign.specs.Device.{AppendsPrefix}
 
 pub consumes_none : (a : Option (List ℕ)) → Consumes a a []
 consumes_none None = tt
@@ -64,9 +64,9 @@ appends_whole a b text done inside all p =
     let here : done ≡ length text = omega arith in
     subst (λ (t : List ℕ). Appends a b t) (take-length text) (rw here at p)
 
--- a whole text is a front of it, and so is nothing
-pub front_whole : (a b : Option (List ℕ)) (text : List ℕ) → Appends a b text → AppendsFront a b text
-front_whole a b text p = record { count = length text; front = subst (λ (t : List ℕ). Appends a b t) (sym (take-length text)) p }
+-- a whole text is a prefix of it, and so is nothing
+pub prefix_whole : (a b : Option (List ℕ)) (text : List ℕ) → Appends a b text → AppendsPrefix a b text
+prefix_whole a b text p = record { count = length text; prefix = subst (λ (t : List ℕ). Appends a b t) (sym (take-length text)) p }
 
-pub front_kept : (a b c : Option (List ℕ)) (text : List ℕ) → Appends a b text → Keeps b c → AppendsFront a c text
-front_kept a b c text p q = record { count = length text; front = subst (λ (t : List ℕ). Appends a c t) (sym (take-length text)) (appends_kept a b c text p q) }
+pub prefix_kept : (a b c : Option (List ℕ)) (text : List ℕ) → Appends a b text → Keeps b c → AppendsPrefix a c text
+prefix_kept a b c text p q = record { count = length text; prefix = subst (λ (t : List ℕ). Appends a c t) (sym (take-length text)) (appends_kept a b c text p q) }

@@ -4,7 +4,7 @@ use Rattle.std.proofs.Math.Seq.{take-append_seam}
 use Rattle.std.proofs.lemmas.List.{take-append-drop}
 use Rattle.std.specs.Prelude.{Option}
 use Rattle.std.specs.Io.KnownBytes.{Appends}
-use Rattle.trlab_campaign.specs.Device.{AppendsFront}
+use Rattle.trlab_campaign.specs.Device.{AppendsPrefix}
 use Rattle.trlab_campaign.proofs.KnownBytes.{appends_none, appends_more}
 
 -- of a whole text some was written, and the rest is owed
@@ -25,18 +25,18 @@ owes_less whole next rest old a b owes wrote = record {
   wrote = appends_more old a b owes.done next owes.wrote wrote;
 }
 
--- where it stops, a front was written
-owes_stop : (whole rest : List ℕ) (old a : Option (List ℕ)) → Owes whole rest old a → AppendsFront old a whole
+-- where it stops, a prefix was written
+owes_stop : (whole rest : List ℕ) (old a : Option (List ℕ)) → Owes whole rest old a → AppendsPrefix old a whole
 owes_stop whole rest old a owes =
-    record { count = length owes.done; front = subst (λ (t : List ℕ). Appends old a t) (sym (ap (take (length owes.done)) owes.parts ∙ take-append_seam owes.done rest)) owes.wrote }
+    record { count = length owes.done; prefix = subst (λ (t : List ℕ). Appends old a t) (sym (ap (take (length owes.done)) owes.parts ∙ take-append_seam owes.done rest)) owes.wrote }
 
 -- where it stops within a piece
-pub owes_front : (whole next rest : List ℕ) (old a b : Option (List ℕ)) → Owes whole (next ++ rest) old a → AppendsFront a b next → AppendsFront old b whole
-owes_front whole next rest old a b owes front =
-    owes_stop whole (drop front.count next ++ rest) old b (record {
-      done = owes.done ++ take front.count next;
-      parts = owes.parts ∙ ap (λ t. owes.done ++ t) (ap (λ t. t ++ rest) (sym (take-append-drop front.count next)) ∙ append_assoc (take front.count next) (drop front.count next) rest) ∙ sym (append_assoc owes.done (take front.count next) (drop front.count next ++ rest));
-      wrote = appends_more old a b owes.done (take front.count next) owes.wrote front.front;
+pub owes_prefix : (whole next rest : List ℕ) (old a b : Option (List ℕ)) → Owes whole (next ++ rest) old a → AppendsPrefix a b next → AppendsPrefix old b whole
+owes_prefix whole next rest old a b owes prefix =
+    owes_stop whole (drop prefix.count next ++ rest) old b (record {
+      done = owes.done ++ take prefix.count next;
+      parts = owes.parts ∙ ap (λ t. owes.done ++ t) (ap (λ t. t ++ rest) (sym (take-append-drop prefix.count next)) ∙ append_assoc (take prefix.count next) (drop prefix.count next) rest) ∙ sym (append_assoc owes.done (take prefix.count next) (drop prefix.count next ++ rest));
+      wrote = appends_more old a b owes.done (take prefix.count next) owes.wrote prefix.prefix;
     })
 
 -- where nothing is owed, all was written

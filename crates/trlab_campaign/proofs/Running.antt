@@ -1,6 +1,6 @@
 -- A run whose pictures are written step by step.
-use Rattle.std.proofs.Common.{◌≡◌, ℕ, ◌+◌, ◌-◌, ◌≤◌, List, ◌++◌, flat_map, refl, ◌∙◌, ap, arith, add-one}
-use Rattle.std.specs.Prelude.{Option, Result, OnOk, OnErr, Ok, Err}
+use Rattle.std.proofs.Common.{◌≡◌, ℕ, ◌+◌, ◌-◌, ◌≤◌, List, ◌++◌, flat_map, refl, ◌∙◌, ap, arith, add-one, inr, false}
+use Rattle.std.specs.Prelude.{Option, Result, Ok, Err}
 use Rattle.std.specs.List.{range_with_len}
 use Rattle.std.specs.Io.KnownBytes.{Appends}
 use Rattle.trlab_road.specs.Cells.{Cells}
@@ -9,11 +9,11 @@ use Rattle.trlab_step.proofs.RunLaws.{run_comes_to_road, road_at_is_one}
 use Rattle.trlab_step.specs.Progress.{Progress, IsOneStepOn, at_start}
 use Rattle.trlab_jobs.specs.Job.{Job, seed_of, sheet_of}
 use Rattle.trlab_jobs.specs.Stored.{IsStored}
-use Rattle.trlab_campaign.specs.Device.{AppendsFront}
-use Rattle.trlab_campaign.specs.Output.{step_text, steps_text}
-use Rattle.trlab_campaign.specs.Ending.{WrotePictures, WroteSome}
+use Rattle.trlab_campaign.specs.Device.{AppendsBy, AppendsPrefix}
+use Rattle.trlab_campaign.specs.Output.{JobOutput, step_text, steps_text}
+use Rattle.trlab_campaign.specs.Ending.{WroteAll, WroteBy, WrotePrefix}
 use Rattle.trlab_campaign.proofs.Sheets.{plain_sheet}
-use Rattle.trlab_campaign.proofs.Owed.{Owes, owes_all, owes_less, owes_front, owes_none}
+use Rattle.trlab_campaign.proofs.Owed.{Owes, owes_all, owes_less, owes_prefix, owes_none}
 
 -- the text of so many steps from one on
 abbrev pub text_from : (ℕ → Cells) → ℕ → ℕ → List ℕ
@@ -114,23 +114,29 @@ went_on job step left old now w = record { roads = w.roads; each = w.each; ends 
 
 -- it stops within the text of a step
 stop_within : (job : Job) (step left : ℕ) (road : Cells) (old a b : Option (List ℕ)) → Underway job step left old a
-    → IsRoadAt (seed_of job) (sheet_of job) step road → AppendsFront a b (step_text step road) → WroteSome job old b
+    → IsRoadAt (seed_of job) (sheet_of job) step road → AppendsPrefix a b (step_text step road) → WrotePrefix (JobOutput job) old b
 stop_within job step left road old a b u at text =
-    let whole = steps_text u.roads (job.steps + 1) in (
-      whole,
-      u.roads,
-      record { road_at = λ s _. u.each s; pictures = refl },
-      owes_front whole (step_text step (u.roads step)) (text_from u.roads (step + 1) left) old a b (rw (next_text u.roads step left) at u.owes)
-          (rw (here job u.roads step road u.each at) text),
+    let whole = steps_text u.roads (job.steps + 1) in
+    let is : JobOutput job false whole = (refl, (u.roads, record { road_at = λ s _. u.each s; pictures = refl })) in
+    inr (
+      false,
+      (
+        whole,
+        (
+          is,
+          owes_prefix whole (step_text step (u.roads step)) (text_from u.roads (step + 1) left) old a b (rw (next_text u.roads step left) at u.owes)
+              (rw (here job u.roads step road u.each at) text),
+        ),
+      ),
     )
 
 -- the text of the last step is written
 all_written : (job : Job) (step : ℕ) (road : Cells) (old a b : Option (List ℕ)) → Underway job step 0 old a
-    → IsRoadAt (seed_of job) (sheet_of job) step road → Appends a b (step_text step road) → WrotePictures job old b
+    → IsRoadAt (seed_of job) (sheet_of job) step road → Appends a b (step_text step road) → WroteAll (JobOutput job) false old b
 all_written job step road old a b u at text =
     let w = wrote job step 0 road old a b u at text in
     let whole = steps_text w.roads (job.steps + 1) in
-    (whole, w.roads, record { road_at = λ s _. w.each s; pictures = refl }, owes_none whole old b w.owes)
+    (whole, ((refl, (w.roads, record { road_at = λ s _. w.each s; pictures = refl })), owes_none whole old b w.owes))
 
 -- the text of a step is written, and the run takes this step
 pub step_on : (steps step left : ℕ) (start run next : Progress) (old a b : Option (List ℕ)) → Writes steps start step (left + 1) run old a
@@ -142,7 +148,7 @@ step_on steps step left start run next old a b writes road text on job begins =
 
 -- it stops within the text of a step of the run
 pub step_stops : (steps step left : ℕ) (start run : Progress) (old a b : Option (List ℕ)) → Writes steps start step left run old a
-    → IsRoadAt run.seed run.sheet run.step run.road → AppendsFront a b (step_text step run.road) → (job : Job) → Begins job steps start → WroteSome job old b
+    → IsRoadAt run.seed run.sheet run.step run.road → AppendsPrefix a b (step_text step run.road) → (job : Job) → Begins job steps start → WrotePrefix (JobOutput job) old b
 step_stops steps step left start run old a b writes road text job begins =
     let here = writes job begins in
     stop_within job step left run.road old a b here.0 (driven_road job step run run.road here.1 road) text
@@ -151,17 +157,12 @@ step_stops steps step left start run old a b writes road text job begins =
 pub no_step_left : (step steps : ℕ) → step ≤ steps → steps ≤ step → (step ≡ steps) × (steps - step ≡ 0)
 no_step_left step steps inside all = (omega arith, omega arith)
 
--- what is known where the text of the last step was written or not
-pub last_whole : {E : Type 0} (r : Result (Unit {0}) E) (steps : ℕ) (start run : Progress) (road : Cells) (old a b : Option (List ℕ)) → Writes steps start steps 0 run old a
-    → IsRoadAt run.seed run.sheet run.step road → OnOk r (Appends a b (step_text steps road)) → (job : Job) → Begins job steps start → OnOk r (WrotePictures job old b)
-last_whole (Ok x) steps start run road old a b writes at text job begins =
+-- the text of the last step was written, or a prefix of it
+pub last_wrote : {A E : Type 0} (r : Result A E) (steps : ℕ) (start run : Progress) (road : Cells) (old a b : Option (List ℕ)) → Writes steps start steps 0 run old a
+    → IsRoadAt run.seed run.sheet run.step road → AppendsBy r a b (step_text steps road) → (job : Job) → Begins job steps start → WroteBy (JobOutput job) r old b
+last_wrote (Ok x) steps start run road old a b writes at text job begins =
     let here = writes job begins in
     all_written job steps road old a b here.0 (driven_road job steps run road here.1 at) text
-last_whole (Err e) steps start run road old a b writes at text job begins = tt
-
-pub last_front : {E : Type 0} (r : Result (Unit {0}) E) (steps : ℕ) (start run : Progress) (road : Cells) (old a b : Option (List ℕ)) → Writes steps start steps 0 run old a
-    → IsRoadAt run.seed run.sheet run.step road → OnErr r (AppendsFront a b (step_text steps road)) → (job : Job) → Begins job steps start → OnErr r (WroteSome job old b)
-last_front (Ok x) steps start run road old a b writes at text job begins = tt
-last_front (Err e) steps start run road old a b writes at text job begins =
+last_wrote (Err e) steps start run road old a b writes at text job begins =
     let here = writes job begins in
     stop_within job steps 0 road old a b here.0 (driven_road job steps run road here.1 at) text

@@ -1,21 +1,22 @@
 -- The lines of a series, written one after another.
-use Rattle.std.proofs.Common.{◌≡◌, ◌↔◌, ℕ, ◌+◌, ◌*◌, ◌<◌, ◌≤◌, List, [], ◌++◌, flat_map, map, refl, sym, ap, subst, arith, add-one, append-nil}
+use Rattle.std.proofs.Common.{◌≡◌, ◌↔◌, ℕ, ◌+◌, ◌*◌, ◌<◌, ◌≤◌, List, [], ◌++◌, flat_map, map, refl, sym, ap, subst, arith, add-one, append-nil, inr, false}
 use Rattle.std.specs.List.{range_with_len}
-use Rattle.std.specs.Prelude.{Option, Result, Ok, Err, OnOk, OnErr}
+use Rattle.std.specs.Prelude.{Option, Result, Ok, Err}
 use Rattle.std.specs.Io.KnownBytes.{Appends}
+use Rattle.trlab_diagram.specs.declared.window.Window.{Window}
 use Rattle.trlab_diagram.specs.Series.{series_text, window_text}
 use Rattle.trlab_road.specs.Cells.{Cells}
 use Rattle.trlab_step.specs.declared.tally.StepTally.{StepTally}
-use Rattle.trlab_campaign.specs.Device.{AppendsFront}
+use Rattle.trlab_campaign.specs.Device.{AppendsBy, AppendsPrefix}
 use Rattle.trlab_step.specs.Progress.{Progress, at_start}
 use Rattle.trlab_jobs.specs.Job.{Job, seed_of, sheet_of}
 use Rattle.trlab_jobs.specs.Stored.{IsStored}
-use Rattle.trlab_campaign.specs.Counting.{WroteSeries, WroteSomeSeries}
-use Rattle.trlab_campaign.specs.SeriesOutput.{IsCourse, IsSeries, first_windows, nth_window, window_of}
+use Rattle.trlab_campaign.specs.Ending.{WroteBy}
+use Rattle.trlab_campaign.specs.SeriesOutput.{IsCourse, IsSeries, SeriesOutput, first_windows, nth_window, window_of}
 use Rattle.trlab_campaign.proofs.Courses.{course_of}
 use Rattle.trlab_campaign.proofs.KnownBytes.{appends_more}
 use Rattle.trlab_campaign.proofs.Sheets.{plain_sheet}
-use Rattle.trlab_campaign.proofs.Owed.{Owes, owes_all, owes_front, owes_less}
+use Rattle.trlab_campaign.proofs.Owed.{Owes, owes_all, owes_prefix, owes_less}
 
 -- the lines of so many windows from window k on
 abbrev pub lines_from : (ℕ → Cells) → (ℕ → StepTally) → ℕ → ℕ → ℕ → ℕ → List ℕ
@@ -34,32 +35,27 @@ line_on roads tallies every from k left step whole old a b is owes text =
     owes_less whole (window_text (nth_window roads tallies every from k)) (lines_from roads tallies every from (k + 1) left) old a b
     (rw (next_line roads tallies every from k left) at owes) (rw is at text)
 
--- or a front of it
+-- or a prefix of it
 pub line_stops : (roads : ℕ → Cells) (tallies : ℕ → StepTally) (every from k left step : ℕ) (whole : List ℕ) (old a b : Option (List ℕ)) → step ≡ from + k * every
-    → Owes whole (lines_from roads tallies every from k (left + 1)) old a → AppendsFront a b (window_text (window_of roads tallies step every)) → AppendsFront old b whole
+    → Owes whole (lines_from roads tallies every from k (left + 1)) old a → AppendsPrefix a b (window_text (window_of roads tallies step every)) → AppendsPrefix old b whole
 line_stops roads tallies every from k left step whole old a b is owes text =
-    owes_front whole (window_text (nth_window roads tallies every from k)) (lines_from roads tallies every from (k + 1) left) old a b
+    owes_prefix whole (window_text (nth_window roads tallies every from k)) (lines_from roads tallies every from (k + 1) left) old a b
     (rw (next_line roads tallies every from k left) at owes) (rw is at text)
 
 -- the next window begins where this one ends
 pub next_at : (from k every step next : ℕ) → step ≡ from + k * every → next ≡ step + every → next ≡ from + (k + 1) * every
 next_at from k every step next at later = omega (arith, at, later)
 
--- a front of a text is one of a text that begins with it
-pub front_of_first : (first rest : List ℕ) (old new : Option (List ℕ)) → AppendsFront old new first → AppendsFront old new (first ++ rest)
-front_of_first first rest old new front = owes_front (first ++ rest) first rest old old new (owes_all (first ++ rest) old) front
+-- a prefix of a text is one of a text that begins with it
+pub prefix_of_first : (first rest : List ℕ) (old new : Option (List ℕ)) → AppendsPrefix old new first → AppendsPrefix old new (first ++ rest)
+prefix_of_first first rest old new prefix = owes_prefix (first ++ rest) first rest old old new (owes_all (first ++ rest) old) prefix
 
--- a text was written, and then another one, or a front of that
-pub then_whole : {E : Type 0} (r : Result (Unit {0}) E) (first rest : List ℕ) (old mid new : Option (List ℕ)) → Appends old mid first → OnOk r (Appends mid new rest)
-    → OnOk r (Appends old new (first ++ rest))
-then_whole (Ok x) first rest old mid new a b = appends_more old mid new first rest a b
-then_whole (Err e) first rest old mid new a b = tt
-
-pub then_front : {E : Type 0} (r : Result (Unit {0}) E) (first rest : List ℕ) (old mid new : Option (List ℕ)) → Appends old mid first → OnErr r (AppendsFront mid new rest)
-    → OnErr r (AppendsFront old new (first ++ rest))
-then_front (Ok x) first rest old mid new a b = tt
-then_front (Err e) first rest old mid new a b =
-    owes_front (first ++ rest) rest [] old mid new (record { done = first; parts = ap (λ t. first ++ t) (sym (append-nil rest)); wrote = a }) b
+-- a text was written, and then another one, or a prefix of that
+pub then_wrote : {A E : Type 0} (r : Result A E) (first rest : List ℕ) (old mid new : Option (List ℕ)) → Appends old mid first → AppendsBy r mid new rest
+    → AppendsBy r old new (first ++ rest)
+then_wrote (Ok x) first rest old mid new a b = appends_more old mid new first rest a b
+then_wrote (Err e) first rest old mid new a b =
+    owes_prefix (first ++ rest) rest [] old mid new (record { done = first; parts = ap (λ t. first ++ t) (sym (append-nil rest)); wrote = a }) b
 
 -- the series of a job, of which the run is that from its start
 module _ (job : Job) (every from count steps : ℕ) (run : Progress) (stored : IsStored job) (starts : run ≡ at_start (seed_of job) (sheet_of job)) (ends : steps ≡ job.steps)
@@ -70,17 +66,17 @@ module _ (job : Job) (every from count steps : ℕ) (run : Progress) (stored : I
   run_course : IsCourse run.seed run.sheet job_course.0 job_course.1
   run_course = subst (λ (r : Progress). IsCourse r.seed r.sheet job_course.0 job_course.1) (sym starts) job_course.2
 
-  is_series : IsSeries job every from (first_windows job_course.0 job_course.1 every from count)
+  abbrev the_windows : List Window
+  the_windows = first_windows job_course.0 job_course.1 every from count
+
+  is_series : IsSeries job every from the_windows
   is_series = record { roads = job_course.0; tallies = job_course.1; course = job_course.2; count = count; whole = rw ends at whole; told = refl }
 
-  pub whole_series : {E : Type 0} (r : Result (Unit {0}) E) (old new : Option (List ℕ))
-      → ((roads : ℕ → Cells) (tallies : ℕ → StepTally) → IsCourse run.seed run.sheet roads tallies → OnOk r (Appends old new (series_text (first_windows roads tallies every from count))))
-      → OnOk r (WroteSeries every from job old new)
-  whole_series (Ok x) old new told = (first_windows job_course.0 job_course.1 every from count, is_series, told job_course.0 job_course.1 run_course)
-  whole_series (Err e) old new told = tt
+  is_output : SeriesOutput every from job false (series_text the_windows)
+  is_output = (refl, (the_windows, (is_series, refl)))
 
-  pub front_series : {E : Type 0} (r : Result (Unit {0}) E) (old new : Option (List ℕ))
-      → ((roads : ℕ → Cells) (tallies : ℕ → StepTally) → IsCourse run.seed run.sheet roads tallies → OnErr r (AppendsFront old new (series_text (first_windows roads tallies every from count))))
-      → OnErr r (WroteSomeSeries every from job old new)
-  front_series (Ok x) old new told = tt
-  front_series (Err e) old new told = (first_windows job_course.0 job_course.1 every from count, is_series, told job_course.0 job_course.1 run_course)
+  pub series_wrote : {A E : Type 0} (r : Result A E) (old new : Option (List ℕ))
+      → ((roads : ℕ → Cells) (tallies : ℕ → StepTally) → IsCourse run.seed run.sheet roads tallies → AppendsBy r old new (series_text (first_windows roads tallies every from count)))
+      → WroteBy (SeriesOutput every from job) r old new
+  series_wrote (Ok x) old new told = (series_text the_windows, (is_output, told job_course.0 job_course.1 run_course))
+  series_wrote (Err e) old new told = inr (false, (series_text the_windows, (is_output, told job_course.0 job_course.1 run_course)))

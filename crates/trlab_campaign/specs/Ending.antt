@@ -1,32 +1,40 @@
--- How an engine ends, by what it has written.
-use Rattle.std.specs.Prelude.{◌≡◌, ℕ, ◌⊎◌, Bool, true, false, List, Option}
+-- How an engine ends: what it has written by then, how that was handed on, and what its reader gave.
+use Rattle.std.specs.Prelude.{◌≡◌, ◌+◌, ◌<◌, ◌≤◌, ◌||◌, ◌⊎◌, ◌↔◌, ℕ, Bool, true, false}
+use Rattle.std.specs.Prelude.{List, length, Option, IfSome, Result, Ok, Err, IfErr, OnOk}
 use Rattle.std.specs.Io.KnownBytes.{Appends, Keeps}
-use Rattle.trlab_road.specs.Cells.{Cells}
+use Rattle.trlab_bounds.specs.declared.texts.TheConstants.{TEXT_LIMIT}
+use Rattle.trlab_campaign.specs.declared.device.Sink as Sink
+use Rattle.trlab_campaign.specs.declared.device.Source as Source
+use Rattle.trlab_campaign.specs.declared.device.flushes.Flushes.{Flushes}
 use Rattle.trlab_campaign.specs.declared.end.End.{End}
 use Rattle.trlab_campaign.specs.declared.end.End.TheVariants.{Done, Refused, Memory, DeviceFault}
-use Rattle.trlab_campaign.specs.Device.{AppendsFront}
+use Rattle.trlab_campaign.specs.declared.run.pictures.WriteFault.{WriteFault}
+use Rattle.trlab_campaign.specs.declared.run.pictures.WriteFault.TheVariants.{Device}
+use Rattle.trlab_campaign.specs.Device.{AppendsPrefix, ConsumesUpTo}
 use Rattle.trlab_campaign.specs.Flushes.{AtMostOnce, HandedOnce}
-use Rattle.trlab_campaign.specs.declared.device.flushes.Flushes.{Flushes}
-use Rattle.trlab_jobs.specs.Job.{Job}
-use Rattle.trlab_campaign.specs.Output.{IsRunText}
 use Rattle.trlab_campaign.specs.Refusal.{Outputs}
 
 -- a whole output was written, which is a refusal or is none
 abbrev pub WroteAll : Outputs → Bool → Option (List ℕ) → Option (List ℕ) → Type 0
 WroteAll IsWhole refused old new = (out : List ℕ) × (IsWhole refused out × Appends old new out)
 
--- nothing was written, or a front of a whole output
-abbrev pub WroteFront : Outputs → Option (List ℕ) → Option (List ℕ) → Type 0
-WroteFront IsWhole old new =
+-- nothing was written, or a prefix of a whole output
+abbrev pub WrotePrefix : Outputs → Option (List ℕ) → Option (List ℕ) → Type 0
+WrotePrefix IsWhole old new =
     Keeps old new
-    ⊎ ((refused : Bool) × ((out : List ℕ) × (IsWhole refused out × AppendsFront old new out)))
+    ⊎ ((refused : Bool) × ((out : List ℕ) × (IsWhole refused out × AppendsPrefix old new out)))
+
+-- by its result, a writing wrote a whole output that is no refusal, or a prefix of one
+abbrev pub WroteBy : {A E : Type 0} → Outputs → Result A E → Option (List ℕ) → Option (List ℕ) → Type 0
+WroteBy IsWhole (Ok done) old new = WroteAll IsWhole false old new
+WroteBy IsWhole (Err fault) old new = WrotePrefix IsWhole old new
 
 -- an engine ended so: a text with a fault, or a program that is refused, has an output that is a refusal
 abbrev pub EndsSo : Outputs → End → Option (List ℕ) → Option (List ℕ) → Type 0
 EndsSo IsWhole Done old new = WroteAll IsWhole false old new
 EndsSo IsWhole Refused old new = WroteAll IsWhole true old new
-EndsSo IsWhole Memory old new = WroteFront IsWhole old new
-EndsSo IsWhole DeviceFault old new = WroteFront IsWhole old new
+EndsSo IsWhole Memory old new = WrotePrefix IsWhole old new
+EndsSo IsWhole DeviceFault old new = WrotePrefix IsWhole old new
 
 -- an engine left its writer so: a whole output was handed on by one flush, there was none where memory
 -- ran out, and one or none where a device failed
@@ -40,22 +48,41 @@ HandsOn DeviceFault handed_on old new = AtMostOnce old new
 abbrev pub OutputEnds : Bool → List ℕ → End → Option (List ℕ) → Option (List ℕ) → Type 0
 OutputEnds refused out Done old new = (refused ≡ false) × Appends old new out
 OutputEnds refused out Refused old new = (refused ≡ true) × Appends old new out
-OutputEnds refused out Memory old new = AppendsFront old new out
-OutputEnds refused out DeviceFault old new = AppendsFront old new out
+OutputEnds refused out Memory old new = AppendsPrefix old new out
+OutputEnds refused out DeviceFault old new = AppendsPrefix old new out
 
--- the pictures of a job's road at each step were written
-abbrev pub WrotePictures : Job → Option (List ℕ) → Option (List ℕ) → Type 0
-WrotePictures job old new =
-    (out : List ℕ) × (roads : ℕ → Cells) × IsRunText job roads out × Appends old new out
+-- a writing that hands nothing on yet left its writer so: it works where all was written, it has failed just
+-- where that is the fault, and it was not flushed
+pub record WritesOn {A K : Type 0} (sink : Sink.Ghosts K) (result : Result A WriteFault) (old new : K) : Type 0 where
+  pub works : OnOk result (sink.failed new ≡ false)
+  pub fails : IfErr result (λ fault. (fault ≡ Device) ↔ (sink.failed new ≡ true))
+  pub flushed : sink.flushes new ≡ sink.flushes old
 
--- a front of them was written
-abbrev pub WroteSome : Job → Option (List ℕ) → Option (List ℕ) → Type 0
-WroteSome job old new =
-    (out : List ℕ) × (roads : ℕ → Cells) × IsRunText job roads out × AppendsFront old new out
+-- a call ended so, and left its writer so: by this end so much was written, what was written whole was handed
+-- on by one flush, and it ended in a device fault just where the writer has failed
+pub record LeavesWriter {K : Type 0} (sink : Sink.Ghosts K)
+    (Wrote : End → Option (List ℕ) → Option (List ℕ) → Type 0) (end : End) (old new : K) : Type 0 where
+  pub answer : Wrote end (sink.written old) (sink.written new)
+  pub handed : HandsOn end (sink.handed_on new) (sink.flushes old) (sink.flushes new)
+  pub device : (end ≡ DeviceFault) ↔ (sink.failed new ≡ true)
 
--- the run of a job ended so
-abbrev pub JobEnds : End → Job → Option (List ℕ) → Option (List ℕ) → Type 0
-JobEnds Done job old new = WrotePictures job old new
-JobEnds Refused job old new = ⊥
-JobEnds Memory job old new = WroteSome job old new
-JobEnds DeviceFault job old new = WroteSome job old new
+-- an engine ended so on a text that is too long, of which no more is known
+abbrev pub EndsTooBig : (List ℕ → Outputs) → End → Option (List ℕ) → Option (List ℕ) → Type 0
+EndsTooBig outputs end old new =
+    (text : List ℕ) → TEXT_LIMIT < length text → EndsSo (outputs text) end old new
+
+-- an engine ended so, which reads a text and writes one of the outputs that there may be for it: `before` and
+-- `after` are its reader, `old` and `new` its writer
+pub record EngineEnds {S K : Type 0} (source : Source.Ghosts S) (sink : Sink.Ghosts K)
+    (outputs : List ℕ → Outputs) (end : End) (before after : S) (old new : K) : Type 0 where
+  -- where the reader tells its bytes, and the writer those that it has
+  pub answer : IfSome (source.left before)
+      (λ text. EndsSo (outputs text) end (sink.written old) (sink.written new))
+  -- nothing was written where the text was not read, also by a reader that does not tell its bytes
+  pub silent : source.failed after ≡ true → Keeps (sink.written old) (sink.written new)
+  pub handed : HandsOn end (sink.handed_on new) (sink.flushes old) (sink.flushes new)
+  pub device : (end ≡ DeviceFault) ↔ ((source.failed after || sink.failed new) ≡ true)
+  -- at most one byte more was read than a text may have
+  pub read : ConsumesUpTo (TEXT_LIMIT + 1) (source.left before) (source.left after)
+  -- a reader that tells no bytes gives no more either
+  pub stops : source.taken after ≤ source.taken before + (TEXT_LIMIT + 1)

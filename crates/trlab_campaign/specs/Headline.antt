@@ -14,8 +14,8 @@ use Rattle.trlab_campaign.specs.Output.{IsOutput, steps_text}
 use Rattle.trlab_campaign.specs.SweepOutput.{IsSweepOutput, point_of}
 use Rattle.trlab_campaign.specs.SweepOutput as sweep
 
--- the output for a job text: it says a job, one worker drives the job's road, and the pictures are of the roads
--- on the way
+-- the output for a job text: it says a job, one worker drives the job's road, and the pictures are of
+-- the roads on the way
 pub record IsDrivenJob (text out : List ℕ) : Type 0 where
   pub job : Job
   pub says : JobText text (Ok job)
@@ -27,15 +27,17 @@ pub record IsDrivenJob (text out : List ℕ) : Type 0 where
 abbrev pub JobTextsAreDriven : Type 0
 JobTextsAreDriven = (text out : List ℕ) → IsOutput text false out → IsDrivenJob text out
 
--- a point of a sweep: one worker drives its road, whose cars are evenly spread at the start, and what is told of
--- them is what was counted on the way
+-- a point of a sweep: one worker drives its road, whose cars are evenly spread at the start, and what is
+-- told of them is what was counted on the way
 pub record IsDrivenPoint (setup : Setup) (number cars : ℕ) (point : Point) : Type 0 where
   pub start : Cells
   pub tally : StepTally
   pub roads : ℕ → Cells
   pub even : IsEven setup.shape.lanes setup.shape.cells setup.shape.limit cars start
-  pub driven : IsDriven (sweep.seed_of setup number start) (sweep.sheet_of setup) (all_steps setup.span) roads
-  pub counted : IsTallyAt (sweep.seed_of setup number start) (sweep.sheet_of setup) (all_steps setup.span) tally
+  pub driven : IsDriven (sweep.seed_of setup number start) (sweep.sheet_of setup)
+      (all_steps setup.span) roads
+  pub counted : IsTallyAt (sweep.seed_of setup number start) (sweep.sheet_of setup)
+      (all_steps setup.span) tally
   pub told : point ≡ point_of setup cars tally
 
 -- the output for a sweep text: it says a sweep, and the table has its points, in their order

@@ -2,6 +2,7 @@
 use Rattle.std.specs.Prelude.{◌≡◌, ◌↔◌, ℕ, ◌+◌, ◌*◌, ◌<◌, ◌≤◌, ◌&&◌, Bool, false, cond, Some}
 use Rattle.std.specs.Prelude.{List, map, length, sum_by, count_by, nat_eq, Result}
 use Rattle.std.specs.List.{range_with_len}
+use Rattle.trlab_diagram.specs.declared.point.Point.{Point}
 use Rattle.trlab_diagram.specs.declared.window.LaneCount.{LaneCount}
 use Rattle.trlab_diagram.specs.declared.window.Window.{Window}
 use Rattle.trlab_diagram.specs.Series.{series_text}
@@ -64,18 +65,22 @@ tallies_from tallies first count = map tallies (range_with_len first count)
 abbrev pub roads_behind : (ℕ → Cells) → ℕ → ℕ → List Cells
 roads_behind roads first count = map roads (range_with_len (first + 1) count)
 
+-- what was counted in so many steps by their tallies, of the cars of a road
+abbrev pub sum_point : Cells → ℕ → List StepTally → Point
+sum_point road steps tallies = record {
+  cars = cars road;
+  cells = length road.lanes * length (lane_of road 0);
+  steps = steps;
+  distance = sum_by (λ (tally : StepTally). tally.distance) tallies;
+  stopped = sum_by (λ (tally : StepTally). tally.stopped) tallies;
+  changes = sum_by (λ (tally : StepTally). tally.changes) tallies;
+}
+
 -- the window of these steps: what was counted in them, and what stood on each lane behind them
 abbrev pub window_of : (ℕ → Cells) → (ℕ → StepTally) → ℕ → ℕ → Window
 window_of roads tallies first count = record {
   step = first + count;
-  point = record {
-    cars = cars (roads (first + count));
-    cells = length (roads (first + count)).lanes * length (lane_of (roads (first + count)) 0);
-    steps = count;
-    distance = sum_by (λ (tally : StepTally). tally.distance) (tallies_from tallies first count);
-    stopped = sum_by (λ (tally : StepTally). tally.stopped) (tallies_from tallies first count);
-    changes = sum_by (λ (tally : StepTally). tally.changes) (tallies_from tallies first count);
-  };
+  point = sum_point (roads (first + count)) count (tallies_from tallies first count);
   first = lane_count 0 (roads_behind roads first count);
   second = lane_count 1 (roads_behind roads first count);
 }
@@ -101,7 +106,8 @@ pub record IsSeries (job : Job) (every from : ℕ) (windows : List Window) : Typ
 -- what is written for a job, which is no refusal
 abbrev pub SeriesOutput : ℕ → ℕ → Job → Outputs
 SeriesOutput every from job refused out =
-    (refused ≡ false) × ((windows : List Window) × (IsSeries job every from windows × (out ≡ series_text windows)))
+    (refused ≡ false)
+    × ((windows : List Window) × (IsSeries job every from windows × (out ≡ series_text windows)))
 
 -- the whole output for a text, and whether it is a refusal
 abbrev pub IsSeriesOutput : ℕ → ℕ → List ℕ → Outputs

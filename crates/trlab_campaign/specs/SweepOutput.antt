@@ -1,5 +1,6 @@
 -- What is written for a sweep text: the table of its points.
-use Rattle.std.specs.Prelude.{◌≡◌, ℕ, ◌<◌, ◌≤◌, false, List, [], ◌∷◌, All, length, slice_index_or, Result, IfOk, Vec}
+use Rattle.std.specs.Prelude.{◌≡◌, ℕ, ◌<◌, ◌≤◌, false, List, [], ◌∷◌, All, length, slice_index_or}
+use Rattle.std.specs.Prelude.{Result, IfOk, Vec}
 use Rattle.std.specs.Borrow.{Bor}
 use Rattle.trlab_diagram.specs.declared.point.Point.{Point}
 use Rattle.trlab_diagram.specs.Flow.{IsMeasured}

@@ -30,7 +30,7 @@ pub trait Source {
     // Whether a call has failed.
     ghost failed: { Self → Bool };
 
-    /// Reads into the front of the buffer, and answers how many bytes; none only at the end.
+    /// Reads into the beginning of the buffer, and answers how many bytes; none only at the end.
     ///
     /// # Errors
     ///
@@ -53,7 +53,7 @@ pub trait Sink {
     // Whether a call has failed.
     ghost failed: { Self → Bool };
 
-    /// Writes a front of the bytes, and answers how many; at least one where there is one.
+    /// Writes a prefix of the bytes, and answers how many; at least one where there is one.
     ///
     /// # Errors
     ///

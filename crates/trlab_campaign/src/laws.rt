@@ -1,5 +1,5 @@
-//! Laws of the outputs of texts, whichever code writes them: what one worker who drives the roads comes to, and what
-//! the points of a sweep keep to.
+//! Laws of the outputs of texts, whichever code writes them: what one worker who drives the roads comes
+//! to, and what the points of a sweep keep to.
 //!
 //! Each law is the contract of a function with nothing to do.
 
@@ -11,15 +11,16 @@ ghost use Rattle.trlab_campaign.specs.Output.{IsOutput};
 ghost use Rattle.trlab_campaign.specs.SeriesLaws.{LanesOfSeriesAddUp, SeriesHasOneOutput, SeriesHasSomeOutput};
 ghost use Rattle.trlab_campaign.specs.SweepOutput.{IsSweepOutput};
 
-/// The output for a job text that is not refused has the pictures of the roads through which one worker drives, from
-/// the road that the text shows to that behind its last step: each step is under the rule in force, its programs end
-/// within their budgets, no car goes onto or through another, and none is lost or made.
+/// The output for a job text that is not refused has the pictures of the roads through which one worker
+/// drives, from the road that the text shows to that behind its last step: each step is under the rule
+/// in force, its programs end within their budgets, no car goes onto or through another, and none is
+/// lost or made.
 pub fn job_texts_are_driven()
     ensures { JobTextsAreDriven }
 {}
 
-/// The table for a sweep text that is not refused has a point for each count of cars, in their order, of a road that
-/// one worker drives so, whose cars are evenly spread at the start.
+/// The table for a sweep text that is not refused has a point for each count of cars, in their order, of
+/// a road that one worker drives so, whose cars are evenly spread at the start.
 pub fn sweep_texts_are_driven()
     ensures { SweepTextsAreDriven }
 {}
@@ -42,22 +43,24 @@ pub fn sweep_has_one_output()
     ensures one_output { HasOneOutput IsSweepOutput }
 {}
 
-/// Each point of the table for a sweep text is under a triangle: the flow is at most one less the density, and at most
-/// the limit times the density. On one lane under the rule of 1992 without randomization, where no step is counted
-/// before cars could have come to the limit, it is the lesser of the two, so the fundamental diagram is the triangle.
+/// Each point of the table for a sweep text is under a triangle: the flow is at most one less the
+/// density, and at most the limit times the density. On one lane under the rule of 1992 without
+/// randomization, where no step is counted before cars could have come to the limit, it is the lesser of
+/// the two, so the fundamental diagram is the triangle.
 pub fn sweeps_keep_to_capacity()
     ensures within { SweepsKeepToCapacity }
     ensures triangle { DiagramIsTriangle }
 {}
 
-/// Any job text has just one output as a series of windows, each of a step or more, and it is a refusal or it is none.
+/// Any job text has just one output as a series of windows, each of a step or more, and it is a refusal
+/// or it is none.
 pub fn series_has_one_output()
     ensures some_output { SeriesHasSomeOutput }
     ensures one_output { SeriesHasOneOutput }
 {}
 
-/// In each window of a series, what stands on lane 0 and on lane 1 is together what the road has: the cars once in each
-/// step, the cells that they went, and those that were stopped.
+/// In each window of a series, what stands on lane 0 and on lane 1 is together what the road has: the
+/// cars once in each step, the cells that they went, and those that were stopped.
 pub fn lanes_of_series_add_up()
     ensures { LanesOfSeriesAddUp }
 {}

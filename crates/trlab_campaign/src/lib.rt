@@ -1,5 +1,5 @@
-//! Job texts in, pictures of roads or tables of windows out; sweep texts in, tables of points out; check texts
-//! in, verdicts on programs out.
+//! Job texts in, pictures of roads or tables of windows out; sweep texts in, tables of points out; check
+//! texts in, verdicts on programs out.
 #![tactic(auto)]
 
 mod check;
@@ -28,8 +28,7 @@ pub use refusal::write_output;
 pub use run::{run_job_text, run_job_text_observed};
 pub use series::{Windows, run_series_text, run_series_text_observed};
 pub use sweep::{run_sweep_text, run_sweep_text_observed};
-pub use trlab_bounds::runs::{MOST_LATER, MOST_RUNNERS, MOST_STEPS, MOST_WORKERS};
+pub use trlab_bounds::runs::{MOST_RUNNERS, MOST_WORKERS};
 pub use trlab_bounds::texts::TEXT_LIMIT;
-pub use trlab_jobs::limits::{MOST_CARS, MOST_POINTS, MOST_WORK};
 pub use trlab_jobs::{Job, Sweep, read_job, read_sweep};
 pub use trlab_texts::{Cause, TextFault};

@@ -83,7 +83,8 @@ fn push_note(alloc: Global, out: &mut Vec<u8>, pc: usize, note: &Note) -> Result
 /// Adds the lines of notes, the first being that of the first instruction.
 fn push_table(alloc: Global, out: &mut Vec<u8>, table: &[Note]) -> Result<(), AllocError>
     ensures { (kind : Kind) → OnOk result (out.new.items ≡ out.old.items
-        ++ flat_map (λ pc. note_line pc (meaning_at kind table.now pc)) (range_with_len 0 (length table.now))) }
+        ++ flat_map (λ pc. note_line pc (meaning_at kind table.now pc))
+        (range_with_len 0 (length table.now))) }
 {
     for pc in 0..table.len() {
         push_note(alloc, out, pc, &table[pc])?;
@@ -95,7 +96,7 @@ fn push_table(alloc: Global, out: &mut Vec<u8>, table: &[Note]) -> Result<(), Al
 ///
 /// # Errors
 ///
-/// Want of memory.
+/// `AllocError` where memory ran out.
 pub fn push_notes(alloc: Global, out: &mut Vec<u8>, code: &Code) -> Result<(), AllocError>
     requires { IsAccepted code.now.kind code.now }
     ensures { OnOk result (out.new.items ≡ out.old.items ++ notes_text code.now) }

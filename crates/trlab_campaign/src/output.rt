@@ -1,4 +1,5 @@
-//! The lines of outputs: those of a step with its pictures, and those of a refused text and a refused program.
+//! The lines of outputs: those of a step with its pictures, and those of a refused text and a refused
+//! program.
 
 ghost use Rattle.std.specs.Prelude.{◌≡◌, ◌∷◌, ◌++◌, ℕ, List, [], IfOk, OnOk, codes, decimal};
 ghost use Rattle.std.specs.String.{string_bytes};
@@ -16,7 +17,7 @@ use trlab_texts::Cause;
 ///
 /// # Errors
 ///
-/// Where it was not made, and want of memory.
+/// `AllocError` where it was not made, or memory ran out.
 pub fn push_text(out: &mut Vec<u8>, text: Result<String, AllocError>) -> Result<(), AllocError>
     ensures { (bytes : List ℕ) → IfOk text (λ text. string_bytes text ≡ bytes)
         → OnOk result (out.new.items ≡ out.old.items ++ bytes) }
@@ -42,7 +43,7 @@ fn push_step_line(out: &mut Vec<u8>, step: u32) -> Result<(), AllocError>
 ///
 /// # Errors
 ///
-/// Want of memory.
+/// `AllocError` where memory ran out.
 pub fn push_step(out: &mut Vec<u8>, step: u32, road: &Road) -> Result<(), AllocError>
     ensures { OnOk result (out.new.items ≡ out.old.items ++ step_text step road.now) }
 {
@@ -58,7 +59,7 @@ pub fn push_step(out: &mut Vec<u8>, step: u32, road: &Road) -> Result<(), AllocE
 ///
 /// # Errors
 ///
-/// Want of memory.
+/// `AllocError` where memory ran out.
 pub fn push_fault_line(page: &mut Page, line: u32, cause: Cause) -> Result<(), AllocError>
     ensures { OnOk result (page.new ≡ page.old ++ fault_line (record { line = line; cause = cause })) }
 {
@@ -73,7 +74,7 @@ pub fn push_fault_line(page: &mut Page, line: u32, cause: Cause) -> Result<(), A
 ///
 /// # Errors
 ///
-/// Want of memory.
+/// `AllocError` where memory ran out.
 pub fn fault_page(alloc: Global, line: u32, cause: Cause) -> Result<Page, AllocError>
     ensures { IfOk result (λ page. page ≡ fault_line (record { line = line; cause = cause })) }
 {
@@ -86,7 +87,7 @@ pub fn fault_page(alloc: Global, line: u32, cause: Cause) -> Result<Page, AllocE
 ///
 /// # Errors
 ///
-/// Want of memory.
+/// `AllocError` where memory ran out.
 pub fn push_refused_line(page: &mut Page, at: u32, reason: u32) -> Result<(), AllocError>
     ensures { OnOk result (page.new ≡ page.old ++ refused_line at reason) }
 {

@@ -1,13 +1,10 @@
 //! Engines of job texts: a pool of workers asks the cars of the run, and an observer is told of its steps.
 
-ghost use Rattle.std.specs.Prelude.{◌≡◌, ◌+◌, ◌≤◌, ◌||◌, ◌↔◌, true, false, IfSome};
-ghost use Rattle.std.specs.Io.KnownBytes.{Keeps};
+ghost use Rattle.std.specs.Prelude.{◌≡◌, ◌≤◌, false};
 ghost use Rattle.trlab_jobs.specs.Job.{Job as Told};
-ghost use Rattle.trlab_campaign.specs.Device.{ConsumesUpTo};
-ghost use Rattle.trlab_campaign.specs.Ending.{EndsSo, HandsOn};
+ghost use Rattle.trlab_campaign.specs.Ending.{EndsSo, EngineEnds, LeavesWriter};
 ghost use Rattle.trlab_campaign.specs.Output.{IsOutputOf};
 ghost use Rattle.trlab_campaign.specs.Refusal.{Outputs};
-ghost use Rattle.trlab_campaign.specs.declared.end.End.TheVariants.{DeviceFault};
 
 use crate::device::{Sink, Source};
 use crate::end::End;
@@ -19,7 +16,6 @@ use std::alloc::{AllocGlobal, Global};
 use std::sync::Wait;
 use std::thread::Threads;
 use trlab_bounds::runs::MOST_WORKERS;
-use trlab_bounds::texts::TEXT_LIMIT;
 use trlab_jobs::{Job, read_job};
 use trlab_segments::{OpenGate, Pool};
 use trlab_step::Asker;
@@ -43,11 +39,7 @@ pub trait Account {
     ) -> End
         requires ready { A.is_ready asker.now }
         requires works { K.failed writer.old ≡ false }
-        ensures answer { EndsSo (outputs self.now job) result
-            (K.written writer.old) (K.written writer.new) }
-        ensures handed { HandsOn result
-            (K.handed_on writer.new) (K.flushes writer.old) (K.flushes writer.new) }
-        ensures device { (result ≡ DeviceFault) ↔ (K.failed writer.new ≡ true) };
+        ensures { LeavesWriter K.Sink (EndsSo (outputs self.now job)) result writer.old writer.new };
 }
 
 /// The engine of job texts: what it writes for a job, who asks the cars, and who is told how far it is.
@@ -96,14 +88,8 @@ pub fn run_pooled<
     requires writer_works { K.failed writer.old ≡ false }
     requires some_worker { 1 ≤ workers }
     requires few_workers { workers ≤ MOST_WORKERS }
-    ensures answer { IfSome (S.left reader.old) (λ text. EndsSo (IsOutputOf (C.outputs account.now) text)
-        result (K.written writer.old) (K.written writer.new)) }
-    ensures silent { S.failed reader.new ≡ true → Keeps (K.written writer.old) (K.written writer.new) }
-    ensures handed { HandsOn result
-        (K.handed_on writer.new) (K.flushes writer.old) (K.flushes writer.new) }
-    ensures device { (result ≡ DeviceFault) ↔ ((S.failed reader.new || K.failed writer.new) ≡ true) }
-    ensures read { ConsumesUpTo (TEXT_LIMIT + 1) (S.left reader.old) (S.left reader.new) }
-    ensures stops { S.taken reader.new ≤ S.taken reader.old + (TEXT_LIMIT + 1) }
+    ensures { EngineEnds S.Source K.Sink (IsOutputOf (C.outputs account.now)) result
+        reader.old reader.new writer.old writer.new }
 {
     let alloc = rt.alloc();
     let gate = OpenGate;

@@ -6,12 +6,9 @@ mod lanes;
 mod lines;
 mod windows;
 
-ghost use Rattle.std.specs.Prelude.{◌≡◌, ◌+◌, ◌≤◌, ◌||◌, ◌↔◌, true, false, IfSome};
-ghost use Rattle.std.specs.Io.KnownBytes.{Keeps};
-ghost use Rattle.trlab_campaign.specs.Device.{ConsumesUpTo};
-ghost use Rattle.trlab_campaign.specs.Ending.{EndsSo, HandsOn};
+ghost use Rattle.std.specs.Prelude.{◌≡◌, ◌≤◌, false};
+ghost use Rattle.trlab_campaign.specs.Ending.{EngineEnds};
 ghost use Rattle.trlab_campaign.specs.SeriesOutput.{IsSeriesOutput, SeriesOutput};
-ghost use Rattle.trlab_campaign.specs.declared.end.End.TheVariants.{DeviceFault};
 
 use crate::device::{Sink, Source};
 use crate::end::End;
@@ -22,7 +19,6 @@ use std::alloc::{AllocGlobal, Global};
 use std::sync::Wait;
 use std::thread::Threads;
 use trlab_bounds::runs::MOST_WORKERS;
-use trlab_bounds::texts::TEXT_LIMIT;
 use trlab_jobs::Job;
 use trlab_step::Asker;
 pub use windows::Windows;
@@ -55,7 +51,7 @@ impl<'a> Account for Series<'a> {
 ///
 /// The whole text is read and judged before a byte is written, and the line of a window is written once
 /// the steps of the window are taken. Where memory runs out or a call of the reader or writer fails, what
-/// was written is the front of the whole output. The output does not depend on the number of workers, 1
+/// was written is a prefix of the whole output. The output does not depend on the number of workers, 1
 /// to 16, of whom only those are started that make the run faster, once for the whole run.
 pub fn run_series_text<R: AllocGlobal + Threads + Wait + Sync, S: Source, K: Sink>(
     rt: &R,
@@ -68,18 +64,8 @@ pub fn run_series_text<R: AllocGlobal + Threads + Wait + Sync, S: Source, K: Sin
     requires writer_works { K.failed writer.old ≡ false }
     requires some_worker { 1 ≤ workers }
     requires few_workers { workers ≤ MOST_WORKERS }
-    // Where the reader tells its bytes, and the writer those that it has.
-    ensures answer { IfSome (S.left reader.old)
-        (λ text. EndsSo (IsSeriesOutput windows.now.every windows.now.from text)
-        result (K.written writer.old) (K.written writer.new)) }
-    // Nothing was written where the text was not read, also by a reader that does not tell its bytes.
-    ensures silent { S.failed reader.new ≡ true → Keeps (K.written writer.old) (K.written writer.new) }
-    ensures handed { HandsOn result
-        (K.handed_on writer.new) (K.flushes writer.old) (K.flushes writer.new) }
-    ensures device { (result ≡ DeviceFault) ↔ ((S.failed reader.new || K.failed writer.new) ≡ true) }
-    ensures read { ConsumesUpTo (TEXT_LIMIT + 1) (S.left reader.old) (S.left reader.new) }
-    // A reader that tells no bytes gives no more either.
-    ensures stops { S.taken reader.new ≤ S.taken reader.old + (TEXT_LIMIT + 1) }
+    ensures { EngineEnds S.Source K.Sink (IsSeriesOutput windows.now.every windows.now.from) result
+        reader.old reader.new writer.old writer.new }
 {
     run_series_text_observed(rt, reader, writer, workers, windows, &Unobserved)
 }
@@ -95,15 +81,8 @@ pub fn run_series_text_observed<
     requires writer_works { K.failed writer.old ≡ false }
     requires some_worker { 1 ≤ workers }
     requires few_workers { workers ≤ MOST_WORKERS }
-    ensures answer { IfSome (S.left reader.old)
-        (λ text. EndsSo (IsSeriesOutput windows.now.every windows.now.from text)
-        result (K.written writer.old) (K.written writer.new)) }
-    ensures silent { S.failed reader.new ≡ true → Keeps (K.written writer.old) (K.written writer.new) }
-    ensures handed { HandsOn result
-        (K.handed_on writer.new) (K.flushes writer.old) (K.flushes writer.new) }
-    ensures device { (result ≡ DeviceFault) ↔ ((S.failed reader.new || K.failed writer.new) ≡ true) }
-    ensures read { ConsumesUpTo (TEXT_LIMIT + 1) (S.left reader.old) (S.left reader.new) }
-    ensures stops { S.taken reader.new ≤ S.taken reader.old + (TEXT_LIMIT + 1) }
+    ensures { EngineEnds S.Source K.Sink (IsSeriesOutput windows.now.every windows.now.from) result
+        reader.old reader.new writer.old writer.new }
 {
     run_pooled(rt, &Series { windows }, reader, writer, workers, observer)
 }

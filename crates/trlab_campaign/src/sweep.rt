@@ -8,14 +8,10 @@ mod snapshots;
 mod table;
 mod work;
 
-ghost use Rattle.std.specs.Prelude.{◌≡◌, ◌+◌, ◌<◌, ◌≤◌, ◌||◌, ◌↔◌, ℕ, List, Ok, true, false, IfOk, IfSome};
-ghost use Rattle.std.specs.Io.KnownBytes.{Keeps};
+ghost use Rattle.std.specs.Prelude.{◌≡◌, ◌<◌, ◌≤◌, false, IfOk};
 ghost use Rattle.trlab_bounds.specs.declared.runs.TheConstants.{MOST_RUNNERS, MOST_WORKERS};
-ghost use Rattle.trlab_jobs.specs.Sweep.{SweepText};
-ghost use Rattle.trlab_campaign.specs.Device.{ConsumesUpTo};
-ghost use Rattle.trlab_campaign.specs.Ending.{EndsSo, HandsOn};
+ghost use Rattle.trlab_campaign.specs.Ending.{EndsSo, EngineEnds, LeavesWriter};
 ghost use Rattle.trlab_campaign.specs.SweepOutput.{IsSweepOutput, SweepOutput, TellsTable};
-ghost use Rattle.trlab_campaign.specs.declared.end.End.TheVariants.{DeviceFault};
 
 use crate::device::{Sink, Source};
 use crate::end::End;
@@ -26,7 +22,6 @@ use crate::sweep::table::table;
 use std::alloc::{AllocError, AllocGlobal, Global};
 use std::sync::Wait;
 use std::thread::Threads;
-use trlab_bounds::texts::TEXT_LIMIT;
 use trlab_jobs::{Sweep, read_sweep};
 use trlab_texts::{Cause, TextFault};
 
@@ -41,11 +36,7 @@ struct Surveyor<T> {
 fn write_table<K: Sink>(sweep: &Sweep, table: Result<Vec<u8>, AllocError>, writer: &mut K) -> End
     requires made { IfOk table (λ table. SweepOutput sweep.now false table.items) }
     requires works { K.failed writer.old ≡ false }
-    ensures answer { (text : List ℕ) → SweepText text (Ok sweep.now)
-        → EndsSo (IsSweepOutput text) result (K.written writer.old) (K.written writer.new) }
-    ensures handed { HandsOn result
-        (K.handed_on writer.new) (K.flushes writer.old) (K.flushes writer.new) }
-    ensures device { (result ≡ DeviceFault) ↔ (K.failed writer.new ≡ true) }
+    ensures { LeavesWriter K.Sink (EndsSo (SweepOutput sweep.now)) result writer.old writer.new }
 {
     match table {
         Ok(table) => write_output(false, &table, writer),
@@ -78,7 +69,7 @@ impl<T: Fn(Global, &Sweep) -> Result<Vec<u8>, AllocError> + Drop> Engine for Sur
 /// Reads a sweep text, and writes the table of its points, or the line of the text's first fault.
 ///
 /// The whole text is read and judged, and all points are there, before a byte is written. Where
-/// memory runs out or a call of the reader or writer fails, what was written is the front of the
+/// memory runs out or a call of the reader or writer fails, what was written is a prefix of the
 /// whole output. The roads are the jobs of a book, which so many runners take, each with so many
 /// workers, 1 to 16; the output depends on neither number.
 pub fn run_sweep_text<R: AllocGlobal + Threads + Wait + Sync, S: Source, K: Sink>(
@@ -94,17 +85,8 @@ pub fn run_sweep_text<R: AllocGlobal + Threads + Wait + Sync, S: Source, K: Sink
     requires few_runners { runners ≤ MOST_RUNNERS }
     requires some_worker { 1 ≤ workers }
     requires few_workers { workers ≤ MOST_WORKERS }
-    // Where the reader tells its bytes, and the writer those that it has.
-    ensures answer { IfSome (S.left reader.old)
-        (λ text. EndsSo (IsSweepOutput text) result (K.written writer.old) (K.written writer.new)) }
-    // Nothing was written where the text was not read, also by a reader that does not tell its bytes.
-    ensures silent { S.failed reader.new ≡ true → Keeps (K.written writer.old) (K.written writer.new) }
-    ensures handed { HandsOn result
-        (K.handed_on writer.new) (K.flushes writer.old) (K.flushes writer.new) }
-    ensures device { (result ≡ DeviceFault) ↔ ((S.failed reader.new || K.failed writer.new) ≡ true) }
-    ensures read { ConsumesUpTo (TEXT_LIMIT + 1) (S.left reader.old) (S.left reader.new) }
-    // A reader that tells no bytes gives no more either.
-    ensures stops { S.taken reader.new ≤ S.taken reader.old + (TEXT_LIMIT + 1) }
+    ensures { EngineEnds S.Source K.Sink IsSweepOutput result
+        reader.old reader.new writer.old writer.new }
 {
     run_sweep_text_observed(rt, reader, writer, runners, workers, &Unobserved)
 }
@@ -122,14 +104,8 @@ pub fn run_sweep_text_observed<
     requires few_runners { runners ≤ MOST_RUNNERS }
     requires some_worker { 1 ≤ workers }
     requires few_workers { workers ≤ MOST_WORKERS }
-    ensures answer { IfSome (S.left reader.old)
-        (λ text. EndsSo (IsSweepOutput text) result (K.written writer.old) (K.written writer.new)) }
-    ensures silent { S.failed reader.new ≡ true → Keeps (K.written writer.old) (K.written writer.new) }
-    ensures handed { HandsOn result
-        (K.handed_on writer.new) (K.flushes writer.old) (K.flushes writer.new) }
-    ensures device { (result ≡ DeviceFault) ↔ ((S.failed reader.new || K.failed writer.new) ≡ true) }
-    ensures read { ConsumesUpTo (TEXT_LIMIT + 1) (S.left reader.old) (S.left reader.new) }
-    ensures stops { S.taken reader.new ≤ S.taken reader.old + (TEXT_LIMIT + 1) }
+    ensures { EngineEnds S.Source K.Sink IsSweepOutput result
+        reader.old reader.new writer.old writer.new }
 {
     let surveyor = Surveyor {
         table: |alloc: Global, sweep: &Sweep| -> Result<Vec<u8>, AllocError>

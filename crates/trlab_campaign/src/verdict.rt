@@ -1,7 +1,6 @@
 //! The verdict on a program, and its notes, as they are written.
 
 ghost use Rattle.std.specs.Prelude.{◌≡◌, IfOk, false, true};
-ghost use Rattle.std.specs.String.{string_bytes};
 ghost use Rattle.trlab_verify.specs.Faults.{Tells};
 ghost use Rattle.trlab_jobs.specs.Check.{Check as Request};
 ghost use Rattle.trlab_verify.specs.Verdict.{IsAccepted};
@@ -15,6 +14,13 @@ use trlab_code::{Code, Kind};
 use trlab_jobs::{Check, Question};
 use trlab_pages::Page;
 use trlab_verify::{VerifyFault, verify_change, verify_motion};
+
+/// The verdict on a program, as it is written.
+#[derive(Drop)]
+pub struct Verdict {
+    pub refused: bool,
+    pub text: Vec<u8>,
+}
 
 /// What is written for an accepted program: its budget, and its canonical text.
 fn accepted_text(alloc: Global, budget: u32, code: &Code) -> Result<Vec<u8>, AllocError>
@@ -56,49 +62,58 @@ fn answer_text(
     Ok(text)
 }
 
-/// The output for an accepted program, which is no refusal.
-fn accepted_output(
+/// The verdict on an accepted program.
+fn accepted_verdict(
     alloc: Global,
     question: Question,
     budget: u32,
     code: &Code,
-) -> Result<(bool, Vec<u8>), AllocError>
+) -> Result<Verdict, AllocError>
     requires { IsAccepted code.now.kind code.now }
-    ensures { IfOk result (λ answer.
-        (answer.0 ≡ false) × (answer.1.items ≡ answer_text question budget code.now)) }
+    ensures { IfOk result (λ verdict.
+        (verdict.refused ≡ false) × (verdict.text.items ≡ answer_text question budget code.now)) }
 {
-    Ok((false, answer_text(alloc, question, budget, code)?))
+    let text = answer_text(alloc, question, budget, code)?;
+    Ok(Verdict {
+        refused: false,
+        text,
+    })
 }
 
-/// The output for a program that the verifier does not accept, which is a refusal.
-fn refused_output(alloc: Global, fault: VerifyFault) -> Result<(bool, Vec<u8>), AllocError>
+/// The verdict on a program that the verifier does not accept.
+fn refused_verdict(alloc: Global, fault: VerifyFault) -> Result<Verdict, AllocError>
     ensures { (check : Request) → Tells check.program.kind check.program fault
-        → IfOk result (λ answer. VerdictOutput check answer.0 answer.1.items) }
+        → IfOk result (λ verdict. VerdictOutput check verdict.refused verdict.text.items) }
 {
     match fault {
-        VerifyFault::Why { at, reason } => Ok((true, refused_text(alloc, at, reason)?)),
+        VerifyFault::Why { at, reason } => {
+            let text = refused_text(alloc, at, reason)?;
+            Ok(Verdict {
+                refused: true,
+                text,
+            })
+        }
         VerifyFault::Memory => Err(AllocError),
     }
 }
 
-/// The verdict on the program of a check: whether it is refused, and what is written for it, with
-/// its notes where it is accepted and they are asked for.
+/// The verdict on the program of a check, with its notes where it is accepted and they are asked for.
 ///
 /// # Errors
 ///
-/// Want of memory.
-pub fn verdict(alloc: Global, check: Check) -> Result<(bool, Vec<u8>), AllocError>
-    ensures { IfOk result (λ answer. VerdictOutput check answer.0 answer.1.items) }
+/// `AllocError` where memory ran out.
+pub fn verdict_of(alloc: Global, check: Check) -> Result<Verdict, AllocError>
+    ensures { IfOk result (λ verdict. VerdictOutput check verdict.refused verdict.text.items) }
 {
     let Check { question, code } = check;
     match code.kind() {
         Kind::Motion => match verify_motion(alloc, code) {
-            Ok(motion) => accepted_output(alloc, question, motion.budget(), motion.code()),
-            Err((_, fault)) => refused_output(alloc, fault),
+            Ok(motion) => accepted_verdict(alloc, question, motion.budget(), motion.code()),
+            Err((_, fault)) => refused_verdict(alloc, fault),
         },
         Kind::Change => match verify_change(alloc, code) {
-            Ok(change) => accepted_output(alloc, question, change.budget(), change.code()),
-            Err((_, fault)) => refused_output(alloc, fault),
+            Ok(change) => accepted_verdict(alloc, question, change.budget(), change.code()),
+            Err((_, fault)) => refused_verdict(alloc, fault),
         },
     }
 }

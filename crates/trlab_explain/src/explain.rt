@@ -1,10 +1,8 @@
 //! The engine of explanations.
 
-ghost use Rattle.std.specs.Prelude.{◌≡◌, ◌+◌, ◌<◌, ◌≤◌, ◌||◌, ◌↔◌, true, false, All, IfOk, IfSome, MatchResult, length};
+ghost use Rattle.std.specs.Prelude.{◌≡◌, ◌↔◌, true, false, All, IfOk, MatchResult};
 ghost use Rattle.std.specs.Io.KnownBytes.{Keeps};
-ghost use Rattle.trlab_bounds.specs.declared.texts.TheConstants.{TEXT_LIMIT};
-ghost use Rattle.trlab_campaign.specs.Device.{ConsumesUpTo};
-ghost use Rattle.trlab_campaign.specs.Ending.{EndsSo, HandsOn, OutputEnds};
+ghost use Rattle.trlab_campaign.specs.Ending.{EngineEnds, HandsOn, OutputEnds};
 ghost use Rattle.trlab_campaign.specs.Refusal.{too_big_line};
 ghost use Rattle.trlab_campaign.specs.declared.end.End.TheVariants.{DeviceFault, Memory};
 ghost use Rattle.trlab_pages.specs.Plain.{IsPlain};
@@ -79,7 +77,7 @@ impl Engine for Explainer {
 /// the text that it is wanted to be, or else as what its first word says.
 ///
 /// The whole text is read and judged before a byte is written. Where memory runs out or a call of
-/// the reader or writer fails, what was written is the front of the whole output.
+/// the reader or writer fails, what was written is a prefix of the whole output.
 pub fn explain_text<R: AllocGlobal, S: Source, K: Sink>(
     rt: &R,
     subject: Option<Subject>,
@@ -88,17 +86,8 @@ pub fn explain_text<R: AllocGlobal, S: Source, K: Sink>(
 ) -> End
     requires reader_works { S.failed reader.old ≡ false }
     requires writer_works { K.failed writer.old ≡ false }
-    // Where the reader tells its bytes, and the writer those that it has.
-    ensures answer { IfSome (S.left reader.old)
-        (λ text. EndsSo (Explains subject text) result (K.written writer.old) (K.written writer.new)) }
-    // Nothing was written where the text was not read, also by a reader that does not tell its bytes.
-    ensures silent { S.failed reader.new ≡ true → Keeps (K.written writer.old) (K.written writer.new) }
-    ensures handed { HandsOn result
-        (K.handed_on writer.new) (K.flushes writer.old) (K.flushes writer.new) }
-    ensures device { (result ≡ DeviceFault) ↔ ((S.failed reader.new || K.failed writer.new) ≡ true) }
-    ensures read { ConsumesUpTo (TEXT_LIMIT + 1) (S.left reader.old) (S.left reader.new) }
-    // A reader that tells no bytes gives no more either.
-    ensures stops { S.taken reader.new ≤ S.taken reader.old + (TEXT_LIMIT + 1) }
+    ensures { EngineEnds S.Source K.Sink (Explains subject) result
+        reader.old reader.new writer.old writer.new }
 {
     run_engine(rt.alloc(), Explainer { subject }, reader, writer)
 }

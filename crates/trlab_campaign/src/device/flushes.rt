@@ -7,7 +7,7 @@ ghost use Rattle.std.specs.Prelude.{◌≡◌};
 pub enum Flushes {
     Never,
     Once,
-    /// Twice or oftener.
+    /// Twice or more often.
     Often,
 }
 

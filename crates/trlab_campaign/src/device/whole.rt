@@ -1,9 +1,9 @@
 //! Whole texts: one is read to its end, or written piece by piece until nothing is owed.
 
 ghost use Rattle.std.specs.Prelude.{◌≡◌, ◌+◌, ◌≤◌, ◌<◌, ◌||◌, ◌↔◌, length, false, true, IfOk};
-ghost use Rattle.std.specs.Prelude.{OnOk, OnErr, IfErr, IfSome, is_err};
-ghost use Rattle.std.specs.Io.KnownBytes.{Appends, Consumes, IsAtEnd};
-ghost use Rattle.trlab_campaign.specs.Device.{AppendsFront, ConsumesUpTo};
+ghost use Rattle.std.specs.Prelude.{OnOk, IfErr, IfSome, is_err};
+ghost use Rattle.std.specs.Io.KnownBytes.{Consumes, IsAtEnd};
+ghost use Rattle.trlab_campaign.specs.Device.{AppendsBy, ConsumesUpTo};
 ghost use Rattle.trlab_campaign.specs.Flushes.{AtMostOnce, HandedOnce};
 ghost use Rattle.trlab_campaign.specs.declared.device.whole.ReadFault.TheVariants.{Device, TooBig};
 
@@ -30,7 +30,7 @@ pub enum ReadFault {
 ///
 /// # Errors
 ///
-/// `TooBig` where that byte has come, and else want of memory or a failed reader.
+/// `TooBig` where that byte has come, `Memory` or `Device` where memory ran out or the reader failed.
 pub fn read_text<S: Source>(alloc: Global, reader: &mut S) -> Result<Vec<u8>, ReadFault>
     requires { S.failed reader.old ≡ false }
     ensures text { IfOk result
@@ -66,13 +66,10 @@ pub fn read_text<S: Source>(alloc: Global, reader: &mut S) -> Result<Vec<u8>, Re
 ///
 /// # Errors
 ///
-/// `DeviceError` where the writer failed: a front of the text was written.
+/// `DeviceError` where the writer failed: a prefix of the text was written.
 #[tactic(auto, using(crate::proofs::KnownBytes::appends_part))]
 pub fn write_text<K: Sink>(writer: &mut K, text: &[u8]) -> Result<(), DeviceError>
-    ensures whole { OnOk result
-        (Appends (K.written writer.old) (K.written writer.new) text.now) }
-    ensures front { OnErr result
-        (AppendsFront (K.written writer.old) (K.written writer.new) text.now) }
+    ensures wrote { AppendsBy result (K.written writer.old) (K.written writer.new) text.now }
     ensures fails { K.failed writer.new ≡ (K.failed writer.old || is_err result) }
     ensures flushed { K.flushes writer.new ≡ K.flushes writer.old }
 {
@@ -91,10 +88,7 @@ pub fn write_text<K: Sink>(writer: &mut K, text: &[u8]) -> Result<(), DeviceErro
 ///
 /// Those of `write_text`, also where all was written and not handed on.
 pub fn write_last<K: Sink>(writer: &mut K, text: &[u8]) -> Result<(), DeviceError>
-    ensures whole { OnOk result
-        (Appends (K.written writer.old) (K.written writer.new) text.now) }
-    ensures front { OnErr result
-        (AppendsFront (K.written writer.old) (K.written writer.new) text.now) }
+    ensures wrote { AppendsBy result (K.written writer.old) (K.written writer.new) text.now }
     ensures handed { OnOk result
         (HandedOnce (K.handed_on writer.new) (K.flushes writer.old) (K.flushes writer.new)) }
     ensures flushed { AtMostOnce (K.flushes writer.old) (K.flushes writer.new) }

@@ -1,16 +1,13 @@
 //! The pictures of a run: that of a road is made while its cars are asked, and written once they have moved.
 
-ghost use Rattle.std.specs.Prelude.{◌≡◌, ℕ, ◌+◌, ◌<◌, ◌^◌, ◌↔◌, List, true, false, OnOk, OnErr, IfErr};
-ghost use Rattle.std.specs.Io.KnownBytes.{Appends};
+ghost use Rattle.std.specs.Prelude.{◌≡◌, ℕ, ◌+◌, ◌<◌, ◌^◌, List, false, OnOk};
 ghost use Rattle.trlab_jobs.specs.Job.{Job as Told, seed_of, sheet_of};
 ghost use Rattle.trlab_jobs.specs.Stored.{IsStored};
 ghost use Rattle.trlab_step.specs.Progress.{IsOneStepOn, at_start};
 ghost use Rattle.trlab_step.specs.Run.{IsRoadAt};
-ghost use Rattle.trlab_campaign.specs.Device.{AppendsFront};
-ghost use Rattle.trlab_campaign.specs.Ending.{HandsOn, JobEnds, WrotePictures, WroteSome};
-ghost use Rattle.trlab_campaign.specs.Output.{step_text};
-ghost use Rattle.trlab_campaign.specs.declared.end.End.TheVariants.{DeviceFault};
-ghost use Rattle.trlab_campaign.specs.declared.run.pictures.WriteFault.TheVariants.{Device};
+ghost use Rattle.trlab_campaign.specs.Device.{AppendsBy};
+ghost use Rattle.trlab_campaign.specs.Ending.{EndsSo, LeavesWriter, WritesOn, WroteBy};
+ghost use Rattle.trlab_campaign.specs.Output.{JobOutput, step_text};
 
 use crate::device::{Sink, write_text};
 use crate::end::End;
@@ -45,13 +42,9 @@ pub fn run_of(alloc: Global, job: Job) -> Run
 /// Writes the text of a step, where it was made.
 fn write_made<K: Sink>(text: &StepText, writer: &mut K) -> Result<(), WriteFault>
     requires { K.failed writer.old ≡ false }
-    ensures whole { (bytes : List ℕ) → OnOk text.now.made (text.now.bytes.items ≡ bytes)
-        → OnOk result (Appends (K.written writer.old) (K.written writer.new) bytes) }
-    ensures front { (bytes : List ℕ) → OnOk text.now.made (text.now.bytes.items ≡ bytes)
-        → OnErr result (AppendsFront (K.written writer.old) (K.written writer.new) bytes) }
-    ensures works { OnOk result (K.failed writer.new ≡ false) }
-    ensures fails { IfErr result (λ fault. (fault ≡ Device) ↔ (K.failed writer.new ≡ true)) }
-    ensures flushed { K.flushes writer.new ≡ K.flushes writer.old }
+    ensures wrote { (bytes : List ℕ) → OnOk text.now.made (text.now.bytes.items ≡ bytes)
+        → AppendsBy result (K.written writer.old) (K.written writer.new) bytes }
+    ensures writer { WritesOn K.Sink result writer.old writer.new }
 {
     match text.made {
         Ok(()) => match write_text(writer, &text.bytes) {
@@ -75,14 +68,10 @@ fn show_step<A: Asker, K: Sink>(
     requires works { K.failed writer.old ≡ false }
     requires steps { run.old.step + 1 < 2 ^ 32 }
     ensures road { IsRoadAt run.old.seed run.old.sheet run.old.step run.old.road }
-    ensures whole { OnOk result
-        (Appends (K.written writer.old) (K.written writer.new) (step_text step run.old.road)) }
-    ensures front { OnErr result
-        (AppendsFront (K.written writer.old) (K.written writer.new) (step_text step run.old.road)) }
+    ensures wrote { AppendsBy result
+        (K.written writer.old) (K.written writer.new) (step_text step run.old.road) }
     ensures on { OnOk result (IsOneStepOn run.old run.new) }
-    ensures works { OnOk result (K.failed writer.new ≡ false) }
-    ensures fails { IfErr result (λ fault. (fault ≡ Device) ↔ (K.failed writer.new ≡ true)) }
-    ensures flushed { K.flushes writer.new ≡ K.flushes writer.old }
+    ensures writer { WritesOn K.Sink result writer.old writer.new }
 {
     text.step = step;
     let advanced = run.advance_showing(asker, alloc, text);
@@ -101,13 +90,9 @@ fn show_last<K: Sink>(
     writer: &mut K,
 ) -> Result<(), WriteFault>
     requires { K.failed writer.old ≡ false }
-    ensures whole { OnOk result
-        (Appends (K.written writer.old) (K.written writer.new) (step_text step road.now)) }
-    ensures front { OnErr result
-        (AppendsFront (K.written writer.old) (K.written writer.new) (step_text step road.now)) }
-    ensures works { OnOk result (K.failed writer.new ≡ false) }
-    ensures fails { IfErr result (λ fault. (fault ≡ Device) ↔ (K.failed writer.new ≡ true)) }
-    ensures flushed { K.flushes writer.new ≡ K.flushes writer.old }
+    ensures wrote { AppendsBy result
+        (K.written writer.old) (K.written writer.new) (step_text step road.now) }
+    ensures writer { WritesOn K.Sink result writer.old writer.new }
 {
     text.step = step;
     text.see(road);
@@ -125,13 +110,10 @@ fn write_run<A: Asker, K: Sink>(
     requires ready { A.is_ready asker.now }
     requires works { K.failed writer.old ≡ false }
     requires start { run.old.step ≡ 0 }
-    ensures whole { (job : Told) → IsStored job → run.old ≡ at_start (seed_of job) (sheet_of job) → steps ≡ job.steps
-        → OnOk result (WrotePictures job (K.written writer.old) (K.written writer.new)) }
-    ensures front { (job : Told) → IsStored job → run.old ≡ at_start (seed_of job) (sheet_of job) → steps ≡ job.steps
-        → OnErr result (WroteSome job (K.written writer.old) (K.written writer.new)) }
-    ensures works { OnOk result (K.failed writer.new ≡ false) }
-    ensures fails { IfErr result (λ fault. (fault ≡ Device) ↔ (K.failed writer.new ≡ true)) }
-    ensures flushed { K.flushes writer.new ≡ K.flushes writer.old }
+    ensures wrote { (job : Told) → IsStored job
+        → run.old ≡ at_start (seed_of job) (sheet_of job) → steps ≡ job.steps
+        → WroteBy (JobOutput job) result (K.written writer.old) (K.written writer.new) }
+    ensures writer { WritesOn K.Sink result writer.old writer.new }
 {
     let mut text = StepText::new(alloc);
     for step in 0..steps {
@@ -149,13 +131,8 @@ fn write_pictures<A: Asker, K: Sink>(
 ) -> Result<(), WriteFault>
     requires ready { A.is_ready asker.now }
     requires works { K.failed writer.old ≡ false }
-    ensures whole { OnOk result
-        (WrotePictures job (K.written writer.old) (K.written writer.new)) }
-    ensures front { OnErr result
-        (WroteSome job (K.written writer.old) (K.written writer.new)) }
-    ensures works { OnOk result (K.failed writer.new ≡ false) }
-    ensures fails { IfErr result (λ fault. (fault ≡ Device) ↔ (K.failed writer.new ≡ true)) }
-    ensures flushed { K.flushes writer.new ≡ K.flushes writer.old }
+    ensures wrote { WroteBy (JobOutput job) result (K.written writer.old) (K.written writer.new) }
+    ensures writer { WritesOn K.Sink result writer.old writer.new }
 {
     let steps = job.steps;
     let mut run = run_of(alloc, job);
@@ -169,10 +146,7 @@ fn write_pictures<A: Asker, K: Sink>(
 pub fn run_job<A: Asker, K: Sink>(asker: &A, alloc: Global, job: Job, writer: &mut K) -> End
     requires ready { A.is_ready asker.now }
     requires works { K.failed writer.old ≡ false }
-    ensures handed { HandsOn result
-        (K.handed_on writer.new) (K.flushes writer.old) (K.flushes writer.new) }
-    ensures answer { JobEnds result job (K.written writer.old) (K.written writer.new) }
-    ensures device { (result ≡ DeviceFault) ↔ (K.failed writer.new ≡ true) }
+    ensures { LeavesWriter K.Sink (EndsSo (JobOutput job)) result writer.old writer.new }
 {
     match write_pictures(asker, alloc, job, writer) {
         Ok(()) => match writer.flush() {

@@ -94,7 +94,8 @@ pub fn take_window<A: Asker>(
     requires room { run.old.step + every < 2 ^ 32 }
     requires counts { run.old.seed.warm ≡ 0 }
     ensures on { OnOk result (IsStepsOn every run.old run.new) }
-    ensures counted { (roads : ℕ → Cells) (tallies : ℕ → StepTally) → IsCourse run.old.seed run.old.sheet roads tallies
+    ensures counted { (roads : ℕ → Cells) (tallies : ℕ → StepTally)
+        → IsCourse run.old.seed run.old.sheet roads tallies
         → IfOk result (λ window. window ≡ window_of roads tallies run.old.step every) }
     ensures measured { IfOk result (λ window. IsMeasured window.point) }
 {

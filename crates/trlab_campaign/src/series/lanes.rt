@@ -1,6 +1,6 @@
 //! What stands on a lane of a road: how many cars, their speeds, and how many are stopped.
 
-ghost use Rattle.std.specs.Prelude.{◌≡◌, ◌+◌, ◌<◌, ◌≤◌, ◌^◌, ◌&&◌, cond, nat_eq};
+ghost use Rattle.std.specs.Prelude.{◌≡◌, ◌+◌, ◌<◌, ◌^◌, ◌&&◌, cond, nat_eq};
 ghost use Rattle.trlab_campaign.specs.Counting.{IsFewCars};
 ghost use Rattle.trlab_campaign.specs.SeriesOutput.{cars_on, is_on, speed_on, stopped_on};
 

@@ -1,19 +1,14 @@
 //! The lines of a series: that of a window is written once the steps of the window are taken.
 
-ghost use Rattle.std.specs.Prelude.{◌≡◌, ℕ, ◌+◌, ◌*◌, ◌<◌, ◌≤◌, ◌^◌, ◌↔◌, List, flat_map, true};
-ghost use Rattle.std.specs.Prelude.{false, IfOk, IsOk, OnOk, OnErr, IfErr};
-ghost use Rattle.std.specs.Io.KnownBytes.{Appends};
+ghost use Rattle.std.specs.Prelude.{◌≡◌, ℕ, ◌+◌, ◌*◌, ◌<◌, ◌≤◌, ◌^◌, List, flat_map, false, IfOk, IsOk, OnOk};
 ghost use Rattle.trlab_bounds.specs.declared.runs.TheConstants.{MOST_STEPS};
 ghost use Rattle.trlab_diagram.specs.Series.{series_heading, series_text, window_text};
-ghost use Rattle.trlab_diagram.specs.Table.{line_text};
 ghost use Rattle.trlab_road.specs.Cells.{Cells};
 ghost use Rattle.trlab_step.specs.declared.tally.StepTally.{StepTally};
-ghost use Rattle.trlab_campaign.specs.Counting.{IsStepsOn, SeriesEnds, WroteSeries, WroteSomeSeries};
-ghost use Rattle.trlab_campaign.specs.Device.{AppendsFront};
-ghost use Rattle.trlab_campaign.specs.Ending.{HandsOn};
-ghost use Rattle.trlab_campaign.specs.SeriesOutput.{IsCourse, first_windows, window_of};
-ghost use Rattle.trlab_campaign.specs.declared.end.End.TheVariants.{DeviceFault};
-ghost use Rattle.trlab_campaign.specs.declared.run.pictures.WriteFault.TheVariants.{Device};
+ghost use Rattle.trlab_campaign.specs.Counting.{IsStepsOn};
+ghost use Rattle.trlab_campaign.specs.Device.{AppendsBy};
+ghost use Rattle.trlab_campaign.specs.Ending.{EndsSo, LeavesWriter, WritesOn, WroteBy};
+ghost use Rattle.trlab_campaign.specs.SeriesOutput.{IsCourse, SeriesOutput, first_windows, window_of};
 
 use crate::device::{Sink, write_text};
 use crate::end::End;
@@ -38,7 +33,8 @@ fn next_line<A: Asker>(
     requires room { run.old.step + every < 2 ^ 32 }
     requires counts { run.old.seed.warm ≡ 0 }
     ensures on { OnOk result (IsStepsOn every run.old run.new) }
-    ensures line { (roads : ℕ → Cells) (tallies : ℕ → StepTally) → IsCourse run.old.seed run.old.sheet roads tallies
+    ensures line { (roads : ℕ → Cells) (tallies : ℕ → StepTally)
+        → IsCourse run.old.seed run.old.sheet roads tallies
         → IfOk result (λ line. line.items ≡ window_text (window_of roads tallies run.old.step every)) }
 {
     let window = take_window(asker, alloc, run, every)?;
@@ -51,13 +47,9 @@ fn write_line<K: Sink>(
     writer: &mut K,
 ) -> Result<(), WriteFault>
     requires { K.failed writer.old ≡ false }
-    ensures whole { (bytes : List ℕ) → IfOk line (λ line. line.items ≡ bytes)
-        → OnOk result (Appends (K.written writer.old) (K.written writer.new) bytes) }
-    ensures front { (bytes : List ℕ) → IfOk line (λ line. line.items ≡ bytes)
-        → OnErr result (AppendsFront (K.written writer.old) (K.written writer.new) bytes) }
-    ensures works { OnOk result (K.failed writer.new ≡ false) }
-    ensures fails { IfErr result (λ fault. (fault ≡ Device) ↔ (K.failed writer.new ≡ true)) }
-    ensures flushed { K.flushes writer.new ≡ K.flushes writer.old }
+    ensures wrote { (bytes : List ℕ) → IfOk line (λ line. line.items ≡ bytes)
+        → AppendsBy result (K.written writer.old) (K.written writer.new) bytes }
+    ensures writer { WritesOn K.Sink result writer.old writer.new }
     ensures made { OnOk result (IsOk line) }
 {
     match line {
@@ -83,16 +75,12 @@ fn write_window<A: Asker, K: Sink>(
     requires few { every ≤ MOST_STEPS }
     requires room { run.old.step + every < 2 ^ 32 }
     requires counts { run.old.seed.warm ≡ 0 }
-    ensures whole { (roads : ℕ → Cells) (tallies : ℕ → StepTally) → IsCourse run.old.seed run.old.sheet roads tallies
-        → OnOk result (Appends (K.written writer.old) (K.written writer.new)
-        (window_text (window_of roads tallies run.old.step every))) }
-    ensures front { (roads : ℕ → Cells) (tallies : ℕ → StepTally) → IsCourse run.old.seed run.old.sheet roads tallies
-        → OnErr result (AppendsFront (K.written writer.old) (K.written writer.new)
-        (window_text (window_of roads tallies run.old.step every))) }
+    ensures wrote { (roads : ℕ → Cells) (tallies : ℕ → StepTally)
+        → IsCourse run.old.seed run.old.sheet roads tallies
+        → AppendsBy result (K.written writer.old) (K.written writer.new)
+        (window_text (window_of roads tallies run.old.step every)) }
     ensures on { OnOk result (IsStepsOn every run.old run.new) }
-    ensures works { OnOk result (K.failed writer.new ≡ false) }
-    ensures fails { IfErr result (λ fault. (fault ≡ Device) ↔ (K.failed writer.new ≡ true)) }
-    ensures flushed { K.flushes writer.new ≡ K.flushes writer.old }
+    ensures writer { WritesOn K.Sink result writer.old writer.new }
 {
     let line = next_line(asker, alloc, run, every);
     write_line(line, writer)
@@ -112,15 +100,11 @@ fn write_windows<A: Asker, K: Sink>(
     requires start { run.old.step ≡ 0 }
     requires counts { run.old.seed.warm ≡ 0 }
     requires room { (k : ℕ) → k < count → windows.now.from + (k + 1) * windows.now.every < 2 ^ 32 }
-    ensures whole { (roads : ℕ → Cells) (tallies : ℕ → StepTally) → IsCourse run.old.seed run.old.sheet roads tallies
-        → OnOk result (Appends (K.written writer.old) (K.written writer.new)
-        (flat_map window_text (first_windows roads tallies windows.now.every windows.now.from count))) }
-    ensures front { (roads : ℕ → Cells) (tallies : ℕ → StepTally) → IsCourse run.old.seed run.old.sheet roads tallies
-        → OnErr result (AppendsFront (K.written writer.old) (K.written writer.new)
-        (flat_map window_text (first_windows roads tallies windows.now.every windows.now.from count))) }
-    ensures works { OnOk result (K.failed writer.new ≡ false) }
-    ensures fails { IfErr result (λ fault. (fault ≡ Device) ↔ (K.failed writer.new ≡ true)) }
-    ensures flushed { K.flushes writer.new ≡ K.flushes writer.old }
+    ensures wrote { (roads : ℕ → Cells) (tallies : ℕ → StepTally)
+        → IsCourse run.old.seed run.old.sheet roads tallies
+        → AppendsBy result (K.written writer.old) (K.written writer.new)
+        (flat_map window_text (first_windows roads tallies windows.now.every windows.now.from count)) }
+    ensures writer { WritesOn K.Sink result writer.old writer.new }
 {
     if count == 0 {
         return Ok(());
@@ -148,15 +132,11 @@ fn write_table<A: Asker, K: Sink>(
     requires start { run.old.step ≡ 0 }
     requires counts { run.old.seed.warm ≡ 0 }
     requires room { (k : ℕ) → k < count → windows.now.from + (k + 1) * windows.now.every < 2 ^ 32 }
-    ensures whole { (roads : ℕ → Cells) (tallies : ℕ → StepTally) → IsCourse run.old.seed run.old.sheet roads tallies
-        → OnOk result (Appends (K.written writer.old) (K.written writer.new)
-        (series_text (first_windows roads tallies windows.now.every windows.now.from count))) }
-    ensures front { (roads : ℕ → Cells) (tallies : ℕ → StepTally) → IsCourse run.old.seed run.old.sheet roads tallies
-        → OnErr result (AppendsFront (K.written writer.old) (K.written writer.new)
-        (series_text (first_windows roads tallies windows.now.every windows.now.from count))) }
-    ensures works { OnOk result (K.failed writer.new ≡ false) }
-    ensures fails { IfErr result (λ fault. (fault ≡ Device) ↔ (K.failed writer.new ≡ true)) }
-    ensures flushed { K.flushes writer.new ≡ K.flushes writer.old }
+    ensures wrote { (roads : ℕ → Cells) (tallies : ℕ → StepTally)
+        → IsCourse run.old.seed run.old.sheet roads tallies
+        → AppendsBy result (K.written writer.old) (K.written writer.new)
+        (series_text (first_windows roads tallies windows.now.every windows.now.from count)) }
+    ensures writer { WritesOn K.Sink result writer.old writer.new }
 {
     write_line(series_heading(alloc), writer)?;
     write_windows(asker, alloc, run, windows, count, writer)
@@ -172,13 +152,9 @@ fn write_series<A: Asker, K: Sink>(
 ) -> Result<(), WriteFault>
     requires ready { A.is_ready asker.now }
     requires works { K.failed writer.old ≡ false }
-    ensures whole { OnOk result (WroteSeries windows.now.every windows.now.from job
-        (K.written writer.old) (K.written writer.new)) }
-    ensures front { OnErr result (WroteSomeSeries windows.now.every windows.now.from job
-        (K.written writer.old) (K.written writer.new)) }
-    ensures works { OnOk result (K.failed writer.new ≡ false) }
-    ensures fails { IfErr result (λ fault. (fault ≡ Device) ↔ (K.failed writer.new ≡ true)) }
-    ensures flushed { K.flushes writer.new ≡ K.flushes writer.old }
+    ensures wrote { WroteBy (SeriesOutput windows.now.every windows.now.from job) result
+        (K.written writer.old) (K.written writer.new) }
+    ensures writer { WritesOn K.Sink result writer.old writer.new }
 {
     let count = windows.count(job.steps);
     let mut run = run_of(alloc, job);
@@ -197,11 +173,8 @@ pub fn run_series<A: Asker, K: Sink>(
 ) -> End
     requires ready { A.is_ready asker.now }
     requires works { K.failed writer.old ≡ false }
-    ensures handed { HandsOn result
-        (K.handed_on writer.new) (K.flushes writer.old) (K.flushes writer.new) }
-    ensures answer { SeriesEnds windows.now.every windows.now.from result job
-        (K.written writer.old) (K.written writer.new) }
-    ensures device { (result ≡ DeviceFault) ↔ (K.failed writer.new ≡ true) }
+    ensures { LeavesWriter K.Sink (EndsSo (SeriesOutput windows.now.every windows.now.from job))
+        result writer.old writer.new }
 {
     match write_series(asker, alloc, windows, job, writer) {
         Ok(()) => match writer.flush() {

@@ -1,6 +1,6 @@
 //! The points of a sweep: each tells what was counted on a road that was run from its start.
 
-ghost use Rattle.std.specs.Prelude.{◌≡◌, ◌<◌, ◌≤◌, ◌^◌, IfOk, length};
+ghost use Rattle.std.specs.Prelude.{◌≡◌, IfOk, length};
 ghost use Rattle.trlab_diagram.specs.Flow.{IsMeasured};
 ghost use Rattle.trlab_road.specs.Legal.{IsLegal};
 ghost use Rattle.trlab_road.specs.Spreading.{IsEven};
@@ -33,7 +33,8 @@ pub fn even_road(alloc: Global, sweep: &Sweep, cars: u32) -> Result<Road, AllocE
 /// The run of a point from step 0 on, whose road has this number.
 fn run_of(alloc: Global, sweep: &Sweep, number: u32, road: Road) -> Result<Run, AllocError>
     requires { length road.lanes ≡ sweep.now.setup.shape.lanes }
-    ensures { IfOk result (λ run. run ≡ at_start (seed_of sweep.now.setup number road) (sheet_of sweep.now.setup)) }
+    ensures { IfOk result (λ run.
+        run ≡ at_start (seed_of sweep.now.setup number road) (sheet_of sweep.now.setup)) }
 {
     let rule = sweep.rule.copy(alloc)?;
     let sheet = Sheet::new(rule, Vec::new(alloc));

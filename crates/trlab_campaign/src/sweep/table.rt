@@ -1,11 +1,11 @@
 //! The table of a sweep's points.
 
-ghost use Rattle.std.specs.Prelude.{◌≡◌, ◌<◌, ◌≤◌, IfOk, false};
+ghost use Rattle.std.specs.Prelude.{◌<◌, ◌≤◌, IfOk, false};
 ghost use Rattle.trlab_bounds.specs.declared.runs.TheConstants.{MOST_RUNNERS, MOST_WORKERS};
 ghost use Rattle.trlab_campaign.specs.SweepOutput.{SweepOutput};
 
 use crate::progress::Observer;
-use crate::sweep::runners::points_by_runners;
+use crate::sweep::runners::Runners;
 use crate::sweep::work::WorkGate;
 use std::alloc::{AllocError, Global};
 use std::sync::Wait;
@@ -18,7 +18,7 @@ use trlab_jobs::Sweep;
 ///
 /// # Errors
 ///
-/// Want of memory.
+/// `AllocError` where memory ran out.
 pub fn table<R: Threads + Wait + Sync, O: Observer + Sync>(
     rt: &R,
     alloc: Global,
@@ -32,7 +32,15 @@ pub fn table<R: Threads + Wait + Sync, O: Observer + Sync>(
     ensures { IfOk result (λ text. SweepOutput sweep.now false text.items) }
 {
     let gate = WorkGate::new(sweep, observer);
-    let points = points_by_runners(rt, alloc, sweep, &gate, runners, workers)?;
+    let runners = Runners {
+        rt,
+        alloc,
+        sweep,
+        gate: &gate,
+        count: runners,
+        workers,
+    };
+    let points = runners.points()?;
     gate.finished();
     match points_text(alloc, &points) {
         Ok(text) => Ok(text),

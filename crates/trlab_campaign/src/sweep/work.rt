@@ -6,11 +6,11 @@ use trlab_jobs::Sweep;
 use trlab_segments::{Asked, Gate};
 use trlab_verify::Motion;
 
-/// A gate that counts the work of a sweep and tells an observer of it. A step counts as its motion begins, and a
-/// hundredth is told by the worker whose step reaches it, so by one alone.
+/// A gate that counts the work of a sweep and tells an observer of it. A step counts as its motion
+/// begins, and a hundredth is told by the worker whose step reaches it, so by one alone.
 ///
-/// Steps of a lease that was revoked are run once more, and count once more. So the last hundredth is not told
-/// at the gate, but once, when all points are there.
+/// Steps of a lease that was revoked are run once more, and count once more. So the last hundredth is
+/// not told at the gate, but once, when all points are there.
 #[derive(Drop)]
 pub struct WorkGate<'a, O> {
     observer: &'a O,
@@ -74,8 +74,8 @@ impl<'a, O: Observer> WorkGate<'a, O> {
         }
     }
 
-    /// Tells the observer, at work on the point with this number, where the work has come to another hundredth,
-    /// which is not the last.
+    /// Tells the observer, at work on the point with this number, where the work has come to another
+    /// hundredth, which is not the last.
     fn tell(&self, before: u64, after: u64, number: u32) {
         if let Some(hundredths) = newly_reached(before, after, self.whole)
             && hundredths < 100

@@ -1,8 +1,14 @@
-use Rattle.trlab_campaign.proofs.Endings.{table_ends}
+use Rattle.std.proofs.Common.{false}
+use Rattle.trlab_campaign.specs.SweepOutput.{SweepOutput}
+use Rattle.trlab_campaign.proofs.Endings.{output_ends}
 use Rattle.trlab_campaign.proofs.sweep.write_table.Goals as goal
 
-pub returns-in-Ok-clause-answer : goal.returns-in-Ok-clause-answer
-returns-in-Ok-clause-answer g c = λ text says.
+pub returns-in-Ok : goal.returns-in-Ok
+returns-in-Ok g c =
     let ends = rw c.deref.ensures.value at c.write_output.ensures.answer in
     let made = rw c.in-Ok.is at c.requires.made in
-    table_ends c.write_output.result text c.args.sweep.now c.in-Ok.table.items _ _ says made ends
+    record {
+      answer = output_ends (SweepOutput c.args.sweep.now) false c.in-Ok.table.items c.write_output.result _ _ made ends;
+      handed = c.write_output.ensures.handed;
+      device = c.write_output.ensures.device;
+    }

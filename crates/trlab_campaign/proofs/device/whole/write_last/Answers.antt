@@ -2,15 +2,14 @@ use Rattle.std.proofs.Common.{ap, inl, inr, ◌∙◌}
 use Rattle.std.proofs.Math.Bool.{or-false}
 use Rattle.std.proofs.lemmas.Result.{err_from_is_err_and}
 use Rattle.trlab_campaign.specs.Flushes.{once_more}
-use Rattle.trlab_campaign.proofs.KnownBytes.{appends_kept, front_kept}
+use Rattle.trlab_campaign.proofs.KnownBytes.{appends_kept, prefix_kept}
 use Rattle.trlab_campaign.proofs.device.whole.write_last.Goals as goal
 
 pub returns-in_err-write_text : goal.returns-in_err-write_text
 returns-in_err-write_text g c =
     let fault = err_from_is_err_and c.from_residual.result c.from_residual.ensures.1 in
     record {
-      whole = rw fault.1 tt;
-      front = rw fault.1 c.in_err-write_text.ensures.front;
+      wrote = rw fault.1 c.in_err-write_text.ensures.wrote;
       handed = rw fault.1 tt;
       flushed = inl c.in_err-write_text.ensures.flushed;
       fails = rw fault.1 c.in_err-write_text.ensures.fails;
@@ -18,8 +17,7 @@ returns-in_err-write_text g c =
 
 pub returns-in-Ok : goal.returns-in-Ok
 returns-in-Ok g c = record {
-  whole = appends_kept _ _ _ _ c.in_ok-write_text.ensures.whole c.in-Ok.ensures.bytes;
-  front = tt;
+  wrote = appends_kept _ _ _ _ c.in_ok-write_text.ensures.wrote c.in-Ok.ensures.bytes;
   handed = (c.in-Ok.ensures.handed, c.in-Ok.ensures.flushed ∙ ap once_more c.in_ok-write_text.ensures.flushed);
   flushed = inr (c.in-Ok.ensures.flushed ∙ ap once_more c.in_ok-write_text.ensures.flushed);
   fails = c.in-Ok.ensures.fails ∙ (or-false _ ∙ c.in_ok-write_text.ensures.fails);
@@ -27,8 +25,7 @@ returns-in-Ok g c = record {
 
 pub returns-in-Err : goal.returns-in-Err
 returns-in-Err g c = record {
-  whole = tt;
-  front = front_kept _ _ _ _ c.in_ok-write_text.ensures.whole c.in-Err.ensures.bytes;
+  wrote = prefix_kept _ _ _ _ c.in_ok-write_text.ensures.wrote c.in-Err.ensures.bytes;
   handed = tt;
   flushed = inr (c.in-Err.ensures.flushed ∙ ap once_more c.in_ok-write_text.ensures.flushed);
   fails = rw (c.in_ok-write_text.ensures.fails, or-false) at c.in-Err.ensures.fails;

@@ -1,7 +1,8 @@
 use Rattle.std.proofs.Common.{◌∙◌, arith, refl}
 use Rattle.std.proofs.Math.Bool.{or-false}
 use Rattle.std.proofs.lemmas.Grind.{common_steps}
-use Rattle.trlab_campaign.proofs.KnownBytes.{appends_none, appends_part, appends_whole}
+use Rattle.std.proofs.lemmas.Result.{err_from_is_err_and}
+use Rattle.trlab_campaign.proofs.KnownBytes.{appends_kept, appends_none, appends_part, appends_whole}
 use Rattle.trlab_campaign.proofs.device.whole.write_text.Goals as goal
 
 pub loop-done-init : goal.loop-done-init
@@ -17,8 +18,13 @@ loop-done-preserved g c =
       flushed = c.in_ok-count.ensures.flushed ∙ c.loop-done.invariant.flushed;
     }
 
-pub returns-clause-whole : goal.returns-clause-whole
-returns-clause-whole g c = appends_whole _ _ c.args.text.now c.loop-done.done c.loop-done.invariant.inside c.loop-done-test.false c.loop-done.invariant.wrote
+pub returns-in_err-count-clause-wrote : goal.returns-in_err-count-clause-wrote
+returns-in_err-count-clause-wrote g c =
+    let fault = err_from_is_err_and c.from_residual.result c.from_residual.ensures.1 in
+    rw fault.1 (record { count = c.loop-done.done; prefix = appends_kept _ _ _ _ c.loop-done.invariant.wrote c.in_err-count.ensures.bytes })
+
+pub returns-clause-wrote : goal.returns-clause-wrote
+returns-clause-wrote g c = appends_whole _ _ c.args.text.now c.loop-done.done c.loop-done.invariant.inside c.loop-done-test.false c.loop-done.invariant.wrote
 
 pub returns-clause-fails : goal.returns-clause-fails
 returns-clause-fails g c = rw or-false c.loop-done.invariant.works

@@ -2,9 +2,6 @@ use Rattle.trlab_campaign.proofs.run.pictures.show_last.Goals as goal
 
 pub returns : goal.returns
 returns g c = record {
-  whole = c.write_made.ensures.whole _ c.see.ensures;
-  front = c.write_made.ensures.front _ c.see.ensures;
-  works = c.write_made.ensures.works;
-  fails = c.write_made.ensures.fails;
-  flushed = c.write_made.ensures.flushed;
+  wrote = c.write_made.ensures.wrote _ c.see.ensures;
+  writer = c.write_made.ensures.writer;
 }

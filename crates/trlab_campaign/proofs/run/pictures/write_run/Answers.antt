@@ -1,6 +1,6 @@
 use Rattle.std.proofs.Common.{◌≡◌, ◌+◌, ◌-◌, ◌∙◌, ap, arith, refl}
 use Rattle.std.proofs.lemmas.Result.{err_from_is_err_and}
-use Rattle.trlab_campaign.proofs.Running.{begin_run, step_on, step_stops, no_step_left, last_whole, last_front}
+use Rattle.trlab_campaign.proofs.Running.{begin_run, step_on, step_stops, no_step_left, last_wrote}
 use Rattle.trlab_campaign.proofs.run.pictures.write_run.Goals as goal
 
 pub loop-step-init : goal.loop-step-init
@@ -16,14 +16,16 @@ loop-step-init g c =
 pub returns-in_err-show_step : goal.returns-in_err-show_step
 returns-in_err-show_step g c =
     let fault = err_from_is_err_and c.from_residual.result c.from_residual.ensures.1 in
+    let writer = c.in_err-show_step.ensures.writer in
     record {
-      whole = λ job stored starts ends. rw fault.1 tt;
-      front = λ job stored starts ends. rw fault.1
-          (step_stops c.args.steps c.loop-step.step _ c.args.run.now c.loop-step.run _ _ _ c.loop-step.invariant.writes c.show_step.ensures.road c.in_err-show_step.ensures.front
+      wrote = λ job stored starts ends. rw fault.1
+          (step_stops c.args.steps c.loop-step.step _ c.args.run.now c.loop-step.run _ _ _ c.loop-step.invariant.writes c.show_step.ensures.road c.in_err-show_step.ensures.wrote
           job (record { stored = stored; starts = starts; ends = ends }));
-      works = rw fault.1 tt;
-      fails = rw (fault.1, fault.2) c.in_err-show_step.ensures.fails;
-      flushed = c.show_step.ensures.flushed ∙ c.loop-step.invariant.flushed;
+      writer = record {
+        works = rw fault.1 tt;
+        fails = rw (fault.1, fault.2) writer.fails;
+        flushed = writer.flushed ∙ c.loop-step.invariant.flushed;
+      };
     }
 
 pub loop-step-preserved : goal.loop-step-preserved
@@ -31,30 +33,21 @@ loop-step-preserved g c =
     let left : c.args.steps - c.loop-step.step ≡ c.args.steps - (c.loop-step.step + 1) + 1 = omega arith in
     let writes = rw left at c.loop-step.invariant.writes in
     let on = c.in_ok-show_step.ensures.on in
+    let writer = c.in_ok-show_step.ensures.writer in
     record {
-      writes = step_on c.args.steps c.loop-step.step _ c.args.run.now c.loop-step.run _ _ _ _ writes c.show_step.ensures.road c.in_ok-show_step.ensures.whole on;
+      writes = step_on c.args.steps c.loop-step.step _ c.args.run.now c.loop-step.run _ _ _ _ writes c.show_step.ensures.road c.in_ok-show_step.ensures.wrote on;
       at = on.next_step ∙ ap (λ n. n + 1) c.loop-step.invariant.at;
-      works = c.in_ok-show_step.ensures.works;
-      flushed = c.in_ok-show_step.ensures.flushed ∙ c.loop-step.invariant.flushed;
+      works = writer.works;
+      flushed = writer.flushed ∙ c.loop-step.invariant.flushed;
     }
 
-pub returns-clause-whole : goal.returns-clause-whole
-returns-clause-whole g c = λ job stored starts ends.
+pub returns : goal.returns
+returns g c =
     let last = no_step_left c.loop-step.step c.args.steps c.loop-step.auto.step-end c.loop-step-test.false in
     let writes = rw (last.1, last.0) at c.loop-step.invariant.writes in
-    last_whole c.show_last.result c.args.steps c.args.run.now c.loop-step.run _ _ _ _ writes c.road.ensures.run c.show_last.ensures.whole job (record { stored = stored; starts = starts; ends = ends })
-
-pub returns-clause-front : goal.returns-clause-front
-returns-clause-front g c = λ job stored starts ends.
-    let last = no_step_left c.loop-step.step c.args.steps c.loop-step.auto.step-end c.loop-step-test.false in
-    let writes = rw (last.1, last.0) at c.loop-step.invariant.writes in
-    last_front c.show_last.result c.args.steps c.args.run.now c.loop-step.run _ _ _ _ writes c.road.ensures.run c.show_last.ensures.front job (record { stored = stored; starts = starts; ends = ends })
-
-pub returns-clause-works : goal.returns-clause-works
-returns-clause-works g c = c.show_last.ensures.works
-
-pub returns-clause-fails : goal.returns-clause-fails
-returns-clause-fails g c = c.show_last.ensures.fails
-
-pub returns-clause-flushed : goal.returns-clause-flushed
-returns-clause-flushed g c = c.show_last.ensures.flushed ∙ c.loop-step.invariant.flushed
+    let writer = c.show_last.ensures.writer in
+    record {
+      wrote = λ job stored starts ends.
+          last_wrote c.show_last.result c.args.steps c.args.run.now c.loop-step.run _ _ _ _ writes c.road.ensures.run c.show_last.ensures.wrote job (record { stored = stored; starts = starts; ends = ends });
+      writer = record { works = writer.works; fails = writer.fails; flushed = writer.flushed ∙ c.loop-step.invariant.flushed };
+    }

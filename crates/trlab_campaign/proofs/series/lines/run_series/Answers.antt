@@ -1,5 +1,12 @@
-use Rattle.trlab_campaign.proofs.Endings.{series_kept}
+use Rattle.std.proofs.Common.{◌∙◌, ap, false, inr, refl}
+use Rattle.trlab_campaign.specs.Flushes.{once_more}
+use Rattle.trlab_campaign.specs.SeriesOutput.{SeriesOutput}
+use Rattle.trlab_campaign.proofs.Endings.{all_kept}
 use Rattle.trlab_campaign.proofs.series.lines.run_series.Goals as goal
 
-pub returns-in-Err-clause-answer : goal.returns-in-Err-clause-answer
-returns-in-Err-clause-answer g c = series_kept c.args.windows.now.every c.args.windows.now.from c.args.job _ _ _ c.in-Ok.ensures.whole c.in-Err.ensures.bytes
+pub returns-in-Err : goal.returns-in-Err
+returns-in-Err g c = record {
+  answer = all_kept (SeriesOutput c.args.windows.now.every c.args.windows.now.from c.args.job) false _ _ _ c.in-Ok.ensures.wrote c.in-Err.ensures.bytes;
+  handed = inr (c.in-Err.ensures.flushed ∙ ap once_more c.in-Ok.ensures.writer.flushed);
+  device = (λ _. rw c.in-Ok.ensures.writer.works at c.in-Err.ensures.fails, λ _. refl);
+}

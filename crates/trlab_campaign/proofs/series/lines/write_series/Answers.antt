@@ -1,19 +1,12 @@
 use Rattle.std.proofs.Common.{ap}
 use Rattle.trlab_jobs.specs.Job.{Job}
 use Rattle.trlab_jobs.specs.Stored.{IsStored}
-use Rattle.trlab_campaign.proofs.SeriesLines.{front_series, whole_series}
+use Rattle.trlab_campaign.proofs.SeriesLines.{series_wrote}
 use Rattle.trlab_campaign.proofs.series.lines.write_series.Goals as goal
 
-pub returns-clause-whole : goal.returns-clause-whole
-returns-clause-whole g c =
+pub returns-clause-wrote : goal.returns-clause-wrote
+returns-clause-wrote g c =
     let stored : IsStored c.args.job = rw (← c.job.view_is) c.job.invariant in
     let windows = c.args.windows.now in
-    whole_series c.args.job windows.every windows.from c.count-count.result c.job.inside.steps c.run_of-run.result stored c.run_of-run.ensures (ap (λ (job : Job). job.steps) c.job.view_is) c.count-count.ensures
-    c.write_table-written.result _ _ c.write_table-written.ensures.whole
-
-pub returns-clause-front : goal.returns-clause-front
-returns-clause-front g c =
-    let stored : IsStored c.args.job = rw (← c.job.view_is) c.job.invariant in
-    let windows = c.args.windows.now in
-    front_series c.args.job windows.every windows.from c.count-count.result c.job.inside.steps c.run_of-run.result stored c.run_of-run.ensures (ap (λ (job : Job). job.steps) c.job.view_is) c.count-count.ensures
-    c.write_table-written.result _ _ c.write_table-written.ensures.front
+    series_wrote c.args.job windows.every windows.from c.count-count.result c.job.inside.steps c.run_of-run.result stored c.run_of-run.ensures (ap (λ (job : Job). job.steps) c.job.view_is) c.count-count.ensures
+    c.write_table-written.result _ _ c.write_table-written.ensures.wrote

@@ -1,7 +1,4 @@
 use Rattle.trlab_campaign.proofs.series.lines.write_window.Goals as goal
 
-pub returns-clause-whole : goal.returns-clause-whole
-returns-clause-whole g c = λ roads tallies course. c.write_line.ensures.whole _ (c.next_line-line.ensures.line roads tallies course)
-
-pub returns-clause-front : goal.returns-clause-front
-returns-clause-front g c = λ roads tallies course. c.write_line.ensures.front _ (c.next_line-line.ensures.line roads tallies course)
+pub returns-clause-wrote : goal.returns-clause-wrote
+returns-clause-wrote g c = λ roads tallies course. c.write_line.ensures.wrote _ (c.next_line-line.ensures.line roads tallies course)

@@ -5,11 +5,9 @@ use Rattle.trlab_campaign.specs.Refusal.{too_big_line}
 use Rattle.trlab_campaign.proofs.Endings.{output_ends}
 use Rattle.trlab_campaign.proofs.sweep.SurveyorEngine.write_too_big.Goals as goal
 
-pub returns-clause-answer : goal.returns-clause-answer
-returns-clause-answer g c = λ text big. output_ends (IsSweepOutput text) true too_big_line c.refuse.result _ _ (big_sweep text big) c.refuse.ensures.answer
-
-pub returns-clause-handed : goal.returns-clause-handed
-returns-clause-handed g c = c.refuse.ensures.handed
-
-pub returns-clause-device : goal.returns-clause-device
-returns-clause-device g c = c.refuse.ensures.device
+pub returns : goal.returns
+returns g c = record {
+  answer = λ text big. output_ends (IsSweepOutput text) true too_big_line c.refuse.result _ _ (big_sweep text big) c.refuse.ensures.answer;
+  handed = c.refuse.ensures.handed;
+  device = c.refuse.ensures.device;
+}
