@@ -1,22 +1,21 @@
-//! Tests of programs, of roads and of what drives them by public calls, with values worked out by hand:
-//! faults of program text, tables of notes, standard rules, random words, roads, steps, tickets, segments,
-//! workers, and the pool of threads that asks programs for all cars of a road.
+//! Tests of programs and of what drives roads by public calls, with values worked out by hand: faults of program
+//! text, tables of notes, standard rules, random words, tickets, and steps whose cars workers or a pool ask.
 #![tactic(auto)]
 
 #[cfg(test)]
 mod asm;
 #[cfg(test)]
-mod pool;
+mod gates;
 #[cfg(test)]
-mod roads;
+mod pool;
 #[cfg(test)]
 mod rules;
 #[cfg(test)]
-mod segments;
-#[cfg(test)]
-mod steps;
-#[cfg(test)]
 mod tables;
+#[cfg(test)]
+mod tickets;
+#[cfg(test)]
+mod traffic;
 #[cfg(test)]
 mod words;
 #[cfg(test)]

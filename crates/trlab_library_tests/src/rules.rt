@@ -1,4 +1,4 @@
-//! The standard rules: budgets of their programs, and copies.
+//! The standard rules: budgets of their programs, and the wording of 1992.
 
 use std::alloc::Global;
 use trlab_rules::{Rule, nasch, rickert, slowed_1992, vdr};
@@ -46,26 +46,4 @@ fn gives_the_published_rules(rt: HostRuntime) {
     assert!(rt;
         slowed_1992(3, 5, 2) == 2 && slowed_1992(5, 5, 9) == 5 && slowed_1992(0, 5, 0) == 0
     );
-}
-
-/// Whether there is a rule, and it equals its copy.
-fn equals_its_copy(alloc: Global, rule: Option<Rule>) -> bool {
-    match rule {
-        Some(rule) => is_copied(alloc, &rule),
-        None => false,
-    }
-}
-
-/// Whether a rule equals its copy.
-fn is_copied(alloc: Global, rule: &Rule) -> bool {
-    match rule.copy(alloc) {
-        Ok(copy) => copy.equals(rule),
-        Err(_) => false,
-    }
-}
-
-#[test]
-fn a_copy_is_the_same_rule(rt: HostRuntime) {
-    let alloc = rt.alloc();
-    assert!(rt; equals_its_copy(alloc, of_1996(alloc, 0, 2147483648)));
 }

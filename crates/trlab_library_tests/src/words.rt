@@ -19,27 +19,6 @@ fn the_zero_key_begins_as_published(rt: HostRuntime) {
     assert!(rt; has_word(&key, 1, 2419978656));
 }
 
-/// Whether the word of eight cars is that of each one.
-fn is_word_of_each(key: &Key, cars: [u32; 8], k: usize) -> bool
-    requires { k < 16 }
-{
-    let word_of = word_of_cars(&key.words(), 5, cars, 4000000000, k);
-    for j in 0..8 {
-        if word_of[j] != words(key, 5, cars[j], 4000000000)[k] {
-            return false;
-        }
-    }
-    true
-}
-
-#[test]
-fn each_car_has_its_own_words(rt: HostRuntime) {
-    let key = Key(*b"0123456789abcdefghijklmnopqrstuv");
-    for k in 0..16 {
-        assert!(rt; is_word_of_each(&key, [3, 0, 4294967295, 70000, 1, 2, 199999, 16], k));
-    }
-}
-
 /// Whether a chance of so many parts happens on the first word of the zero key.
 fn happens_first(parts: u32) -> Option<bool> {
     Some(happens(2917185654, Chance::new(parts)?))

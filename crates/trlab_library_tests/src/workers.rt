@@ -1,30 +1,14 @@
 //! Steps by several workers: the road and the tally are those of a step by one thread.
 
-mod gates;
-
 ghost use Rattle.std.specs.Prelude.{◌<◌};
 
-use crate::steps::{crossing, steady};
-use std::alloc::Global;
+use crate::traffic::{Stepped, at_random, crossing, led_to, resting, spread, steady};
 use std::thread::Threads;
 use trlab_road::Road;
-use trlab_rules::{Rule, rickert, vdr};
+use trlab_rules::Rule;
 use trlab_segments::{OpenGate, step_shared};
 use trlab_step::{StepFault, StepTally, step_road};
-use trlab_words::{CERTAIN, Chance, Key};
-
-/// The road of a step and its tally, or why there is none.
-type Stepped = Result<(Road, StepTally), StepFault>;
-
-/// The rule by which a car that stands stays where it is.
-fn resting(alloc: Global) -> Option<Rule> {
-    vdr(alloc, Chance::new(0)?, Chance::new(CERTAIN)?).ok()
-}
-
-/// The rule of 1996 with chances of a quarter and of a half.
-fn at_random(alloc: Global) -> Option<Rule> {
-    rickert(alloc, Chance::new(CERTAIN / 4)?, Chance::new(CERTAIN / 2)?).ok()
-}
+use trlab_words::Key;
 
 /// Step 5 of road 3, by one worker more than these.
 fn step_by(
@@ -49,25 +33,8 @@ fn step_by(
     )
 }
 
-/// Whether a step by workers leads to this road and this tally.
-fn lead_where(
-    rt: &(impl AllocGlobal + Threads + Sync),
-    road: &Road,
-    rule: &Rule,
-    others: u32,
-    wanted: &Road,
-    tally: StepTally,
-) -> bool
-    requires { others < 16 }
-{
-    match step_by(rt, road, rule, others) {
-        Ok((next, other)) => next.equals(wanted) && other == tally,
-        Err(_) => false,
-    }
-}
-
-/// Whether each number of workers does.
-fn all_lead_where(
+/// Whether a step by each number of workers leads to this road and this tally.
+fn lead_to(
     rt: &(impl AllocGlobal + Threads + Sync),
     road: &Road,
     rule: &Rule,
@@ -75,7 +42,7 @@ fn all_lead_where(
     tally: StepTally,
 ) -> bool {
     for others in 0..16 {
-        if !lead_where(rt, road, rule, others, wanted, tally) {
+        if !led_to(step_by(rt, road, rule, others), wanted, tally) {
             return false;
         }
     }
@@ -85,28 +52,16 @@ fn all_lead_where(
 /// Whether each number of workers leads where one thread does.
 fn are_as_one(rt: &(impl AllocGlobal + Threads + Sync), road: &Road, rule: &Rule) -> bool {
     match step_road(rt.alloc(), road, rule, &Key([7; 32]), 3, 5) {
-        Ok((by_one, tally)) => all_lead_where(rt, road, rule, &by_one, tally),
+        Ok((by_one, tally)) => lead_to(rt, road, rule, &by_one, tally),
         Err(_) => false,
-    }
-}
-
-/// The same by a rule, if there is one.
-fn are_as_one_by(
-    rt: &(impl AllocGlobal + Threads + Sync),
-    road: &Road,
-    rule: Option<Rule>,
-) -> bool {
-    match rule {
-        Some(rule) => are_as_one(rt, road, &rule),
-        None => false,
     }
 }
 
 /// The same of cars that are spread over two lanes, by the rule with chances.
 fn spread_as_one(rt: &(impl AllocGlobal + Threads + Sync), cars: u32) -> bool {
-    match Road::even(rt.alloc(), 2, 100, 5, cars) {
-        Ok(road) => are_as_one_by(rt, &road, at_random(rt.alloc())),
-        Err(_) => false,
+    match spread(rt.alloc(), 100, cars) {
+        Some(traffic) => are_as_one(rt, &traffic.road, &traffic.rule),
+        None => false,
     }
 }
 
@@ -117,15 +72,18 @@ fn each_number_of_workers_leads_to_the_same_road(rt: HostRuntime) {
     }
 }
 
-/// The same of the cars of pictures.
+/// The same of the cars of pictures, by a rule, if there is one.
 fn shown_as_one(
     rt: &(impl AllocGlobal + Threads + Sync),
     limit: u32,
     lanes: &[&[u8]],
     rule: Option<Rule>,
 ) -> bool {
+    let Some(rule) = rule else {
+        return false;
+    };
     match Road::parse(rt.alloc(), limit, lanes) {
-        Ok(road) => are_as_one_by(rt, &road, rule),
+        Ok(road) => are_as_one(rt, &road, &rule),
         Err(_) => false,
     }
 }

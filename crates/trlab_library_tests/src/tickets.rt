@@ -1,9 +1,9 @@
-//! Tickets that two drawers draw, and the segments of some cars.
+//! Tickets that two drawers draw.
 
 ghost use Rattle.trlab_segments.specs.Drawers.{IsFrom};
 
 use std::alloc::{AllocError, Global};
-use trlab_segments::{Drawer, Gate, OpenGate, Segment, Tickets, segment_count};
+use trlab_segments::{Drawer, Tickets};
 
 /// Whether a drawer draws these tickets, and then none.
 fn draws(tickets: &Tickets, drawer: &mut Drawer, wanted: &[u32]) -> bool
@@ -53,34 +53,4 @@ fn two_share_three(alloc: Global) -> Result<bool, AllocError> {
 #[test]
 fn two_drawers_draw_each_ticket_once(rt: HostRuntime) {
     assert!(rt; two_share_three(rt.alloc()) == Ok(true));
-}
-
-/// Whether a drawer finds at once that there is no ticket.
-fn is_done_at_once(alloc: Global) -> Result<bool, AllocError> {
-    let (tickets, mut drawer) = Tickets::start(alloc, 0, 1)?;
-    let none = tickets.draw(&mut drawer).is_none();
-    let ends = tickets.finish(drawer).is_ok();
-    Ok(none && ends)
-}
-
-#[test]
-fn no_tickets_are_drawn_at_once(rt: HostRuntime) {
-    assert!(rt; is_done_at_once(rt.alloc()) == Ok(true));
-}
-
-#[test]
-fn cars_are_cut_into_segments(rt: HostRuntime) {
-    assert!(rt; segment_count(3, 16) == 3 && segment_count(10, 1) == 4);
-    assert!(rt; Segment::of(10, 4, 1) == Segment { from: 2, to: 5 });
-    assert!(rt; Segment::of(10, 4, 3) == Segment { from: 7, to: 10 });
-}
-
-/// Goes through a gate.
-fn goes_through<G: Gate>(gate: &G) {
-    gate.pass(0, 1, 0, 2);
-}
-
-#[test]
-fn an_open_gate_lets_workers_through(_rt: HostRuntime) {
-    goes_through(&OpenGate);
 }

@@ -1,0 +1,217 @@
+//! Workers and pools at gates: which segments they begin, and that a worker who is held leaves the others to the
+//! rest.
+
+ghost use Rattle.std.specs.Prelude.{◌<◌};
+
+use crate::traffic::{Traffic, spread};
+use std::alloc::Global;
+use std::hint;
+use std::sync::Wait;
+use std::sync::atomic::{AtomicBool, AtomicU64, Ordering};
+use std::thread::Threads;
+use trlab_machine::Dice;
+use trlab_segments::{Gate, Pool, step_shared};
+use trlab_step::step_road_by;
+use trlab_words::Key;
+
+/// Has 1 to 16 workers, one more than these, take a step of road 9 through a gate.
+fn step_through<G: Gate + Sync>(
+    rt: &(impl AllocGlobal + Threads + Sync),
+    traffic: &Traffic,
+    others: u32,
+    gate: &G,
+) -> bool
+    requires { others < 16 }
+{
+    let (alloc, key) = (rt.alloc(), Key([0; 32]));
+    let Traffic { road, rule } = traffic;
+    step_shared(rt, alloc, road, rule, &key, 9, 0, others + 1, gate).is_ok()
+}
+
+/// The same of so many cars.
+fn go_through<G: Gate + Sync>(
+    rt: &(impl AllocGlobal + Threads + Sync),
+    cars: u32,
+    others: u32,
+    gate: &G,
+) -> bool
+    requires { others < 16 }
+{
+    match spread(rt.alloc(), 100, cars) {
+        Some(traffic) => step_through(rt, &traffic, others, gate),
+        None => false,
+    }
+}
+
+/// Has a pool ask the cars in so many steps of road 9.
+fn ask_often<R: Wait, G: Gate>(
+    pool: &Pool<R, G>,
+    alloc: Global,
+    traffic: &Traffic,
+    steps: u32,
+) -> bool {
+    let Traffic { road, rule } = traffic;
+    for step in 0..steps {
+        let dice = Dice::new(&Key([7; 32]), 9, step);
+        if step_road_by(pool, alloc, road, rule, &dice).is_err() {
+            return false;
+        }
+    }
+    true
+}
+
+/// Has a pool of one worker more than these do so, in one run.
+fn ask_through<G: Gate + Sync>(
+    rt: &(impl AllocGlobal + Threads + Wait + Sync),
+    traffic: &Traffic,
+    others: u32,
+    steps: u32,
+    gate: &G,
+) -> bool
+    requires { others < 16 }
+{
+    let alloc = rt.alloc();
+    let pool = Pool::new(rt, others + 1, gate);
+    pool.run(alloc, &mut || ask_often(&pool, alloc, traffic, steps))
+}
+
+/// Notes which segments of road 9 are begun, those of its lane change and those of its motion, and how many.
+#[derive(Drop)]
+struct Notes {
+    calls: AtomicU64,
+    crossed: AtomicU64,
+    moved: AtomicU64,
+}
+
+impl Notes {
+    /// No segment.
+    fn new() -> Notes {
+        Notes {
+            calls: AtomicU64::new(0),
+            crossed: AtomicU64::new(0),
+            moved: AtomicU64::new(0),
+        }
+    }
+
+    /// Whether so many segments were begun, these in each of the two phases.
+    fn are(&self, calls: u64, begun: u64) -> bool {
+        self.calls.load(Ordering::SeqCst) == calls
+            && self.crossed.load(Ordering::SeqCst) == begun
+            && self.moved.load(Ordering::SeqCst) == begun
+    }
+}
+
+impl Gate for Notes {
+    fn pass(&self, number: u32, worker: u32, phase: u32, segment: u32) {
+        if number != 9 || worker >= 16 || phase > 1 || segment >= 64 {
+            return;
+        }
+        let begun = if phase == 0 {
+            &self.crossed
+        } else {
+            &self.moved
+        };
+        begun.fetch_or(1 << segment, Ordering::SeqCst);
+        self.calls.fetch_add(1, Ordering::SeqCst);
+    }
+}
+
+/// Whether 16 workers begin so many segments of so many cars, these in each phase.
+fn begin(rt: &(impl AllocGlobal + Threads + Sync), cars: u32, calls: u64, begun: u64) -> bool {
+    let notes = Notes::new();
+    go_through(rt, cars, 15, &notes) && notes.are(calls, begun)
+}
+
+#[test]
+fn sixteen_workers_begin_each_segment_once(rt: HostRuntime) {
+    assert!(rt; begin(&rt, 0, 0, 0));
+    assert!(rt; begin(&rt, 1, 2, 1));
+    assert!(rt; begin(&rt, 3, 6, 0b111));
+}
+
+/// Whether a pool of one worker more than these begins so many segments of 60 cars in three steps, these in each
+/// phase.
+fn ask(rt: &(impl AllocGlobal + Threads + Wait + Sync), others: u32, calls: u64, begun: u64) -> bool
+    requires { others < 16 }
+{
+    let notes = Notes::new();
+    match spread(rt.alloc(), 100, 60) {
+        Some(traffic) => { ask_through(rt, &traffic, others, 3, &notes) && notes.are(calls, begun) }
+        None => false,
+    }
+}
+
+#[test]
+fn a_pool_begins_each_segment_once(rt: HostRuntime) {
+    assert!(rt; ask(&rt, 15, 360, (1 << 60) - 1));
+}
+
+#[test]
+fn who_is_alone_passes_no_gate(rt: HostRuntime) {
+    assert!(rt; ask(&rt, 0, 0, 0));
+    let (notes, alloc) = (Notes::new(), rt.alloc());
+    let traffic = spread(alloc, 100, 60).expect(&rt, "there are no cars");
+    let sparing = Pool::new(&rt, 16, &notes).sparing();
+    assert!(rt; ask_often(&sparing, alloc, &traffic, 3));
+    assert!(rt; notes.are(0, 0));
+}
+
+/// How many turns a worker is held at most.
+const TURNS: u32 = 100_000_000;
+
+/// Holds who comes first in a phase until workers have come for its seven other segments.
+#[derive(Drop)]
+struct HoldsFirst {
+    came: AtomicU64,
+    gave_up: AtomicBool,
+}
+
+impl HoldsFirst {
+    /// A gate to which nobody has come.
+    fn new() -> HoldsFirst {
+        HoldsFirst {
+            came: AtomicU64::new(0),
+            gave_up: AtomicBool::new(false),
+        }
+    }
+
+    /// Waits until so many have come, and says whether they were in time.
+    fn waits(&self, wanted: u64) -> bool {
+        for _ in 0..TURNS {
+            if self.came.load(Ordering::SeqCst) >= wanted {
+                return true;
+            }
+            hint::spin_loop();
+        }
+        false
+    }
+
+    /// Whether so many have come, and nobody waited in vain.
+    fn saw(&self, came: u64) -> bool {
+        self.came.load(Ordering::SeqCst) == came && !self.gave_up.load(Ordering::SeqCst)
+    }
+}
+
+impl Gate for HoldsFirst {
+    fn pass(&self, _number: u32, _worker: u32, _phase: u32, _segment: u32) {
+        let before = self.came.fetch_add(1, Ordering::SeqCst);
+        if before % 8 == 0 && !self.waits(before.saturating_add(8)) {
+            self.gave_up.store(true, Ordering::SeqCst);
+        }
+    }
+}
+
+#[test]
+fn a_worker_who_is_held_leaves_the_others_at_work(rt: HostRuntime) {
+    let gate = HoldsFirst::new();
+    assert!(rt; go_through(&rt, 8, 1, &gate));
+    assert!(rt; gate.saw(16));
+}
+
+#[test]
+fn a_worker_who_is_held_leaves_the_others_to_the_helper(rt: HostRuntime) {
+    let gate = HoldsFirst::new();
+    let traffic = spread(rt.alloc(), 100, 60).expect(&rt, "there are no cars");
+    assert!(rt; ask_through(&rt, &traffic, 1, 10, &gate));
+    assert!(rt; gate.saw(160));
+}
