@@ -1,4 +1,5 @@
-"""What documents say of each other and of the sources: numbers of decisions, links, versions, sources that are shown.
+"""What documents say of each other and of the sources: numbers of decisions, links, versions, crates, files, sources
+that are shown.
 
 Each function yields a verdict and what is wrong where it is no."""
 import functools
@@ -13,7 +14,8 @@ MOST_LINES_OF_A_DECISION = 10
 MOST_LINES_OF_README = 200
 # In DECISIONS.md and HISTORY.md a decision is cited as (12) or (12, 14); elsewhere behind the name of the file.
 CITED_AT_HOME = re.compile(r"\((\d{1,3}(?:, \d{1,3})*)\)")
-CITED_ELSEWHERE = re.compile(r"DECISIONS\.md\)?,? ((?:\d{1,3}(?:, | and )?)+)")
+CITED_ELSEWHERE = re.compile(r"DECISIONS\.md\)?,? ((?:\d{1,3}(?:, | and | to )?)+)")
+BEGUN = re.compile(r"(\d+)\. \*\*")
 FENCED = re.compile(r"^```.*?^```$", re.M | re.S)
 LINK = re.compile(r"\]\(([^)\s]+)\)")
 SHOWN = re.compile(r"^`(crates/[^`]+)`:\n\n```\w*\n(.*?)^```$", re.M | re.S)
@@ -42,10 +44,10 @@ def documents():
 
 
 def decisions():
-    """The numbers of the decisions, each with its lines."""
+    """The numbers of the decisions in the order of the page, each with its lines."""
     found = {}
     for line in content(DECISIONS).split("\n"):
-        begun = re.match(r"(\d+)\. \*\*", line)
+        begun = BEGUN.match(line)
         if begun:
             found.setdefault(int(begun[1]), []).append([])
             lines = found[int(begun[1])][-1]
@@ -57,21 +59,22 @@ def decisions():
 
 
 def decisions_are_told_once():
-    """Each number stands once, none is left out, and each decision is short."""
+    """Each number stands once and in order, none is left out, and each decision is short."""
     found = decisions()
-    yield sorted(found) == list(range(1, len(found) + 1)), f"{DECISIONS} leaves a number out"
+    yield list(found) == list(range(1, len(found) + 1)), f"{DECISIONS} is out of order: tools/documents/renumber"
     for number, texts in found.items():
         is_short = all(len(lines) <= MOST_LINES_OF_A_DECISION for lines in texts)
         yield len(texts) == 1 and is_short, f"decision {number} stands twice, or is longer than {MOST_LINES_OF_A_DECISION} lines"
 
 
+def form_of_citations(name):
+    """How a file cites decisions: the numbers are the first group."""
+    return CITED_AT_HOME if name in (DECISIONS, "docs/HISTORY.md") else CITED_ELSEWHERE
+
+
 def citations(name):
     """The numbers of decisions that a file cites."""
-    text = content(name)
-    if name == "docs/HISTORY.md":
-        text = text.split("## Numbers of decisions before")[0]
-    form = CITED_AT_HOME if name in (DECISIONS, "docs/HISTORY.md") else CITED_ELSEWHERE
-    for cited in form.findall(text):
+    for cited in form_of_citations(name).findall(content(name)):
         yield from map(int, re.findall(r"\d+", cited))
 
 
