@@ -9,13 +9,19 @@ import subprocess
 
 from finder import TOP
 
+ARCHITECTURE = "docs/ARCHITECTURE.md"
 DECISIONS = "docs/DECISIONS.md"
+# They tell of crates by the names of their day.
+OF_OLD = "docs/HISTORY.md", "CHANGELOG.md"
 MOST_LINES_OF_A_DECISION = 10
 MOST_LINES_OF_README = 200
 # In DECISIONS.md and HISTORY.md a decision is cited as (12) or (12, 14); elsewhere behind the name of the file.
 CITED_AT_HOME = re.compile(r"\((\d{1,3}(?:, \d{1,3})*)\)")
 CITED_ELSEWHERE = re.compile(r"DECISIONS\.md\)?,? ((?:\d{1,3}(?:, | and | to )?)+)")
 BEGUN = re.compile(r"(\d+)\. \*\*")
+LAYER = re.compile(r"^# (.*)\n((?:trlab_\w+:.*\n)+)", re.M)
+CRATE = re.compile(r"`(trlab_\w+)(/[\w./]+)?`")
+FILE = re.compile(r"`((?:\w+/)*\w+\.(?:rt|antt))`")
 FENCED = re.compile(r"^```.*?^```$", re.M | re.S)
 LINK = re.compile(r"\]\(([^)\s]+)\)")
 SHOWN = re.compile(r"^`(crates/[^`]+)`:\n\n```\w*\n(.*?)^```$", re.M | re.S)
@@ -128,6 +134,42 @@ def sources_are_shown_as_they_are():
             yield is_same, f"{name} shows {path} otherwise than it is"
 
 
+def layers_agree():
+    """Each layer of crates.txt is a table of the map of crates, with the same crates in the same order."""
+    for heading, crates in LAYER.findall(content("crates.txt")):
+        table = re.search(rf"^### {re.escape(heading)}$(.*?)^#", content(ARCHITECTURE), re.M | re.S)
+        told = re.findall(r"^\| `(trlab_\w+)`", table[1], re.M) if table else []
+        yield told == re.findall(r"^\w+", crates, re.M), f"{ARCHITECTURE} has other crates in the layer {heading!r} than crates.txt"
+
+
+def crates_are_there():
+    """Each crate that a document names is there, and so is each of its files that stands behind it."""
+    for name in documents():
+        if name not in OF_OLD:
+            for crate, path in sorted(set(CRATE.findall(content(name)))):
+                is_there = os.path.exists(os.path.join(TOP, "crates", crate + path))
+                yield is_there, f"{name} names {crate}{path}, which is not there"
+
+
+def files_of_map_are_there():
+    """So is each file of the map of crates: `src/run.rt` is of the crate that its section named last, `run.rt` lies beside
+    the file named last."""
+    for section in re.split(r"^#+ ", content(ARCHITECTURE), flags=re.M):
+        crate, folder = "", ""
+        for named in re.findall(r"`([\w./]+)`", section):
+            if begun := re.match(r"trlab_\w+", named):
+                crate = begun[0]
+            path = FILE.fullmatch(f"`{named}`")
+            if not (path and crate):
+                continue
+            if re.match(r"src/|specs/|proofs/", named):
+                folder, named = os.path.join(crate, os.path.dirname(named)), os.path.basename(named)
+            elif begun:
+                folder, named = os.path.split(named)
+            is_there = os.path.exists(os.path.join(TOP, "crates", folder, named))
+            yield is_there, f"{ARCHITECTURE} names {folder}/{named}, which is not there"
+
+
 def readme_is_short():
     lines = content("README.md").count("\n")
     yield lines <= MOST_LINES_OF_README, f"README.md has {lines} lines, and is to have {MOST_LINES_OF_README} at most"
@@ -140,6 +182,9 @@ def verdicts():
         links_lead_somewhere,
         versions_agree,
         sources_are_shown_as_they_are,
+        layers_agree,
+        crates_are_there,
+        files_of_map_are_there,
         readme_is_short,
     ):
         yield from tried()
