@@ -16,8 +16,8 @@ OF_OLD = "docs/HISTORY.md", "CHANGELOG.md"
 MOST_LINES_OF_A_DECISION = 10
 MOST_LINES_OF_README = 200
 # In DECISIONS.md and HISTORY.md a decision is cited as (12) or (12, 14); elsewhere behind the name of the file.
-CITED_AT_HOME = re.compile(r"\((\d{1,3}(?:, \d{1,3})*)\)")
-CITED_ELSEWHERE = re.compile(r"DECISIONS\.md\)?,? ((?:\d{1,3}(?:, | and | to )?)+)")
+CITED_AT_HOME = re.compile(r"\((\d{1,3}(?:,\s+\d{1,3})*)\)")
+CITED_ELSEWHERE = re.compile(r"DECISIONS\.md\)?,?\s+((?:\d{1,3}(?:,\s+|\s+and\s+|\s+to\s+)?)+)")
 BEGUN = re.compile(r"(\d+)\. \*\*")
 LAYER = re.compile(r"^# (.*)\n((?:trlab_\w+:.*\n)+)", re.M)
 CRATE = re.compile(r"`(trlab_\w+)(/[\w./]+)?`")
