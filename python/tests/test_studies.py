@@ -12,7 +12,7 @@ from shutil import copytree
 from unittest import mock
 
 from tests.test_runs import knows_series
-from trlab import Sweep
+from trlab import Nasch, Point, Sweep
 
 STUDIES = Path(__file__).resolve().parents[2] / "studies"
 
@@ -78,6 +78,30 @@ class Studies(unittest.TestCase):
                 first = replace(sweep, cars=sweep.counts()[:2], densities=None)
                 with self.subTest(study=name, text=text):
                     self.assertEqual(Sweep.sweep(first).csv().splitlines()[1:], table[text][:2])
+
+    def test_what_was_cut_off_goes_on_where_it_stopped(self):
+        script("1992")
+        from study import Study
+
+        shape = {"limit": 5, "length": 10, "rule": Nasch(0), "warm": 0, "measure": 1}
+        sweeps = {f"{cars}_cars": Sweep(**shape, cars=[cars]) for cars in (1, 2, 3)}
+        asked, missing = [], {3}
+
+        def call(sweep):
+            asked.append(sweep.cars[0])
+            if sweep.cars[0] in missing:
+                raise OSError("cut off")
+            return sweep.sweep()
+
+        with tempfile.TemporaryDirectory() as folder:
+            study = Study(Path(folder), is_full=False, is_drawn_only=False)
+            with self.assertRaises(OSError):
+                study.table("table.csv", Point, sweeps, call)
+            missing.clear()
+            found = study.table("table.csv", Point, sweeps, call)
+            self.assertEqual([point.cars for points in found.values() for point in points], [1, 2, 3])
+            self.assertEqual(sorted(asked), [1, 2, 3, 3])
+            self.assertEqual({file.name for file in Path(folder).iterdir()}, {"table.csv", "texts"})
 
     def test_a_branch_comes_out_again(self):
         if not knows_series():

@@ -1,5 +1,5 @@
 """What documents say of each other and of the sources: numbers of decisions, links, versions, crates, files, sources
-that are shown.
+that are shown, a figure.
 
 Each function yields a verdict and what is wrong where it is no."""
 import functools
@@ -170,6 +170,13 @@ def files_of_map_are_there():
             yield is_there, f"{ARCHITECTURE} names {folder}/{named}, which is not there"
 
 
+def figure_is_of_the_table():
+    """The figure of speeds is what the script draws of the table."""
+    words = ["awk", "-f", "docs/speed.awk", "docs/SPEED.md"]
+    drawn = subprocess.run(words, cwd=TOP, capture_output=True, text=True).stdout
+    yield drawn == content("docs/speed.svg"), "docs/speed.svg is not the figure of the table in docs/SPEED.md"
+
+
 def readme_is_short():
     lines = content("README.md").count("\n")
     yield lines <= MOST_LINES_OF_README, f"README.md has {lines} lines, and is to have {MOST_LINES_OF_README} at most"
@@ -185,6 +192,7 @@ def verdicts():
         layers_agree,
         crates_are_there,
         files_of_map_are_there,
+        figure_is_of_the_table,
         readme_is_short,
     ):
         yield from tried()

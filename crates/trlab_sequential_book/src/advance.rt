@@ -20,7 +20,7 @@ use thiserror::Error;
 use trlab_machine::Dice;
 use trlab_road::Road;
 use trlab_rules::Rule;
-use trlab_step::{Asker, Nobody, StepRoom, StepTally, take_step};
+use trlab_step::{Asker, Asking, Nobody, StepRoom, StepTally, take_step};
 
 /// Why a lease ran no step.
 #[derive(Clone, Copy, Debug, PartialEq, Eq, Error)]
@@ -86,7 +86,12 @@ impl Lease {
         let shared = rule.share()?;
         let is_steady = stays_steady(&self.applied, self.is_steady, rule);
         let rule = rule.get();
-        let tally = step_alone(asker, alloc, &mut self.road, &mut self.room, rule, &dice)?;
+        let asking = Asking {
+            asker,
+            alloc,
+            dice: &dice,
+        };
+        let tally = step_alone(&asking, &mut self.road, &mut self.room, rule)?;
         self.applied.push_reserved(Ran {
             rule: shared,
             tally,
@@ -108,23 +113,21 @@ impl Lease {
     }
 }
 
-/// Takes a step of the road of a lease, which nothing else has: where something had, that would be told as want
-/// of memory.
+/// Takes a step of the road of a lease, which nothing else has: where something had, that would be told as if
+/// memory had run out.
 fn step_alone<A: Asker>(
-    asker: &A,
-    alloc: Global,
+    asking: &Asking<A>,
     road: &mut Arc<Road, Global>,
     room: &mut StepRoom,
     rule: &Rule,
-    dice: &Dice,
 ) -> Result<StepTally, AllocError>
-    requires ready { A.is_ready asker.now }
+    requires ready { A.is_ready asking.now.asker.now }
     requires rule { IsRuleFor (length (arc_value road.old).lanes) rule.now }
-    ensures next { IfOk result (λ tally. IsNext rule.now dice.now (arc_value road.old) (arc_value road.new) tally) }
+    ensures next { IfOk result (λ tally. IsNext rule.now asking.now.dice.now (arc_value road.old) (arc_value road.new) tally) }
     ensures same { OnErr result (arc_value road.new ≡ arc_value road.old) }
 {
     match Arc::get_mut(road) {
-        Some(road) => take_step(asker, alloc, road, room, rule, dice, &mut Nobody),
+        Some(road) => take_step(asking, road, room, rule, &mut Nobody),
         None => Err(AllocError),
     }
 }

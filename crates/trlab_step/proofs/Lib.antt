@@ -5,7 +5,7 @@ pub mod RunLaws
 pub mod CallLaws
 pub mod Driving
 pub mod Sheets
-pub mod Totals
+pub mod SumsOverCars
 pub mod Parts
 pub mod Stepped
 pub mod PartLaws

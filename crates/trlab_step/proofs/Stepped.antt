@@ -11,7 +11,7 @@ use Rattle.trlab_step.specs.Next.{total_speed, stopped_cars, IsLaneChangePhase, 
 use Rattle.trlab_step.specs.Laws.{CrossByAnswers, AnswersLeadOn}
 use Rattle.trlab_road.proofs.MotionInOrder.{answer_at}
 use Rattle.trlab_step.proofs.Parts.{whole_allowed}
-use Rattle.trlab_step.proofs.Totals.{answers_in_order, total_speed-moved, stopped_cars-moved, crossing_cars-counted}
+use Rattle.trlab_step.proofs.SumsOverCars.{answers_in_order, total_speed-moved, stopped_cars-moved, crossing_cars-counted}
 use Rattle.trlab_step.proofs.PartLaws.{by_place}
 
 -- where all cars are asked on the road as it stands, and cross by their answers, the lane change is done

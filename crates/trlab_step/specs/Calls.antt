@@ -1,5 +1,5 @@
--- The calls of programs in a step: each is safe, which is to say that it sees what a car on a road can see, and
--- ends with an answer within its budget.
+-- The calls of programs in a step: each is safe, which is to say that it sees what a car on a road can see,
+-- and ends with an answer within its budget.
 use Rattle.std.specs.Prelude.{IfSome}
 use Rattle.trlab_code.specs.declared.kind.Kind.{Kind}
 use Rattle.trlab_code.specs.declared.kind.Kind.TheVariants.{Motion, Change}

@@ -8,9 +8,9 @@ use Rattle.trlab_step.specs.Next.{IsCleanNext}
 use Rattle.trlab_step.specs.Laws.{IsLegalLike, IsRuleFor, IsSheetFor}
 use Rattle.trlab_step.specs.Run.{Seed, Sheet, dice_at, in_force, IsRoadAt}
 
--- a step is driven: the rule in force is one for the lanes, of programs that are safe within their budgets, and
--- under it one road comes next to the other; no car goes onto or through another, none is lost or made, and each
--- program that is called ends within its budget
+-- a step is driven: the rule in force is one for the lanes, of programs that are safe within their budgets,
+-- and under it one road comes next to the other; no car goes onto or through another, none is lost or made,
+-- and each program that is called ends within its budget
 pub record IsDrivenStep (seed : Seed) (sheet : Sheet) (step : ℕ) (road next : Cells) : Type 0 where
   pub rule : Programs
   pub tally : StepTally
@@ -18,8 +18,8 @@ pub record IsDrivenStep (seed : Seed) (sheet : Sheet) (step : ℕ) (road next : 
   pub suits : IsRuleFor (length road.lanes) rule
   pub clean : IsCleanNext rule (dice_at seed step) road next tally
 
--- one worker drives a road for so many steps: from where it starts each step is driven, and each road is legal, with
--- the lanes, the limit and the count of cars of the start
+-- one worker drives a road for so many steps: from where it starts each step is driven, and each road is
+-- legal, with the lanes, the limit and the count of cars of the start
 pub record IsDriven (seed : Seed) (sheet : Sheet) (steps : ℕ) (roads : ℕ → Cells) : Type 0 where
   pub start : roads 0 ≡ seed.road
   pub legal : (step : ℕ) → step ≤ steps → IsLegalLike seed.road (roads step)

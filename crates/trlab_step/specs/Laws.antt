@@ -18,7 +18,8 @@ use Rattle.trlab_step.specs.Calls.{StepCallsAreSafe}
 use Rattle.trlab_step.specs.Next.{IsNext, IsCleanNext, IsStep}
 use Rattle.trlab_step.specs.Run.{Seed, Sheet, IsSheet, in_force, tally_sum, dice_at, ComesTo}
 
--- a rule for roads of so many lanes: programs that are safe within their budgets; a change program wants two lanes
+-- a rule for roads of so many lanes: programs that are safe within their budgets; a change program wants two
+-- lanes
 pub record IsRuleFor (lanes : ℕ) (rule : Programs) : Type 0 where
   pub motion : IsChecked Motion rule.motion
   pub change : IfSome rule.change (λ change. IsChecked Change change)

@@ -1,5 +1,6 @@
 //! One step of a road under a rule: the cars are asked on the road as it stands, and then all move at once.
-//! Parts of the cars can be asked by themselves, and the two phases be taken by themselves.
+//! Parts of the cars can be asked by themselves, and the two phases be taken by themselves. A run is a road
+//! that goes on step by step under a sheet of rules.
 #![tactic(auto)]
 
 mod asker;
@@ -27,6 +28,6 @@ pub use room::StepRoom;
 pub use run::Run;
 pub use sheet::Sheet;
 pub use speeds::{ask_speeds, move_part};
-pub use step::{step_road, step_road_by, take_step};
+pub use step::{Asking, step_road, step_road_by, take_step};
 pub use tally::StepTally;
 pub use totals::{no_tally, tally_sum};

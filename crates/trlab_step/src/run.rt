@@ -7,7 +7,7 @@ ghost use Rattle.trlab_step.specs.Progress.{IsUnderway, IsOneStepOn, at_start};
 
 use crate::sheet::Sheet;
 use crate::totals::{no_tally, tally_sum};
-use crate::{Asker, Nobody, Onlooker, StepRoom, StepTally, take_step};
+use crate::{Asker, Asking, Nobody, Onlooker, StepRoom, StepTally, take_step};
 use std::alloc::{AllocError, Global};
 use std::marker::Model;
 use std::snapshot::Snapshot;
@@ -130,15 +130,13 @@ impl Run {
         ensures same { OnErr result (self.new ≡ self.old) }
     {
         let dice = Dice::new(&self.key, self.number, self.step);
-        let tally = take_step(
+        let asking = Asking {
             asker,
             alloc,
-            &mut self.road,
-            &mut self.room,
-            self.sheet.in_force(self.step),
-            &dice,
-            onlooker,
-        )?;
+            dice: &dice,
+        };
+        let rule = self.sheet.in_force(self.step);
+        let tally = take_step(&asking, &mut self.road, &mut self.room, rule, onlooker)?;
         self.sum = if self.warm <= self.step {
             tally_sum(self.sum, tally)
         } else {

@@ -38,7 +38,7 @@ impl Sheet {
     }
 
     /// The rule in force at a step: that of the last entry that begins there or before.
-    pub fn in_force(&self, step: u32) -> &Rule
+    pub(crate) fn in_force(&self, step: u32) -> &Rule
         ensures { in_force self.now step ≡ Some result.now }
     {
         let begun = self.later.partition_point(|entry| entry.0 <= step);

@@ -20,6 +20,14 @@ use trlab_rules::Rule;
 use trlab_verify::{Change, Motion};
 use trlab_words::Key;
 
+/// How the cars of a step are asked: by whom, and with which dice.
+#[derive(Drop)]
+pub struct Asking<'a, A> {
+    pub asker: &'a A,
+    pub alloc: Global,
+    pub dice: &'a Dice,
+}
+
 /// Whether a road has one lane, and the rule a change program.
 fn lanes_mismatch(road: &Road, rule: &Rule) -> bool
     ensures value { IsTrue result ↔ (IsSome rule.now.change × (length road.now.lanes ≡ 1)) }
@@ -53,7 +61,8 @@ pub fn step_road_by<A: Asker>(
     }
     let mut next = road.copy(alloc)?;
     let mut room = StepRoom::new(alloc);
-    let tally = take_step(asker, alloc, &mut next, &mut room, rule, dice, &mut Nobody)?;
+    let asking = Asking { asker, alloc, dice };
+    let tally = take_step(&asking, &mut next, &mut room, rule, &mut Nobody)?;
     Ok((next, tally))
 }
 
@@ -85,18 +94,16 @@ pub fn step_road(
 /// Where an allocation was refused; then the road stays as it was. The room may have lost lists, and serves for
 /// any step.
 pub fn take_step<A: Asker, O: Onlooker>(
-    asker: &A,
-    alloc: Global,
+    asking: &Asking<A>,
     road: &mut Road,
     room: &mut StepRoom,
     rule: &Rule,
-    dice: &Dice,
     onlooker: &mut O,
 ) -> Result<StepTally, AllocError>
-    requires ready { A.is_ready asker.now }
+    requires ready { A.is_ready asking.now.asker.now }
     requires lanes { IsSome rule.now.change → length road.old.lanes ≡ 2 }
-    ensures next { IfOk result (λ tally. IsNext rule.now dice.now road.old road.new tally) }
-    ensures clean { IfOk result (λ tally. IsCleanNext rule.now dice.now road.old road.new tally) }
+    ensures next { IfOk result (λ tally. IsNext rule.now asking.now.dice.now road.old road.new tally) }
+    ensures clean { IfOk result (λ tally. IsCleanNext rule.now asking.now.dice.now road.old road.new tally) }
     ensures legal { OnOk result (IsLegal road.new) }
     ensures seen { O.sees onlooker.old road.old onlooker.new }
     ensures same { OnErr result (road.new ≡ road.old) }
@@ -105,10 +112,10 @@ pub fn take_step<A: Asker, O: Onlooker>(
     let _start = road.snapshot();
     let motion = rule.motion();
     match rule.change() {
-        None => move_cars(asker, alloc, road, &mut room.speeds, motion, dice, onlooker),
+        None => move_cars(asking, road, &mut room.speeds, motion, onlooker),
         Some(change) => {
-            let (middle, changes) = change_lanes(asker, alloc, road, room, change, dice, onlooker)?;
-            let tally = move_on(asker, alloc, road, middle, room, motion, dice)?;
+            let (middle, changes) = change_lanes(asking, road, room, change, onlooker)?;
+            let tally = move_on(asking, road, middle, room, motion)?;
             Ok(StepTally { changes, ..tally })
         }
     }
@@ -117,16 +124,14 @@ pub fn take_step<A: Asker, O: Onlooker>(
 /// Takes the motion on the road after the lane change, which becomes the road, and tells the tally of a step
 /// in which no car crossed before.
 fn move_on<A: Asker>(
-    asker: &A,
-    alloc: Global,
+    asking: &Asking<A>,
     road: &mut Road,
     middle: Road,
     room: &mut StepRoom,
     motion: &Motion,
-    dice: &Dice,
 ) -> Result<StepTally, AllocError>
-    requires { A.is_ready asker.now }
-    ensures phase { OnOk result (IsMotionPhase motion.now dice.now middle road.new) }
+    requires { A.is_ready asking.now.asker.now }
+    ensures phase { OnOk result (IsMotionPhase motion.now asking.now.dice.now middle road.new) }
     ensures distance { IfOk result (λ tally. tally.distance ≡ total_speed road.new) }
     ensures stopped { IfOk result (λ tally. tally.stopped ≡ stopped_cars road.new) }
     ensures clean { OnOk result (CleanMotion middle road.new) }
@@ -135,47 +140,51 @@ fn move_on<A: Asker>(
 {
     let mut middle = middle;
     let speeds = &mut room.speeds;
-    let tally = move_cars(asker, alloc, &mut middle, speeds, motion, dice, &mut Nobody)?;
+    let tally = move_cars(asking, &mut middle, speeds, motion, &mut Nobody)?;
     mem::replace(road, middle).leave_to(&mut room.lanes);
     Ok(tally)
 }
 
 /// The road after the lane change under a change program, and how many cars crossed.
 fn change_lanes<A: Asker, O: Onlooker>(
-    asker: &A,
-    alloc: Global,
+    asking: &Asking<A>,
     road: &mut Road,
     room: &mut StepRoom,
     change: &Change,
-    dice: &Dice,
     onlooker: &mut O,
 ) -> Result<(Road, u64), AllocError>
-    requires ready { A.is_ready asker.now }
+    requires ready { A.is_ready asking.now.asker.now }
     requires two_lanes { length road.old.lanes ≡ 2 }
     ensures phase { IfOk result (λ after.
-        IsLaneChangePhase (Some change.now) dice.now road.old after.0 after.1) }
+        IsLaneChangePhase (Some change.now) asking.now.dice.now road.old after.0 after.1) }
     ensures clean { IfOk result (λ after. CleanLaneChange road.old after.0) }
     ensures legal { IfOk result (λ after. IsLegal after.0) }
     ensures seen { O.sees onlooker.old road.old onlooker.new }
     ensures same { road.new ≡ road.old }
 {
-    asker.crossings(alloc, &mut room.crosses, road, change, dice, onlooker)?;
+    let alloc = asking.alloc;
+    asking.asker.crossings(
+        alloc,
+        &mut room.crosses,
+        road,
+        change,
+        asking.dice,
+        onlooker,
+    )?;
     let middle = road.after_lane_change_in(alloc, &mut room.lanes, &room.crosses)?;
     Ok((middle, count_crossing(&room.crosses)))
 }
 
 /// Takes the motion, and tells the tally of a step in which no car crossed before.
 fn move_cars<A: Asker, O: Onlooker>(
-    asker: &A,
-    alloc: Global,
+    asking: &Asking<A>,
     road: &mut Road,
     speeds: &mut Vec<u8>,
     motion: &Motion,
-    dice: &Dice,
     onlooker: &mut O,
 ) -> Result<StepTally, AllocError>
-    requires { A.is_ready asker.now }
-    ensures phase { OnOk result (IsMotionPhase motion.now dice.now road.old road.new) }
+    requires { A.is_ready asking.now.asker.now }
+    ensures phase { OnOk result (IsMotionPhase motion.now asking.now.dice.now road.old road.new) }
     ensures distance { IfOk result (λ tally. tally.distance ≡ total_speed road.new) }
     ensures stopped { IfOk result (λ tally. tally.stopped ≡ stopped_cars road.new) }
     ensures changes { IfOk result (λ tally. tally.changes ≡ 0) }
@@ -184,7 +193,9 @@ fn move_cars<A: Asker, O: Onlooker>(
     ensures seen { O.sees onlooker.old road.old onlooker.new }
     ensures same { OnErr result (road.new ≡ road.old) }
 {
-    asker.speeds(alloc, speeds, road, motion, dice, onlooker)?;
+    asking
+        .asker
+        .speeds(asking.alloc, speeds, road, motion, asking.dice, onlooker)?;
     road.move_cars(speeds);
     Ok(tally_of(speeds))
 }

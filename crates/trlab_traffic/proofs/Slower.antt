@@ -1,5 +1,5 @@
 -- Where cars brake by a greater chance they go no further.
-use Rattle.trlab_step.proofs.Totals.{stopped_cars-moved}
+use Rattle.trlab_step.proofs.SumsOverCars.{stopped_cars-moved}
 use Rattle.trlab_step.specs.Next.{IsNext, stopped_cars}
 use Rattle.trlab_step.specs.declared.tally.StepTally.{StepTally}
 use Rattle.trlab_rules.specs.Rules.{Programs}

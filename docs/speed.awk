@@ -1,0 +1,56 @@
+# Times a car and step from the table of docs/SPEED.md, as an SVG image of bars:
+#
+#   awk -f docs/speed.awk docs/SPEED.md > docs/speed.svg
+#
+# It shows the rules on long roads, 100000 cells a lane, three cars in ten cells: a bar for each program that has one.
+
+BEGIN {
+    FS = " *[|] *"
+    left = 90; right = 600; top = 20; thickness = 14
+    colors = split("#0072b2 #999999 #e69f00 #d55e00 #cc79a7", color, " ")
+    split("trlab floor plain interpreter NumPy", shown, " ")
+}
+
+# The heading tells which column is whose.
+$2 == "what" { for (k = 3; k < NF; k++) column[$k] = k; next }
+
+# A rule by itself, with no other word behind it.
+$2 ~ /^`[^`]*`$/ && $column["cells"] == 100000 && $column["cars"] == 30000 * $column["lanes"] {
+    rule[++rules] = substr($2, 2, length($2) - 2)
+    for (k = 1; k <= colors; k++) {
+        time[rules, k] = $column[shown[k]] + 0
+        if (time[rules, k] > slowest) slowest = time[rules, k]
+    }
+}
+
+function across(x) { return left + (right - left) * x / slowest }
+
+function text(x, y, anchor, what,  more) {
+    printf "<text x=\"%.1f\" y=\"%.1f\" text-anchor=\"%s\"%s>%s</text>\n", x, y, anchor, more, what
+}
+
+# The bars of a rule below its name; returns where the next rule begins.
+function bars(r, y,  k) {
+    text(left, y, "start", rule[r], " font-weight=\"bold\"")
+    y += 6
+    for (k = 1; k <= colors; k++) {
+        if (!time[r, k]) continue
+        text(left - 8, y + thickness - 3, "end", shown[k])
+        printf "<rect x=\"%.1f\" y=\"%.1f\" width=\"%.1f\" height=\"%d\" fill=\"%s\"/>\n",
+            left, y, across(time[r, k]) - left, thickness - 2, color[k]
+        text(across(time[r, k]) + 6, y + thickness - 3, "start", sprintf("%.1f", time[r, k]))
+        y += thickness
+    }
+    return y + 26
+}
+
+END {
+    for (r = 1; r <= rules; r++) for (k = 1; k <= colors; k++) if (time[r, k]) lines++
+    height = top + rules * 32 + lines * thickness + 20
+    printf "<svg xmlns=\"http://www.w3.org/2000/svg\" viewBox=\"0 0 660 %d\" font-family=\"sans-serif\" font-size=\"12\">\n", height
+    printf "<rect width=\"660\" height=\"%d\" fill=\"white\"/>\n", height
+    y = top
+    for (r = 1; r <= rules; r++) y = bars(r, y)
+    text((left + right) / 2, y, "middle", "nanoseconds a car and step")
+    print "</svg>"
+}
