@@ -22,25 +22,25 @@ by_dice_of dice key number step rule road next tally a b d is = subst (λ (one :
 
 pub take_step-requires : goal.take_step-requires
 take_step-requires g c =
-    let suits = rule_here _ c.in_force.result.now c.self.invariant c.in_force.ensures in
+    let suits = rule_here _ c.in_force-rule.result.now c.self.invariant c.in_force-rule.ensures in
     record { ready = c.requires.ready; lanes = suits.two_lanes }
 
 pub tally_sum-self-inside-requires-clause-distance :
     goal.tally_sum-self-inside-requires-clause-distance
 tally_sum-self-inside-requires-clause-distance g c =
-    let room = room_for _ c.in_force.result.now c.take_step.new.road c.in_ok-tally.tally c.self.invariant c.in_ok-tally.ensures.legal (by_dice_of c.new-dice.result c.self.inside.key.0 c.self.inside.number c.self.inside.step c.in_force.result.now c.self.inside.road c.take_step.new.road c.in_ok-tally.tally c.new-dice.ensures.key c.new-dice.ensures.road c.new-dice.ensures.step c.in_ok-tally.ensures.next) in
+    let room = room_for _ c.in_force-rule.result.now c.take_step.new.road c.in_ok-tally.tally c.self.invariant c.in_ok-tally.ensures.legal (by_dice_of c.new-dice.result c.self.inside.key.0 c.self.inside.number c.self.inside.step c.in_force-rule.result.now c.self.inside.road c.take_step.new.road c.in_ok-tally.tally c.new-dice.ensures.key c.new-dice.ensures.road c.new-dice.ensures.step c.in_ok-tally.ensures.next) in
     (counts_fit _ _ _ room (ap (λ (run : Progress). run.step) c.self.view_is) c.requires.steps).0
 
 pub tally_sum-self-inside-requires-clause-stopped :
     goal.tally_sum-self-inside-requires-clause-stopped
 tally_sum-self-inside-requires-clause-stopped g c =
-    let room = room_for _ c.in_force.result.now c.take_step.new.road c.in_ok-tally.tally c.self.invariant c.in_ok-tally.ensures.legal (by_dice_of c.new-dice.result c.self.inside.key.0 c.self.inside.number c.self.inside.step c.in_force.result.now c.self.inside.road c.take_step.new.road c.in_ok-tally.tally c.new-dice.ensures.key c.new-dice.ensures.road c.new-dice.ensures.step c.in_ok-tally.ensures.next) in
+    let room = room_for _ c.in_force-rule.result.now c.take_step.new.road c.in_ok-tally.tally c.self.invariant c.in_ok-tally.ensures.legal (by_dice_of c.new-dice.result c.self.inside.key.0 c.self.inside.number c.self.inside.step c.in_force-rule.result.now c.self.inside.road c.take_step.new.road c.in_ok-tally.tally c.new-dice.ensures.key c.new-dice.ensures.road c.new-dice.ensures.step c.in_ok-tally.ensures.next) in
     (counts_fit _ _ _ room (ap (λ (run : Progress). run.step) c.self.view_is) c.requires.steps).1
 
 pub tally_sum-self-inside-requires-clause-changes :
     goal.tally_sum-self-inside-requires-clause-changes
 tally_sum-self-inside-requires-clause-changes g c =
-    let room = room_for _ c.in_force.result.now c.take_step.new.road c.in_ok-tally.tally c.self.invariant c.in_ok-tally.ensures.legal (by_dice_of c.new-dice.result c.self.inside.key.0 c.self.inside.number c.self.inside.step c.in_force.result.now c.self.inside.road c.take_step.new.road c.in_ok-tally.tally c.new-dice.ensures.key c.new-dice.ensures.road c.new-dice.ensures.step c.in_ok-tally.ensures.next) in
+    let room = room_for _ c.in_force-rule.result.now c.take_step.new.road c.in_ok-tally.tally c.self.invariant c.in_ok-tally.ensures.legal (by_dice_of c.new-dice.result c.self.inside.key.0 c.self.inside.number c.self.inside.step c.in_force-rule.result.now c.self.inside.road c.take_step.new.road c.in_ok-tally.tally c.new-dice.ensures.key c.new-dice.ensures.road c.new-dice.ensures.step c.in_ok-tally.ensures.next) in
     (counts_fit _ _ _ room (ap (λ (run : Progress). run.step) c.self.view_is) c.requires.steps).2
 
 pub invariant_of-self-2 : goal.invariant_of-self-2
@@ -55,10 +55,10 @@ invariant_of-self-2 g c =
       comes = rw add-one (
         c.self.inside.road,
         c.self.inside.sum,
-        c.in_force.result.now,
+        c.in_force-rule.result.now,
         c.in_ok-tally.tally,
         c.self.invariant.comes,
-        record { under = c.in_force.ensures; next = by_dice_of c.new-dice.result c.self.inside.key.0 c.self.inside.number c.self.inside.step c.in_force.result.now c.self.inside.road c.take_step.new.road c.in_ok-tally.tally c.new-dice.ensures.key c.new-dice.ensures.road c.new-dice.ensures.step c.in_ok-tally.ensures.next; counted = counted },
+        record { under = c.in_force-rule.ensures; next = by_dice_of c.new-dice.result c.self.inside.key.0 c.self.inside.number c.self.inside.step c.in_force-rule.result.now c.self.inside.road c.take_step.new.road c.in_ok-tally.tally c.new-dice.ensures.key c.new-dice.ensures.road c.new-dice.ensures.step c.in_ok-tally.ensures.next; counted = counted },
       );
     }
 
