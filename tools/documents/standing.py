@@ -1,7 +1,8 @@
-"""What documents say of each other and of the sources: numbers of decisions, links, versions, crates, files, sources
-that are shown, a figure.
+"""What documents say of each other and of the sources: numbers of decisions, links, versions, crates, files, names,
+sources that are shown, a figure.
 
 Each function yields a verdict and what is wrong where it is no."""
+import contextlib
 import functools
 import os
 import re
@@ -22,6 +23,12 @@ BEGUN = re.compile(r"(\d+)\. \*\*")
 LAYER = re.compile(r"^# (.*)\n((?:trlab_\w+:.*\n)+)", re.M)
 CRATE = re.compile(r"`(trlab_\w+)(/[\w./]+)?`")
 FILE = re.compile(r"`((?:\w+/)*\w+\.(?:rt|antt))`")
+QUOTED = re.compile(r"`([^`]*)`")
+# Code alone, no file, text or command.
+CODE = re.compile(r"[\w:.<>,&()?]+(?: \w+)*")
+NAME = re.compile(r"\b(?:[A-Z][a-z]\w*|[A-Za-z]\w*_\w*)")
+# Names that documents speak of, and no source uses.
+NOT_USED = {"ptr_eq"}
 FENCED = re.compile(r"^```.*?^```$", re.M | re.S)
 LINK = re.compile(r"\]\(([^)\s]+)\)")
 SHOWN = re.compile(r"^`(crates/[^`]+)`:\n\n```\w*\n(.*?)^```$", re.M | re.S)
@@ -177,6 +184,27 @@ def figure_is_of_the_table():
     yield drawn == content("docs/speed.svg"), "docs/speed.svg is not the figure of the table in docs/SPEED.md"
 
 
+@functools.cache
+def words_of_sources():
+    """Every word of a file that is no document, and of its path."""
+    words = set()
+    for name in known_files():
+        if not name.endswith(".md"):
+            words.update(re.findall(r"\w+", name))
+            with contextlib.suppress(UnicodeDecodeError):
+                words.update(re.findall(r"\w+", content(name)))
+    return words
+
+
+def names_are_there():
+    """Each name of code that a document cites, as `IsNext` or `take_step`, stands in some source."""
+    for document in documents():
+        if document not in OF_OLD:
+            cited = filter(CODE.fullmatch, QUOTED.findall(FENCED.sub("", content(document))))
+            for name in sorted({name for code in cited for name in NAME.findall(code)} - NOT_USED):
+                yield name in words_of_sources(), f"{document} names `{name}`, which stands in no source"
+
+
 def readme_is_short():
     lines = content("README.md").count("\n")
     yield lines <= MOST_LINES_OF_README, f"README.md has {lines} lines, and is to have {MOST_LINES_OF_README} at most"
@@ -192,6 +220,7 @@ def verdicts():
         layers_agree,
         crates_are_there,
         files_of_map_are_there,
+        names_are_there,
         figure_is_of_the_table,
         readme_is_short,
     ):
