@@ -1,6 +1,8 @@
-"""What documents say of each other and of the sources: numbers of decisions, links, versions, sources that are shown.
+"""What documents say of each other and of the sources: numbers of decisions, links, versions, crates, files, names,
+sources that are shown, a figure.
 
 Each function yields a verdict and what is wrong where it is no."""
+import contextlib
 import functools
 import os
 import re
@@ -8,12 +10,25 @@ import subprocess
 
 from finder import TOP
 
+ARCHITECTURE = "docs/ARCHITECTURE.md"
 DECISIONS = "docs/DECISIONS.md"
+# They tell of crates by the names of their day.
+OF_OLD = "docs/HISTORY.md", "CHANGELOG.md"
 MOST_LINES_OF_A_DECISION = 10
 MOST_LINES_OF_README = 200
 # In DECISIONS.md and HISTORY.md a decision is cited as (12) or (12, 14); elsewhere behind the name of the file.
-CITED_AT_HOME = re.compile(r"\((\d{1,3}(?:, \d{1,3})*)\)")
-CITED_ELSEWHERE = re.compile(r"DECISIONS\.md\)?,? ((?:\d{1,3}(?:, | and )?)+)")
+CITED_AT_HOME = re.compile(r"\((\d{1,3}(?:,\s+\d{1,3})*)\)")
+CITED_ELSEWHERE = re.compile(r"DECISIONS\.md\)?,?\s+((?:\d{1,3}(?:,\s+|\s+and\s+|\s+to\s+)?)+)")
+BEGUN = re.compile(r"(\d+)\. \*\*")
+LAYER = re.compile(r"^# (.*)\n((?:trlab_\w+:.*\n)+)", re.M)
+CRATE = re.compile(r"`(trlab_\w+)(/[\w./]+)?`")
+FILE = re.compile(r"`((?:\w+/)*\w+\.(?:rt|antt))`")
+QUOTED = re.compile(r"`([^`]*)`")
+# Code alone, no file, text or command.
+CODE = re.compile(r"[\w:.<>,&()?]+(?: \w+)*")
+NAME = re.compile(r"\b(?:[A-Z][a-z]\w*|[A-Za-z]\w*_\w*)")
+# Names that documents speak of, and no source uses.
+NOT_USED = {"ptr_eq"}
 FENCED = re.compile(r"^```.*?^```$", re.M | re.S)
 LINK = re.compile(r"\]\(([^)\s]+)\)")
 SHOWN = re.compile(r"^`(crates/[^`]+)`:\n\n```\w*\n(.*?)^```$", re.M | re.S)
@@ -42,10 +57,10 @@ def documents():
 
 
 def decisions():
-    """The numbers of the decisions, each with its lines."""
+    """The numbers of the decisions in the order of the page, each with its lines."""
     found = {}
     for line in content(DECISIONS).split("\n"):
-        begun = re.match(r"(\d+)\. \*\*", line)
+        begun = BEGUN.match(line)
         if begun:
             found.setdefault(int(begun[1]), []).append([])
             lines = found[int(begun[1])][-1]
@@ -57,21 +72,22 @@ def decisions():
 
 
 def decisions_are_told_once():
-    """Each number stands once, none is left out, and each decision is short."""
+    """Each number stands once and in order, none is left out, and each decision is short."""
     found = decisions()
-    yield sorted(found) == list(range(1, len(found) + 1)), f"{DECISIONS} leaves a number out"
+    yield list(found) == list(range(1, len(found) + 1)), f"{DECISIONS} is out of order: tools/documents/renumber"
     for number, texts in found.items():
         is_short = all(len(lines) <= MOST_LINES_OF_A_DECISION for lines in texts)
         yield len(texts) == 1 and is_short, f"decision {number} stands twice, or is longer than {MOST_LINES_OF_A_DECISION} lines"
 
 
+def form_of_citations(name):
+    """How a file cites decisions: the numbers are the first group."""
+    return CITED_AT_HOME if name in (DECISIONS, "docs/HISTORY.md") else CITED_ELSEWHERE
+
+
 def citations(name):
     """The numbers of decisions that a file cites."""
-    text = content(name)
-    if name == "docs/HISTORY.md":
-        text = text.split("## Numbers of decisions before")[0]
-    form = CITED_AT_HOME if name in (DECISIONS, "docs/HISTORY.md") else CITED_ELSEWHERE
-    for cited in form.findall(text):
+    for cited in form_of_citations(name).findall(content(name)):
         yield from map(int, re.findall(r"\d+", cited))
 
 
@@ -125,11 +141,68 @@ def sources_are_shown_as_they_are():
             yield is_same, f"{name} shows {path} otherwise than it is"
 
 
+def layers_agree():
+    """Each layer of crates.txt is a table of the map of crates, with the same crates in the same order."""
+    for heading, crates in LAYER.findall(content("crates.txt")):
+        table = re.search(rf"^### {re.escape(heading)}$(.*?)^#", content(ARCHITECTURE), re.M | re.S)
+        told = re.findall(r"^\| `(trlab_\w+)`", table[1], re.M) if table else []
+        yield told == re.findall(r"^\w+", crates, re.M), f"{ARCHITECTURE} has other crates in the layer {heading!r} than crates.txt"
+
+
+def crates_are_there():
+    """Each crate that a document names is there, and so is each of its files that stands behind it."""
+    for name in documents():
+        if name not in OF_OLD:
+            for crate, path in sorted(set(CRATE.findall(content(name)))):
+                is_there = os.path.exists(os.path.join(TOP, "crates", crate + path))
+                yield is_there, f"{name} names {crate}{path}, which is not there"
+
+
+def files_of_map_are_there():
+    """So is each file of the map of crates: `src/run.rt` is of the crate that its section named last, `run.rt` lies beside
+    the file named last."""
+    for section in re.split(r"^#+ ", content(ARCHITECTURE), flags=re.M):
+        crate, folder = "", ""
+        for named in re.findall(r"`([\w./]+)`", section):
+            if begun := re.match(r"trlab_\w+", named):
+                crate = begun[0]
+            path = FILE.fullmatch(f"`{named}`")
+            if not (path and crate):
+                continue
+            if re.match(r"src/|specs/|proofs/", named):
+                folder, named = os.path.join(crate, os.path.dirname(named)), os.path.basename(named)
+            elif begun:
+                folder, named = os.path.split(named)
+            is_there = os.path.exists(os.path.join(TOP, "crates", folder, named))
+            yield is_there, f"{ARCHITECTURE} names {folder}/{named}, which is not there"
+
+
 def figure_is_of_the_table():
     """The figure of speeds is what the script draws of the table."""
     words = ["awk", "-f", "docs/speed.awk", "docs/SPEED.md"]
     drawn = subprocess.run(words, cwd=TOP, capture_output=True, text=True).stdout
     yield drawn == content("docs/speed.svg"), "docs/speed.svg is not the figure of the table in docs/SPEED.md"
+
+
+@functools.cache
+def words_of_sources():
+    """Every word of a file that is no document, and of its path."""
+    words = set()
+    for name in known_files():
+        if not name.endswith(".md"):
+            words.update(re.findall(r"\w+", name))
+            with contextlib.suppress(UnicodeDecodeError):
+                words.update(re.findall(r"\w+", content(name)))
+    return words
+
+
+def names_are_there():
+    """Each name of code that a document cites, as `IsNext` or `take_step`, stands in some source."""
+    for document in documents():
+        if document not in OF_OLD:
+            cited = filter(CODE.fullmatch, QUOTED.findall(FENCED.sub("", content(document))))
+            for name in sorted({name for code in cited for name in NAME.findall(code)} - NOT_USED):
+                yield name in words_of_sources(), f"{document} names `{name}`, which stands in no source"
 
 
 def readme_is_short():
@@ -144,6 +217,10 @@ def verdicts():
         links_lead_somewhere,
         versions_agree,
         sources_are_shown_as_they_are,
+        layers_agree,
+        crates_are_there,
+        files_of_map_are_there,
+        names_are_there,
         figure_is_of_the_table,
         readme_is_short,
     ):

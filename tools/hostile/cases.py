@@ -1,5 +1,5 @@
 """The cases of the files cases/*.cases: command lines, what they are given, and what has to come of it.
-docs/ARCHITECTURE.md says how they are written."""
+cases/README.md says how they are written."""
 import os
 import re
 from typing import NamedTuple

@@ -6,7 +6,7 @@ pub const ABOUT: &str =
 
 /// The version of the program, and on a line of its own the logic in which it is proved, which several
 /// kits of the toolchain have in common.
-pub const VERSION: &str = "0.1.0
+pub const VERSION: &str = "0.2.0
 proved in logic dac8208d650f15bf";
 
 /// Below the commands: an example, the exit statuses, and where to read on.
