@@ -7,7 +7,7 @@ ghost use Rattle.std.specs.Prelude.{◌≡◌, ◌+◌, ◌*◌, ◌^◌, codes}
 
 use crate::programs::{
     CERTAIN, GREATEST_NUMBER, HEADER_BYTES, HEADSPEED_VERSION, INSTR_BYTES, LONGEST_LABEL, MAGIC,
-    MOST_DIGITS, MOST_INSTRUCTIONS, PLACES, PLAIN_VERSION, WORDS,
+    MOST_DIGITS, MOST_INSTRUCTIONS, PLAIN_VERSION, VARIABLES, WORDS,
 };
 use crate::roads::{GREATEST_GAP, GREATEST_LENGTH, GREATEST_LIMIT, MOST_LANES};
 use crate::runs::{MOST_LATER, MOST_RUNNERS, MOST_STEPS, MOST_WORKERS};
@@ -24,7 +24,7 @@ pub fn roads()
 /// The numbers of programs.
 pub fn programs()
     ensures instructions { MOST_INSTRUCTIONS ≡ 128 }
-    ensures places { PLACES ≡ 15 }
+    ensures variables { VARIABLES ≡ 15 }
     ensures words { WORDS ≡ 16 }
     ensures certain { CERTAIN ≡ 2 ^ 31 }
 {}

@@ -3,8 +3,8 @@
 /// The most instructions of a program.
 pub const MOST_INSTRUCTIONS: usize = 128;
 
-/// The places that hold values while a program runs: eight registers, and behind them seven inputs.
-pub const PLACES: usize = 15;
+/// The variables that hold values while a program runs: eight registers, and behind them seven inputs.
+pub const VARIABLES: usize = 15;
 
 /// How many random words a program can draw on.
 pub const WORDS: usize = 16;

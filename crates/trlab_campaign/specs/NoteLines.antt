@@ -3,7 +3,7 @@ use Rattle.std.specs.Prelude.{ℕ, Bool, true, false, List, [], ◌∷◌, ◌++
 use Rattle.std.specs.Prelude.{decimal, codes, Option, None, Some, if◌then◌else◌}
 use Rattle.std.specs.List.{range_with_len}
 use Rattle.trlab_code.specs.declared.instruction.Register.{Register}
-use Rattle.trlab_code.specs.declared.instruction.Place.TheVariants as place
+use Rattle.trlab_code.specs.declared.instruction.Variable.TheVariants as variable
 use Rattle.trlab_code.specs.Program.{Program}
 use Rattle.trlab_asm.specs.Names.{register_text}
 use Rattle.trlab_asm.specs.declared.names.TheConstants.{REGISTERS}
@@ -27,7 +27,7 @@ said_text register (Implies false) = register_entry register (codes "flag")
 -- what a note says of a register; where the side cell is known to be empty, each flag says so
 abbrev pub said_of_register : Note → Register → List ℕ
 said_of_register note register =
-    said_text register (with_side note.side (note.said (place.Register register)))
+    said_text register (with_side note.side (note.said (variable.Register register)))
 
 -- what a note says of the registers
 abbrev pub registers_text : Note → List ℕ

@@ -1,14 +1,14 @@
 //! Notes as lines of text.
 
 ghost use Rattle.std.specs.Prelude.{◌<◌};
-ghost use Rattle.trlab_bounds.specs.declared.programs.TheConstants.{PLACES};
+ghost use Rattle.trlab_bounds.specs.declared.programs.TheConstants.{VARIABLES};
 
 use crate::page::Page;
-use trlab_code::PLACES;
+use trlab_code::VARIABLES;
 use trlab_verify::{Mark, Note};
 
-/// The names of the places, in their order.
-const NAMES: [&str; PLACES] = [
+/// The names of the variables, in their order.
+const NAMES: [&str; VARIABLES] = [
     "r0",
     "r1",
     "r2",
@@ -26,22 +26,22 @@ const NAMES: [&str; PLACES] = [
     "headspeed",
 ];
 
-/// The name of a place.
-fn name_of(place: usize) -> &'static str
-    requires { place < PLACES }
+/// The name of a variable.
+fn name_of(variable: usize) -> &'static str
+    requires { variable < VARIABLES }
 {
-    NAMES[place]
+    NAMES[variable]
 }
 
-/// Adds a note, on a line: what the registers hold, which places are at most others or below
+/// Adds a note, on a line: what the registers hold, which variables are at most others or below
 /// them, and whether the side cell is empty.
 pub fn add_note(page: &mut Page, note: &Note) {
     for register in 0..note.regs.len() {
         add_mark(page, name_of(register), note.regs[register]);
     }
-    for place in 0..PLACES {
-        add_order(page, place, "<=", &note.levels[place], 1);
-        add_order(page, place, "<", &note.levels[place], 2);
+    for variable in 0..VARIABLES {
+        add_order(page, variable, "<=", &note.levels[variable], 1);
+        add_order(page, variable, "<", &note.levels[variable], 2);
     }
     if note.side {
         add_named(page, "side", "");
@@ -72,16 +72,16 @@ fn add_named(page: &mut Page, name: &str, behind: &str) {
     page.add(behind);
 }
 
-/// Adds the other places to which a place has this level, behind its name and a sign, where there
+/// Adds the other variables to which a variable has this level, behind its name and a sign, where there
 /// are some.
-fn add_order(page: &mut Page, place: usize, sign: &str, levels: &[u8; PLACES], level: u8)
-    requires { place < PLACES }
+fn add_order(page: &mut Page, variable: usize, sign: &str, levels: &[u8; VARIABLES], level: u8)
+    requires { variable < VARIABLES }
 {
     let mut is_first = true;
-    for other in 0..PLACES {
-        if place != other && levels[other] == level {
+    for other in 0..VARIABLES {
+        if variable != other && levels[other] == level {
             if is_first {
-                add_named(page, name_of(place), sign);
+                add_named(page, name_of(variable), sign);
             } else {
                 page.add(",");
             }

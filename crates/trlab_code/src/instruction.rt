@@ -2,7 +2,7 @@
 
 ghost use Rattle.std.specs.Prelude.{◌≡◌, ◌<◌};
 
-use trlab_bounds::programs::PLACES;
+use trlab_bounds::programs::VARIABLES;
 
 /// One of the eight registers.
 #[derive(Clone, Copy, Debug, PartialEq, Eq)]
@@ -62,22 +62,22 @@ impl Input {
 
 /// Where a program finds a value: a register, which it writes and reads, or an input, which it reads.
 #[derive(Clone, Copy, Debug, PartialEq, Eq)]
-pub enum Place {
+pub enum Variable {
     Register(Register),
     Input(Input),
 }
 
-impl Place {
-    ghost use Rattle.trlab_code.specs.Machine.{place_number};
+impl Variable {
+    ghost use Rattle.trlab_code.specs.Machine.{variable_number};
 
-    /// The number of the place: registers are 0 to 7, inputs 8 to 14.
+    /// The number of the variable: registers are 0 to 7, inputs 8 to 14.
     pub fn number(self) -> usize
-        ensures value { result ≡ place_number self }
-        ensures in_range { result < PLACES }
+        ensures value { result ≡ variable_number self }
+        ensures in_range { result < VARIABLES }
     {
         match self {
-            Place::Register(register) => register.number(),
-            Place::Input(input) => 8 + input.number(),
+            Variable::Register(register) => register.number(),
+            Variable::Input(input) => 8 + input.number(),
         }
     }
 }

@@ -7,25 +7,25 @@ use Rattle.trlab_code.specs.declared.instruction.Instr.{Instr}
 use Rattle.trlab_code.specs.declared.instruction.Instr.TheVariants.{Get, Copy, Add, Sub, Div, Min, Max, JumpLess, JumpAtMost, JumpTrue, JumpFalse, Go}
 use Rattle.trlab_code.specs.declared.instruction.Register.{Register}
 use Rattle.trlab_code.specs.declared.instruction.Input.{Input}
-use Rattle.trlab_code.specs.declared.instruction.Place.{Place}
-use Rattle.trlab_code.specs.declared.instruction.Place.TheVariants as place
+use Rattle.trlab_code.specs.declared.instruction.Variable.{Variable}
+use Rattle.trlab_code.specs.declared.instruction.Variable.TheVariants as variable
 use Rattle.trlab_code.specs.Machine.{update}
 use Rattle.trlab_code.specs.Flow.{destination}
 use Rattle.trlab_notes.specs.declared.reason.Reason.TheVariants as why
 use Rattle.trlab_notes.specs.declared.note.Said.{Said}
 use Rattle.trlab_notes.specs.declared.note.Said.TheVariants.{Nothing, Between, Implies}
-use Rattle.trlab_notes.specs.Notes.{Note, same_place, low, high, said_with_side, level_between, known_level, closure, maybe_closure}
+use Rattle.trlab_notes.specs.Notes.{Note, same_variable, low, high, said_with_side, level_between, known_level, closure, maybe_closure}
 use Rattle.trlab_notes.specs.Transfer.{assign_any, sharpen, slacken, least_difference, assign, assign_result, result_said, result_to, to_result, chain, refine_order, refine_flag, next_note, jump_note}
 use Rattle.trlab_notes.specs.Order.{join, join_said, IsNoStronger, SaysNoMore}
 use Rattle.trlab_notes.specs.Reasons.{form_checks, first_reason, reason_against, may_be_too_large, may_be_below_zero, may_be_above, may_be_occupied}
 use Rattle.trlab_notes.proofs.Order.{same_note}
 use Rattle.trlab_notes.proofs.Tables.{note_same, level_same, known_twice, both_known, known_unfolds}
 
-pub known_settled : (m : Note) (x y : Place) → known_level (closure m) x y ≡ known_level m x y
+pub known_settled : (m : Note) (x y : Variable) → known_level (closure m) x y ≡ known_level m x y
 unfolding known_level closure
-known_settled m x y = known_twice (m.said x) (m.said y) (same_place x y) (m.level x y)
+known_settled m x y = known_twice (m.said x) (m.said y) (same_variable x y) (m.level x y)
 
-pub told_settled : (m : Note) (x : Place) → said_with_side (closure m) x ≡ said_with_side m x
+pub told_settled : (m : Note) (x : Variable) → said_with_side (closure m) x ≡ said_with_side m x
 unfolding said_with_side closure
 told_settled m x = refl
 
@@ -37,7 +37,7 @@ pub side_same : (m : Note) → (closure m).side ≡ m.side
 unfolding closure
 side_same m = refl
 
-settled_same : (m n : Note) → m.said ≡ n.said → ((x y : Place) → known_level m x y ≡ known_level n x y) → m.side ≡ n.side → closure m ≡ closure n
+settled_same : (m n : Note) → m.said ≡ n.said → ((x y : Variable) → known_level m x y ≡ known_level n x y) → m.side ≡ n.side → closure m ≡ closure n
 unfolding closure
 settled_same m n s h e = note_same _ _ s (level_same _ _ h) e
 
@@ -74,22 +74,22 @@ settled_joins m n =
 pub join_is_settled : (m n : Note) → closure (join m n) ≡ join m n
 unfolding join closure said_with_side known_level
 join_is_settled m n =
-    note_same _ _ refl (level_same _ _ (λ x y. (both_known (m.said x) (n.said x) (m.said y) (n.said y) m.side n.side (same_place x y) (level_between (m.said x) (m.said y) (same_place x y) (m.level x y)) (level_between (n.said x) (n.said y) (same_place x y) (n.level x y)) (known_twice (m.said x) (m.said y) (same_place x y) (m.level x y)) (known_twice (n.said x) (n.said y) (same_place x y) (n.level x y))))) refl
+    note_same _ _ refl (level_same _ _ (λ x y. (both_known (m.said x) (n.said x) (m.said y) (n.said y) m.side n.side (same_variable x y) (level_between (m.said x) (m.said y) (same_variable x y) (m.level x y)) (level_between (n.said x) (n.said y) (same_variable x y) (n.level x y)) (known_twice (m.said x) (m.said y) (same_variable x y) (m.level x y)) (known_twice (n.said x) (n.said y) (same_variable x y) (n.level x y))))) refl
 
 -- the same instruction makes of both what is the same once it is settled
 module _ (m : Note) where
-  written_settled : (d : Register) (s t : Said) (to below from above : Place → ℕ) → s ≡ t → ((y : Place) → to y ≡ below y) →
-      ((x : Place) → from x ≡ above x) → closure (assign (closure m) d s to from) ≡ closure (assign m d t below above)
+  written_settled : (d : Register) (s t : Said) (to below from above : Variable → ℕ) → s ≡ t → ((y : Variable) → to y ≡ below y) →
+      ((x : Variable) → from x ≡ above x) → closure (assign (closure m) d s to from) ≡ closure (assign m d t below above)
   unfolding assign closure known_level update
   written_settled d s t to below from above es et ef =
-      note_same _ _ (λ i x. cond (same_place x (place.Register d)) (es i) (m.said x)) (level_same _ _ (λ x y. (at x y (same_place x (place.Register d)) (same_place y (place.Register d))))) refl
+      note_same _ _ (λ i x. cond (same_variable x (variable.Register d)) (es i) (m.said x)) (level_same _ _ (λ x y. (at x y (same_variable x (variable.Register d)) (same_variable y (variable.Register d))))) refl
     where
-      at : (x y : Place) → (b c : Bool) →
-          level_between (cond b s (m.said x)) (cond c s (m.said y)) (same_place x y) (cond b (to y) (cond c (from x) (level_between (m.said x) (m.said y) (same_place x y) (m.level x y))))
-          ≡ level_between (cond b t (m.said x)) (cond c t (m.said y)) (same_place x y) (cond b (below y) (cond c (above x) (m.level x y)))
-      at x y true c = λ i. level_between (es i) (cond c (es i) (m.said y)) (same_place x y) (et y i)
-      at x y false true = λ i. level_between (m.said x) (es i) (same_place x y) (ef x i)
-      at x y false false = known_twice (m.said x) (m.said y) (same_place x y) (m.level x y)
+      at : (x y : Variable) → (b c : Bool) →
+          level_between (cond b s (m.said x)) (cond c s (m.said y)) (same_variable x y) (cond b (to y) (cond c (from x) (level_between (m.said x) (m.said y) (same_variable x y) (m.level x y))))
+          ≡ level_between (cond b t (m.said x)) (cond c t (m.said y)) (same_variable x y) (cond b (below y) (cond c (above x) (m.level x y)))
+      at x y true c = λ i. level_between (es i) (cond c (es i) (m.said y)) (same_variable x y) (et y i)
+      at x y false true = λ i. level_between (m.said x) (es i) (same_variable x y) (ef x i)
+      at x y false false = known_twice (m.said x) (m.said y) (same_variable x y) (m.level x y)
 
   known_more : (s t : Said) (same : Bool) (l c : ℕ) → level_between s t same (max (level_between s t same l) c) ≡ level_between s t same (max l c)
   known_more (Between a b) (Between u v) true l c = refl
@@ -99,49 +99,49 @@ module _ (m : Note) where
   known_more Nothing t same l c = refl
   known_more (Implies i) t same l c = refl
 
-  learnt_settled : (p q : Place) (k : ℕ) → closure (refine_order (closure m) p q k) ≡ closure (refine_order m p q k)
+  learnt_settled : (p q : Variable) (k : ℕ) → closure (refine_order (closure m) p q k) ≡ closure (refine_order m p q k)
   unfolding refine_order closure
   learnt_settled p q k =
       settled_same (refine_order (closure m) p q k) (refine_order m p q k) (said_same m) (λ x y. known_unfolds (refine_order (closure m) p q k) x y ∙ (at x y) ∙ sym (known_unfolds (refine_order m p q k) x y)) (side_same m)
     where
-      at : (x y : Place) →
-          level_between (m.said x) (m.said y) (same_place x y) (max (known_level m x y) (chain (known_level (closure m) x p) k (known_level (closure m) q y)))
-          ≡ level_between (m.said x) (m.said y) (same_place x y) (max (m.level x y) (chain (known_level m x p) k (known_level m q y)))
+      at : (x y : Variable) →
+          level_between (m.said x) (m.said y) (same_variable x y) (max (known_level m x y) (chain (known_level (closure m) x p) k (known_level (closure m) q y)))
+          ≡ level_between (m.said x) (m.said y) (same_variable x y) (max (m.level x y) (chain (known_level m x p) k (known_level m q y)))
       at x y =
-          ap (λ l. level_between (m.said x) (m.said y) (same_place x y) (max l (chain (known_level (closure m) x p) k (known_level (closure m) q y)))) (known_unfolds m x y)
-          ∙ known_more (m.said x) (m.said y) (same_place x y) (m.level x y) _
-          ∙ (λ i. level_between (m.said x) (m.said y) (same_place x y) (max (m.level x y) (chain (known_settled m x p i) k (known_settled m q y i))))
+          ap (λ l. level_between (m.said x) (m.said y) (same_variable x y) (max l (chain (known_level (closure m) x p) k (known_level (closure m) q y)))) (known_unfolds m x y)
+          ∙ known_more (m.said x) (m.said y) (same_variable x y) (m.level x y) _
+          ∙ (λ i. level_between (m.said x) (m.said y) (same_variable x y) (max (m.level x y) (chain (known_settled m x p i) k (known_settled m q y i))))
 
   trusted_settled : (a : Register) → closure (refine_flag (closure m) a) ≡ closure (refine_flag m a)
   unfolding refine_flag closure known_level
-  trusted_settled a = note_same _ _ refl (level_same _ _ (λ x y. (known_twice (m.said x) (m.said y) (same_place x y) (m.level x y)))) refl
+  trusted_settled a = note_same _ _ refl (level_same _ _ (λ x y. (known_twice (m.said x) (m.said y) (same_variable x y) (m.level x y)))) refl
 
-  same : (x y : Place) → known_level (closure m) x y ≡ known_level m x y
+  same : (x y : Variable) → known_level (closure m) x y ≡ known_level m x y
   same = known_settled m
 
   said_of_result : (i : Instr) → result_said (closure m) i ≡ result_said m i
   unfolding closure said_with_side
-  said_of_result (Sub d a b) = λ z. Between (max (low (m.said (place.Register a)) - high (m.said (place.Register b))) (least_difference (same (place.Register b) (place.Register a) z))) (high (m.said (place.Register a)) - low (m.said (place.Register b)))
+  said_of_result (Sub d a b) = λ z. Between (max (low (m.said (variable.Register a)) - high (m.said (variable.Register b))) (least_difference (same (variable.Register b) (variable.Register a) z))) (high (m.said (variable.Register a)) - low (m.said (variable.Register b)))
   said_of_result i = refl
 
-  from_result : (i : Instr) (y : Place) → result_to (closure m) i y ≡ result_to m i y
+  from_result : (i : Instr) (y : Variable) → result_to (closure m) i y ≡ result_to m i y
   unfolding closure
-  from_result (Get d k) y = same (place.Input k) y
-  from_result (Copy d a) y = same (place.Register a) y
-  from_result (Div d a n) y = same (place.Register a) y
-  from_result (Add d a b) y = λ z. max (slacken (same (place.Register a) y z) (high (m.said (place.Register b)))) (slacken (same (place.Register b) y z) (high (m.said (place.Register a))))
-  from_result (Sub d a b) y = λ z. sharpen (same (place.Register a) y z) (low (m.said (place.Register b)))
-  from_result (Min d a b) y = λ z. max (same (place.Register a) y z) (same (place.Register b) y z)
-  from_result (Max d a b) y = λ z. min (same (place.Register a) y z) (same (place.Register b) y z)
+  from_result (Get d k) y = same (variable.Input k) y
+  from_result (Copy d a) y = same (variable.Register a) y
+  from_result (Div d a n) y = same (variable.Register a) y
+  from_result (Add d a b) y = λ z. max (slacken (same (variable.Register a) y z) (high (m.said (variable.Register b)))) (slacken (same (variable.Register b) y z) (high (m.said (variable.Register a))))
+  from_result (Sub d a b) y = λ z. sharpen (same (variable.Register a) y z) (low (m.said (variable.Register b)))
+  from_result (Min d a b) y = λ z. max (same (variable.Register a) y z) (same (variable.Register b) y z)
+  from_result (Max d a b) y = λ z. min (same (variable.Register a) y z) (same (variable.Register b) y z)
   from_result i y = refl
 
-  into_result : (i : Instr) (y : Place) → to_result (closure m) i y ≡ to_result m i y
+  into_result : (i : Instr) (y : Variable) → to_result (closure m) i y ≡ to_result m i y
   unfolding closure
-  into_result (Get d k) y = same y (place.Input k)
-  into_result (Copy d a) y = same y (place.Register a)
-  into_result (Add d a b) y = λ z. max (sharpen (same y (place.Register a) z) (low (m.said (place.Register b)))) (sharpen (same y (place.Register b) z) (low (m.said (place.Register a))))
-  into_result (Min d a b) y = λ z. min (same y (place.Register a) z) (same y (place.Register b) z)
-  into_result (Max d a b) y = λ z. max (same y (place.Register a) z) (same y (place.Register b) z)
+  into_result (Get d k) y = same y (variable.Input k)
+  into_result (Copy d a) y = same y (variable.Register a)
+  into_result (Add d a b) y = λ z. max (sharpen (same y (variable.Register a) z) (low (m.said (variable.Register b)))) (sharpen (same y (variable.Register b) z) (low (m.said (variable.Register a))))
+  into_result (Min d a b) y = λ z. min (same y (variable.Register a) z) (same y (variable.Register b) z)
+  into_result (Max d a b) y = λ z. max (same y (variable.Register a) z) (same y (variable.Register b) z)
   into_result i y = refl
 
   after_settled : (d : Register) (i : Instr) → Some (closure (assign_result (closure m) d i)) ≡ Some (closure (assign_result m d i))
@@ -152,25 +152,25 @@ module _ (m : Note) where
   any_settled (Some d) i = after_settled d i
 
   pub fall_settled : (i : Instr) → maybe_closure (next_note (closure m) i) ≡ maybe_closure (next_note m i)
-  fall_settled (JumpLess a b t) = ap Some (learnt_settled (place.Register b) (place.Register a) 1)
-  fall_settled (JumpAtMost a b t) = ap Some (learnt_settled (place.Register b) (place.Register a) 2)
+  fall_settled (JumpLess a b t) = ap Some (learnt_settled (variable.Register b) (variable.Register a) 1)
+  fall_settled (JumpAtMost a b t) = ap Some (learnt_settled (variable.Register b) (variable.Register a) 2)
   fall_settled (JumpTrue a t) = ap Some (settled_twice m)
   fall_settled (JumpFalse a t) = ap Some (trusted_settled a)
   fall_settled i = any_settled (destination i) i
 
   pub jump_settled : (i : Instr) → closure (jump_note (closure m) i) ≡ closure (jump_note m i)
-  jump_settled (JumpLess a b t) = learnt_settled (place.Register a) (place.Register b) 2
-  jump_settled (JumpAtMost a b t) = learnt_settled (place.Register a) (place.Register b) 1
+  jump_settled (JumpLess a b t) = learnt_settled (variable.Register a) (variable.Register b) 2
+  jump_settled (JumpAtMost a b t) = learnt_settled (variable.Register a) (variable.Register b) 1
   jump_settled (JumpTrue a t) = trusted_settled a
   jump_settled i = settled_twice m
 
   -- and there are the same reasons against it
   below_same : (i : Instr) → may_be_below_zero (closure m) i ≡ may_be_below_zero m i
-  below_same (Sub d a b) = ap (λ k. nat_eq k 0) (same (place.Register b) (place.Register a))
+  below_same (Sub d a b) = ap (λ k. nat_eq k 0) (same (variable.Register b) (variable.Register a))
   below_same i = refl
 
   pass_same : (k : Input) (i : Instr) → may_be_above k (closure m) i ≡ may_be_above k m i
-  pass_same k (Go a) = ap (λ l. nat_eq l 0) (same (place.Register a) (place.Input k))
+  pass_same k (Go a) = ap (λ l. nat_eq l 0) (same (variable.Register a) (variable.Input k))
   pass_same k i = refl
 
   pub reason_settled : (kind own : Kind) (len pc : ℕ) (i : Instr) → reason_against kind own len pc (closure m) i ≡ reason_against kind own len pc m i

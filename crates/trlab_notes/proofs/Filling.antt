@@ -1,26 +1,26 @@
--- Loops that fill a row place by place, or a table row by row: what holds so far holds with one more.
+-- Loops that fill a row variable by variable, or a table row by row: what holds so far holds with one more.
 use Rattle.std.proofs.Common.{◌≡◌, ℕ, ◌+◌, ◌<◌, ◌∙◌, List, length, set, Bool, true, false, nat_eq, cond, refl, arith}
 use Rattle.std.proofs.lemmas.Bool.{eqb-true, eqb-false}
 use Rattle.std.proofs.lemmas.List.{get_or-set_same, get_or-set_other}
-use Rattle.trlab_bounds.specs.declared.programs.TheConstants.{PLACES}
+use Rattle.trlab_bounds.specs.declared.programs.TheConstants.{VARIABLES}
 use Rattle.trlab_notes.specs.declared.rows.Row.{Row}
 use Rattle.trlab_notes.specs.Rows.{level_in, level_of}
 
-level_at_place : (level : ℕ → ℕ) (x v u y : ℕ) (same : Bool) → nat_eq y x ≡ same → v ≡ level x → (y < x → u ≡ level y) → y < x + 1 → cond same v u ≡ level y
-level_at_place level x v u y true eb e old lt = let same : y ≡ x = eqb-true y x eb in rw same e
-level_at_place level x v u y false eb e old lt = let other = eqb-false y x eb in old (omega (arith, other))
+level_at_variable : (level : ℕ → ℕ) (x v u y : ℕ) (same : Bool) → nat_eq y x ≡ same → v ≡ level x → (y < x → u ≡ level y) → y < x + 1 → cond same v u ≡ level y
+level_at_variable level x v u y true eb e old lt = let same : y ≡ x = eqb-true y x eb in rw same e
+level_at_variable level x v u y false eb e old lt = let other = eqb-false y x eb in old (omega (arith, other))
 
--- a row once place x has its level
-pub more_places : (level : ℕ → ℕ) (row old : Row) (x v : ℕ) →
-    ((y : ℕ) → y < PLACES → level_in row y ≡ cond (nat_eq y x) v (level_in old y)) → x < PLACES → v ≡ level x →
+-- a row once variable x has its level
+pub more_variables : (level : ℕ → ℕ) (row old : Row) (x v : ℕ) →
+    ((y : ℕ) → y < VARIABLES → level_in row y ≡ cond (nat_eq y x) v (level_in old y)) → x < VARIABLES → v ≡ level x →
     ((y : ℕ) → y < x → level_in old y ≡ level y) → (y : ℕ) → y < x + 1 → level_in row y ≡ level y
-more_places level row old x v new within e so_far y lt =
-    new y (omega arith) ∙ level_at_place level x v (level_in old y) y (nat_eq y x) refl e (so_far y) lt
+more_variables level row old x v new within e so_far y lt =
+    new y (omega arith) ∙ level_at_variable level x v (level_in old y) y (nat_eq y x) refl e (so_far y) lt
 
 row_at : (level : ℕ → ℕ → ℕ) (rows : List Row) (x : ℕ) (row : Row) (k : ℕ) (same : Bool) → nat_eq k x ≡ same → x < length rows →
-    ((y : ℕ) → y < PLACES → level_in row y ≡ level x y) →
-    ((k : ℕ) → k < x → (y : ℕ) → y < PLACES → level_of rows k y ≡ level k y) →
-    k < x + 1 → (y : ℕ) → y < PLACES → level_of (set rows x row) k y ≡ level k y
+    ((y : ℕ) → y < VARIABLES → level_in row y ≡ level x y) →
+    ((k : ℕ) → k < x → (y : ℕ) → y < VARIABLES → level_of rows k y ≡ level k y) →
+    k < x + 1 → (y : ℕ) → y < VARIABLES → level_of (set rows x row) k y ≡ level k y
 row_at level rows x row k true eb within new so_far lt y inside =
     let same : k ≡ x = eqb-true k x eb in
     rw (same, get_or-set_same rows x row (record { at_most = 0; below = 0 }) within) (new y inside)
@@ -30,7 +30,7 @@ row_at level rows x row k false eb within new so_far lt y inside =
 
 -- a table once x has its row
 pub more_rows : (level : ℕ → ℕ → ℕ) (rows : List Row) (x : ℕ) (row : Row) → x < length rows →
-    ((y : ℕ) → y < PLACES → level_in row y ≡ level x y) →
-    ((k : ℕ) → k < x → (y : ℕ) → y < PLACES → level_of rows k y ≡ level k y) →
-    (k : ℕ) → k < x + 1 → (y : ℕ) → y < PLACES → level_of (set rows x row) k y ≡ level k y
+    ((y : ℕ) → y < VARIABLES → level_in row y ≡ level x y) →
+    ((k : ℕ) → k < x → (y : ℕ) → y < VARIABLES → level_of rows k y ≡ level k y) →
+    (k : ℕ) → k < x + 1 → (y : ℕ) → y < VARIABLES → level_of (set rows x row) k y ≡ level k y
 more_rows level rows x row within new so_far k lt = row_at level rows x row k (nat_eq k x) refl within new so_far lt

@@ -3,13 +3,13 @@ use Rattle.std.proofs.Common.{◌≡◌, ℕ, zero, suc, ◌+◌, ◌-◌, ◌�
 use Rattle.trlab_notes.specs.declared.note.Said.{Said}
 use Rattle.trlab_notes.specs.declared.note.Said.TheVariants.{Nothing, Between, Implies}
 use Rattle.trlab_code.specs.declared.instruction.Register.{Register}
-use Rattle.trlab_code.specs.declared.instruction.Place.{Place}
-use Rattle.trlab_code.specs.declared.instruction.Place.TheVariants as place
-use Rattle.trlab_code.specs.Machine.{Value, Unset, Number, Flag, Store, update, place_number}
-use Rattle.trlab_notes.specs.Notes.{Note, same_place, with_side, said_with_side, implies, level_between, known_level}
+use Rattle.trlab_code.specs.declared.instruction.Variable.{Variable}
+use Rattle.trlab_code.specs.declared.instruction.Variable.TheVariants as variable
+use Rattle.trlab_code.specs.Machine.{Value, Unset, Number, Flag, Store, update, variable_number}
+use Rattle.trlab_notes.specs.Notes.{Note, same_variable, with_side, said_with_side, implies, level_between, known_level}
 use Rattle.trlab_notes.specs.Transfer.{assign, sharpen, slacken, chain, refine_order, refine_flag}
 use Rattle.trlab_notes.specs.Order.{join_said, join}
-use Rattle.trlab_notes.proofs.Places.{same_is}
+use Rattle.trlab_notes.proofs.Variables.{same_is}
 
 -- a level k says that m is at most n where it is 1, and below n where it is 2
 abbrev pub Ahead : ℕ → ℕ → ℕ → Type 0
@@ -27,8 +27,8 @@ FitsSaid side (Implies imp) Unset = ⊥
 
 -- the note fits the values: each of them, the order of each two numbers, and what is beside the car
 pub record Fits (side : Bool) (note : Note) (s : Store) : Type 0 where
-  pub each : (x : Place) → FitsSaid side (note.said x) (s x)
-  pub order : (x y : Place) (m n : ℕ) → s x ≡ Number m → s y ≡ Number n → Ahead (known_level note x y) m n
+  pub each : (x : Variable) → FitsSaid side (note.said x) (s x)
+  pub order : (x y : Variable) (m n : ℕ) → s x ≡ Number m → s y ≡ Number n → Ahead (known_level note x y) m n
   pub beside : IsTrue note.side → IsTrue side
 
 -- what the ranges and the stored level give is right
@@ -87,40 +87,40 @@ other_equal : (a b d : ℕ) → nat_eq a d ≡ false → nat_eq b d ≡ true →
 other_equal a b d p q r = grind (arith, p, q, r)
 
 -- a write keeps the fit where what is said of the value fits it and its levels are right
-module _ (side : Bool) (note : Note) (s : Store) (fits : Fits side note s) (d : Register) (v : Value) (sd : Said) (below above : Place → ℕ) (fd : FitsSaid side sd v) (to : (y : Place) (k n : ℕ) → v ≡ Number k → s y ≡ Number n → Ahead (below y) k n) (from : (y : Place) (k n : ℕ) → v ≡ Number k → s y ≡ Number n → Ahead (above y) n k) where
+module _ (side : Bool) (note : Note) (s : Store) (fits : Fits side note s) (d : Register) (v : Value) (sd : Said) (below above : Variable → ℕ) (fd : FitsSaid side sd v) (to : (y : Variable) (k n : ℕ) → v ≡ Number k → s y ≡ Number n → Ahead (below y) k n) (from : (y : Variable) (k n : ℕ) → v ≡ Number k → s y ≡ Number n → Ahead (above y) n k) where
   at_value : {a b : Value} (t : Said) → a ≡ b → FitsSaid side t a → FitsSaid side t b
   at_value t e = subst (λ w. FitsSaid side t w) e
 
-  written_order : (x y : Place) (m n : ℕ) (bx by : Bool) → same_place x (place.Register d) ≡ bx → same_place y (place.Register d) ≡ by → cond bx v (s x) ≡ Number m →
+  written_order : (x y : Variable) (m n : ℕ) (bx by : Bool) → same_variable x (variable.Register d) ≡ bx → same_variable y (variable.Register d) ≡ by → cond bx v (s x) ≡ Number m →
       cond by v (s y) ≡ Number n →
-      Ahead (level_between (cond bx sd (note.said x)) (cond by sd (note.said y)) (same_place x y) (cond bx (below y) (cond by (above x) (note.level x y)))) m n
+      Ahead (level_between (cond bx sd (note.said x)) (cond by sd (note.said y)) (same_variable x y) (cond bx (below y) (cond by (above x) (note.level x y)))) m n
   unfolding known_level
   written_order x y m n true true ex ey vx vy =
-      let same : same_place x y ≡ true = both_equal (place_number x) (place_number y) (place_number (place.Register d)) ex ey in
+      let same : same_variable x y ≡ true = both_equal (variable_number x) (variable_number y) (variable_number (variable.Register d)) ex ey in
       let e : m ≡ n = number_is m n (sym vx ∙ vy) in
       rw same (known_same sd sd (below y) m n e)
   written_order x y m n true false ex ey vx vy =
-      known_fits side sd (note.said y) (same_place x y) (below y) m n (at_value sd vx fd) (at_value (note.said y) vy (fits.each y)) (to y m n vx vy) (λ e. absurd (one_equal (place_number x) (place_number y) (place_number (place.Register d)) ex ey e))
+      known_fits side sd (note.said y) (same_variable x y) (below y) m n (at_value sd vx fd) (at_value (note.said y) vy (fits.each y)) (to y m n vx vy) (λ e. absurd (one_equal (variable_number x) (variable_number y) (variable_number (variable.Register d)) ex ey e))
   written_order x y m n false true ex ey vx vy =
-      known_fits side (note.said x) sd (same_place x y) (above x) m n (at_value (note.said x) vx (fits.each x)) (at_value sd vy fd) (from x n m vy vx) (λ e. absurd (other_equal (place_number x) (place_number y) (place_number (place.Register d)) ex ey e))
+      known_fits side (note.said x) sd (same_variable x y) (above x) m n (at_value (note.said x) vx (fits.each x)) (at_value sd vy fd) (from x n m vy vx) (λ e. absurd (other_equal (variable_number x) (variable_number y) (variable_number (variable.Register d)) ex ey e))
   written_order x y m n false false ex ey vx vy = fits.order x y m n vx vy
 
-  written_each : (x : Place) (b : Bool) → FitsSaid side (cond b sd (note.said x)) (cond b v (s x))
+  written_each : (x : Variable) (b : Bool) → FitsSaid side (cond b sd (note.said x)) (cond b v (s x))
   written_each x true = fd
   written_each x false = fits.each x
 
-  pub written_fits : Fits side (assign note d sd below above) (update s (place.Register d) v)
+  pub written_fits : Fits side (assign note d sd below above) (update s (variable.Register d) v)
   unfolding assign update known_level
   written_fits = record {
-    each = λ x. written_each x (same_place x (place.Register d));
-    order = λ x y m n ex ey. written_order x y m n (same_place x (place.Register d)) (same_place y (place.Register d)) refl refl ex ey;
+    each = λ x. written_each x (same_variable x (variable.Register d));
+    order = λ x y m n ex ey. written_order x y m n (same_variable x (variable.Register d)) (same_variable y (variable.Register d)) refl refl ex ey;
     beside = fits.beside;
   }
 
 at_said : (side : Bool) (t : Said) {a b : Value} → a ≡ b → FitsSaid side t a → FitsSaid side t b
 at_said side t e = subst (λ w. FitsSaid side t w) e
 
--- what is told of a place fits its value
+-- what is told of a variable fits its value
 pub with_side_fits : (side known_side : Bool) (t : Said) (v : Value) → (IsTrue known_side → IsTrue side) →
     FitsSaid side t v → FitsSaid side (with_side known_side t) v
 with_side_fits side k Nothing v h f = tt
@@ -130,7 +130,7 @@ with_side_fits side k (Implies imp) (Number n) h f = f
 with_side_fits side k (Implies true) (Flag b) h f = λ p q. f refl q
 with_side_fits side k (Implies false) (Flag b) h f = λ p q. h p
 
-pub told_fits : (side : Bool) (note : Note) (s : Store) → Fits side note s → (x : Place) → FitsSaid side (said_with_side note x) (s x)
+pub told_fits : (side : Bool) (note : Note) (s : Store) → Fits side note s → (x : Variable) → FitsSaid side (said_with_side note x) (s x)
 unfolding said_with_side
 told_fits side note s fits x = with_side_fits side note.side (note.said x) (s x) fits.beside (fits.each x)
 
@@ -163,18 +163,18 @@ both_right side (Between a b) (Implies q) v f = tt
 both_right side (Implies p) Nothing v f = tt
 both_right side (Implies p) (Between c d) v f = tt
 
--- two equal places hold one number
-one_number : (s : Store) (x y : Place) (m n : ℕ) → s x ≡ Number m → s y ≡ Number n → same_place x y ≡ true → m ≡ n
+-- two equal variables hold one number
+one_number : (s : Store) (x y : Variable) (m n : ℕ) → s x ≡ Number m → s y ≡ Number n → same_variable x y ≡ true → m ≡ n
 one_number s x y m n ex ey e = let q : x ≡ y = same_is x y e in number_is m n (sym ex ∙ ap s q ∙ ey)
 
 -- a note fits where what it says and its levels are right
-pub fits_from : (side : Bool) (note : Note) (s : Store) → ((x : Place) → FitsSaid side (note.said x) (s x)) →
-    ((x y : Place) (m n : ℕ) → s x ≡ Number m → s y ≡ Number n → Ahead (note.level x y) m n) → (IsTrue note.side → IsTrue side) →
+pub fits_from : (side : Bool) (note : Note) (s : Store) → ((x : Variable) → FitsSaid side (note.said x) (s x)) →
+    ((x y : Variable) (m n : ℕ) → s x ≡ Number m → s y ≡ Number n → Ahead (note.level x y) m n) → (IsTrue note.side → IsTrue side) →
     Fits side note s
 unfolding known_level
 fits_from side note s each level beside = record {
   each = each;
-  order = λ x y m n ex ey. known_fits side (note.said x) (note.said y) (same_place x y) (note.level x y) m n (at_said side (note.said x) ex (each x)) (at_said side (note.said y) ey (each y)) (level x y m n ex ey) (one_number s x y m n ex ey);
+  order = λ x y m n ex ey. known_fits side (note.said x) (note.said y) (same_variable x y) (note.level x y) m n (at_said side (note.said x) ex (each x)) (at_said side (note.said y) ey (each y)) (level x y m n ex ey) (one_number s x y m n ex ey);
   beside = beside;
 }
 
@@ -208,12 +208,12 @@ known_max (Between a b) (Implies i) same j k m n f g = f
 known_max Nothing sy same j k m n f g = f
 known_max (Implies i) sy same j k m n f g = f
 
-pub learnt_fits : (side : Bool) (note : Note) (s : Store) (p q : Place) (k a b : ℕ) → Fits side note s → s p ≡ Number a →
+pub learnt_fits : (side : Bool) (note : Note) (s : Store) (p q : Variable) (k a b : ℕ) → Fits side note s → s p ≡ Number a →
     s q ≡ Number b → 1 ≤ k → Ahead k a b → Fits side (refine_order note p q k) s
 unfolding refine_order known_level
 learnt_fits side note s p q k a b fits ep eq k1 h = record {
   each = fits.each;
-  order = λ x y m n ex ey. known_max (note.said x) (note.said y) (same_place x y) (note.level x y) (chain (known_level note x p) k (known_level note q y)) m n (fits.order x y m n ex ey) (chained_right (known_level note x p) k (known_level note q y) m a b n (fits.order x p m a ex ep) h k1 (fits.order q y b n eq ey));
+  order = λ x y m n ex ey. known_max (note.said x) (note.said y) (same_variable x y) (note.level x y) (chain (known_level note x p) k (known_level note q y)) m n (fits.order x y m n ex ey) (chained_right (known_level note x p) k (known_level note q y) m a b n (fits.order x p m a ex ep) h k1 (fits.order q y b n eq ey));
   beside = fits.beside;
 }
 
@@ -226,11 +226,11 @@ pub either_true : (side p q : Bool) → (IsTrue p → IsTrue side) → (IsTrue q
 either_true side true q f g h = f refl
 either_true side false q f g h = g h
 
-pub trusted_fits : (side : Bool) (note : Note) (s : Store) (a : Register) → Fits side note s → s (place.Register a) ≡ Flag true →
+pub trusted_fits : (side : Bool) (note : Note) (s : Store) (a : Register) → Fits side note s → s (variable.Register a) ≡ Flag true →
     Fits side (refine_flag note a) s
 unfolding refine_flag known_level
 trusted_fits side note s a fits e = record {
   each = fits.each;
   order = fits.order;
-  beside = either_true side note.side (implies (note.said (place.Register a))) fits.beside (imp_true side (note.said (place.Register a)) (at_said side (note.said (place.Register a)) e (fits.each (place.Register a))));
+  beside = either_true side note.side (implies (note.said (variable.Register a))) fits.beside (imp_true side (note.said (variable.Register a)) (at_said side (note.said (variable.Register a)) e (fits.each (variable.Register a))));
 }

@@ -1,4 +1,4 @@
-pub mod Places
+pub mod Variables
 pub mod Bits
 pub mod Filling
 pub mod Tables

@@ -9,13 +9,13 @@ use Rattle.trlab_code.specs.declared.instruction.Input.TheVariants.{Limit, Gap}
 use Rattle.trlab_code.specs.declared.instruction.Instr.{Instr}
 use Rattle.trlab_code.specs.declared.instruction.Instr.TheVariants.{Num, Get, Side, Draw, Copy, Add, Sub, Mul, Div, Min, Max, Not, And, Or, JumpLess, JumpAtMost, JumpTrue, JumpFalse, Go, Cross}
 use Rattle.trlab_code.specs.declared.instruction.Register.{Register}
-use Rattle.trlab_code.specs.declared.instruction.Place.{Place}
-use Rattle.trlab_code.specs.declared.instruction.Place.TheVariants as place
+use Rattle.trlab_code.specs.declared.instruction.Variable.{Variable}
+use Rattle.trlab_code.specs.declared.instruction.Variable.TheVariants as variable
 use Rattle.trlab_code.specs.Machine.{update}
 use Rattle.trlab_code.specs.Flow.{destination}
 use Rattle.trlab_notes.specs.declared.note.Said.{Said}
 use Rattle.trlab_notes.specs.declared.note.Said.TheVariants.{Nothing, Between, Implies}
-use Rattle.trlab_notes.specs.Notes.{Note, same_place, with_side, said_with_side, low, high, implies, level_between, known_level}
+use Rattle.trlab_notes.specs.Notes.{Note, same_variable, with_side, said_with_side, low, high, implies, level_between, known_level}
 use Rattle.trlab_notes.specs.Transfer.{assign_any, sharpen, slacken, least_difference, assign, assign_result, result_said, result_to, to_result, chain, refine_order, refine_flag, next_note, jump_note}
 use Rattle.trlab_notes.specs.Order.{SaysNoMore, IsNoStronger, AreNoStronger}
 use Rattle.trlab_notes.specs.Reasons.{among, is_nothing, is_range, is_flag, number_operands, some_unset, some_of_other_kind, may_be_too_large, may_be_below_zero, may_be_above, may_be_occupied, flag_operands, other_operands, reason_against}
@@ -45,7 +45,7 @@ chained_up (suc h) (suc i) k (suc l) (suc m) p q = omega arith
 chained_up (suc h) zero k (suc l) m p q = absurd (omega arith)
 chained_up (suc h) (suc i) k (suc l) zero p q = absurd (omega arith)
 
--- what is said of a place
+-- what is said of a variable
 low_up : (s t : Said) → Wider s t → low s ≤ low t
 low_up Nothing t w = omega arith
 low_up (Implies i) t w = omega arith
@@ -86,30 +86,30 @@ told_twice false q (Implies true) (Implies j) h = λ e. or_left (j || q) q (h re
     or_left false b e = absurd (cc e)
 told_twice false q (Implies false) (Implies j) h = λ e. absurd (cc e)
 
-module _ (V : Place → Type 0) (closed : Closed V) where
+module _ (V : Variable → Type 0) (closed : Closed V) where
   -- a write: what is said and the levels say no more, and so does the note
-  written_up : (m n : Note) (d : Register) (s t : Said) (to to' from from' : Place → ℕ) → On V m n →
-      SaysNoMore (with_side m.side s) (with_side n.side t) → ((y : Place) → V y → to y ≤ to' y) → ((x : Place) → V x → from x ≤ from' x) →
+  written_up : (m n : Note) (d : Register) (s t : Said) (to to' from from' : Variable → ℕ) → On V m n →
+      SaysNoMore (with_side m.side s) (with_side n.side t) → ((y : Variable) → V y → to y ≤ to' y) → ((x : Variable) → V x → from x ≤ from' x) →
       On V (assign m d s to from) (assign n d t to' from')
   unfolding assign update said_with_side known_level
   written_up m n d s t to to' from from' f h below above = record {
-    said = λ x lx. said_at x lx (same_place x (place.Register d));
-    order = λ x y lx ly. (level_at x y lx ly (same_place x (place.Register d)) (same_place y (place.Register d)));
+    said = λ x lx. said_at x lx (same_variable x (variable.Register d));
+    order = λ x y lx ly. (level_at x y lx ly (same_variable x (variable.Register d)) (same_variable y (variable.Register d)));
     beside = f.beside;
   }
     where
-      said_at : (x : Place) → V x → (b : Bool) → SaysNoMore (with_side m.side (cond b s (m.said x))) (with_side n.side (cond b t (n.said x)))
+      said_at : (x : Variable) → V x → (b : Bool) → SaysNoMore (with_side m.side (cond b s (m.said x))) (with_side n.side (cond b t (n.said x)))
       said_at x lx true = h
       said_at x lx false = f.said x lx
 
-      wide : (x : Place) → V x → (b : Bool) → Wider (cond b s (m.said x)) (cond b t (n.said x))
+      wide : (x : Variable) → V x → (b : Bool) → Wider (cond b s (m.said x)) (cond b t (n.said x))
       wide x lx b = wider m.side n.side _ _ (said_at x lx b)
 
-      level_at : (x y : Place) → V x → V y → (b c : Bool) →
-          level_between (cond b s (m.said x)) (cond c s (m.said y)) (same_place x y) (cond b (to y) (cond c (from x) (m.level x y)))
-          ≤ level_between (cond b t (n.said x)) (cond c t (n.said y)) (same_place x y) (cond b (to' y) (cond c (from' x) (n.level x y)))
-      level_at x y lx ly true c = known_up _ _ _ _ (same_place x y) _ _ (wide x lx true) (wide y ly c) (below y ly)
-      level_at x y lx ly false true = known_up _ _ _ _ (same_place x y) _ _ (wide x lx false) (wide y ly true) (above x lx)
+      level_at : (x y : Variable) → V x → V y → (b c : Bool) →
+          level_between (cond b s (m.said x)) (cond c s (m.said y)) (same_variable x y) (cond b (to y) (cond c (from x) (m.level x y)))
+          ≤ level_between (cond b t (n.said x)) (cond c t (n.said y)) (same_variable x y) (cond b (to' y) (cond c (from' x) (n.level x y)))
+      level_at x y lx ly true c = known_up _ _ _ _ (same_variable x y) _ _ (wide x lx true) (wide y ly c) (below y ly)
+      level_at x y lx ly false true = known_up _ _ _ _ (same_variable x y) _ _ (wide x lx false) (wide y ly true) (above x lx)
       level_at x y lx ly false false = f.order x y lx ly
 
   -- what is learnt
@@ -126,11 +126,11 @@ module _ (V : Place → Type 0) (closed : Closed V) where
   learnt_level Nothing sy tx ty same j k v w p q l r = omega arith
   learnt_level (Implies i) sy tx ty same j k v w p q l r = omega arith
 
-  pub learnt_up : (m n : Note) (p q : Place) (k : ℕ) → V p → V q → On V m n → On V (refine_order m p q k) (refine_order n p q k)
+  pub learnt_up : (m n : Note) (p q : Variable) (k : ℕ) → V p → V q → On V m n → On V (refine_order m p q k) (refine_order n p q k)
   unfolding refine_order said_with_side known_level
   learnt_up m n p q k lp lq f = record {
     said = f.said;
-    order = λ x y lx ly. (learnt_level (m.said x) (m.said y) (n.said x) (n.said y) (same_place x y) (m.level x y) (n.level x y) _ _
+    order = λ x y lx ly. (learnt_level (m.said x) (m.said y) (n.said x) (n.said y) (same_variable x y) (m.level x y) (n.level x y) _ _
         (wider m.side n.side _ _ (f.said x lx)) (wider m.side n.side _ _ (f.said y ly)) (f.order x y lx ly)
         (chained_up _ _ k _ _ (f.order x p lx lp) (f.order q y lq ly)));
     beside = f.beside;
@@ -175,13 +175,13 @@ module _ (V : Place → Type 0) (closed : Closed V) where
   more_side p q p' q' (Implies true) (Implies false) f g h = λ e. g (h refl)
   more_side p q p' q' (Implies false) (Implies false) f g h = f
 
-  at_reg : (r : Register) → V (place.Register r)
+  at_reg : (r : Register) → V (variable.Register r)
   at_reg = closed.regs
 
   pub trusted_up : (m n : Note) (a : Register) → On V m n → On V (refine_flag m a) (refine_flag n a)
   unfolding refine_flag said_with_side known_level
   trusted_up m n a f = record {
-    said = λ x lx. more_side m.side n.side _ _ (m.said x) (n.said x) grows (or_left n.side (implies (n.said (place.Register a)))) (f.said x lx);
+    said = λ x lx. more_side m.side n.side _ _ (m.said x) (n.said x) grows (or_left n.side (implies (n.said (variable.Register a)))) (f.said x lx);
     order = f.order;
     beside = grows;
   }
@@ -190,8 +190,8 @@ module _ (V : Place → Type 0) (closed : Closed V) where
       or_left true q e = refl
       or_left false q e = absurd (cc e)
 
-      grows : IsTrue (m.side || implies (m.said (place.Register a))) → IsTrue (n.side || implies (n.said (place.Register a)))
-      grows = trust_side m.side n.side (m.said (place.Register a)) (n.said (place.Register a)) f.beside (f.said (place.Register a) (at_reg a))
+      grows : IsTrue (m.side || implies (m.said (variable.Register a))) → IsTrue (n.side || implies (n.said (variable.Register a)))
+      grows = trust_side m.side n.side (m.said (variable.Register a)) (n.said (variable.Register a)) f.beside (f.said (variable.Register a) (at_reg a))
 
   -- also at 0, where a quotient is 0
   div_mono : (a b n : ℕ) → a ≤ b → a / n ≤ b / n
@@ -200,7 +200,7 @@ module _ (V : Place → Type 0) (closed : Closed V) where
 
   -- the inputs that an instruction reads
   abbrev pub Reaches : Instr → Type 0
-  Reaches (Get d j) = V (place.Input j)
+  Reaches (Get d j) = V (variable.Input j)
   Reaches i = Unit {0}
 
   abbrev pub BothOn : Option Note → Option Note → Type 0
@@ -257,17 +257,17 @@ module _ (V : Place → Type 0) (closed : Closed V) where
   still_positive j k h e = grind (arith, e)
 
   module _ (m n : Note) (f : On V m n) where
-    wide_at : (x : Place) → V x → Wider (m.said x) (n.said x)
+    wide_at : (x : Variable) → V x → Wider (m.said x) (n.said x)
     unfolding said_with_side
     wide_at x h = wider m.side n.side (m.said x) (n.said x) (f.said x h)
 
     -- a number that an instruction reads
     record Reads (a : Register) : Type 0 where
-      lo : low (m.said (place.Register a)) ≤ low (n.said (place.Register a))
-      hi : high (n.said (place.Register a)) ≤ high (m.said (place.Register a))
+      lo : low (m.said (variable.Register a)) ≤ low (n.said (variable.Register a))
+      hi : high (n.said (variable.Register a)) ≤ high (m.said (variable.Register a))
 
-    reads : (r : Register) → is_nothing (m.said (place.Register r)) ≡ false → is_flag (m.said (place.Register r)) ≡ false → Reads r
-    reads r p q = record { lo = low_up _ _ (wide_at (place.Register r) (at_reg r)); hi = high_down _ _ p q (wide_at (place.Register r) (at_reg r)) }
+    reads : (r : Register) → is_nothing (m.said (variable.Register r)) ≡ false → is_flag (m.said (variable.Register r)) ≡ false → Reads r
+    reads r p q = record { lo = low_up _ _ (wide_at (variable.Register r) (at_reg r)); hi = high_down _ _ p q (wide_at (variable.Register r) (at_reg r)) }
 
     two_numbers : (a b : Register) (rest : Bool) → (among is_nothing m (a ∷ b ∷ []) || rest) ≡ false →
         (among is_flag m (a ∷ b ∷ []) || false) ≡ false → Reads a × Reads b
@@ -280,23 +280,23 @@ module _ (V : Place → Type 0) (closed : Closed V) where
         (among is_flag m (a ∷ []) || false) ≡ false → Reads a
     one_number a rest h k = reads a (or_parts _ _ (or_parts _ _ h).0).0 (or_parts _ _ (or_parts _ _ k).0).0
 
-    flag_up : (a : Register) → IsTrue (implies (said_with_side m (place.Register a))) → IsTrue (implies (said_with_side n (place.Register a)))
+    flag_up : (a : Register) → IsTrue (implies (said_with_side m (variable.Register a))) → IsTrue (implies (said_with_side n (variable.Register a)))
     unfolding said_with_side
-    flag_up a = implies_up m.side n.side (m.said (place.Register a)) (n.said (place.Register a)) (f.said (place.Register a) (at_reg a))
+    flag_up a = implies_up m.side n.side (m.said (variable.Register a)) (n.said (variable.Register a)) (f.said (variable.Register a) (at_reg a))
 
     -- what is said of a result
     said_up : (i : Instr) → Reaches i → some_unset m i ≡ false → some_of_other_kind m i ≡ false →
         SaysNoMore (with_side m.side (result_said m i)) (with_side n.side (result_said n i))
     unfolding said_with_side
     said_up (Num d v) w h k = (omega arith, omega arith)
-    said_up (Get d j) w h k = told_twice m.side n.side _ _ (f.said (place.Input j) w)
+    said_up (Get d j) w h k = told_twice m.side n.side _ _ (f.said (variable.Input j) w)
     said_up (Side d) w h k = λ e. refl
     said_up (Draw d j t) w h k = f.beside
-    said_up (Copy d a) w h k = told_twice m.side n.side _ _ (f.said (place.Register a) (at_reg a))
+    said_up (Copy d a) w h k = told_twice m.side n.side _ _ (f.said (variable.Register a) (at_reg a))
     said_up (Add d a b) w h k = let o = two_numbers a b _ h k in (omega (arith, o.0.lo, o.1.lo), omega (arith, o.0.hi, o.1.hi))
     said_up (Sub d a b) w h k =
         let o = two_numbers a b _ h k in
-        let g = least_gap_up _ _ (f.order (place.Register b) (place.Register a) (at_reg b) (at_reg a)) in
+        let g = least_gap_up _ _ (f.order (variable.Register b) (variable.Register a) (at_reg b) (at_reg a)) in
         (omega (arith, g, o.0.lo, o.1.hi), omega (arith, o.0.hi, o.1.lo))
     said_up (Mul d a v) w h k = let o = one_number a _ h k in (omega (arith, mul-le-mul_right v o.lo), mul-le-mul_right v o.hi)
     said_up (Div d a v) w h k = let o = one_number a _ h k in (div_mono _ _ v o.lo, div_mono _ _ v o.hi)
@@ -307,32 +307,32 @@ module _ (V : Place → Type 0) (closed : Closed V) where
     said_up (Or d a b) w h k = or_up _ _ _ _ (and_up _ _ _ _ (flag_up a) (flag_up b)) f.beside
     said_up i w h k = tt
 
-    to_up : (i : Instr) → Reaches i → some_unset m i ≡ false → some_of_other_kind m i ≡ false → (y : Place) → V y →
+    to_up : (i : Instr) → Reaches i → some_unset m i ≡ false → some_of_other_kind m i ≡ false → (y : Variable) → V y →
         result_to m i y ≤ result_to n i y
-    to_up (Get d j) w h k y l = f.order (place.Input j) y w l
-    to_up (Copy d a) w h k y l = f.order (place.Register a) y (at_reg a) l
-    to_up (Div d a v) w h k y l = f.order (place.Register a) y (at_reg a) l
+    to_up (Get d j) w h k y l = f.order (variable.Input j) y w l
+    to_up (Copy d a) w h k y l = f.order (variable.Register a) y (at_reg a) l
+    to_up (Div d a v) w h k y l = f.order (variable.Register a) y (at_reg a) l
     to_up (Add d a b) w h k y l =
         let o = two_numbers a b _ h k in
-        let p = just_below_up _ _ _ _ (f.order (place.Register a) y (at_reg a) l) o.1.hi in
-        let q = just_below_up _ _ _ _ (f.order (place.Register b) y (at_reg b) l) o.0.hi in
+        let p = just_below_up _ _ _ _ (f.order (variable.Register a) y (at_reg a) l) o.1.hi in
+        let q = just_below_up _ _ _ _ (f.order (variable.Register b) y (at_reg b) l) o.0.hi in
         omega (arith, p, q)
-    to_up (Sub d a b) w h k y l = let o = two_numbers a b _ h k in sharper_up _ _ _ _ (f.order (place.Register a) y (at_reg a) l) o.1.lo
-    to_up (Min d a b) w h k y l = omega (arith, f.order (place.Register a) y (at_reg a) l, f.order (place.Register b) y (at_reg b) l)
-    to_up (Max d a b) w h k y l = omega (arith, f.order (place.Register a) y (at_reg a) l, f.order (place.Register b) y (at_reg b) l)
+    to_up (Sub d a b) w h k y l = let o = two_numbers a b _ h k in sharper_up _ _ _ _ (f.order (variable.Register a) y (at_reg a) l) o.1.lo
+    to_up (Min d a b) w h k y l = omega (arith, f.order (variable.Register a) y (at_reg a) l, f.order (variable.Register b) y (at_reg b) l)
+    to_up (Max d a b) w h k y l = omega (arith, f.order (variable.Register a) y (at_reg a) l, f.order (variable.Register b) y (at_reg b) l)
     to_up i w h k y l = omega arith
 
-    from_up : (i : Instr) → Reaches i → some_unset m i ≡ false → some_of_other_kind m i ≡ false → (y : Place) → V y →
+    from_up : (i : Instr) → Reaches i → some_unset m i ≡ false → some_of_other_kind m i ≡ false → (y : Variable) → V y →
         to_result m i y ≤ to_result n i y
-    from_up (Get d j) w h k y l = f.order y (place.Input j) l w
-    from_up (Copy d a) w h k y l = f.order y (place.Register a) l (at_reg a)
+    from_up (Get d j) w h k y l = f.order y (variable.Input j) l w
+    from_up (Copy d a) w h k y l = f.order y (variable.Register a) l (at_reg a)
     from_up (Add d a b) w h k y l =
         let o = two_numbers a b _ h k in
-        let p = sharper_up _ _ _ _ (f.order y (place.Register a) l (at_reg a)) o.1.lo in
-        let q = sharper_up _ _ _ _ (f.order y (place.Register b) l (at_reg b)) o.0.lo in
+        let p = sharper_up _ _ _ _ (f.order y (variable.Register a) l (at_reg a)) o.1.lo in
+        let q = sharper_up _ _ _ _ (f.order y (variable.Register b) l (at_reg b)) o.0.lo in
         omega (arith, p, q)
-    from_up (Min d a b) w h k y l = omega (arith, f.order y (place.Register a) l (at_reg a), f.order y (place.Register b) l (at_reg b))
-    from_up (Max d a b) w h k y l = omega (arith, f.order y (place.Register a) l (at_reg a), f.order y (place.Register b) l (at_reg b))
+    from_up (Min d a b) w h k y l = omega (arith, f.order y (variable.Register a) l (at_reg a), f.order y (variable.Register b) l (at_reg b))
+    from_up (Max d a b) w h k y l = omega (arith, f.order y (variable.Register a) l (at_reg a), f.order y (variable.Register b) l (at_reg b))
     from_up i w h k y l = omega arith
 
     after_up : (d : Register) (i : Instr) → Reaches i → some_unset m i ≡ false → some_of_other_kind m i ≡ false →
@@ -346,22 +346,22 @@ module _ (V : Place → Type 0) (closed : Closed V) where
 
     -- the notes on the ways from an instruction without a fault
     pub fall_up : (i : Instr) → Reaches i → some_unset m i ≡ false → some_of_other_kind m i ≡ false → BothOn (next_note m i) (next_note n i)
-    fall_up (JumpLess a b t) w h k = learnt_up m n (place.Register b) (place.Register a) 1 (at_reg b) (at_reg a) f
-    fall_up (JumpAtMost a b t) w h k = learnt_up m n (place.Register b) (place.Register a) 2 (at_reg b) (at_reg a) f
+    fall_up (JumpLess a b t) w h k = learnt_up m n (variable.Register b) (variable.Register a) 1 (at_reg b) (at_reg a) f
+    fall_up (JumpAtMost a b t) w h k = learnt_up m n (variable.Register b) (variable.Register a) 2 (at_reg b) (at_reg a) f
     fall_up (JumpTrue a t) w h k = f
     fall_up (JumpFalse a t) w h k = trusted_up m n a f
     fall_up i w h k = any_up (destination i) i w h k
 
     pub jump_up : (i : Instr) → On V (jump_note m i) (jump_note n i)
-    jump_up (JumpLess a b t) = learnt_up m n (place.Register a) (place.Register b) 2 (at_reg a) (at_reg b) f
-    jump_up (JumpAtMost a b t) = learnt_up m n (place.Register a) (place.Register b) 1 (at_reg a) (at_reg b) f
+    jump_up (JumpLess a b t) = learnt_up m n (variable.Register a) (variable.Register b) 2 (at_reg a) (at_reg b) f
+    jump_up (JumpAtMost a b t) = learnt_up m n (variable.Register a) (variable.Register b) 1 (at_reg a) (at_reg b) f
     jump_up (JumpTrue a t) = trusted_up m n a f
     jump_up i = f
 
     sets : (xs : List Register) → among is_nothing m xs ≡ false → among is_nothing n xs ≡ false
     unfolding said_with_side
     sets [] h = refl
-    sets (x ∷ xs) h = let e = or_parts _ _ h in both_false _ _ (still_set m.side n.side _ _ (f.said (place.Register x) (at_reg x)) e.0) (sets xs e.1)
+    sets (x ∷ xs) h = let e = or_parts _ _ h in both_false _ _ (still_set m.side n.side _ _ (f.said (variable.Register x) (at_reg x)) e.0) (sets xs e.1)
 
     ranges_stay : (xs : List Register) → among is_nothing m xs ≡ false → among is_flag m xs ≡ false → among is_flag n xs ≡ false
     unfolding said_with_side
@@ -369,7 +369,7 @@ module _ (V : Place → Type 0) (closed : Closed V) where
     ranges_stay (x ∷ xs) h g =
         let e = or_parts _ _ h in
         let d = or_parts _ _ g in
-        both_false _ _ (still_range m.side n.side _ _ (f.said (place.Register x) (at_reg x)) e.0 d.0) (ranges_stay xs e.1 d.1)
+        both_false _ _ (still_range m.side n.side _ _ (f.said (variable.Register x) (at_reg x)) e.0 d.0) (ranges_stay xs e.1 d.1)
 
     flags_stay : (xs : List Register) → among is_nothing m xs ≡ false → among is_range m xs ≡ false → among is_range n xs ≡ false
     unfolding said_with_side
@@ -377,7 +377,7 @@ module _ (V : Place → Type 0) (closed : Closed V) where
     flags_stay (x ∷ xs) h g =
         let e = or_parts _ _ h in
         let d = or_parts _ _ g in
-        both_false _ _ (still_flag m.side n.side _ _ (f.said (place.Register x) (at_reg x)) e.0 d.0) (flags_stay xs e.1 d.1)
+        both_false _ _ (still_flag m.side n.side _ _ (f.said (variable.Register x) (at_reg x)) e.0 d.0) (flags_stay xs e.1 d.1)
 
     set_up : (i : Instr) → some_unset m i ≡ false → some_unset n i ≡ false
     set_up i h =
@@ -398,11 +398,11 @@ module _ (V : Place → Type 0) (closed : Closed V) where
     size_up i h k e = refl
 
     positive_up : (i : Instr) → may_be_below_zero m i ≡ false → may_be_below_zero n i ≡ false
-    positive_up (Sub d a b) e = still_positive _ _ (f.order (place.Register b) (place.Register a) (at_reg b) (at_reg a)) e
+    positive_up (Sub d a b) e = still_positive _ _ (f.order (variable.Register b) (variable.Register a) (at_reg b) (at_reg a)) e
     positive_up i e = refl
 
-    pass_up : (k : Input) → V (place.Input k) → (i : Instr) → may_be_above k m i ≡ false → may_be_above k n i ≡ false
-    pass_up k l (Go a) e = still_positive _ _ (f.order (place.Register a) (place.Input k) (at_reg a) l) e
+    pass_up : (k : Input) → V (variable.Input k) → (i : Instr) → may_be_above k m i ≡ false → may_be_above k n i ≡ false
+    pass_up k l (Go a) e = still_positive _ _ (f.order (variable.Register a) (variable.Input k) (at_reg a) l) e
     pass_up k l i e = refl
 
     beside_up : (i : Instr) → may_be_occupied m i ≡ false → may_be_occupied n i ≡ false
@@ -430,24 +430,24 @@ module _ (V : Place → Type 0) (closed : Closed V) where
       beside = beside_up i c.beside;
     }
 
--- all places
-abbrev pub All_places : Place → Type 0
-All_places x = Unit {0}
+-- all variables
+abbrev pub All_variables : Variable → Type 0
+All_variables x = Unit {0}
 
-pub all_closed : Closed All_places
+pub all_closed : Closed All_variables
 all_closed = record { regs = λ r. tt; limit = tt; gap = tt }
 
-pub reaches_all : (i : Instr) → Reaches All_places all_closed i
+pub reaches_all : (i : Instr) → Reaches All_variables all_closed i
 reaches_all (Get d j) = tt
 reaches_all i = tt
 
-pub on_all : (m n : Note) → IsNoStronger m n → On All_places m n
+pub on_all : (m n : Note) → IsNoStronger m n → On All_variables m n
 on_all m n f = record { said = λ x h. f.said x; order = λ x y h k. f.order x y; beside = f.beside }
 
-pub all_on : (m n : Note) → On All_places m n → IsNoStronger m n
+pub all_on : (m n : Note) → On All_variables m n → IsNoStronger m n
 all_on m n f = record { said = λ x. f.said x tt; order = λ x y. f.order x y tt tt; beside = f.beside }
 
-pub both_all : (o p : Option Note) → BothOn All_places all_closed o p → AreNoStronger o p
+pub both_all : (o p : Option Note) → BothOn All_variables all_closed o p → AreNoStronger o p
 both_all None None h = tt
 both_all (Some m) (Some n) h = all_on m n h
 both_all None (Some n) h = absurd h

@@ -2,11 +2,11 @@
 use Rattle.std.proofs.Common.{rules, ℕ, ◌≤◌, ◌&&◌, ◌||◌, refl, arith, Bool, true, false, IsTrue}
 use Rattle.trlab_code.specs.declared.instruction.Register.{Register}
 use Rattle.trlab_code.specs.declared.instruction.Input.TheVariants.{Limit, Gap}
-use Rattle.trlab_code.specs.declared.instruction.Place.{Place}
-use Rattle.trlab_code.specs.declared.instruction.Place.TheVariants as place
+use Rattle.trlab_code.specs.declared.instruction.Variable.{Variable}
+use Rattle.trlab_code.specs.declared.instruction.Variable.TheVariants as variable
 use Rattle.trlab_notes.specs.declared.note.Said.{Said}
 use Rattle.trlab_notes.specs.declared.note.Said.TheVariants.{Nothing, Between, Implies}
-use Rattle.trlab_notes.specs.Notes.{Note, same_place, with_side, said_with_side, level_between, known_level}
+use Rattle.trlab_notes.specs.Notes.{Note, same_variable, with_side, said_with_side, level_between, known_level}
 use Rattle.trlab_notes.specs.Order.{join_said, join, SaysNoMore, IsNoStronger}
 
 -- where one says a range, so does the other, and within it
@@ -137,7 +137,7 @@ pub join_first : (m n : Note) → IsNoStronger (join m n) m
 unfolding join said_with_side known_level
 join_first m n = record {
   said = λ x. both_first m.side n.side (m.said x) (n.said x);
-  order = λ x y. (known_from (join_said (with_side m.side (m.said x)) (with_side n.side (n.said x))) (join_said (with_side m.side (m.said y)) (with_side n.side (n.said y))) (m.said x) (m.said y) (same_place x y) _ (m.level x y)
+  order = λ x y. (known_from (join_said (with_side m.side (m.said x)) (with_side n.side (n.said x))) (join_said (with_side m.side (m.said y)) (with_side n.side (n.said y))) (m.said x) (m.said y) (same_variable x y) _ (m.level x y)
       (wider (m.side && n.side) m.side _ (m.said x) (both_first m.side n.side (m.said x) (n.said x)))
       (wider (m.side && n.side) m.side _ (m.said y) (both_first m.side n.side (m.said y) (n.said y)))
       (omega arith));
@@ -148,14 +148,14 @@ pub join_second : (m n : Note) → IsNoStronger (join m n) n
 unfolding join said_with_side known_level
 join_second m n = record {
   said = λ x. both_second m.side n.side (m.said x) (n.said x);
-  order = λ x y. (known_from (join_said (with_side m.side (m.said x)) (with_side n.side (n.said x))) (join_said (with_side m.side (m.said y)) (with_side n.side (n.said y))) (n.said x) (n.said y) (same_place x y) _ (n.level x y)
+  order = λ x y. (known_from (join_said (with_side m.side (m.said x)) (with_side n.side (n.said x))) (join_said (with_side m.side (m.said y)) (with_side n.side (n.said y))) (n.said x) (n.said y) (same_variable x y) _ (n.level x y)
       (wider (m.side && n.side) n.side _ (n.said x) (both_second m.side n.side (m.said x) (n.said x)))
       (wider (m.side && n.side) n.side _ (n.said y) (both_second m.side n.side (m.said y) (n.said y)))
       (omega arith));
   beside = λ h. and_second m.side n.side h;
 }
 
--- what is known by a level, where both places hold numbers wherever something is known
+-- what is known by a level, where both variables hold numbers wherever something is known
 level_known : (sx sy tx ty : Said) (same : Bool) (j k : ℕ) → Wider sx tx → Wider sy ty → level_between sx sy same j ≤ k →
     level_between sx sy same j ≤ level_between tx ty same k
 level_known (Between a b) (Between c d) (Between e f) (Between g h) true j k p q l = omega arith
@@ -173,26 +173,26 @@ pub join_most : (l m n : Note) → IsNoStronger l m → IsNoStronger l n → IsN
 unfolding join said_with_side known_level
 join_most l m n f g = record {
   said = λ x. both_most l.side m.side n.side (l.said x) (m.said x) (n.said x) f.beside g.beside (f.said x) (g.said x);
-  order = λ x y. (level_known (l.said x) (l.said y) (join_said (with_side m.side (m.said x)) (with_side n.side (n.said x))) (join_said (with_side m.side (m.said y)) (with_side n.side (n.said y))) (same_place x y) (l.level x y) _
+  order = λ x y. (level_known (l.said x) (l.said y) (join_said (with_side m.side (m.said x)) (with_side n.side (n.said x))) (join_said (with_side m.side (m.said y)) (with_side n.side (n.said y))) (same_variable x y) (l.level x y) _
       (wider l.side (m.side && n.side) (l.said x) _ (both_most l.side m.side n.side (l.said x) (m.said x) (n.said x) f.beside g.beside (f.said x) (g.said x)))
       (wider l.side (m.side && n.side) (l.said y) _ (both_most l.side m.side n.side (l.said y) (m.said y) (n.said y) f.beside g.beside (f.said y) (g.said y)))
       (omega (arith, f.order x y, g.order x y)));
   beside = λ h. and_both m.side n.side (f.beside h) (g.beside h);
 }
 
--- the places that are looked at: each register, the limit and the gap are among them
-pub record Closed (V : Place → Type 0) : Type 0 where
-  pub regs : (r : Register) → V (place.Register r)
-  pub limit : V (place.Input Limit)
-  pub gap : V (place.Input Gap)
+-- the variables that are looked at: each register, the limit and the gap are among them
+pub record Closed (V : Variable → Type 0) : Type 0 where
+  pub regs : (r : Register) → V (variable.Register r)
+  pub limit : V (variable.Input Limit)
+  pub gap : V (variable.Input Gap)
 
--- no stronger, as far as these places go
-pub record On (V : Place → Type 0) (m n : Note) : Type 0 where
-  pub said : (x : Place) → V x → SaysNoMore (said_with_side m x) (said_with_side n x)
-  pub order : (x y : Place) → V x → V y → known_level m x y ≤ known_level n x y
+-- no stronger, as far as these variables go
+pub record On (V : Variable → Type 0) (m n : Note) : Type 0 where
+  pub said : (x : Variable) → V x → SaysNoMore (said_with_side m x) (said_with_side n x)
+  pub order : (x y : Variable) → V x → V y → known_level m x y ≤ known_level n x y
   pub beside : IsTrue m.side → IsTrue n.side
 
-module _ (V : Place → Type 0) (closed : Closed V) where
+module _ (V : Variable → Type 0) (closed : Closed V) where
   pub through_on : (l m n : Note) → On V l m → On V m n → On V l n
   through_on l m n f g = record {
     said = λ x h. no_more_twice (said_with_side l x) (said_with_side m x) (said_with_side n x) (f.said x h) (g.said x h);
@@ -204,7 +204,7 @@ module _ (V : Place → Type 0) (closed : Closed V) where
   unfolding join said_with_side known_level
   join_most_on l m n f g = record {
     said = λ x h. both_most l.side m.side n.side (l.said x) (m.said x) (n.said x) f.beside g.beside (f.said x h) (g.said x h);
-    order = λ x y h k. (level_known (l.said x) (l.said y) (join_said (with_side m.side (m.said x)) (with_side n.side (n.said x))) (join_said (with_side m.side (m.said y)) (with_side n.side (n.said y))) (same_place x y) (l.level x y) _
+    order = λ x y h k. (level_known (l.said x) (l.said y) (join_said (with_side m.side (m.said x)) (with_side n.side (n.said x))) (join_said (with_side m.side (m.said y)) (with_side n.side (n.said y))) (same_variable x y) (l.level x y) _
         (wider l.side (m.side && n.side) (l.said x) _ (both_most l.side m.side n.side (l.said x) (m.said x) (n.said x) f.beside g.beside (f.said x h) (g.said x h)))
         (wider l.side (m.side && n.side) (l.said y) _ (both_most l.side m.side n.side (l.said y) (m.said y) (n.said y) f.beside g.beside (f.said y k) (g.said y k)))
         (omega (arith, f.order x y h k, g.order x y h k)));

@@ -1,25 +1,25 @@
--- Two notes are one where they say the same of the places.
+-- Two notes are one where they say the same of the variables.
 use Rattle.std.proofs.Common.{◌≡◌, ℕ, zero, suc, ◌<◌, ◌≤◌, refl, sym, ap, subst, arith, List, [], length, Bool, true, false, IsTrue, nat_eq, cond, ◌&&◌, ◌||◌, get_or, ◌∙◌, min, max, set, get_or-set_same, get_or-set_other}
 use Rattle.std.proofs.lemmas.Nat.Bits.{bit_at-lt}
 use Rattle.trlab_code.specs.declared.kind.Kind.{Kind}
 use mathlib.Core.Path.{fun_ext}
-use Rattle.trlab_notes.proofs.Places.{below as below_places, at_numbers}
+use Rattle.trlab_notes.proofs.Variables.{below as below_variables, at_numbers}
 use Rattle.std.proofs.lemmas.Bool.{eqb-true, eqb-false}
 use Rattle.trlab_notes.specs.declared.note.Said.{Said}
 use Rattle.trlab_notes.specs.declared.note.Said.TheVariants.{Nothing, Between, Implies}
 use Rattle.trlab_notes.specs.declared.stored.Stored.{Stored}
 use Rattle.trlab_notes.specs.declared.rows.Row.{Row}
-use Rattle.trlab_notes.specs.Notes.{Note, same_place, with_side, said_with_side, level_between, known_level, range_level, implies, closure, entry, entry_said, entry_level}
+use Rattle.trlab_notes.specs.Notes.{Note, same_variable, with_side, said_with_side, level_between, known_level, range_level, implies, closure, entry, entry_said, entry_level}
 use Rattle.trlab_notes.specs.Transfer.{assign, chain, refine_order, refine_flag}
 use Rattle.trlab_notes.specs.Order.{SaysNoMore, IsNoStronger, join, join_said}
 use Rattle.trlab_notes.specs.Rows.{level_of, level_at, known_with, AreLevels, TellsRanges, IsTransposed}
 use Rattle.trlab_notes.specs.Stored.{note_of}
-use Rattle.trlab_bounds.specs.declared.programs.TheConstants.{PLACES}
+use Rattle.trlab_bounds.specs.declared.programs.TheConstants.{VARIABLES}
 use Rattle.trlab_code.specs.declared.instruction.Register.{Register}
 use Rattle.trlab_code.specs.declared.instruction.Input.TheVariants.{Speed, Limit, Headspeed}
-use Rattle.trlab_code.specs.declared.instruction.Place.{Place}
-use Rattle.trlab_code.specs.declared.instruction.Place.TheVariants as place
-use Rattle.trlab_code.specs.Machine.{place_number, update}
+use Rattle.trlab_code.specs.declared.instruction.Variable.{Variable}
+use Rattle.trlab_code.specs.declared.instruction.Variable.TheVariants as variable
+use Rattle.trlab_code.specs.Machine.{variable_number, update}
 
 pub note_same : (m n : Note) → m.said ≡ n.said → m.level ≡ n.level → m.side ≡ n.side → m ≡ n
 note_same m n p q r = λ i. record { said = p i; level = q i; side = r i }
@@ -32,27 +32,27 @@ said_set l d v h x false e = get_or-set_other l d x v Nothing (eqb-false x d e)
 -- a note that is stored so
 abbrev pub made : List Said → List Row → Bool → Note
 made said rows side = record {
-  said = λ x. get_or said (place_number x) Nothing;
-  level = λ x y. level_of rows (place_number x) (place_number y);
+  said = λ x. get_or said (variable_number x) Nothing;
+  level = λ x y. level_of rows (variable_number x) (variable_number y);
   side = side;
 }
 
-pub level_same : (f g : Place → Place → ℕ) → ((x y : Place) → f x y ≡ g x y) → f ≡ g
+pub level_same : (f g : Variable → Variable → ℕ) → ((x y : Variable) → f x y ≡ g x y) → f ≡ g
 level_same f g h = fun_ext (λ x. fun_ext (h x))
 
-pub known_unfolds : (m : Note) (x y : Place) → known_level m x y ≡ level_between (m.said x) (m.said y) (same_place x y) (m.level x y)
+pub known_unfolds : (m : Note) (x y : Variable) → known_level m x y ≡ level_between (m.said x) (m.said y) (same_variable x y) (m.level x y)
 unfolding known_level
 known_unfolds m x y = refl
 
 -- the rows of a stored note have all that it knows
-pub known_is : (said : List Said) (rows : List Row) (side : Bool) → TellsRanges said rows → (x y : Place) →
-    known_level (made said rows side) x y ≡ level_of rows (place_number x) (place_number y)
+pub known_is : (said : List Said) (rows : List Row) (side : Bool) → TellsRanges said rows → (x y : Variable) →
+    known_level (made said rows side) x y ≡ level_of rows (variable_number x) (variable_number y)
 unfolding known_level
-known_is said rows side h x y = h (place_number x) (place_number y) (below_places x) (below_places y)
+known_is said rows side h x y = h (variable_number x) (variable_number y) (below_variables x) (below_variables y)
 
 -- a note is stored where the same is said, and the rows have what it knows
-pub closure_is : (said : List Said) (rows : List Row) (side : Bool) (m : Note) → ((x : Place) → get_or said (place_number x) Nothing ≡ m.said x) →
-    ((x y : Place) → level_of rows (place_number x) (place_number y) ≡ known_level m x y) → side ≡ m.side → made said rows side ≡ closure m
+pub closure_is : (said : List Said) (rows : List Row) (side : Bool) (m : Note) → ((x : Variable) → get_or said (variable_number x) Nothing ≡ m.said x) →
+    ((x y : Variable) → level_of rows (variable_number x) (variable_number y) ≡ known_level m x y) → side ≡ m.side → made said rows side ≡ closure m
 unfolding closure
 closure_is said rows side m hs hl e = note_same _ _ (fun_ext hs) (level_same _ _ hl) e
 
@@ -68,16 +68,16 @@ level_two rows x y =
     let k = bit_at-lt row.below y in
     omega (arith, h, k)
 
-pub stored_two : (a : Stored) (x y : Place) → known_level (note_of a) x y ≤ 2
-stored_two a x y = let e = known_is a.said a.rows a.side a.ranges x y in let h = level_two a.rows (place_number x) (place_number y) in omega (arith, e, h)
+pub stored_two : (a : Stored) (x y : Variable) → known_level (note_of a) x y ≤ 2
+stored_two a x y = let e = known_is a.said a.rows a.side a.ranges x y in let h = level_two a.rows (variable_number x) (variable_number y) in omega (arith, e, h)
 
 pub stored_same : (a : Stored) → note_of a ≡ closure (note_of a)
 stored_same a = stored_is_closed a.said a.rows a.side a.ranges
 
-pub trust_is : (a : Stored) (r : Register) (side : Bool) → side ≡ (a.side || implies (get_or a.said (place_number (place.Register r)) Nothing)) →
+pub trust_is : (a : Stored) (r : Register) (side : Bool) → side ≡ (a.side || implies (get_or a.said (variable_number (variable.Register r)) Nothing)) →
     made a.said a.rows side ≡ closure (refine_flag (note_of a) r)
 unfolding refine_flag known_level
-trust_is a r side e = closure_is a.said a.rows side _ (λ x. refl) (λ x y. sym (a.ranges (place_number x) (place_number y) (below_places x) (below_places y))) e
+trust_is a r side e = closure_is a.said a.rows side _ (λ x. refl) (λ x y. sym (a.ranges (variable_number x) (variable_number y) (below_variables x) (below_variables y))) e
 
 max_twice : (l r : ℕ) → max (max l r) r ≡ max l r
 max_twice l r = omega arith
@@ -93,7 +93,7 @@ known_twice (Implies i) t same level = refl
 
 -- rows of what is known tell the ranges
 pub rows_tell : (said : List Said) (rows : List Row) (level : ℕ → ℕ → ℕ) →
-    ((x y : ℕ) → x < PLACES → y < PLACES → level_of rows x y ≡ level_between (get_or said x Nothing) (get_or said y Nothing) (nat_eq x y) (level x y)) →
+    ((x y : ℕ) → x < VARIABLES → y < VARIABLES → level_of rows x y ≡ level_between (get_or said x Nothing) (get_or said y Nothing) (nat_eq x y) (level x y)) →
     TellsRanges said rows
 rows_tell said rows level h x y lx ly =
     let e = h x y lx ly in
@@ -101,11 +101,11 @@ rows_tell said rows level h x y lx ly =
 
 -- the note that says this and has these levels
 pub new_is : (said : List Said) (rows : List Row) (levels : ℕ → ℕ → ℕ) (side : Bool) →
-    ((x y : ℕ) → x < PLACES → y < PLACES → level_of rows x y ≡ level_between (get_or said x Nothing) (get_or said y Nothing) (nat_eq x y) (levels x y)) →
-    made said rows side ≡ closure (record { said = λ x. get_or said (place_number x) Nothing; level = λ x y. levels (place_number x) (place_number y); side = side })
+    ((x y : ℕ) → x < VARIABLES → y < VARIABLES → level_of rows x y ≡ level_between (get_or said x Nothing) (get_or said y Nothing) (nat_eq x y) (levels x y)) →
+    made said rows side ≡ closure (record { said = λ x. get_or said (variable_number x) Nothing; level = λ x y. levels (variable_number x) (variable_number y); side = side })
 unfolding known_level
 new_is said rows levels side h =
-    closure_is said rows side _ (λ x. refl) (λ x y. h (place_number x) (place_number y) (below_places x) (below_places y)) refl
+    closure_is said rows side _ (λ x. refl) (λ x y. h (variable_number x) (variable_number y) (below_variables x) (below_variables y)) refl
 
 -- a wider range tells less
 range_less : (hi most lo least : ℕ) → hi ≤ most → least ≤ lo → range_level most least ≤ range_level hi lo
@@ -132,19 +132,19 @@ both_known (Implies i) Nothing t v p q same j k x y = omega (arith, x)
 both_known (Implies i) (Between e f) t v p q same j k x y = omega (arith, x)
 both_known (Implies i) (Implies l) t v p q same j k x y = omega (arith, x)
 
--- the places of a join are those of both notes
+-- the variables of a join are those of both notes
 abbrev SaidByBoth : Stored → Stored → List Said → Type 0
-SaidByBoth a b said = (x : ℕ) → x < PLACES → get_or said x Nothing ≡ join_said (with_side a.side (get_or a.said x Nothing)) (with_side b.side (get_or b.said x Nothing))
+SaidByBoth a b said = (x : ℕ) → x < VARIABLES → get_or said x Nothing ≡ join_said (with_side a.side (get_or a.said x Nothing)) (with_side b.side (get_or b.said x Nothing))
 
 -- and its levels are the lesser ones
 abbrev LevelsOfBoth : Stored → Stored → List Row → Type 0
-LevelsOfBoth a b rows = (x y : ℕ) → x < PLACES → y < PLACES → level_of rows x y ≡ min (level_of a.rows x y) (level_of b.rows x y)
+LevelsOfBoth a b rows = (x y : ℕ) → x < VARIABLES → y < VARIABLES → level_of rows x y ≡ min (level_of a.rows x y) (level_of b.rows x y)
 
 pub join_is : (a b : Stored) (said : List Said) (rows : List Row) (side : Bool) → SaidByBoth a b said → LevelsOfBoth a b rows →
     side ≡ (a.side && b.side) → made said rows side ≡ join (note_of a) (note_of b)
 unfolding join said_with_side
 join_is a b said rows side hs hl e =
-    note_same _ _ (fun_ext (λ x. hs (place_number x) (below_places x))) (level_same _ _ (λ x y. hl (place_number x) (place_number y) (below_places x) (below_places y) ∙ least_same (known_is a.said a.rows a.side a.ranges x y) (known_is b.said b.rows b.side b.ranges x y))) e
+    note_same _ _ (fun_ext (λ x. hs (variable_number x) (below_variables x))) (level_same _ _ (λ x y. hl (variable_number x) (variable_number y) (below_variables x) (below_variables y) ∙ least_same (known_is a.said a.rows a.side a.ranges x y) (known_is b.said b.rows b.side b.ranges x y))) e
   where
     least_same : {i j k l : ℕ} → i ≡ j → k ≡ l → min j l ≡ min i k
     least_same p q = λ z. min (sym p z) (sym q z)
@@ -155,8 +155,8 @@ join_tells a b said rows hs hl x y lx ly =
 
 -- columns whose levels are the lesser ones are those of rows whose levels are
 pub join_back : (a b : Stored) (rows columns : List Row) →
-    ((x y : ℕ) → x < PLACES → y < PLACES → level_of rows x y ≡ min (level_of a.rows x y) (level_of b.rows x y)) →
-    ((x y : ℕ) → x < PLACES → y < PLACES → level_of columns x y ≡ min (level_of a.columns x y) (level_of b.columns x y)) →
+    ((x y : ℕ) → x < VARIABLES → y < VARIABLES → level_of rows x y ≡ min (level_of a.rows x y) (level_of b.rows x y)) →
+    ((x y : ℕ) → x < VARIABLES → y < VARIABLES → level_of columns x y ≡ min (level_of a.columns x y) (level_of b.columns x y)) →
     IsTransposed rows columns
 join_back a b rows columns h k x y lx ly =
     let e = h x y lx ly in
@@ -178,7 +178,7 @@ pub join_itself_tells : (a : Stored) (said : List Said) → SaidByBoth a a said 
 join_itself_tells a said h = join_tells a a said a.rows h (λ x y lx ly. least (level_of a.rows x y))
 
 -- the rows after a write
-module _ (a : Stored) (d : ℕ) (s : Said) (to from : ℕ → ℕ) (rows : List Row) (row column : ℕ → ℕ) (inside : d < PLACES) (places : length a.said ≡ PLACES) (hr : (y : ℕ) → y < PLACES → row y ≡ level_between (get_or (set a.said d s) d Nothing) (get_or (set a.said d s) y Nothing) (nat_eq d y) (to y)) (hc : (x : ℕ) → x < PLACES → column x ≡ level_between (get_or (set a.said d s) x Nothing) (get_or (set a.said d s) d Nothing) (nat_eq x d) (from x)) (h : (x y : ℕ) → x < PLACES → y < PLACES → level_of rows x y ≡ cond (nat_eq x d) (row y) (cond (nat_eq y d) (column x) (level_of a.rows x y))) where
+module _ (a : Stored) (d : ℕ) (s : Said) (to from : ℕ → ℕ) (rows : List Row) (row column : ℕ → ℕ) (inside : d < VARIABLES) (variables : length a.said ≡ VARIABLES) (hr : (y : ℕ) → y < VARIABLES → row y ≡ level_between (get_or (set a.said d s) d Nothing) (get_or (set a.said d s) y Nothing) (nat_eq d y) (to y)) (hc : (x : ℕ) → x < VARIABLES → column x ≡ level_between (get_or (set a.said d s) x Nothing) (get_or (set a.said d s) d Nothing) (nat_eq x d) (from x)) (h : (x y : ℕ) → x < VARIABLES → y < VARIABLES → level_of rows x y ≡ cond (nat_eq x d) (row y) (cond (nat_eq y d) (column x) (level_of a.rows x y))) where
   abbrev level : ℕ → ℕ → ℕ
   level x y = cond (nat_eq x d) (to y) (cond (nat_eq y d) (from x) (level_of a.rows x y))
 
@@ -186,36 +186,36 @@ module _ (a : Stored) (d : ℕ) (s : Said) (to from : ℕ → ℕ) (rows : List 
   now x = get_or (set a.said d s) x Nothing
 
   other : (x : ℕ) → nat_eq x d ≡ false → now x ≡ get_or a.said x Nothing
-  other x e = said_set a.said d s (omega (arith, inside, places)) x false e
+  other x e = said_set a.said d s (omega (arith, inside, variables)) x false e
 
-  after_level : (x y : ℕ) → x < PLACES → y < PLACES → (b c : Bool) → nat_eq x d ≡ b → nat_eq y d ≡ c →
+  after_level : (x y : ℕ) → x < VARIABLES → y < VARIABLES → (b c : Bool) → nat_eq x d ≡ b → nat_eq y d ≡ c →
       cond b (row y) (cond c (column x) (level_of a.rows x y)) ≡ level_between (now x) (now y) (nat_eq x y) (cond b (to y) (cond c (from x) (level_of a.rows x y)))
   after_level x y lx ly true c e f = let same : x ≡ d = eqb-true x d e in rw same (hr y ly)
   after_level x y lx ly false true e f = let same : y ≡ d = eqb-true y d f in rw same (hc x lx)
   after_level x y lx ly false false e f = rw (other x e, other y f) (sym (a.ranges x y lx ly))
 
-  after_known : (x y : ℕ) → x < PLACES → y < PLACES → level_of rows x y ≡ level_between (now x) (now y) (nat_eq x y) (level x y)
+  after_known : (x y : ℕ) → x < VARIABLES → y < VARIABLES → level_of rows x y ≡ level_between (now x) (now y) (nat_eq x y) (level x y)
   after_known x y lx ly = h x y lx ly ∙ after_level x y lx ly (nat_eq x d) (nat_eq y d) refl refl
 
   pub after_tells : TellsRanges (set a.said d s) rows
   after_tells = rows_tell (set a.said d s) rows level after_known
 
-  pub after_is : (r : Register) (below above : Place → ℕ) → d ≡ place_number (place.Register r) → ((y : Place) → to (place_number y) ≡ below y) →
-      ((x : Place) → from (place_number x) ≡ above x) → made (set a.said d s) rows a.side ≡ closure (assign (note_of a) r s below above)
+  pub after_is : (r : Register) (below above : Variable → ℕ) → d ≡ variable_number (variable.Register r) → ((y : Variable) → to (variable_number y) ≡ below y) →
+      ((x : Variable) → from (variable_number x) ≡ above x) → made (set a.said d s) rows a.side ≡ closure (assign (note_of a) r s below above)
   unfolding assign update known_level
-  after_is r below above ed eto efrom = closure_is (set a.said d s) rows a.side _ said_now (λ x y. after_known (place_number x) (place_number y) (is_below x) (is_below y) ∙ at x y) refl
+  after_is r below above ed eto efrom = closure_is (set a.said d s) rows a.side _ said_now (λ x y. after_known (variable_number x) (variable_number y) (is_below x) (is_below y) ∙ at x y) refl
     where
-      is_below : (x : Place) → place_number x < PLACES
-      is_below = below_places
+      is_below : (x : Variable) → variable_number x < VARIABLES
+      is_below = below_variables
 
-      said_now : (x : Place) → now (place_number x) ≡ cond (nat_eq (place_number x) (place_number (place.Register r))) s (get_or a.said (place_number x) Nothing)
-      said_now x = said_set a.said d s (omega (arith, inside, places)) (place_number x) (nat_eq (place_number x) d) refl ∙ ap (λ k. cond (nat_eq (place_number x) k) s (get_or a.said (place_number x) Nothing)) ed
+      said_now : (x : Variable) → now (variable_number x) ≡ cond (nat_eq (variable_number x) (variable_number (variable.Register r))) s (get_or a.said (variable_number x) Nothing)
+      said_now x = said_set a.said d s (omega (arith, inside, variables)) (variable_number x) (nat_eq (variable_number x) d) refl ∙ ap (λ k. cond (nat_eq (variable_number x) k) s (get_or a.said (variable_number x) Nothing)) ed
 
-      at : (x y : Place) → level_between (now (place_number x)) (now (place_number y)) (nat_eq (place_number x) (place_number y)) (level (place_number x) (place_number y))
+      at : (x y : Variable) → level_between (now (variable_number x)) (now (variable_number y)) (nat_eq (variable_number x) (variable_number y)) (level (variable_number x) (variable_number y))
           ≡ known_level (assign (note_of a) r s below above) x y
-      at x y = λ i. level_between (said_now x i) (said_now y i) (nat_eq (place_number x) (place_number y)) (cond (nat_eq (place_number x) (ed i)) (eto y i) (cond (nat_eq (place_number y) (ed i)) (efrom x i) (level_of a.rows (place_number x) (place_number y))))
+      at x y = λ i. level_between (said_now x i) (said_now y i) (nat_eq (variable_number x) (variable_number y)) (cond (nat_eq (variable_number x) (ed i)) (eto y i) (cond (nat_eq (variable_number y) (ed i)) (efrom x i) (level_of a.rows (variable_number x) (variable_number y))))
 
--- a place to itself
+-- a variable to itself
 pub corner : (s : Said) (d j k : ℕ) → level_between s s (nat_eq d d) j ≡ level_between s s (nat_eq d d) k
 corner s d j k = at s (nat_eq d d) (grind arith)
   where
@@ -227,8 +227,8 @@ corner s d j k = at s (nat_eq d d) (grind arith)
 
 -- the columns after a write are its rows the other way round
 pub after_back : (a : Stored) (d : ℕ) (rows columns : List Row) (row column : ℕ → ℕ) → row d ≡ column d →
-    ((x y : ℕ) → x < PLACES → y < PLACES → level_of rows x y ≡ cond (nat_eq x d) (row y) (cond (nat_eq y d) (column x) (level_of a.rows x y))) →
-    ((x y : ℕ) → x < PLACES → y < PLACES → level_of columns x y ≡ cond (nat_eq x d) (column y) (cond (nat_eq y d) (row x) (level_of a.columns x y))) →
+    ((x y : ℕ) → x < VARIABLES → y < VARIABLES → level_of rows x y ≡ cond (nat_eq x d) (row y) (cond (nat_eq y d) (column x) (level_of a.rows x y))) →
+    ((x y : ℕ) → x < VARIABLES → y < VARIABLES → level_of columns x y ≡ cond (nat_eq x d) (column y) (cond (nat_eq y d) (row x) (level_of a.columns x y))) →
     IsTransposed rows columns
 after_back a d rows columns row column e h k x y lx ly = k y x ly lx ∙ at (nat_eq x d) (nat_eq y d) refl refl ∙ sym (h x y lx ly)
   where
@@ -283,11 +283,11 @@ swap l x y c false true e f = absurd (eqb-false y x e (sym (eqb-true x y f)))
 swap l x y c false false e f = refl
 
 -- the rows once something is learnt
-module _ (a : Stored) (p q k : ℕ) (rows : List Row) (lp : p < PLACES) (lq : q < PLACES) (h : (x y : ℕ) → x < PLACES → y < PLACES → level_of rows x y ≡ cond (nat_eq y x) (level_of a.rows x x) (max (level_of a.rows x y) (chain (level_of a.columns p x) k (level_of a.rows q y)))) where
+module _ (a : Stored) (p q k : ℕ) (rows : List Row) (lp : p < VARIABLES) (lq : q < VARIABLES) (h : (x y : ℕ) → x < VARIABLES → y < VARIABLES → level_of rows x y ≡ cond (nat_eq y x) (level_of a.rows x x) (max (level_of a.rows x y) (chain (level_of a.columns p x) k (level_of a.rows q y)))) where
   abbrev more : ℕ → ℕ → ℕ
   more x y = max (level_of a.rows x y) (chain (level_of a.columns p x) k (level_of a.rows q y))
 
-  learn_known : (x y : ℕ) → x < PLACES → y < PLACES → level_of rows x y ≡ level_between (get_or a.said x Nothing) (get_or a.said y Nothing) (nat_eq x y) (more x y)
+  learn_known : (x y : ℕ) → x < VARIABLES → y < VARIABLES → level_of rows x y ≡ level_between (get_or a.said x Nothing) (get_or a.said y Nothing) (nat_eq x y) (more x y)
   learn_known x y lx ly =
       h x y lx ly ∙ swap (level_of a.rows) x y _ (nat_eq y x) (nat_eq x y) refl refl
       ∙ learn_level (get_or a.said x Nothing) (get_or a.said y Nothing) (get_or a.said p Nothing) (get_or a.said q Nothing) (nat_eq x y) (nat_eq x p) (nat_eq q y) (level_of a.rows x y) (level_of a.columns p x) (level_of a.rows q y) k (level_of a.rows x p) (level_of a.rows q y) (a.ranges x y lx ly) (a.transposed x p lx lp ∙ sym (a.ranges x p lx lp)) (sym (a.ranges q y lq ly))
@@ -295,26 +295,26 @@ module _ (a : Stored) (p q k : ℕ) (rows : List Row) (lp : p < PLACES) (lq : q 
   pub learn_tells : TellsRanges a.said rows
   learn_tells = rows_tell a.said rows more learn_known
 
-  module _ (u v : Place) (eu : p ≡ place_number u) (ev : q ≡ place_number v) where
-    known_refined : (x y : Place) → known_level (refine_order (note_of a) u v k) x y ≡ level_between (get_or a.said (place_number x) Nothing) (get_or a.said (place_number y) Nothing) (same_place x y) (more (place_number x) (place_number y))
+  module _ (u v : Variable) (eu : p ≡ variable_number u) (ev : q ≡ variable_number v) where
+    known_refined : (x y : Variable) → known_level (refine_order (note_of a) u v k) x y ≡ level_between (get_or a.said (variable_number x) Nothing) (get_or a.said (variable_number y) Nothing) (same_variable x y) (more (variable_number x) (variable_number y))
     unfolding refine_order
     known_refined x y =
         known_unfolds (refine_order (note_of a) u v k) x y
-        ∙ alike (get_or a.said (place_number x) Nothing) (get_or a.said (place_number y) Nothing) (same_place x y) (level_of a.rows (place_number x) (place_number y))
-        (known_is a.said a.rows a.side a.ranges x u ∙ sym (ap (level_of a.rows (place_number x)) eu) ∙ sym (a.transposed (place_number x) p (below_places x) lp))
-        (known_is a.said a.rows a.side a.ranges v y ∙ sym (ap (λ z. level_of a.rows z (place_number y)) ev))
+        ∙ alike (get_or a.said (variable_number x) Nothing) (get_or a.said (variable_number y) Nothing) (same_variable x y) (level_of a.rows (variable_number x) (variable_number y))
+        (known_is a.said a.rows a.side a.ranges x u ∙ sym (ap (level_of a.rows (variable_number x)) eu) ∙ sym (a.transposed (variable_number x) p (below_variables x) lp))
+        (known_is a.said a.rows a.side a.ranges v y ∙ sym (ap (λ z. level_of a.rows z (variable_number y)) ev))
       where
         alike : (s t : Said) (same : Bool) (l : ℕ) {i j m n : ℕ} → i ≡ j → m ≡ n → level_between s t same (max l (chain i k m)) ≡ level_between s t same (max l (chain j k n))
         alike s t same l e f = λ z. level_between s t same (max l (chain (e z) k (f z)))
 
     pub learn_is : made a.said rows a.side ≡ closure (refine_order (note_of a) u v k)
     unfolding refine_order
-    learn_is = closure_is a.said rows a.side _ (λ x. refl) (λ x y. learn_known (place_number x) (place_number y) (below_places x) (below_places y) ∙ sym (known_refined x y)) refl
+    learn_is = closure_is a.said rows a.side _ (λ x. refl) (λ x y. learn_known (variable_number x) (variable_number y) (below_variables x) (below_variables y) ∙ sym (known_refined x y)) refl
 
 -- the columns once something is learnt are its rows the other way round
 pub learn_back : (a : Stored) (p q k : ℕ) (rows columns : List Row) →
-    ((x y : ℕ) → x < PLACES → y < PLACES → level_of rows x y ≡ cond (nat_eq y x) (level_of a.rows x x) (max (level_of a.rows x y) (chain (level_of a.columns p x) k (level_of a.rows q y)))) →
-    ((x y : ℕ) → x < PLACES → y < PLACES → level_of columns x y ≡ cond (nat_eq y x) (level_of a.columns x x) (max (level_of a.columns x y) (chain (level_of a.rows q x) k (level_of a.columns p y)))) →
+    ((x y : ℕ) → x < VARIABLES → y < VARIABLES → level_of rows x y ≡ cond (nat_eq y x) (level_of a.rows x x) (max (level_of a.rows x y) (chain (level_of a.columns p x) k (level_of a.rows q y)))) →
+    ((x y : ℕ) → x < VARIABLES → y < VARIABLES → level_of columns x y ≡ cond (nat_eq y x) (level_of a.columns x x) (max (level_of a.columns x y) (chain (level_of a.rows q x) k (level_of a.columns p y)))) →
     IsTransposed rows columns
 learn_back a p q k rows columns h g x y lx ly =
     g y x ly lx ∙ swap (level_of a.columns) y x _ (nat_eq x y) (nat_eq y x) refl refl
@@ -332,11 +332,11 @@ learn_back a p q k rows columns h g x y lx ly =
 
 -- the note of the first instruction
 abbrev AreEntryLevels : List (List ℕ) → Type 0
-AreEntryLevels levels = (x y : Place) → get_or (get_or levels (place_number x) []) (place_number y) 0 ≡ entry_level x y
+AreEntryLevels levels = (x y : Variable) → get_or (get_or levels (variable_number x) []) (variable_number y) 0 ≡ entry_level x y
 
-pub entry_is : (kind : Kind) (said : List Said) (levels : List (List ℕ)) → ((x : Place) → get_or said (place_number x) Nothing ≡ entry_said kind x) →
+pub entry_is : (kind : Kind) (said : List Said) (levels : List (List ℕ)) → ((x : Variable) → get_or said (variable_number x) Nothing ≡ entry_said kind x) →
     AreEntryLevels levels →
-    closure (record { said = λ x. get_or said (place_number x) Nothing; level = λ x y. get_or (get_or levels (place_number x) []) (place_number y) 0; side = false }) ≡ closure (entry kind)
+    closure (record { said = λ x. get_or said (variable_number x) Nothing; level = λ x y. get_or (get_or levels (variable_number x) []) (variable_number y) 0; side = false }) ≡ closure (entry kind)
 unfolding entry
 entry_is kind said levels h k = ap closure (note_same _ _ (fun_ext h) (level_same _ _ k) refl)
 
@@ -348,38 +348,38 @@ entry_small (Between a b) (Implies i) same l h = omega arith
 entry_small Nothing t same l h = omega arith
 entry_small (Implies i) t same l h = omega arith
 
-entry_one : (x y : Place) → entry_level x y ≤ 1
-entry_one (place.Input Speed) (place.Input Limit) = omega arith
-entry_one (place.Input Headspeed) (place.Input Limit) = omega arith
+entry_one : (x y : Variable) → entry_level x y ≤ 1
+entry_one (variable.Input Speed) (variable.Input Limit) = omega arith
+entry_one (variable.Input Headspeed) (variable.Input Limit) = omega arith
 entry_one x y = omega arith
 
 pub entry_fits : (said : List Said) (levels : List (List ℕ)) → AreEntryLevels levels → AreLevels said levels
 entry_fits said levels h x y lx ly =
     at_numbers (λ j. known_with said j y (level_at levels j y) ≤ 2)
-    (λ u. at_numbers (λ k. known_with said (place_number u) k (level_at levels (place_number u) k) ≤ 2)
-    (λ v. subst (λ z. known_with said (place_number u) (place_number v) z ≤ 2) (sym (h u v)) (entry_small _ _ _ (entry_level u v) (entry_one u v))) y ly)
+    (λ u. at_numbers (λ k. known_with said (variable_number u) k (level_at levels (variable_number u) k) ≤ 2)
+    (λ v. subst (λ z. known_with said (variable_number u) (variable_number v) z ≤ 2) (sym (h u v)) (entry_small _ _ _ (entry_level u v) (entry_one u v))) y ly)
     x lx
 
 -- one note is no stronger than another where the tables say no more
 pub no_stronger : (m n : Stored) →
-    ((x : ℕ) → x < PLACES → SaysNoMore (with_side m.side (get_or m.said x Nothing)) (with_side n.side (get_or n.said x Nothing))) →
-    ((x y : ℕ) → x < PLACES → y < PLACES → level_of m.rows x y ≤ level_of n.rows x y) → (IsTrue m.side → IsTrue n.side) →
+    ((x : ℕ) → x < VARIABLES → SaysNoMore (with_side m.side (get_or m.said x Nothing)) (with_side n.side (get_or n.said x Nothing))) →
+    ((x y : ℕ) → x < VARIABLES → y < VARIABLES → level_of m.rows x y ≤ level_of n.rows x y) → (IsTrue m.side → IsTrue n.side) →
     IsNoStronger (note_of m) (note_of n)
 unfolding said_with_side
 no_stronger m n f g h = record {
-  said = λ x. f (place_number x) (below_places x);
-  order = λ x y. let l = g (place_number x) (place_number y) (below_places x) (below_places y) in omega (arith, l, known_is m.said m.rows m.side m.ranges x y, known_is n.said n.rows n.side n.ranges x y);
+  said = λ x. f (variable_number x) (below_variables x);
+  order = λ x y. let l = g (variable_number x) (variable_number y) (below_variables x) (below_variables y) in omega (arith, l, known_is m.said m.rows m.side m.ranges x y, known_is n.said n.rows n.side n.ranges x y);
   beside = h;
 }
 
-pub no_stronger_said : (m n : Stored) → IsNoStronger (note_of m) (note_of n) → (x : ℕ) → x < PLACES →
+pub no_stronger_said : (m n : Stored) → IsNoStronger (note_of m) (note_of n) → (x : ℕ) → x < VARIABLES →
     SaysNoMore (with_side m.side (get_or m.said x Nothing)) (with_side n.side (get_or n.said x Nothing))
 unfolding said_with_side
 no_stronger_said m n h = at_numbers (λ x. SaysNoMore (with_side m.side (get_or m.said x Nothing)) (with_side n.side (get_or n.said x Nothing))) h.said
 
-pub no_stronger_levels : (m n : Stored) → IsNoStronger (note_of m) (note_of n) → (x y : ℕ) → x < PLACES → y < PLACES → level_of m.rows x y ≤ level_of n.rows x y
+pub no_stronger_levels : (m n : Stored) → IsNoStronger (note_of m) (note_of n) → (x y : ℕ) → x < VARIABLES → y < VARIABLES → level_of m.rows x y ≤ level_of n.rows x y
 no_stronger_levels m n h x y lx ly =
     at_numbers (λ j. level_of m.rows j y ≤ level_of n.rows j y)
-    (λ u. at_numbers (λ k. level_of m.rows (place_number u) k ≤ level_of n.rows (place_number u) k)
+    (λ u. at_numbers (λ k. level_of m.rows (variable_number u) k ≤ level_of n.rows (variable_number u) k)
     (λ v. omega (arith, h.order u v, known_is m.said m.rows m.side m.ranges u v, known_is n.said n.rows n.side n.ranges u v)) y ly)
     x lx

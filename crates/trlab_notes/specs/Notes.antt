@@ -3,32 +3,32 @@ use Rattle.std.specs.Prelude.{ℕ, ◌||◌, max, Bool, true, false, Option, Som
 use Rattle.trlab_code.specs.declared.kind.Kind.{Kind}
 use Rattle.trlab_code.specs.declared.instruction.Input.{Input}
 use Rattle.trlab_code.specs.declared.instruction.Input.TheVariants.{Speed, Limit, Gap, SideGap, SideBack, Lane, Headspeed}
-use Rattle.trlab_code.specs.declared.instruction.Place.{Place}
-use Rattle.trlab_code.specs.declared.instruction.Place.TheVariants as place
+use Rattle.trlab_code.specs.declared.instruction.Variable.{Variable}
+use Rattle.trlab_code.specs.declared.instruction.Variable.TheVariants as variable
 use Rattle.trlab_bounds.specs.declared.roads.TheConstants.{GREATEST_LIMIT, GREATEST_GAP}
-use Rattle.trlab_code.specs.Machine.{place_number, allows_input}
+use Rattle.trlab_code.specs.Machine.{variable_number, allows_input}
 use Rattle.trlab_notes.specs.declared.note.Said.{Said}
 use Rattle.trlab_notes.specs.declared.note.Said.TheVariants.{Nothing, Between, Implies}
 
--- An abstract state: what is said of each place, the level of each place to each, and whether the side cell
+-- An abstract state: what is said of each variable, the level of each variable to each, and whether the side cell
 -- is known to be empty. Level 0 says nothing, 1 that one is at most the other, 2 that it is below.
 pub record Note : Type 0 where
-  pub said : Place → Said
-  pub level : Place → Place → ℕ
+  pub said : Variable → Said
+  pub level : Variable → Variable → ℕ
   pub side : Bool
 
--- whether two places are one
-abbrev pub same_place : Place → Place → Bool
-same_place x y = nat_eq (place_number x) (place_number y)
+-- whether two variables are one
+abbrev pub same_variable : Variable → Variable → Bool
+same_variable x y = nat_eq (variable_number x) (variable_number y)
 
--- what is said of a place; where the side cell is known to be empty, each flag implies that it is
+-- what is said of a variable; where the side cell is known to be empty, each flag implies that it is
 abbrev pub with_side : Bool → Said → Said
 with_side side Nothing = Nothing
 with_side side (Between lo hi) = Between lo hi
 with_side side (Implies imp) = Implies (imp || side)
 
--- what a note says of a place, the side cell considered
-unfoldable pub said_with_side : Note → Place → Said
+-- what a note says of a variable, the side cell considered
+unfoldable pub said_with_side : Note → Variable → Said
 said_with_side note x = with_side note.side (note.said x)
 
 -- the lower end of a range
@@ -50,15 +50,15 @@ implies _ = false
 abbrev pub range_level : ℕ → ℕ → ℕ
 range_level hi lo = if nat_lt hi lo then 2 else (if nat_le hi lo then 1 else 0)
 
--- the level of two numbers: 1 at one place, else the greater of the stored one and that of the ranges
+-- the level of two numbers: 1 at one variable, else the greater of the stored one and that of the ranges
 abbrev pub level_between : Said → Said → Bool → ℕ → ℕ
 level_between (Between lx hx) (Between ly hy) true level = 1
 level_between (Between lx hx) (Between ly hy) false level = max level (range_level hx ly)
 level_between _ _ same level = 0
 
--- the known level of one place to another; 0 where one of them holds no number
-unfoldable pub known_level : Note → Place → Place → ℕ
-known_level note x y = level_between (note.said x) (note.said y) (same_place x y) (note.level x y)
+-- the known level of one variable to another; 0 where one of them holds no number
+unfoldable pub known_level : Note → Variable → Variable → ℕ
+known_level note x y = level_between (note.said x) (note.said y) (same_variable x y) (note.level x y)
 
 -- the closure of a note: all that it knows of the order is in its levels; it knows no more and no less
 unfoldable pub closure : Note → Note
@@ -79,15 +79,15 @@ input_range SideBack = Between 0 GREATEST_GAP
 input_range Lane = Between 0 1
 input_range Headspeed = Between 0 GREATEST_LIMIT
 
--- what is said of a place at the start: no register is set, and the inputs of the kind have their ranges
-abbrev pub entry_said : Kind → Place → Said
-entry_said kind (place.Register r) = Nothing
-entry_said kind (place.Input k) = if allows_input kind k then input_range k else Nothing
+-- what is said of a variable at the start: no register is set, and the inputs of the kind have their ranges
+abbrev pub entry_said : Kind → Variable → Said
+entry_said kind (variable.Register r) = Nothing
+entry_said kind (variable.Input k) = if allows_input kind k then input_range k else Nothing
 
--- the level of two places at the start: the speed and that of the car ahead are at most the limit
-abbrev pub entry_level : Place → Place → ℕ
-entry_level (place.Input Speed) (place.Input Limit) = 1
-entry_level (place.Input Headspeed) (place.Input Limit) = 1
+-- the level of two variables at the start: the speed and that of the car ahead are at most the limit
+abbrev pub entry_level : Variable → Variable → ℕ
+entry_level (variable.Input Speed) (variable.Input Limit) = 1
+entry_level (variable.Input Headspeed) (variable.Input Limit) = 1
 entry_level _ _ = 0
 
 -- the note of the first instruction

@@ -5,7 +5,7 @@ use Rattle.trlab_code.specs.declared.kind.Kind.{Kind}
 use Rattle.trlab_code.specs.declared.instruction.Register.{Register}
 use Rattle.trlab_code.specs.declared.instruction.Input.{Input}
 use Rattle.trlab_code.specs.declared.instruction.Input.TheVariants.{Limit, Gap}
-use Rattle.trlab_code.specs.declared.instruction.Place.TheVariants as place
+use Rattle.trlab_code.specs.declared.instruction.Variable.TheVariants as variable
 use Rattle.trlab_code.specs.declared.instruction.Instr.{Instr}
 use Rattle.trlab_code.specs.declared.instruction.Instr.TheVariants.{Add, Sub, Mul, Div, Min, Max, Not, And, Or, Copy, JumpLess, JumpAtMost, JumpTrue, JumpFalse, Go, Cross}
 use Rattle.trlab_bounds.specs.declared.programs.TheConstants.{GREATEST_NUMBER}
@@ -73,7 +73,7 @@ abbrev pub other_operands : Instr → List Register
 other_operands (Copy d a) = a ∷ []
 other_operands _ = []
 
--- nothing is said: the place may be unset
+-- nothing is said: the variable may be unset
 abbrev pub is_nothing : Said → Bool
 is_nothing Nothing = true
 is_nothing _ = false
@@ -124,7 +124,7 @@ may_be_below_zero m _ = false
 
 -- a `go` whose speed is not known to be at most an input
 abbrev pub may_be_above : Input → Note → Instr → Bool
-may_be_above k m (Go a) = nat_eq (known_level m (place.Register a) (place.Input k)) 0
+may_be_above k m (Go a) = nat_eq (known_level m (variable.Register a) (variable.Input k)) 0
 may_be_above k m _ = false
 
 -- a `cross` where the side cell is not known to be empty

@@ -1,19 +1,19 @@
--- Arrays in the order of the places' numbers: what is said of each place, and levels as numbers and as bits.
+-- Arrays in the order of the variables' numbers: what is said of each variable, and levels as numbers and as bits.
 use Rattle.std.specs.Prelude.{◌≡◌, ℕ, ◌*◌, ◌<◌, ◌≤◌, max, List, [], nat_eq, slice_index, slice_index_or}
 use Rattle.std.specs.Int.{bit_at}
-use Rattle.trlab_bounds.specs.declared.programs.TheConstants.{PLACES}
-use Rattle.trlab_code.specs.declared.instruction.Place.{Place}
-use Rattle.trlab_code.specs.Machine.{place_number}
+use Rattle.trlab_bounds.specs.declared.programs.TheConstants.{VARIABLES}
+use Rattle.trlab_code.specs.declared.instruction.Variable.{Variable}
+use Rattle.trlab_code.specs.Machine.{variable_number}
 use Rattle.trlab_notes.specs.declared.note.Said.{Said}
 use Rattle.trlab_notes.specs.declared.note.Said.TheVariants.{Nothing}
 use Rattle.trlab_notes.specs.declared.rows.Row.{Row}
 use Rattle.trlab_notes.specs.Notes.{level_between}
 
--- the level of a row to y: 2 for a place that is below, else 1 for one that is at most
+-- the level of a row to y: 2 for a variable that is below, else 1 for one that is at most
 abbrev pub level_in : Row → ℕ → ℕ
 level_in row y = max (bit_at row.at_most y) (2 * bit_at row.below y)
 
--- the level of x to y, where each place has a row
+-- the level of x to y, where each variable has a row
 abbrev pub level_of : List Row → ℕ → ℕ → ℕ
 level_of rows x y = level_in (slice_index_or rows x (record { at_most = 0; below = 0 })) y
 
@@ -21,28 +21,28 @@ level_of rows x y = level_in (slice_index_or rows x (record { at_most = 0; below
 abbrev pub level_at : List (List ℕ) → ℕ → ℕ → ℕ
 level_at levels x y = slice_index (slice_index_or levels x []) y
 
--- what an array says of a place
-abbrev pub said_in : List Said → Place → Said
-said_in said x = slice_index_or said (place_number x) Nothing
+-- what an array says of a variable
+abbrev pub said_in : List Said → Variable → Said
+said_in said x = slice_index_or said (variable_number x) Nothing
 
 -- the levels in an array of rows of levels
-abbrev pub levels_in : List (List ℕ) → Place → Place → ℕ
-levels_in levels x y = level_at levels (place_number x) (place_number y)
+abbrev pub levels_in : List (List ℕ) → Variable → Variable → ℕ
+levels_in levels x y = level_at levels (variable_number x) (variable_number y)
 
--- the known level of the places x and y of which this is said, where they have this level
+-- the known level of the variables x and y of which this is said, where they have this level
 abbrev pub known_with : List Said → ℕ → ℕ → ℕ → ℕ
 known_with said x y level =
     level_between (slice_index_or said x Nothing) (slice_index_or said y Nothing) (nat_eq x y) level
 
--- no level of two places is above 2, as far as it is looked at
+-- no level of two variables is above 2, as far as it is looked at
 abbrev pub AreLevels : List Said → List (List ℕ) → Type 0
-AreLevels said levels = (x y : ℕ) → x < PLACES → y < PLACES → known_with said x y (level_at levels x y) ≤ 2
+AreLevels said levels = (x y : ℕ) → x < VARIABLES → y < VARIABLES → known_with said x y (level_at levels x y) ≤ 2
 
--- the rows tell all that the ranges tell of the order, and nothing of a place that holds no number
+-- the rows tell all that the ranges tell of the order, and nothing of a variable that holds no number
 abbrev pub TellsRanges : List Said → List Row → Type 0
-TellsRanges said rows = (x y : ℕ) → x < PLACES → y < PLACES →
+TellsRanges said rows = (x y : ℕ) → x < VARIABLES → y < VARIABLES →
     known_with said x y (level_of rows x y) ≡ level_of rows x y
 
--- the columns are the rows with the two places exchanged
+-- the columns are the rows with the two variables exchanged
 abbrev pub IsTransposed : List Row → List Row → Type 0
-IsTransposed rows columns = (x y : ℕ) → x < PLACES → y < PLACES → level_of columns y x ≡ level_of rows x y
+IsTransposed rows columns = (x y : ℕ) → x < VARIABLES → y < VARIABLES → level_of columns y x ≡ level_of rows x y

@@ -1,6 +1,6 @@
 -- How the code keeps notes.
 use Rattle.std.specs.Prelude.{ℕ, List, Option, Some, None, slice_index_or}
-use Rattle.trlab_code.specs.Machine.{place_number}
+use Rattle.trlab_code.specs.Machine.{variable_number}
 use Rattle.trlab_notes.specs.declared.stored.Stored.{Stored}
 use Rattle.trlab_notes.specs.Notes.{Note}
 use Rattle.trlab_notes.specs.Rows.{level_of, said_in}
@@ -9,7 +9,7 @@ use Rattle.trlab_notes.specs.Rows.{level_of, said_in}
 abbrev pub note_of : Stored → Note
 note_of stored = record {
   said = said_in stored.said;
-  level = λ x y. level_of stored.rows (place_number x) (place_number y);
+  level = λ x y. level_of stored.rows (variable_number x) (variable_number y);
   side = stored.side;
 }
 

@@ -1,8 +1,8 @@
 -- What an instruction makes of the note before it, on each way that leads on: its abstract semantics.
 use Rattle.std.specs.Prelude.{ℕ, zero, suc, ◌+◌, ◌-◌, ◌*◌, ◌/◌, ◌&&◌, ◌||◌, min, max, Bool, true, false, Option, Some, None, nat_le, if◌then◌else◌}
 use Rattle.trlab_code.specs.declared.instruction.Register.{Register}
-use Rattle.trlab_code.specs.declared.instruction.Place.{Place}
-use Rattle.trlab_code.specs.declared.instruction.Place.TheVariants as place
+use Rattle.trlab_code.specs.declared.instruction.Variable.{Variable}
+use Rattle.trlab_code.specs.declared.instruction.Variable.TheVariants as variable
 use Rattle.trlab_code.specs.declared.instruction.Instr.{Instr}
 use Rattle.trlab_code.specs.declared.instruction.Instr.TheVariants.{Num, Get, Side, Draw, Copy, Add, Sub, Mul, Div, Min, Max, Not, And, Or, Jump, JumpLess, JumpAtMost, JumpTrue, JumpFalse, Go, Cross, Stay}
 use Rattle.trlab_bounds.specs.declared.programs.TheConstants.{GREATEST_NUMBER}
@@ -10,11 +10,11 @@ use Rattle.trlab_code.specs.Machine.{update}
 use Rattle.trlab_code.specs.Flow.{destination}
 use Rattle.trlab_notes.specs.declared.note.Said.{Said}
 use Rattle.trlab_notes.specs.declared.note.Said.TheVariants.{Nothing, Between, Implies}
-use Rattle.trlab_notes.specs.Notes.{Note, same_place, said_with_side, low, high, implies, known_level}
+use Rattle.trlab_notes.specs.Notes.{Note, same_variable, said_with_side, low, high, implies, known_level}
 
 -- what is said of a register
 abbrev pub register_said : Note → Register → Said
-register_said m a = m.said (place.Register a)
+register_said m a = m.said (variable.Register a)
 
 -- the least number that a register can hold
 abbrev pub least : Note → Register → ℕ
@@ -26,19 +26,19 @@ most m a = high (register_said m a)
 
 -- whether the flag in a register implies that the side cell is empty
 abbrev pub flag_implies : Note → Register → Bool
-flag_implies m a = implies (said_with_side m (place.Register a))
+flag_implies m a = implies (said_with_side m (variable.Register a))
 
 -- the known level of one register to another
 abbrev pub register_level : Note → Register → Register → ℕ
-register_level m a b = known_level m (place.Register a) (place.Register b)
+register_level m a b = known_level m (variable.Register a) (variable.Register b)
 
--- the known level of a register to a place
-abbrev pub register_to : Note → Register → Place → ℕ
-register_to m a y = known_level m (place.Register a) y
+-- the known level of a register to a variable
+abbrev pub register_to : Note → Register → Variable → ℕ
+register_to m a y = known_level m (variable.Register a) y
 
--- the known level of a place to a register
-abbrev pub to_register : Note → Place → Register → ℕ
-to_register m y a = known_level m y (place.Register a)
+-- the known level of a variable to a register
+abbrev pub to_register : Note → Variable → Register → ℕ
+to_register m y a = known_level m y (variable.Register a)
 
 -- the level once a number of at least lo is added on the greater side, or taken from the smaller one
 abbrev pub sharpen : ℕ → ℕ → ℕ
@@ -57,10 +57,10 @@ least_difference k = if nat_le 2 k then 1 else 0
 -- what is said of an instruction's result, and nothing where it has none
 abbrev pub result_said : Note → Instr → Said
 result_said m (Num d n) = Between n n
-result_said m (Get d k) = said_with_side m (place.Input k)
+result_said m (Get d k) = said_with_side m (variable.Input k)
 result_said m (Side d) = Implies true
 result_said m (Draw d k t) = Implies false
-result_said m (Copy d a) = said_with_side m (place.Register a)
+result_said m (Copy d a) = said_with_side m (variable.Register a)
 result_said m (Add d a b) = Between (min (least m a + least m b) GREATEST_NUMBER) (most m a + most m b)
 result_said m (Sub d a b) =
     Between (max (least m a - most m b) (least_difference (register_level m b a))) (most m a - least m b)
@@ -81,8 +81,8 @@ result_said m Cross = Nothing
 result_said m Stay = Nothing
 
 -- the level of an instruction's result to y; a flag has none
-abbrev pub result_to : Note → Instr → Place → ℕ
-result_to m (Get d k) y = known_level m (place.Input k) y
+abbrev pub result_to : Note → Instr → Variable → ℕ
+result_to m (Get d k) y = known_level m (variable.Input k) y
 result_to m (Copy d a) y = register_to m a y
 result_to m (Add d a b) y =
     max (slacken (register_to m a y) (most m b)) (slacken (register_to m b y) (most m a))
@@ -93,8 +93,8 @@ result_to m (Max d a b) y = min (register_to m a y) (register_to m b y)
 result_to m _ y = 0
 
 -- the level of y to an instruction's result
-abbrev pub to_result : Note → Instr → Place → ℕ
-to_result m (Get d k) y = known_level m y (place.Input k)
+abbrev pub to_result : Note → Instr → Variable → ℕ
+to_result m (Get d k) y = known_level m y (variable.Input k)
 to_result m (Copy d a) y = to_register m y a
 to_result m (Add d a b) y =
     max (sharpen (to_register m y a) (least m b)) (sharpen (to_register m y b) (least m a))
@@ -103,12 +103,12 @@ to_result m (Max d a b) y = max (to_register m y a) (to_register m y b)
 to_result m _ y = 0
 
 -- the note once d has another value: what is now said of d, its levels to the others, theirs to it
-unfoldable pub assign : Note → Register → Said → (Place → ℕ) → (Place → ℕ) → Note
+unfoldable pub assign : Note → Register → Said → (Variable → ℕ) → (Variable → ℕ) → Note
 assign note d said to from = record {
-  said = update note.said (place.Register d) said;
+  said = update note.said (variable.Register d) said;
   level = λ x y.
-      if same_place x (place.Register d) then to y
-      else (if same_place y (place.Register d) then from x else note.level x y);
+      if same_variable x (variable.Register d) then to y
+      else (if same_variable y (variable.Register d) then from x else note.level x y);
   side = note.side;
 }
 
@@ -122,8 +122,8 @@ chain zero k j = 0
 chain (suc i) k zero = 0
 chain (suc i) k (suc j) = max (suc i) (max k (suc j))
 
--- the note once p is known to be at most q (k is 1) or below q (k is 2), with what follows for all places
-unfoldable pub refine_order : Note → Place → Place → ℕ → Note
+-- the note once p is known to be at most q (k is 1) or below q (k is 2), with what follows for all variables
+unfoldable pub refine_order : Note → Variable → Variable → ℕ → Note
 refine_order note p q k = record note {
   level = λ x y. max (note.level x y) (chain (known_level note x p) k (known_level note q y));
 }
@@ -139,15 +139,15 @@ assign_any m i (Some d) = Some (assign_result m d i)
 
 -- the note on the way to the next instruction, if there is one
 abbrev pub next_note : Note → Instr → Option Note
-next_note m (JumpLess a b t) = Some (refine_order m (place.Register b) (place.Register a) 1)
-next_note m (JumpAtMost a b t) = Some (refine_order m (place.Register b) (place.Register a) 2)
+next_note m (JumpLess a b t) = Some (refine_order m (variable.Register b) (variable.Register a) 1)
+next_note m (JumpAtMost a b t) = Some (refine_order m (variable.Register b) (variable.Register a) 2)
 next_note m (JumpTrue a t) = Some m
 next_note m (JumpFalse a t) = Some (refine_flag m a)
 next_note m i = assign_any m i (destination i)
 
 -- the note on the way to a jump's target
 abbrev pub jump_note : Note → Instr → Note
-jump_note m (JumpLess a b t) = refine_order m (place.Register a) (place.Register b) 2
-jump_note m (JumpAtMost a b t) = refine_order m (place.Register a) (place.Register b) 1
+jump_note m (JumpLess a b t) = refine_order m (variable.Register a) (variable.Register b) 2
+jump_note m (JumpAtMost a b t) = refine_order m (variable.Register a) (variable.Register b) 1
 jump_note m (JumpTrue a t) = refine_flag m a
 jump_note m _ = m

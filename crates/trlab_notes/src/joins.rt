@@ -9,7 +9,7 @@ ghost use Rattle.trlab_notes.specs.Stored.{note_of};
 use crate::note::Said;
 use crate::rows::join_rows;
 use crate::stored::Stored;
-use trlab_code::PLACES;
+use trlab_code::VARIABLES;
 
 /// What both say of a value.
 fn join_said(a: Said, b: Said) -> Said
@@ -24,14 +24,14 @@ fn join_said(a: Said, b: Said) -> Said
     }
 }
 
-/// What both notes say of each place.
-fn join_places(a: &Stored, b: &Stored) -> [Said; PLACES]
-    ensures { (x : ℕ) → x < PLACES → slice_index_or result x Nothing ≡ join_said
+/// What both notes say of each variable.
+fn join_variables(a: &Stored, b: &Stored) -> [Said; VARIABLES]
+    ensures { (x : ℕ) → x < VARIABLES → slice_index_or result x Nothing ≡ join_said
         (with_side a.now.side (slice_index_or a.now.said x Nothing))
         (with_side b.now.side (slice_index_or b.now.said x Nothing)) }
 {
-    let mut said = [Said::Nothing; PLACES];
-    for x in 0..PLACES {
+    let mut said = [Said::Nothing; VARIABLES];
+    for x in 0..VARIABLES {
         said[x] = join_said(a.said_at(x), b.said_at(x));
     }
     said
@@ -42,19 +42,19 @@ pub fn join(a: &Stored, b: &Stored) -> Stored
     ensures { note_of result ≡ join (note_of a.now) (note_of b.now) }
 {
     Stored {
-        said: join_places(a, b),
+        said: join_variables(a, b),
         rows: join_rows(&a.rows, &b.rows),
         columns: join_rows(&a.columns, &b.columns),
         side: a.side && b.side,
     }
 }
 
-/// The join of a note with itself: all that it says of each place.
+/// The join of a note with itself: all that it says of each variable.
 pub fn join_itself(note: &Stored) -> Stored
     ensures { note_of result ≡ join (note_of note.now) (note_of note.now) }
 {
     Stored {
-        said: join_places(note, note),
+        said: join_variables(note, note),
         rows: note.rows,
         columns: note.columns,
         side: note.side,

@@ -1,8 +1,8 @@
-//! What stored notes say of places and of their order, and how notes are stored first.
+//! What stored notes say of variables and of their order, and how notes are stored first.
 
 ghost use Rattle.std.specs.Prelude.{◌≡◌, ℕ, ◌<◌, ◌≤◌, slice_index, slice_index_or};
-ghost use Rattle.trlab_code.specs.declared.instruction.Place.{Place as APlace};
-ghost use Rattle.trlab_code.specs.Machine.{place_number};
+ghost use Rattle.trlab_code.specs.declared.instruction.Variable.{Variable as AVariable};
+ghost use Rattle.trlab_code.specs.Machine.{variable_number};
 ghost use Rattle.trlab_notes.specs.declared.note.Said.TheVariants.{Nothing};
 ghost use Rattle.trlab_notes.specs.Notes.{closure, entry, known_level, said_with_side, with_side};
 ghost use Rattle.trlab_notes.specs.Rows.{AreLevels, known_with, level_at, level_in, level_of, levels_in, said_in};
@@ -11,35 +11,35 @@ ghost use Rattle.trlab_notes.specs.Stored.{note_of};
 use crate::note::{Said, entry_levels, entry_said, level_between};
 use crate::rows::{Row, columns};
 use crate::stored::Stored;
-use trlab_code::{Kind, PLACES, Place};
+use trlab_code::{Kind, VARIABLES, Variable};
 
-/// The known levels of the place x to each, where x has these levels.
-fn known_row(said: &[Said; PLACES], x: usize, levels: &[u8; PLACES]) -> Row
-    requires inside { x < PLACES }
-    requires small { (y : ℕ) → y < PLACES → known_with said.now x y (slice_index levels.now y) ≤ 2 }
-    ensures { (y : ℕ) → y < PLACES → level_in result y ≡ known_with said.now x y (slice_index levels.now y) }
+/// The known levels of the variable x to each, where x has these levels.
+fn known_row(said: &[Said; VARIABLES], x: usize, levels: &[u8; VARIABLES]) -> Row
+    requires inside { x < VARIABLES }
+    requires small { (y : ℕ) → y < VARIABLES → known_with said.now x y (slice_index levels.now y) ≤ 2 }
+    ensures { (y : ℕ) → y < VARIABLES → level_in result y ≡ known_with said.now x y (slice_index levels.now y) }
 {
     let mut row = Row::empty();
-    for y in 0..PLACES {
+    for y in 0..VARIABLES {
         row = row.with(y, level_between(said[x], said[y], x == y, levels[y]));
     }
     row
 }
 
-/// The known levels of each place to each, where they have these levels.
-fn known_rows(said: &[Said; PLACES], levels: &[[u8; PLACES]; PLACES]) -> [Row; PLACES]
+/// The known levels of each variable to each, where they have these levels.
+fn known_rows(said: &[Said; VARIABLES], levels: &[[u8; VARIABLES]; VARIABLES]) -> [Row; VARIABLES]
     requires { AreLevels said.now levels.now }
-    ensures { (x y : ℕ) → x < PLACES → y < PLACES →
+    ensures { (x y : ℕ) → x < VARIABLES → y < VARIABLES →
         level_of result x y ≡ known_with said.now x y (level_at levels.now x y) }
 {
-    let mut rows = [Row::empty(); PLACES];
-    for x in 0..PLACES {
+    let mut rows = [Row::empty(); VARIABLES];
+    for x in 0..VARIABLES {
         rows[x] = known_row(said, x, &levels[x]);
     }
     rows
 }
 
-/// What is said of a place, where the side cell is known to be empty or not.
+/// What is said of a variable, where the side cell is known to be empty or not.
 fn with_side(side: bool, said: Said) -> Said
     ensures { result ≡ with_side side said }
 {
@@ -50,8 +50,8 @@ fn with_side(side: bool, said: Said) -> Said
 }
 
 impl Stored {
-    /// The note that says this of the places, and that they have these levels.
-    pub fn new(said: [Said; PLACES], levels: &[[u8; PLACES]; PLACES], side: bool) -> Stored
+    /// The note that says this of the variables, and that they have these levels.
+    pub fn new(said: [Said; VARIABLES], levels: &[[u8; VARIABLES]; VARIABLES], side: bool) -> Stored
         requires { AreLevels said levels.now }
         ensures { note_of result ≡ closure (record {
           said = said_in said;
@@ -75,49 +75,49 @@ impl Stored {
         Stored::new(entry_said(kind), &entry_levels(), false)
     }
 
-    /// What is said of the place with this number, the side cell considered.
+    /// What is said of the variable with this number, the side cell considered.
     pub(crate) fn said_at(&self, x: usize) -> Said
-        requires { x < PLACES }
+        requires { x < VARIABLES }
         ensures { result ≡ with_side self.now.side (slice_index_or self.now.said x Nothing) }
     {
         with_side(self.side, self.said[x])
     }
 
-    /// What is said of a place, the side cell considered.
+    /// What is said of a variable, the side cell considered.
     #[tactic(auto, unfolding(crate::specs::Notes::said_with_side))]
-    pub fn said_with_side(&self, place: Place) -> Said
-        ensures { result ≡ said_with_side (note_of self.now) place }
+    pub fn said_with_side(&self, variable: Variable) -> Said
+        ensures { result ≡ said_with_side (note_of self.now) variable }
     {
-        self.said_at(place.number())
+        self.said_at(variable.number())
     }
 
-    /// The known levels of a place to each.
-    pub(crate) fn row(&self, place: Place) -> Row
-        ensures { (y : APlace) → level_in result (place_number y) ≡ known_level (note_of self.now) place y }
+    /// The known levels of a variable to each.
+    pub(crate) fn row(&self, variable: Variable) -> Row
+        ensures { (y : AVariable) → level_in result (variable_number y) ≡ known_level (note_of self.now) variable y }
     {
-        self.rows[place.number()]
+        self.rows[variable.number()]
     }
 
-    /// The known levels of each place to this one.
-    pub(crate) fn column(&self, place: Place) -> Row
-        ensures { (x : APlace) → level_in result (place_number x) ≡ known_level (note_of self.now) x place }
+    /// The known levels of each variable to this one.
+    pub(crate) fn column(&self, variable: Variable) -> Row
+        ensures { (x : AVariable) → level_in result (variable_number x) ≡ known_level (note_of self.now) x variable }
     {
-        self.columns[place.number()]
+        self.columns[variable.number()]
     }
 
-    /// The known level of a place to another: 1 at most, 2 below, 0 not known.
-    pub fn known_level(&self, from: Place, to: Place) -> u8
+    /// The known level of a variable to another: 1 at most, 2 below, 0 not known.
+    pub fn known_level(&self, from: Variable, to: Variable) -> u8
         ensures { result ≡ known_level (note_of self.now) from to }
     {
         self.row(from).level(to.number())
     }
 
-    /// The known levels of each place to each, in the order of their numbers.
-    pub fn levels(&self) -> [[u8; PLACES]; PLACES]
-        ensures { (x y : APlace) → levels_in result x y ≡ known_level (note_of self.now) x y }
+    /// The known levels of each variable to each, in the order of their numbers.
+    pub fn levels(&self) -> [[u8; VARIABLES]; VARIABLES]
+        ensures { (x y : AVariable) → levels_in result x y ≡ known_level (note_of self.now) x y }
     {
-        let mut levels = [[0; PLACES]; PLACES];
-        for x in 0..PLACES {
+        let mut levels = [[0; VARIABLES]; VARIABLES];
+        for x in 0..VARIABLES {
             levels[x] = self.rows[x].levels();
         }
         levels

@@ -1,16 +1,16 @@
-//! What is said of one place, and how two of them are ordered: the abstract values.
+//! What is said of one variable, and how two of them are ordered: the abstract values.
 
 ghost use Rattle.std.specs.Prelude.{◌≡◌};
-ghost use Rattle.trlab_code.specs.declared.instruction.Place.{Place as APlace};
+ghost use Rattle.trlab_code.specs.declared.instruction.Variable.{Variable as AVariable};
 ghost use Rattle.trlab_notes.specs.Notes.{low, high, implies, level_between, range_level, entry_said, entry_level};
 ghost use Rattle.trlab_notes.specs.Rows.{levels_in, said_in};
 
-use trlab_code::{GREATEST_GAP, GREATEST_LIMIT, Input, Kind, PLACES, Place};
+use trlab_code::{GREATEST_GAP, GREATEST_LIMIT, Input, Kind, VARIABLES, Variable};
 
-/// The level of a place that is known to be at most another.
+/// The level of a variable that is known to be at most another.
 pub const AT_MOST: u8 = 1;
 
-/// The level of a place that is known to be below another.
+/// The level of a variable that is known to be below another.
 pub const BELOW: u8 = 2;
 
 /// What is said of a value.
@@ -69,7 +69,7 @@ fn range_level(high: u32, low: u32) -> u8
     }
 }
 
-/// The known level of one place to another of which this is said, where they have a level.
+/// The known level of one variable to another of which this is said, where they have a level.
 pub fn level_between(s: Said, t: Said, is_same: bool, level: u8) -> u8
     ensures { result ≡ level_between s t is_same level }
 {
@@ -80,9 +80,9 @@ pub fn level_between(s: Said, t: Said, is_same: bool, level: u8) -> u8
     }
 }
 
-/// What is said of the places at the start of a program, in the order of their numbers.
-pub fn entry_said(kind: Kind) -> [Said; PLACES]
-    ensures { (x : APlace) → said_in result x ≡ entry_said kind x }
+/// What is said of the variables at the start of a program, in the order of their numbers.
+pub fn entry_said(kind: Kind) -> [Said; VARIABLES]
+    ensures { (x : AVariable) → said_in result x ≡ entry_said kind x }
 {
     let unset = Said::Nothing;
     let speed = Said::Between(0, GREATEST_LIMIT);
@@ -99,10 +99,10 @@ pub fn entry_said(kind: Kind) -> [Said; PLACES]
 }
 
 /// The levels at the start of a program: the speed and that of the car ahead are at most the limit.
-pub fn entry_levels() -> [[u8; PLACES]; PLACES]
-    ensures { (x y : APlace) → levels_in result x y ≡ entry_level x y }
+pub fn entry_levels() -> [[u8; VARIABLES]; VARIABLES]
+    ensures { (x y : AVariable) → levels_in result x y ≡ entry_level x y }
 {
-    let none = [0; PLACES];
+    let none = [0; VARIABLES];
     let within_limit = [0, 0, 0, 0, 0, 0, 0, 0, 0, AT_MOST, 0, 0, 0, 0, 0];
     let (speed, headspeed) = (within_limit, within_limit);
     [

@@ -11,7 +11,7 @@ use crate::note::Said;
 use crate::reason::Reason;
 use crate::stored::Stored;
 use trlab_bounds::programs::GREATEST_NUMBER;
-use trlab_code::{Input, Instr, Kind, Place, Register};
+use trlab_code::{Input, Instr, Kind, Register, Variable};
 
 /// Whether a program of this kind may read the input.
 fn is_allowed_input(kind: Kind, input: Input) -> bool
@@ -136,7 +136,7 @@ fn may_be_above(input: Input, note: &Stored, instr: Instr) -> bool
     ensures { result ≡ may_be_above input (note_of note.now) instr }
 {
     match instr {
-        Instr::Go(a) => note.known_level(Place::Register(a), Place::Input(input)) == 0,
+        Instr::Go(a) => note.known_level(Variable::Register(a), Variable::Input(input)) == 0,
         _ => false,
     }
 }

@@ -7,11 +7,11 @@ ghost use Rattle.trlab_notes.specs.Transfer.{refine_flag, refine_order};
 
 use crate::rows::refine_rows;
 use crate::stored::Stored;
-use trlab_code::{Place, Register};
+use trlab_code::{Register, Variable};
 
 impl Stored {
     /// The note once p is known to have this level to q, `AT_MOST` or `BELOW`.
-    pub(crate) fn refine_order(&self, p: Place, q: Place, level: u8) -> Stored
+    pub(crate) fn refine_order(&self, p: Variable, q: Variable, level: u8) -> Stored
         requires level_from { 1 ≤ level }
         requires level_to { level ≤ 2 }
         ensures { note_of result ≡ closure (refine_order (note_of self.now) p q level) }
@@ -29,7 +29,7 @@ impl Stored {
     pub fn refine_flag(&self, register: Register) -> Stored
         ensures { note_of result ≡ closure (refine_flag (note_of self.now) register) }
     {
-        let said = self.said[Place::Register(register).number()];
+        let said = self.said[Variable::Register(register).number()];
         Stored {
             said: self.said,
             rows: self.rows,

@@ -1,9 +1,9 @@
-//! What an instruction writes: what is said of its result, and the order of the result and the places.
+//! What an instruction writes: what is said of its result, and the order of the result and the variables.
 
 ghost use Rattle.std.specs.Prelude.{◌≡◌, ℕ, ◌+◌, ◌-◌, ◌*◌, ◌/◌, ◌<◌, ◌≤◌, min, max, false};
 ghost use Rattle.trlab_bounds.specs.declared.programs.TheConstants.{GREATEST_NUMBER};
-ghost use Rattle.trlab_code.specs.declared.instruction.Place.{Place as APlace};
-ghost use Rattle.trlab_code.specs.Machine.{place_number};
+ghost use Rattle.trlab_code.specs.declared.instruction.Variable.{Variable as AVariable};
+ghost use Rattle.trlab_code.specs.Machine.{variable_number};
 ghost use Rattle.trlab_code.specs.Program.{IsInRange};
 ghost use Rattle.trlab_notes.specs.declared.note.Said.TheVariants.{Between};
 ghost use Rattle.trlab_notes.specs.Notes.{closure, high, low};
@@ -13,9 +13,9 @@ ghost use Rattle.trlab_notes.specs.Stored.{note_of};
 ghost use Rattle.trlab_notes.specs.Transfer.{assign_result, flag_implies, least_difference, register_level, register_said, result_said, result_to, to_result};
 
 use crate::note::{BELOW, Said, level_between};
-use crate::rows::{Row, with_place};
+use crate::rows::{Row, with_variable};
 use crate::stored::Stored;
-use trlab_code::{Instr, PLACES, Place, Register};
+use trlab_code::{Instr, Register, VARIABLES, Variable};
 
 /// The range of a sum.
 fn sum(p: Said, q: Said) -> Said
@@ -72,21 +72,21 @@ fn least_difference(level: u8) -> u32
     if level >= BELOW { 1 } else { 0 }
 }
 
-/// The known levels of a place to each and of each to it, where they have these levels.
-fn known_ways(said: &[Said; PLACES], place: usize, to: Row, from: Row) -> (Row, Row)
-    requires { place < PLACES }
-    ensures to { (y : ℕ) → y < PLACES → level_in result.0 y ≡ known_with said.now place y (level_in to y) }
-    ensures from { (x : ℕ) → x < PLACES → level_in result.1 x ≡ known_with said.now x place (level_in from x) }
+/// The known levels of a variable to each and of each to it, where they have these levels.
+fn known_ways(said: &[Said; VARIABLES], variable: usize, to: Row, from: Row) -> (Row, Row)
+    requires { variable < VARIABLES }
+    ensures to { (y : ℕ) → y < VARIABLES → level_in result.0 y ≡ known_with said.now variable y (level_in to y) }
+    ensures from { (x : ℕ) → x < VARIABLES → level_in result.1 x ≡ known_with said.now x variable (level_in from x) }
 {
     let (mut row, mut column) = (to, from);
-    for x in 0..PLACES {
+    for x in 0..VARIABLES {
         row = row.with(
             x,
-            level_between(said[place], said[x], place == x, to.level(x)),
+            level_between(said[variable], said[x], variable == x, to.level(x)),
         );
         column = column.with(
             x,
-            level_between(said[x], said[place], x == place, from.level(x)),
+            level_between(said[x], said[variable], x == variable, from.level(x)),
         );
     }
     (row, column)
@@ -97,21 +97,21 @@ impl Stored {
     pub(crate) fn register_said(&self, register: Register) -> Said
         ensures { result ≡ register_said (note_of self.now) register }
     {
-        self.said[Place::Register(register).number()]
+        self.said[Variable::Register(register).number()]
     }
 
     /// Whether the flag in a register implies that the side cell is empty.
     fn flag_implies(&self, register: Register) -> bool
         ensures { result ≡ flag_implies (note_of self.now) register }
     {
-        self.said_with_side(Place::Register(register)).implies()
+        self.said_with_side(Variable::Register(register)).implies()
     }
 
     /// The known level of one register to another.
     pub(crate) fn register_level(&self, from: Register, to: Register) -> u8
         ensures { result ≡ register_level (note_of self.now) from to }
     {
-        self.known_level(Place::Register(from), Place::Register(to))
+        self.known_level(Variable::Register(from), Variable::Register(to))
     }
 
     /// What is said of an instruction's result.
@@ -122,10 +122,10 @@ impl Stored {
     {
         match instr {
             Instr::Num(_, n) => Said::Between(n, n),
-            Instr::Get(_, input) => self.said_with_side(Place::Input(input)),
+            Instr::Get(_, input) => self.said_with_side(Variable::Input(input)),
             Instr::Side(_) => Said::Implies(true),
             Instr::Draw(..) | Instr::Not(..) => Said::Implies(false),
-            Instr::Copy(_, a) => self.said_with_side(Place::Register(a)),
+            Instr::Copy(_, a) => self.said_with_side(Variable::Register(a)),
             Instr::Add(_, a, b) => sum(self.register_said(a), self.register_said(b)),
             Instr::Sub(_, a, b) => {
                 let least = least_difference(self.register_level(b, a));
@@ -141,59 +141,59 @@ impl Stored {
         }
     }
 
-    /// The levels of an instruction's result to the places.
+    /// The levels of an instruction's result to the variables.
     fn result_to(&self, instr: Instr) -> Row
-        ensures { (y : APlace) → level_in result (place_number y) ≡ result_to (note_of self.now) instr y }
+        ensures { (y : AVariable) → level_in result (variable_number y) ≡ result_to (note_of self.now) instr y }
     {
         match instr {
-            Instr::Get(_, input) => self.row(Place::Input(input)),
-            Instr::Copy(_, a) | Instr::Div(_, a, _) => self.row(Place::Register(a)),
+            Instr::Get(_, input) => self.row(Variable::Input(input)),
+            Instr::Copy(_, a) | Instr::Div(_, a, _) => self.row(Variable::Register(a)),
             Instr::Add(_, a, b) => {
                 let by_a = self
-                    .row(Place::Register(a))
+                    .row(Variable::Register(a))
                     .slacken(self.register_said(b).high());
                 let by_b = self
-                    .row(Place::Register(b))
+                    .row(Variable::Register(b))
                     .slacken(self.register_said(a).high());
                 by_a.either(by_b)
             }
             Instr::Sub(_, a, b) => self
-                .row(Place::Register(a))
+                .row(Variable::Register(a))
                 .sharpen(self.register_said(b).low()),
             Instr::Min(_, a, b) => {
-                self.row(Place::Register(a))
-                    .either(self.row(Place::Register(b)))
+                self.row(Variable::Register(a))
+                    .either(self.row(Variable::Register(b)))
             }
             Instr::Max(_, a, b) => self
-                .row(Place::Register(a))
-                .both(self.row(Place::Register(b))),
+                .row(Variable::Register(a))
+                .both(self.row(Variable::Register(b))),
             _ => Row::empty(),
         }
     }
 
-    /// The levels of the places to an instruction's result.
+    /// The levels of the variables to an instruction's result.
     fn to_result(&self, instr: Instr) -> Row
-        ensures { (y : APlace) → level_in result (place_number y) ≡ to_result (note_of self.now) instr y }
+        ensures { (y : AVariable) → level_in result (variable_number y) ≡ to_result (note_of self.now) instr y }
     {
         match instr {
-            Instr::Get(_, input) => self.column(Place::Input(input)),
-            Instr::Copy(_, a) => self.column(Place::Register(a)),
+            Instr::Get(_, input) => self.column(Variable::Input(input)),
+            Instr::Copy(_, a) => self.column(Variable::Register(a)),
             Instr::Add(_, a, b) => {
                 let by_a = self
-                    .column(Place::Register(a))
+                    .column(Variable::Register(a))
                     .sharpen(self.register_said(b).low());
                 let by_b = self
-                    .column(Place::Register(b))
+                    .column(Variable::Register(b))
                     .sharpen(self.register_said(a).low());
                 by_a.either(by_b)
             }
             Instr::Min(_, a, b) => {
-                self.column(Place::Register(a))
-                    .both(self.column(Place::Register(b)))
+                self.column(Variable::Register(a))
+                    .both(self.column(Variable::Register(b)))
             }
             Instr::Max(_, a, b) => {
-                self.column(Place::Register(a))
-                    .either(self.column(Place::Register(b)))
+                self.column(Variable::Register(a))
+                    .either(self.column(Variable::Register(b)))
             }
             _ => Row::empty(),
         }
@@ -205,14 +205,19 @@ impl Stored {
         requires fits { may_be_too_large (note_of self.now) instr ≡ false }
         ensures { note_of result ≡ closure (assign_result (note_of self.now) dest instr) }
     {
-        let place = Place::Register(dest).number();
+        let variable = Variable::Register(dest).number();
         let mut said = self.said;
-        said[place] = self.result_said(instr);
-        let (row, column) = known_ways(&said, place, self.result_to(instr), self.to_result(instr));
+        said[variable] = self.result_said(instr);
+        let (row, column) = known_ways(
+            &said,
+            variable,
+            self.result_to(instr),
+            self.to_result(instr),
+        );
         Stored {
             said,
-            rows: with_place(&self.rows, place, row, column),
-            columns: with_place(&self.columns, place, column, row),
+            rows: with_variable(&self.rows, variable, row, column),
+            columns: with_variable(&self.columns, variable, column, row),
             side: self.side,
         }
     }

@@ -1,4 +1,4 @@
-//! The levels of a place to all places, as bits. The rows of all places hold their order.
+//! The levels of a variable to all variables, as bits. The rows of all variables hold their order.
 
 ghost use Rattle.std.specs.Prelude.{◌≡◌, ◌↔◌, ℕ, ◌*◌, ◌<◌, ◌≤◌, IsTrue, min, max, nat_eq, if◌then◌else◌, slice_index};
 ghost use Rattle.std.specs.Int.{bit_at};
@@ -6,9 +6,9 @@ ghost use Rattle.trlab_notes.specs.Transfer.{chain, slacken, sharpen};
 ghost use Rattle.trlab_notes.specs.Rows.{level_in, level_of};
 
 use crate::note::{AT_MOST, BELOW};
-use trlab_code::PLACES;
+use trlab_code::VARIABLES;
 
-/// The places that one is at most, and those that it is below.
+/// The variables that one is at most, and those that it is below.
 #[derive(Clone, Copy)]
 pub struct Row {
     at_most: u16,
@@ -16,15 +16,15 @@ pub struct Row {
 }
 
 /// Bits with one of them on or off.
-fn with_bit(bits: u16, place: usize, is_on: bool) -> u16
-    requires { place < 16 }
+fn with_bit(bits: u16, variable: usize, is_on: bool) -> u16
+    requires { variable < 16 }
     ensures { (y : ℕ) → y < 16 →
-        bit_at result y ≡ (if nat_eq y place then (if is_on then 1 else 0) else bit_at bits y) }
+        bit_at result y ≡ (if nat_eq y variable then (if is_on then 1 else 0) else bit_at bits y) }
 {
     if is_on {
-        bits | 1 << place
+        bits | 1 << variable
     } else {
-        bits & !(1 << place)
+        bits & !(1 << variable)
     }
 }
 
@@ -39,9 +39,9 @@ impl Row {
         }
     }
 
-    /// The level to a place.
+    /// The level to a variable.
     pub fn level(self, y: usize) -> u8
-        requires { y < PLACES }
+        requires { y < VARIABLES }
         ensures { result ≡ level_in self y }
     {
         if (self.below >> y) & 1 == 1 {
@@ -51,18 +51,18 @@ impl Row {
         }
     }
 
-    /// The levels to all places, in the order of their numbers.
-    pub fn levels(self) -> [u8; PLACES]
-        ensures { (y : ℕ) → y < PLACES → slice_index result y ≡ level_in self y }
+    /// The levels to all variables, in the order of their numbers.
+    pub fn levels(self) -> [u8; VARIABLES]
+        ensures { (y : ℕ) → y < VARIABLES → slice_index result y ≡ level_in self y }
     {
-        let mut levels = [0; PLACES];
-        for y in 0..PLACES {
+        let mut levels = [0; VARIABLES];
+        for y in 0..VARIABLES {
             levels[y] = self.level(y);
         }
         levels
     }
 
-    /// The places that one is at most or below.
+    /// The variables that one is at most or below.
     fn ahead(self) -> u16
         ensures { (y : ℕ) → bit_at result y ≡ min (level_in self y) 1 }
     {
@@ -89,7 +89,7 @@ impl Row {
         }
     }
 
-    /// Each place that one is at most is one that it is below.
+    /// Each variable that one is at most is one that it is below.
     fn strict(self) -> Row
         ensures { (y : ℕ) → level_in result y ≡ 2 * min (level_in self y) 1 }
     {
@@ -99,8 +99,8 @@ impl Row {
         }
     }
 
-    /// The levels by way of a place that one has the level `first` to, and that has the level `middle`
-    /// to the place of this row.
+    /// The levels by way of a variable that one has the level `first` to, and that has the level `middle`
+    /// to the variable of this row.
     pub fn chain(self, first: u8, middle: u8) -> Row
         requires first_in { first ≤ 2 }
         requires middle_from { 1 ≤ middle }
@@ -133,23 +133,23 @@ impl Row {
         }
     }
 
-    /// The row with another level at a place.
-    pub fn with(self, place: usize, level: u8) -> Row
-        requires inside { place < PLACES }
+    /// The row with another level at a variable.
+    pub fn with(self, variable: usize, level: u8) -> Row
+        requires inside { variable < VARIABLES }
         requires in_range { level ≤ 2 }
-        ensures { (y : ℕ) → y < PLACES → level_in result y ≡ (if nat_eq y place then level else level_in self y) }
+        ensures { (y : ℕ) → y < VARIABLES → level_in result y ≡ (if nat_eq y variable then level else level_in self y) }
     {
         Row {
-            at_most: with_bit(self.at_most, place, level == AT_MOST),
-            below: with_bit(self.below, place, level == BELOW),
+            at_most: with_bit(self.at_most, variable, level == AT_MOST),
+            below: with_bit(self.below, variable, level == BELOW),
         }
     }
 
     /// Whether no level is above that of another row.
     pub fn is_within(self, other: Row) -> bool
-        ensures { IsTrue result ↔ ((y : ℕ) → y < PLACES → level_in self y ≤ level_in other y) }
+        ensures { IsTrue result ↔ ((y : ℕ) → y < VARIABLES → level_in self y ≤ level_in other y) }
     {
-        for y in 0..PLACES {
+        for y in 0..VARIABLES {
             if self.level(y) > other.level(y) {
                 return false;
             }
@@ -158,35 +158,40 @@ impl Row {
     }
 }
 
-/// The rows once `place` has another row, and the places have other levels to it.
-pub fn with_place(rows: &[Row; PLACES], place: usize, row: Row, column: Row) -> [Row; PLACES]
-    requires { place < PLACES }
-    ensures { (x y : ℕ) → x < PLACES → y < PLACES → level_of result x y ≡
-        (if nat_eq x place then level_in row y
-        else (if nat_eq y place then level_in column x else level_of rows.now x y)) }
+/// The rows once `variable` has another row, and the variables have other levels to it.
+pub fn with_variable(
+    rows: &[Row; VARIABLES],
+    variable: usize,
+    row: Row,
+    column: Row,
+) -> [Row; VARIABLES]
+    requires { variable < VARIABLES }
+    ensures { (x y : ℕ) → x < VARIABLES → y < VARIABLES → level_of result x y ≡
+        (if nat_eq x variable then level_in row y
+        else (if nat_eq y variable then level_in column x else level_of rows.now x y)) }
 {
     let mut changed = *rows;
-    for x in 0..PLACES {
-        changed[x] = if x == place {
+    for x in 0..VARIABLES {
+        changed[x] = if x == variable {
             row
         } else {
-            rows[x].with(place, column.level(x))
+            rows[x].with(variable, column.level(x))
         };
     }
     changed
 }
 
-/// The rows once one place is known to have a level to another: `first` has the levels of the places
-/// to the one, and `last` those of the other to the places.
-pub fn refine_rows(rows: &[Row; PLACES], first: Row, level: u8, last: Row) -> [Row; PLACES]
+/// The rows once one variable is known to have a level to another: `first` has the levels of the variables
+/// to the one, and `last` those of the other to the variables.
+pub fn refine_rows(rows: &[Row; VARIABLES], first: Row, level: u8, last: Row) -> [Row; VARIABLES]
     requires level_from { 1 ≤ level }
     requires level_to { level ≤ 2 }
-    ensures { (x y : ℕ) → x < PLACES → y < PLACES → level_of result x y ≡
+    ensures { (x y : ℕ) → x < VARIABLES → y < VARIABLES → level_of result x y ≡
         (if nat_eq y x then level_of rows.now x x
         else max (level_of rows.now x y) (chain (level_in first x) level (level_in last y))) }
 {
     let mut refined = *rows;
-    for x in 0..PLACES {
+    for x in 0..VARIABLES {
         let row = rows[x];
         let more = row.either(last.chain(first.level(x), level));
         refined[x] = more.with(x, row.level(x));
@@ -195,35 +200,35 @@ pub fn refine_rows(rows: &[Row; PLACES], first: Row, level: u8, last: Row) -> [R
 }
 
 /// The lesser levels of the rows of two notes.
-pub fn join_rows(a: &[Row; PLACES], b: &[Row; PLACES]) -> [Row; PLACES]
-    ensures { (x y : ℕ) → x < PLACES → y < PLACES →
+pub fn join_rows(a: &[Row; VARIABLES], b: &[Row; VARIABLES]) -> [Row; VARIABLES]
+    ensures { (x y : ℕ) → x < VARIABLES → y < VARIABLES →
         level_of result x y ≡ min (level_of a.now x y) (level_of b.now x y) }
 {
     let mut common = *a;
-    for x in 0..PLACES {
+    for x in 0..VARIABLES {
         common[x] = a[x].both(b[x]);
     }
     common
 }
 
-/// The levels of each place to y.
-fn column(rows: &[Row; PLACES], y: usize) -> Row
-    requires { y < PLACES }
-    ensures { (x : ℕ) → x < PLACES → level_in result x ≡ level_of rows.now x y }
+/// The levels of each variable to y.
+fn column(rows: &[Row; VARIABLES], y: usize) -> Row
+    requires { y < VARIABLES }
+    ensures { (x : ℕ) → x < VARIABLES → level_in result x ≡ level_of rows.now x y }
 {
     let mut column = Row::empty();
-    for x in 0..PLACES {
+    for x in 0..VARIABLES {
         column = column.with(x, rows[x].level(y));
     }
     column
 }
 
-/// The same levels with the two places exchanged.
-pub fn columns(rows: &[Row; PLACES]) -> [Row; PLACES]
-    ensures { (x y : ℕ) → x < PLACES → y < PLACES → level_of result y x ≡ level_of rows.now x y }
+/// The same levels with the two variables exchanged.
+pub fn columns(rows: &[Row; VARIABLES]) -> [Row; VARIABLES]
+    ensures { (x y : ℕ) → x < VARIABLES → y < VARIABLES → level_of result y x ≡ level_of rows.now x y }
 {
     let mut columns = *rows;
-    for y in 0..PLACES {
+    for y in 0..VARIABLES {
         columns[y] = column(rows, y);
     }
     columns

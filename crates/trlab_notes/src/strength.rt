@@ -9,9 +9,9 @@ ghost use Rattle.trlab_notes.specs.Stored.{note_of};
 
 use crate::note::Said;
 use crate::stored::Stored;
-use trlab_code::PLACES;
+use trlab_code::VARIABLES;
 
-/// Whether no more is said of a place than elsewhere.
+/// Whether no more is said of a variable than elsewhere.
 fn says_no_more(s: Said, t: Said) -> bool
     ensures { IsTrue result ↔ SaysNoMore s t }
 {
@@ -23,13 +23,13 @@ fn says_no_more(s: Said, t: Said) -> bool
     }
 }
 
-/// Whether no more is said of each place.
-fn has_weaker_places(m: &Stored, n: &Stored) -> bool
-    ensures { IsTrue result ↔ ((x : ℕ) → x < PLACES → SaysNoMore
+/// Whether no more is said of each variable.
+fn has_weaker_variables(m: &Stored, n: &Stored) -> bool
+    ensures { IsTrue result ↔ ((x : ℕ) → x < VARIABLES → SaysNoMore
         (with_side m.now.side (slice_index_or m.now.said x Nothing))
         (with_side n.now.side (slice_index_or n.now.said x Nothing))) }
 {
-    for x in 0..PLACES {
+    for x in 0..VARIABLES {
         if !says_no_more(m.said_at(x), n.said_at(x)) {
             return false;
         }
@@ -37,12 +37,12 @@ fn has_weaker_places(m: &Stored, n: &Stored) -> bool
     true
 }
 
-/// Whether no more is known of the order of each two places.
+/// Whether no more is known of the order of each two variables.
 fn has_lesser_levels(m: &Stored, n: &Stored) -> bool
-    ensures { IsTrue result ↔ ((x y : ℕ) → x < PLACES → y < PLACES →
+    ensures { IsTrue result ↔ ((x y : ℕ) → x < VARIABLES → y < VARIABLES →
         level_of m.now.rows x y ≤ level_of n.now.rows x y) }
 {
-    for x in 0..PLACES {
+    for x in 0..VARIABLES {
         if !m.rows[x].is_within(n.rows[x]) {
             return false;
         }
@@ -54,5 +54,5 @@ fn has_lesser_levels(m: &Stored, n: &Stored) -> bool
 pub fn is_no_stronger(m: &Stored, n: &Stored) -> bool
     ensures { IsTrue result ↔ IsNoStronger (note_of m.now) (note_of n.now) }
 {
-    has_weaker_places(m, n) && has_lesser_levels(m, n) && (!m.side || n.side)
+    has_weaker_variables(m, n) && has_lesser_levels(m, n) && (!m.side || n.side)
 }

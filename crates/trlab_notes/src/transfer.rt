@@ -10,7 +10,7 @@ ghost use Rattle.trlab_notes.specs.Transfer.{next_note, jump_note};
 
 use crate::note::{AT_MOST, BELOW};
 use crate::stored::Stored;
-use trlab_code::{Instr, Place};
+use trlab_code::{Instr, Variable};
 
 /// The note on the way to the next instruction, if there is one.
 #[tactic(auto, using(crate::proofs::Tables::stored_same))]
@@ -21,10 +21,10 @@ pub fn next_note(note: &Stored, instr: Instr) -> Option<Stored>
 {
     match instr {
         Instr::JumpLess(a, b, _) => {
-            Some(note.refine_order(Place::Register(b), Place::Register(a), AT_MOST))
+            Some(note.refine_order(Variable::Register(b), Variable::Register(a), AT_MOST))
         }
         Instr::JumpAtMost(a, b, _) => {
-            Some(note.refine_order(Place::Register(b), Place::Register(a), BELOW))
+            Some(note.refine_order(Variable::Register(b), Variable::Register(a), BELOW))
         }
         Instr::JumpTrue(..) => Some(*note),
         Instr::JumpFalse(a, _) => Some(note.refine_flag(a)),
@@ -42,10 +42,10 @@ pub fn jump_note(note: &Stored, instr: Instr) -> Stored
 {
     match instr {
         Instr::JumpLess(a, b, _) => {
-            note.refine_order(Place::Register(a), Place::Register(b), BELOW)
+            note.refine_order(Variable::Register(a), Variable::Register(b), BELOW)
         }
         Instr::JumpAtMost(a, b, _) => {
-            note.refine_order(Place::Register(a), Place::Register(b), AT_MOST)
+            note.refine_order(Variable::Register(a), Variable::Register(b), AT_MOST)
         }
         Instr::JumpTrue(a, _) => note.refine_flag(a),
         _ => *note,

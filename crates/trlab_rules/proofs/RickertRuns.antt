@@ -3,7 +3,7 @@ use Rattle.std.proofs.Common.{◌≡◌, ℕ, ◌+◌, ◌&&◌, refl, List, Boo
 use Rattle.std.proofs.lemmas.Bool.{ltb-true, ltb-false, lt-leb, le-leb}
 use Rattle.trlab_code.specs.declared.kind.Kind.TheVariants.{Change}
 use Rattle.trlab_code.specs.declared.instruction.Register.TheVariants.{R0, R1, R2, R3}
-use Rattle.trlab_code.specs.declared.instruction.Place.TheVariants as place
+use Rattle.trlab_code.specs.declared.instruction.Variable.TheVariants as variable
 use Rattle.trlab_code.specs.declared.instruction.Input.TheVariants.{Speed, Limit, Gap, SideGap, SideBack}
 use Rattle.trlab_code.specs.declared.view.View.{View}
 use Rattle.trlab_code.specs.Views.{IsView}
@@ -32,16 +32,16 @@ module _ (c : ℕ) (view : View) (words : List ℕ) (seen : IsView view) where
 
   -- the values before each test
   abbrev at_side : Store
-  at_side = update (start Change view) (place.Register R0) (Flag view.side)
+  at_side = update (start Change view) (variable.Register R0) (Flag view.side)
 
   abbrev at_gap : Store
-  at_gap = update (update (update (update at_side (place.Register R1) (Number view.speed)) (place.Register R2) (Number 1)) (place.Register R1) (Number more)) (place.Register R2) (Number view.gap)
+  at_gap = update (update (update (update at_side (variable.Register R1) (Number view.speed)) (variable.Register R2) (Number 1)) (variable.Register R1) (Number more)) (variable.Register R2) (Number view.gap)
 
   abbrev at_sidegap : Store
-  at_sidegap = update at_gap (place.Register R2) (Number view.sidegap)
+  at_sidegap = update at_gap (variable.Register R2) (Number view.sidegap)
 
   abbrev at_sideback : Store
-  at_sideback = update (update at_sidegap (place.Register R2) (Number view.sideback)) (place.Register R3) (Number view.limit)
+  at_sideback = update (update at_sidegap (variable.Register R2) (Number view.sideback)) (variable.Register R3) (Number view.limit)
 
   stays : (s : Store) → Ends 15 s Stays
   stays s = stay refl

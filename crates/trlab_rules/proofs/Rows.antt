@@ -7,7 +7,7 @@ use Rattle.trlab_code.specs.declared.kind.Kind.{Kind}
 use Rattle.trlab_code.specs.declared.kind.Kind.TheVariants.{Motion, Change}
 use Rattle.trlab_code.specs.declared.instruction.Register.{Register}
 use Rattle.trlab_code.specs.declared.instruction.Input.{Input}
-use Rattle.trlab_code.specs.declared.instruction.Place.TheVariants as place
+use Rattle.trlab_code.specs.declared.instruction.Variable.TheVariants as variable
 use Rattle.trlab_code.specs.declared.instruction.Instr.{Instr}
 use Rattle.trlab_code.specs.declared.instruction.Instr.TheVariants.{Num, Get, Side, Draw, Add, Sub, Min, Jump, JumpAtMost, JumpFalse, Go, Cross, Stay}
 use Rattle.trlab_code.specs.declared.view.View.{View}
@@ -32,69 +32,69 @@ module _ {kind : Kind} {code : List Instr} {view : View} {words : List ℕ} {pc 
       record { steps = suc rest.steps; ends = subst (λ z. EndsFrom kind code view words z answer rest.steps) (sym leads_on) rest.ends }
 
   -- one row of the table each
-  pub num : (d : Register) (n : ℕ) → slice_get code pc ≡ Some (Num d n) → Run kind code view words (At (suc pc) (update s (place.Register d) (Number n))) answer → Run kind code view words (At pc s) answer
+  pub num : (d : Register) (n : ℕ) → slice_get code pc ≡ Some (Num d n) → Run kind code view words (At (suc pc) (update s (variable.Register d) (Number n))) answer → Run kind code view words (At pc s) answer
   num d n here rest = row (Num d n) _ here refl refl rest
 
-  pub get : (d : Register) (k : Input) (n : ℕ) → slice_get code pc ≡ Some (Get d k) → allows_input kind k ≡ true → s (place.Input k) ≡ Number n → Run kind code view words (At (suc pc) (update s (place.Register d) (Number n))) answer → Run kind code view words (At pc s) answer
+  pub get : (d : Register) (k : Input) (n : ℕ) → slice_get code pc ≡ Some (Get d k) → allows_input kind k ≡ true → s (variable.Input k) ≡ Number n → Run kind code view words (At (suc pc) (update s (variable.Register d) (Number n))) answer → Run kind code view words (At pc s) answer
   get d k n here allowed holds rest =
       row (Get d k) _ here allowed (ap (λ v. state_after pc s (on_any v (λ w. Writes d w))) holds) rest
 
-  pub side : (d : Register) → slice_get code pc ≡ Some (Side d) → allows kind (Side d) ≡ true → Run kind code view words (At (suc pc) (update s (place.Register d) (Flag view.side))) answer → Run kind code view words (At pc s) answer
+  pub side : (d : Register) → slice_get code pc ≡ Some (Side d) → allows kind (Side d) ≡ true → Run kind code view words (At (suc pc) (update s (variable.Register d) (Flag view.side))) answer → Run kind code view words (At pc s) answer
   side d here allowed rest = row (Side d) _ here allowed refl rest
 
-  pub draw : (d : Register) (k t : ℕ) (h : Bool) → slice_get code pc ≡ Some (Draw d k t) → happens_on t (slice_index words k) ≡ h → Run kind code view words (At (suc pc) (update s (place.Register d) (Flag h))) answer → Run kind code view words (At pc s) answer
-  draw d k t h here happens rest = row (Draw d k t) _ here refl (ap (λ b. At (suc pc) (update s (place.Register d) (Flag b))) happens) rest
+  pub draw : (d : Register) (k t : ℕ) (h : Bool) → slice_get code pc ≡ Some (Draw d k t) → happens_on t (slice_index words k) ≡ h → Run kind code view words (At (suc pc) (update s (variable.Register d) (Flag h))) answer → Run kind code view words (At pc s) answer
+  draw d k t h here happens rest = row (Draw d k t) _ here refl (ap (λ b. At (suc pc) (update s (variable.Register d) (Flag b))) happens) rest
 
-  pub add : (d a b : Register) (m n : ℕ) → slice_get code pc ≡ Some (Add d a b) → s (place.Register a) ≡ Number m → s (place.Register b) ≡ Number n → m + n < 2 ^ 32 → Run kind code view words (At (suc pc) (update s (place.Register d) (Number (m + n)))) answer → Run kind code view words (At pc s) answer
+  pub add : (d a b : Register) (m n : ℕ) → slice_get code pc ≡ Some (Add d a b) → s (variable.Register a) ≡ Number m → s (variable.Register b) ≡ Number n → m + n < 2 ^ 32 → Run kind code view words (At (suc pc) (update s (variable.Register d) (Number (m + n)))) answer → Run kind code view words (At pc s) answer
   add d a b m n here first second sized rest =
       let after : Value → Value → State = λ v w. state_after pc s (on_number v (λ x. on_number w (λ y. write_sized d (x + y)))) in
       row (Add d a b) _ here refl
-      (ap (λ v. after v (s (place.Register b))) first ∙ (ap (λ w. after (Number m) w) second
+      (ap (λ v. after v (s (variable.Register b))) first ∙ (ap (λ w. after (Number m) w) second
       ∙ ap (λ t. state_after pc s (cond t (Writes d (Number (m + n))) Sticks)) (lt-ltb (m + n) (2 ^ 32) sized))) rest
 
-  pub sub : (d a b : Register) (m n : ℕ) → slice_get code pc ≡ Some (Sub d a b) → s (place.Register a) ≡ Number m → s (place.Register b) ≡ Number n → n ≤ m → Run kind code view words (At (suc pc) (update s (place.Register d) (Number (m - n)))) answer → Run kind code view words (At pc s) answer
+  pub sub : (d a b : Register) (m n : ℕ) → slice_get code pc ≡ Some (Sub d a b) → s (variable.Register a) ≡ Number m → s (variable.Register b) ≡ Number n → n ≤ m → Run kind code view words (At (suc pc) (update s (variable.Register d) (Number (m - n)))) answer → Run kind code view words (At pc s) answer
   sub d a b m n here first second less rest =
       let after : Value → Value → State = λ v w. state_after pc s (on_number v (λ x. on_number w (λ y. cond (nat_le y x) (Writes d (Number (x - y))) Sticks))) in
       row (Sub d a b) _ here refl
-      (ap (λ v. after v (s (place.Register b))) first ∙ (ap (λ w. after (Number m) w) second
+      (ap (λ v. after v (s (variable.Register b))) first ∙ (ap (λ w. after (Number m) w) second
       ∙ ap (λ t. state_after pc s (cond t (Writes d (Number (m - n))) Sticks)) (le-leb n m less))) rest
 
-  pub smaller : (d a b : Register) (m n : ℕ) → slice_get code pc ≡ Some (Min d a b) → s (place.Register a) ≡ Number m → s (place.Register b) ≡ Number n → Run kind code view words (At (suc pc) (update s (place.Register d) (Number (min m n)))) answer → Run kind code view words (At pc s) answer
+  pub smaller : (d a b : Register) (m n : ℕ) → slice_get code pc ≡ Some (Min d a b) → s (variable.Register a) ≡ Number m → s (variable.Register b) ≡ Number n → Run kind code view words (At (suc pc) (update s (variable.Register d) (Number (min m n)))) answer → Run kind code view words (At pc s) answer
   smaller d a b m n here first second rest =
       let after : Value → Value → State = λ v w. state_after pc s (on_number v (λ x. on_number w (λ y. Writes d (Number (min x y))))) in
-      row (Min d a b) _ here refl (ap (λ v. after v (s (place.Register b))) first ∙ ap (λ w. after (Number m) w) second) rest
+      row (Min d a b) _ here refl (ap (λ v. after v (s (variable.Register b))) first ∙ ap (λ w. after (Number m) w) second) rest
 
   pub jump : (t : ℕ) → slice_get code pc ≡ Some (Jump t) → Run kind code view words (At t s) answer → Run kind code view words (At pc s) answer
   jump t here rest = row (Jump t) _ here refl refl rest
 
-  at_most : (a b : Register) (t m n : ℕ) (h : Bool) → slice_get code pc ≡ Some (JumpAtMost a b t) → s (place.Register a) ≡ Number m → s (place.Register b) ≡ Number n → nat_le m n ≡ h → Run kind code view words (state_after pc s (jump_if h t)) answer → Run kind code view words (At pc s) answer
+  at_most : (a b : Register) (t m n : ℕ) (h : Bool) → slice_get code pc ≡ Some (JumpAtMost a b t) → s (variable.Register a) ≡ Number m → s (variable.Register b) ≡ Number n → nat_le m n ≡ h → Run kind code view words (state_after pc s (jump_if h t)) answer → Run kind code view words (At pc s) answer
   at_most a b t m n h here first second test rest =
       let after : Value → Value → State = λ v w. state_after pc s (on_number v (λ x. on_number w (λ y. jump_if (nat_le x y) t))) in
       row (JumpAtMost a b t) _ here refl
-      (ap (λ v. after v (s (place.Register b))) first ∙ (ap (λ w. after (Number m) w) second ∙ ap (λ z. state_after pc s (jump_if z t)) test)) rest
+      (ap (λ v. after v (s (variable.Register b))) first ∙ (ap (λ w. after (Number m) w) second ∙ ap (λ z. state_after pc s (jump_if z t)) test)) rest
 
   -- the first number is at most the second, and the jump is taken
-  pub at_most-jumps : (a b : Register) (t m n : ℕ) → slice_get code pc ≡ Some (JumpAtMost a b t) → s (place.Register a) ≡ Number m → s (place.Register b) ≡ Number n → nat_le m n ≡ true → Run kind code view words (At t s) answer → Run kind code view words (At pc s) answer
+  pub at_most-jumps : (a b : Register) (t m n : ℕ) → slice_get code pc ≡ Some (JumpAtMost a b t) → s (variable.Register a) ≡ Number m → s (variable.Register b) ≡ Number n → nat_le m n ≡ true → Run kind code view words (At t s) answer → Run kind code view words (At pc s) answer
   at_most-jumps a b t m n here first second test rest = at_most a b t m n true here first second test rest
 
   -- the first number is above the second, and the next instruction follows
-  pub at_most-falls : (a b : Register) (t m n : ℕ) → slice_get code pc ≡ Some (JumpAtMost a b t) → s (place.Register a) ≡ Number m → s (place.Register b) ≡ Number n → nat_le m n ≡ false → Run kind code view words (At (suc pc) s) answer → Run kind code view words (At pc s) answer
+  pub at_most-falls : (a b : Register) (t m n : ℕ) → slice_get code pc ≡ Some (JumpAtMost a b t) → s (variable.Register a) ≡ Number m → s (variable.Register b) ≡ Number n → nat_le m n ≡ false → Run kind code view words (At (suc pc) s) answer → Run kind code view words (At pc s) answer
   at_most-falls a b t m n here first second test rest = at_most a b t m n false here first second test rest
 
-  if_false : (a : Register) (t : ℕ) (h : Bool) → slice_get code pc ≡ Some (JumpFalse a t) → s (place.Register a) ≡ Flag h → Run kind code view words (state_after pc s (jump_if (not h) t)) answer → Run kind code view words (At pc s) answer
+  if_false : (a : Register) (t : ℕ) (h : Bool) → slice_get code pc ≡ Some (JumpFalse a t) → s (variable.Register a) ≡ Flag h → Run kind code view words (state_after pc s (jump_if (not h) t)) answer → Run kind code view words (At pc s) answer
   if_false a t h here holds rest = row (JumpFalse a t) _ here refl (ap (λ v. state_after pc s (on_flag v (λ p. jump_if (not p) t))) holds) rest
 
   -- the flag is false, and the jump is taken
-  pub if_false-jumps : (a : Register) (t : ℕ) → slice_get code pc ≡ Some (JumpFalse a t) → s (place.Register a) ≡ Flag false → Run kind code view words (At t s) answer → Run kind code view words (At pc s) answer
+  pub if_false-jumps : (a : Register) (t : ℕ) → slice_get code pc ≡ Some (JumpFalse a t) → s (variable.Register a) ≡ Flag false → Run kind code view words (At t s) answer → Run kind code view words (At pc s) answer
   if_false-jumps a t here holds rest = if_false a t false here holds rest
 
   -- the flag is true, and the next instruction follows
-  pub if_false-falls : (a : Register) (t : ℕ) → slice_get code pc ≡ Some (JumpFalse a t) → s (place.Register a) ≡ Flag true → Run kind code view words (At (suc pc) s) answer → Run kind code view words (At pc s) answer
+  pub if_false-falls : (a : Register) (t : ℕ) → slice_get code pc ≡ Some (JumpFalse a t) → s (variable.Register a) ≡ Flag true → Run kind code view words (At (suc pc) s) answer → Run kind code view words (At pc s) answer
   if_false-falls a t here holds rest = if_false a t true here holds rest
 
 -- the ends
 module _ {code : List Instr} {view : View} {words : List ℕ} {pc : ℕ} {s : Store} where
-  pub go : (a : Register) (m : ℕ) → slice_get code pc ≡ Some (Go a) → s (place.Register a) ≡ Number m → m ≤ view.gap → m ≤ view.limit → Run Motion code view words (At pc s) (Goes m)
+  pub go : (a : Register) (m : ℕ) → slice_get code pc ≡ Some (Go a) → s (variable.Register a) ≡ Number m → m ≤ view.gap → m ≤ view.limit → Run Motion code view words (At pc s) (Goes m)
   go a m here holds gap limit =
       let after : Bool → Bool → State = λ p q. state_after pc s (cond (p && q) (Ends (Goes m)) Sticks) in
       row (Go a) _ here refl

@@ -3,7 +3,7 @@ use Rattle.std.proofs.Common.{◌≡◌, ℕ, ◌+◌, ◌-◌, min, refl, subst
 use Rattle.std.proofs.lemmas.Bool.{eqb-true, lt-leb}
 use Rattle.trlab_code.specs.declared.kind.Kind.TheVariants.{Motion}
 use Rattle.trlab_code.specs.declared.instruction.Register.TheVariants.{R0, R1, R2, R3}
-use Rattle.trlab_code.specs.declared.instruction.Place.TheVariants as place
+use Rattle.trlab_code.specs.declared.instruction.Variable.TheVariants as variable
 use Rattle.trlab_code.specs.declared.instruction.Input.TheVariants.{Speed, Limit, Gap}
 use Rattle.trlab_code.specs.declared.view.View.{View}
 use Rattle.trlab_code.specs.Views.{IsView}
@@ -20,7 +20,7 @@ module _ (p p0 : ℕ) (view : View) (words : List ℕ) (seen : IsView view) wher
 
   -- the values once the draw is done
   abbrev drawn : Bool → Store
-  drawn h = update (update (update (start Motion view) (place.Register R0) (Number view.speed)) (place.Register R1) (Number 1)) (place.Register R3) (Flag h)
+  drawn h = update (update (update (start Motion view) (variable.Register R0) (Number view.speed)) (variable.Register R1) (Number 1)) (variable.Register R3) (Flag h)
 
   -- behind the draw it moves as the one of 1992
   behind : (h : Bool) → Run Motion (vdr_program p p0).instrs view words (At 6 (drawn h)) (Goes (brake h safe))

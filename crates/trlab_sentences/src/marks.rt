@@ -2,7 +2,7 @@
 
 use std::alloc::AllocError;
 use trlab_asm::{INPUTS, REGISTERS, input_text, register_text};
-use trlab_code::{PLACES, Register};
+use trlab_code::{Register, VARIABLES};
 use trlab_pages::Page;
 use trlab_verify::{Mark, Note};
 
@@ -23,25 +23,25 @@ fn push_mark(page: &mut Page, mark: Mark, side: bool) -> Result<(), AllocError> 
     }
 }
 
-/// The name of a place: a register, or what a car sees.
-fn place_text(place: usize) -> &'static [u8] {
-    if place < REGISTERS.len() {
-        register_text(REGISTERS[place])
-    } else if place - REGISTERS.len() < INPUTS.len() {
-        input_text(INPUTS[place - REGISTERS.len()])
+/// The name of a variable: a register, or what a car sees.
+fn variable_text(variable: usize) -> &'static [u8] {
+    if variable < REGISTERS.len() {
+        register_text(REGISTERS[variable])
+    } else if variable - REGISTERS.len() < INPUTS.len() {
+        input_text(INPUTS[variable - REGISTERS.len()])
     } else {
         b""
     }
 }
 
-/// The least number at a place, where it holds one.
-fn least_at(note: &Note, place: usize) -> u32 {
-    if place < REGISTERS.len() {
-        match note.regs[place] {
+/// The least number at a variable, where it holds one.
+fn least_at(note: &Note, variable: usize) -> u32 {
+    if variable < REGISTERS.len() {
+        match note.regs[variable] {
             Mark::Num(low, _) => low,
             _ => 0,
         }
-    } else if place == REGISTERS.len() + 1 {
+    } else if variable == REGISTERS.len() + 1 {
         1
     } else {
         0
@@ -59,19 +59,19 @@ fn range_level(high: u32, low: u32) -> u8 {
     }
 }
 
-/// Adds which places a number of a register is at most or below, beyond what their ranges say.
+/// Adds which variables a number of a register is at most or below, beyond what their ranges say.
 fn push_orders(page: &mut Page, note: &Note, register: Register) -> Result<(), AllocError> {
     let own = register.number();
     let Mark::Num(_, high) = note.regs[own] else {
         return Ok(());
     };
-    for place in 0..PLACES {
-        let level = note.levels[own][place];
-        if place == own || level <= range_level(high, least_at(note, place)) {
+    for variable in 0..VARIABLES {
+        let level = note.levels[own][variable];
+        if variable == own || level <= range_level(high, least_at(note, variable)) {
             continue;
         }
         page.say(if level == 1 { ", at most " } else { ", below " })?;
-        page.show_all(place_text(place))?;
+        page.show_all(variable_text(variable))?;
     }
     Ok(())
 }

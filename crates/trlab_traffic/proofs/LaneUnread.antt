@@ -7,22 +7,22 @@ use Rattle.trlab_code.specs.declared.instruction.Input.{Input}
 use Rattle.trlab_code.specs.declared.instruction.Input.TheVariants.{Speed, Limit, Gap, SideGap, SideBack, Lane, Headspeed}
 use Rattle.trlab_code.specs.declared.instruction.Instr.{Instr}
 use Rattle.trlab_code.specs.declared.instruction.Instr.TheVariants.{Num, Get, Side, Draw, Copy, Add, Sub, Mul, Div, Min, Max, Not, And, Or, Jump, JumpLess, JumpAtMost, JumpTrue, JumpFalse, Go, Cross, Stay}
-use Rattle.trlab_code.specs.declared.instruction.Place.TheVariants as place
+use Rattle.trlab_code.specs.declared.instruction.Variable.TheVariants as variable
 use Rattle.trlab_code.specs.declared.instruction.Register.{Register}
 use Rattle.trlab_code.specs.declared.view.View.{View}
-use Rattle.trlab_code.specs.Machine.{Answer, At, Done, Effect, EndsFrom, EndsWith, Ends, Falls, Flag, Goes, Jumps, State, Sticks, Store, Stuck, Value, Writes, allows, effect, end_if, execute, jump_if, on_any, on_flag, on_number, place_number, start, state_after, step, update, write_difference, write_sized, Number}
+use Rattle.trlab_code.specs.Machine.{Answer, At, Done, Effect, EndsFrom, EndsWith, Ends, Falls, Flag, Goes, Jumps, State, Sticks, Store, Stuck, Value, Writes, allows, effect, end_if, execute, jump_if, on_any, on_flag, on_number, variable_number, start, state_after, step, update, write_difference, write_sized, Number}
 use Rattle.trlab_traffic.specs.Symmetry.{reads_lane}
 
 -- two stores differ in what they hold of the lane alone
 record Alike (s t : Store) : Type 0 where
-  registers : (r : Register) → s (place.Register r) ≡ t (place.Register r)
-  inputs : (d : Register) (k : Input) → reads_lane (Get d k) ≡ false → s (place.Input k) ≡ t (place.Input k)
+  registers : (r : Register) → s (variable.Register r) ≡ t (variable.Register r)
+  inputs : (d : Register) (k : Input) → reads_lane (Get d k) ≡ false → s (variable.Input k) ≡ t (variable.Input k)
 
-alike_updated : (s t : Store) (d : Register) (v : Value) → Alike s t → Alike (update s (place.Register d) v) (update t (place.Register d) v)
+alike_updated : (s t : Store) (d : Register) (v : Value) → Alike s t → Alike (update s (variable.Register d) v) (update t (variable.Register d) v)
 unfolding update
 alike_updated s t d v alike = record {
-  registers = λ r. ap (λ (o : Value). cond (nat_eq (place_number (place.Register r)) (place_number (place.Register d))) v o) (alike.registers r);
-  inputs = λ e k unread. ap (λ (o : Value). cond (nat_eq (place_number (place.Input k)) (place_number (place.Register d))) v o) (alike.inputs e k unread);
+  registers = λ r. ap (λ (o : Value). cond (nat_eq (variable_number (variable.Register r)) (variable_number (variable.Register d))) v o) (alike.registers r);
+  inputs = λ e k unread. ap (λ (o : Value). cond (nat_eq (variable_number (variable.Input k)) (variable_number (variable.Register d))) v o) (alike.inputs e k unread);
 }
 
 SameState : State → State → Type 0
@@ -49,11 +49,11 @@ module _ (kind : Kind) (view : View) (words : List ℕ) (lane : ℕ) where
   other = record view { lane = lane }
 
   module _ (s t : Store) (alike : Alike s t) where
-    one : (f : Value → Effect) (a : Register) → f (s (place.Register a)) ≡ f (t (place.Register a))
+    one : (f : Value → Effect) (a : Register) → f (s (variable.Register a)) ≡ f (t (variable.Register a))
     one f a = ap f (alike.registers a)
 
-    two : (f : Value → Value → Effect) (a b : Register) → f (s (place.Register a)) (s (place.Register b)) ≡ f (t (place.Register a)) (t (place.Register b))
-    two f a b = ap (λ v. f v (s (place.Register b))) (alike.registers a) ∙ ap (f (t (place.Register a))) (alike.registers b)
+    two : (f : Value → Value → Effect) (a b : Register) → f (s (variable.Register a)) (s (variable.Register b)) ≡ f (t (variable.Register a)) (t (variable.Register b))
+    two f a b = ap (λ v. f v (s (variable.Register b))) (alike.registers a) ∙ ap (f (t (variable.Register a))) (alike.registers b)
 
     same_effect : (instr : Instr) → reads_lane instr ≡ false → effect view words s instr ≡ effect other words t instr
     same_effect (Num d n) unread = refl
@@ -90,7 +90,7 @@ module _ (kind : Kind) (view : View) (words : List ℕ) (lane : ℕ) where
   unfolding start
   same_start = record { registers = λ r. refl; inputs = same_input }
     where
-      same_input : (d : Register) (k : Input) → reads_lane (Get d k) ≡ false → start kind view (place.Input k) ≡ start kind other (place.Input k)
+      same_input : (d : Register) (k : Input) → reads_lane (Get d k) ≡ false → start kind view (variable.Input k) ≡ start kind other (variable.Input k)
       same_input d Speed unread = refl
       same_input d Limit unread = refl
       same_input d Gap unread = refl

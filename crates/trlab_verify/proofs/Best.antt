@@ -4,7 +4,7 @@ use Rattle.std.specs.Prelude.{slice_get, IfSome}
 use Rattle.std.proofs.lemmas.Bool.{eqb-true, cases_lt}
 use Rattle.trlab_code.specs.declared.kind.Kind.{Kind}
 use Rattle.trlab_code.specs.declared.instruction.Instr.{Instr}
-use Rattle.trlab_code.specs.declared.instruction.Place.{Place}
+use Rattle.trlab_code.specs.declared.instruction.Variable.{Variable}
 use Rattle.trlab_code.specs.declared.instruction.Instr.TheVariants.{Jump, Go, Cross, Stay}
 use Rattle.trlab_code.specs.Program.{Program}
 use Rattle.trlab_code.specs.Flow.{target, falls}
@@ -18,14 +18,14 @@ use Rattle.trlab_verify.specs.Verdict.{IsAccepted}
 use Rattle.trlab_verify.specs.Tables.{IsNoStrongerAt}
 use Rattle.trlab_verify.proofs.Checking.{ChecksBy}
 use Rattle.trlab_notes.proofs.Order.{Closed, On, through_on, join_most_on}
-use Rattle.trlab_notes.proofs.Monotone.{Reaches, BothOn, fall_up, jump_up, clear_up, passes, All_places, all_closed, on_all, all_on, reaches_all}
+use Rattle.trlab_notes.proofs.Monotone.{Reaches, BothOn, fall_up, jump_up, clear_up, passes, All_variables, all_closed, on_all, all_on, reaches_all}
 use Rattle.trlab_notes.proofs.Steps.{IsClear, clear}
 use Rattle.trlab_verify.proofs.Runs.{fetch}
 use Rattle.trlab_verify.proofs.Accepted.{target_ahead, next_ahead}
 use Rattle.trlab_verify.proofs.Verdicts.{tested}
 use Rattle.trlab_verify.proofs.Ways.{either_of, both_of}
 
-module _ (V : Place → Type 0) (closed : Closed V) where
+module _ (V : Variable → Type 0) (closed : Closed V) where
   -- what has come in is no weaker than t
   abbrev Keeps : Note → Option Note → Type 0
   Keeps t o = IfSome o (On V t)
@@ -42,7 +42,7 @@ module _ (V : Place → Type 0) (closed : Closed V) where
   keeps_here t true None (Some n) h k = absurd h
   keeps_here t true (Some m) None h k = absurd h
 
-  -- a table that checks at the places V, as far as b
+  -- a table that checks at the variables V, as far as b
   pub record Below (kind : Kind) (code : List Instr) (note : ℕ → Note) (b : ℕ) : Type 0 where
     pub first : On V (note 0) (entry kind)
     pub ahead : (pc q : ℕ) → Follows code pc q → (pc < q) × (q < length code)
@@ -90,7 +90,7 @@ is_target_on : (t : Option ℕ) (q : ℕ) → on_target (nat_eq q) t ≡ true �
 is_target_on (Some t) q h = h
 is_target_on None q h = absurd (cc h)
 
-module _ (V : Place → Type 0) (closed : Closed V) (kind : Kind) (code : List Instr) (note : ℕ → Note) (b : ℕ) (checks : Below V closed kind code note b) where
+module _ (V : Variable → Type 0) (closed : Closed V) (kind : Kind) (code : List Instr) (note : ℕ → Note) (b : ℕ) (checks : Below V closed kind code note b) where
   module _ (q : ℕ) (lt : q < length code) (most : q ≤ b) (before : (p : ℕ) → p < q → Best V closed kind code note p) where
     fall_kept : (k : ℕ) (i : Instr) → slice_get code k ≡ Some i → (b : Bool) → nat_eq q (suc k) ≡ b → Keeps V closed (note q) (if_here b (next_note (note k) i))
     fall_kept k i e true eb =
@@ -153,7 +153,7 @@ module _ (V : Place → Type 0) (closed : Closed V) (kind : Kind) (code : List I
   all_best zero q h lt le = absurd (omega arith)
   all_best (suc fuel) q h lt le = here_best q lt le (λ p less. all_best fuel p (omega arith) (omega arith) (omega arith))
 
-if_on : (t : Note) (o : Option Note) → IfSome o (IsNoStronger t) → IfSome o (On All_places t)
+if_on : (t : Note) (o : Option Note) → IfSome o (IsNoStronger t) → IfSome o (On All_variables t)
 if_on t None h = h
 if_on t (Some n) h = on_all t n h
 
@@ -174,7 +174,7 @@ module _ (kind : Kind) (program : Program) (note : ℕ → Note) (checks : Check
       ]
 
   -- as far as any b
-  pub below : (b : ℕ) → Below All_places all_closed kind code note b
+  pub below : (b : ℕ) → Below All_variables all_closed kind code note b
   below b = record {
     first = on_all _ _ checks.first;
     ahead = ahead;
@@ -187,10 +187,10 @@ module _ (kind : Kind) (program : Program) (note : ℕ → Note) (checks : Check
   }
 
   pub best : (pc : ℕ) → pc < length code → IsNoStrongerAt kind program pc (note pc)
-  best pc lt = let (n, e, f) = all_best All_places all_closed kind code note (length code) (below (length code)) (suc pc) pc (omega arith) lt (omega arith) in (n, e, all_on _ _ f)
+  best pc lt = let (n, e, f) = all_best All_variables all_closed kind code note (length code) (below (length code)) (suc pc) pc (omega arith) lt (omega arith) in (n, e, all_on _ _ f)
 
   pub accepted : IsAccepted kind program
   accepted pc lt =
       let (i, e) = fetch code pc lt in
       let (n, en, f) = best pc lt in
-      tested kind program.kind code pc n i None en e (passes All_places all_closed kind program.kind (length code) pc n i (clear_up All_places all_closed (note pc) n (on_all _ _ f) kind program.kind (length code) pc i (no_fault pc i e)))
+      tested kind program.kind code pc n i None en e (passes All_variables all_closed kind program.kind (length code) pc n i (clear_up All_variables all_closed (note pc) n (on_all _ _ f) kind program.kind (length code) pc i (no_fault pc i e)))

@@ -5,15 +5,15 @@ use Rattle.trlab_code.specs.declared.kind.Kind.{Kind}
 use Rattle.trlab_code.specs.declared.instruction.Input.TheVariants.{Speed, Limit, Headspeed}
 use Rattle.trlab_code.specs.declared.instruction.Instr.{Instr}
 use Rattle.trlab_code.specs.declared.instruction.Instr.TheVariants.{Get, Copy, Add, Sub, Div, Min, Max, JumpLess, JumpAtMost, JumpTrue, JumpFalse}
-use Rattle.trlab_code.specs.declared.instruction.Place.{Place}
-use Rattle.trlab_code.specs.declared.instruction.Place.TheVariants as place
+use Rattle.trlab_code.specs.declared.instruction.Variable.{Variable}
+use Rattle.trlab_code.specs.declared.instruction.Variable.TheVariants as variable
 use Rattle.trlab_code.specs.declared.instruction.Register.{Register}
 use Rattle.trlab_code.specs.Machine.{update}
 use Rattle.trlab_code.specs.Program.{Program}
 use Rattle.trlab_code.specs.Flow.{target, destination}
 use Rattle.trlab_notes.specs.declared.note.Said.{Said}
 use Rattle.trlab_notes.specs.declared.note.Said.TheVariants.{Nothing, Between, Implies}
-use Rattle.trlab_notes.specs.Notes.{Note, known_level, level_between, same_place, entry, entry_level, entry_said}
+use Rattle.trlab_notes.specs.Notes.{Note, known_level, level_between, same_variable, entry, entry_level, entry_said}
 use Rattle.trlab_notes.specs.Order.{join}
 use Rattle.trlab_notes.specs.Transfer.{sharpen, slacken, chain, least, most, result_said, result_to, to_result, register_to, assign, assign_any, refine_order, refine_flag, next_note, jump_note}
 use Rattle.trlab_verify.specs.Incoming.{add_note, add_notes, if_here, next_note_to, jump_note_to, is_target, incoming}
@@ -52,39 +52,39 @@ chain_two (suc i) k zero p q r = omega arith
 chain_two (suc i) k (suc j) p q r = omega arith
 
 module _ (m : Note) (f : HasLevels m) where
-  assign_two : (d : Register) (s : Said) (to from : Place → ℕ) → ((y : Place) → to y ≤ 2) → ((y : Place) → from y ≤ 2) → HasLevels (assign m d s to from)
+  assign_two : (d : Register) (s : Said) (to from : Variable → ℕ) → ((y : Variable) → to y ≤ 2) → ((y : Variable) → from y ≤ 2) → HasLevels (assign m d s to from)
   unfolding assign known_level update
-  assign_two d s to from p q x y = at (same_place x (place.Register d)) (same_place y (place.Register d))
+  assign_two d s to from p q x y = at (same_variable x (variable.Register d)) (same_variable y (variable.Register d))
     where
-      at : (b c : Bool) → level_between (cond b s (m.said x)) (cond c s (m.said y)) (same_place x y) (cond b (to y) (cond c (from x) (m.level x y))) ≤ 2
-      at true c = known_two _ _ (same_place x y) (to y) (p y)
-      at false true = known_two _ _ (same_place x y) (from x) (q x)
+      at : (b c : Bool) → level_between (cond b s (m.said x)) (cond c s (m.said y)) (same_variable x y) (cond b (to y) (cond c (from x) (m.level x y))) ≤ 2
+      at true c = known_two _ _ (same_variable x y) (to y) (p y)
+      at false true = known_two _ _ (same_variable x y) (from x) (q x)
       at false false = f x y
 
-  refine_two : (p q : Place) (k : ℕ) → k ≤ 2 → HasLevels (refine_order m p q k)
+  refine_two : (p q : Variable) (k : ℕ) → k ≤ 2 → HasLevels (refine_order m p q k)
   unfolding refine_order known_level
-  refine_two p q k l x y = known_max (m.said x) (m.said y) (same_place x y) (m.level x y) _ (f x y) (chain_two _ k _ (f x p) l (f q y))
+  refine_two p q k l x y = known_max (m.said x) (m.said y) (same_variable x y) (m.level x y) _ (f x y) (chain_two _ k _ (f x p) l (f q y))
 
   flag_two : (a : Register) → HasLevels (refine_flag m a)
   unfolding refine_flag known_level
   flag_two a = f
 
-  to_two : (i : Instr) (y : Place) → result_to m i y ≤ 2
-  to_two (Get d k) y = f (place.Input k) y
-  to_two (Copy d a) y = f (place.Register a) y
-  to_two (Div d a v) y = f (place.Register a) y
+  to_two : (i : Instr) (y : Variable) → result_to m i y ≤ 2
+  to_two (Get d k) y = f (variable.Input k) y
+  to_two (Copy d a) y = f (variable.Register a) y
+  to_two (Div d a v) y = f (variable.Register a) y
   to_two (Add d a b) y = omega (arith, slacken_two (register_to m a y) (most m b), slacken_two (register_to m b y) (most m a))
-  to_two (Sub d a b) y = sharpen_two _ _ (f (place.Register a) y)
-  to_two (Min d a b) y = omega (arith, f (place.Register a) y, f (place.Register b) y)
-  to_two (Max d a b) y = omega (arith, f (place.Register a) y, f (place.Register b) y)
+  to_two (Sub d a b) y = sharpen_two _ _ (f (variable.Register a) y)
+  to_two (Min d a b) y = omega (arith, f (variable.Register a) y, f (variable.Register b) y)
+  to_two (Max d a b) y = omega (arith, f (variable.Register a) y, f (variable.Register b) y)
   to_two i y = omega arith
 
-  from_two : (i : Instr) (y : Place) → to_result m i y ≤ 2
-  from_two (Get d k) y = f y (place.Input k)
-  from_two (Copy d a) y = f y (place.Register a)
-  from_two (Add d a b) y = omega (arith, sharpen_two _ (least m b) (f y (place.Register a)), sharpen_two _ (least m a) (f y (place.Register b)))
-  from_two (Min d a b) y = omega (arith, f y (place.Register a), f y (place.Register b))
-  from_two (Max d a b) y = omega (arith, f y (place.Register a), f y (place.Register b))
+  from_two : (i : Instr) (y : Variable) → to_result m i y ≤ 2
+  from_two (Get d k) y = f y (variable.Input k)
+  from_two (Copy d a) y = f y (variable.Register a)
+  from_two (Add d a b) y = omega (arith, sharpen_two _ (least m b) (f y (variable.Register a)), sharpen_two _ (least m a) (f y (variable.Register b)))
+  from_two (Min d a b) y = omega (arith, f y (variable.Register a), f y (variable.Register b))
+  from_two (Max d a b) y = omega (arith, f y (variable.Register a), f y (variable.Register b))
   from_two i y = omega arith
 
   any_two : (i : Instr) (d : Option Register) → IfSome (assign_any m i d) HasLevels
@@ -92,29 +92,29 @@ module _ (m : Note) (f : HasLevels m) where
   any_two i (Some d) = assign_two d (result_said m i) (result_to m i) (to_result m i) (to_two i) (from_two i)
 
   next_two : (i : Instr) → IfSome (next_note m i) HasLevels
-  next_two (JumpLess a b t) = refine_two (place.Register b) (place.Register a) 1 (omega arith)
-  next_two (JumpAtMost a b t) = refine_two (place.Register b) (place.Register a) 2 (omega arith)
+  next_two (JumpLess a b t) = refine_two (variable.Register b) (variable.Register a) 1 (omega arith)
+  next_two (JumpAtMost a b t) = refine_two (variable.Register b) (variable.Register a) 2 (omega arith)
   next_two (JumpTrue a t) = f
   next_two (JumpFalse a t) = flag_two a
   next_two i = any_two i (destination i)
 
   jump_two : (i : Instr) → HasLevels (jump_note m i)
-  jump_two (JumpLess a b t) = refine_two (place.Register a) (place.Register b) 2 (omega arith)
-  jump_two (JumpAtMost a b t) = refine_two (place.Register a) (place.Register b) 1 (omega arith)
+  jump_two (JumpLess a b t) = refine_two (variable.Register a) (variable.Register b) 2 (omega arith)
+  jump_two (JumpAtMost a b t) = refine_two (variable.Register a) (variable.Register b) 1 (omega arith)
   jump_two (JumpTrue a t) = flag_two a
   jump_two i = f
 
 join_two : (m n : Note) → HasLevels m → HasLevels (join m n)
 unfolding join known_level
-join_two m n f x y = known_two _ _ (same_place x y) _ (omega (arith, f x y))
+join_two m n f x y = known_two _ _ (same_variable x y) _ (omega (arith, f x y))
 
 entry_two : (kind : Kind) → HasLevels (entry kind)
 unfolding entry known_level
-entry_two kind x y = known_two (entry_said kind x) (entry_said kind y) (same_place x y) (entry_level x y) (levels x y)
+entry_two kind x y = known_two (entry_said kind x) (entry_said kind y) (same_variable x y) (entry_level x y) (levels x y)
   where
-    levels : (x y : Place) → entry_level x y ≤ 2
-    levels (place.Input Speed) (place.Input Limit) = omega arith
-    levels (place.Input Headspeed) (place.Input Limit) = omega arith
+    levels : (x y : Variable) → entry_level x y ≤ 2
+    levels (variable.Input Speed) (variable.Input Limit) = omega arith
+    levels (variable.Input Headspeed) (variable.Input Limit) = omega arith
     levels x y = omega arith
 
 edge_two : (old new : Option Note) → IfSome old HasLevels → IfSome new HasLevels → IfSome (add_note old new) HasLevels

@@ -4,17 +4,17 @@ use Rattle.std.specs.Prelude.{slice_get, IfSome}
 use Rattle.trlab_code.specs.declared.kind.Kind.{Kind}
 use Rattle.trlab_code.specs.declared.instruction.Instr.{Instr}
 use Rattle.trlab_code.specs.Flow.{target}
-use Rattle.trlab_notes.specs.Notes.{Note, level_between, known_level, same_place, entry, entry_said, entry_level, closure, maybe_closure}
+use Rattle.trlab_notes.specs.Notes.{Note, level_between, known_level, same_variable, entry, entry_said, entry_level, closure, maybe_closure}
 use Rattle.trlab_notes.specs.Transfer.{next_note, jump_note}
 use Rattle.trlab_notes.specs.Reasons.{reason_against}
 use Rattle.trlab_notes.specs.Order.{IsNoStronger}
 use mathlib.Core.Path.{fun_ext}
 use Rattle.trlab_code.specs.declared.instruction.Input.{Input}
-use Rattle.trlab_code.specs.declared.instruction.Place.{Place}
-use Rattle.trlab_code.specs.declared.instruction.Place.TheVariants as place
-use Rattle.trlab_code.specs.Machine.{place_number, register_number}
+use Rattle.trlab_code.specs.declared.instruction.Variable.{Variable}
+use Rattle.trlab_code.specs.declared.instruction.Variable.TheVariants as variable
+use Rattle.trlab_code.specs.Machine.{variable_number, register_number}
 use Rattle.trlab_notes.specs.Rows.{AreLevels, known_with, level_at, levels_in, said_in}
-use Rattle.trlab_notes.proofs.Places.{below, register_below, at_numbers}
+use Rattle.trlab_notes.proofs.Variables.{below, register_below, at_numbers}
 use Rattle.trlab_verify.specs.Longest.{Follows}
 use Rattle.trlab_notes.specs.declared.note.Said.{Said}
 use Rattle.trlab_notes.specs.declared.note.Said.TheVariants.{Nothing}
@@ -34,34 +34,34 @@ pub record Shown (kind : Kind) (code : List Instr) (len : ℕ) (note : ℕ → N
   pub falls : suc pc < len → IfSome (next_note m i) (IsNoStronger (note (suc pc)))
   pub jumps : (t : ℕ) → target i ≡ Some t → t < len → IsNoStronger (note t) (jump_note m i)
 
--- the levels of the note that a form means are those that its places and its table give
-module _ (kind : Kind) (form : Form) (said : List Said) (h : (x : Place) → said_in said x ≡ form_said kind form x) where
-  form_known : (x y : Place) → known_level (meaning kind form) x y ≡ known_with said (place_number x) (place_number y) (level_at form.levels (place_number x) (place_number y))
+-- the levels of the note that a form means are those that its variables and its table give
+module _ (kind : Kind) (form : Form) (said : List Said) (h : (x : Variable) → said_in said x ≡ form_said kind form x) where
+  form_known : (x y : Variable) → known_level (meaning kind form) x y ≡ known_with said (variable_number x) (variable_number y) (level_at form.levels (variable_number x) (variable_number y))
   form_known x y =
       known_unfolds (meaning kind form) x y
-      ∙ (λ i. level_between (sym (h x) i) (sym (h y) i) (same_place x y) (level_at form.levels (place_number x) (place_number y)))
+      ∙ (λ i. level_between (sym (h x) i) (sym (h y) i) (same_variable x y) (level_at form.levels (variable_number x) (variable_number y)))
 
   pub levels_below : HasLevels (meaning kind form) → AreLevels said form.levels
   levels_below f x y lx ly =
       at_numbers (λ a. known_with said a y (level_at form.levels a y) ≤ 2)
-      (λ p. at_numbers (λ b. known_with said (place_number p) b (level_at form.levels (place_number p) b) ≤ 2) (λ q. subst (λ k. k ≤ 2) (form_known p q) (f p q)) y ly) x lx
+      (λ p. at_numbers (λ b. known_with said (variable_number p) b (level_at form.levels (variable_number p) b) ≤ 2) (λ q. subst (λ k. k ≤ 2) (form_known p q) (f p q)) y ly) x lx
 
   pub levels_above : AreLevels said form.levels → HasLevels (meaning kind form)
-  levels_above f x y = subst (λ k. k ≤ 2) (sym (form_known x y)) (f (place_number x) (place_number y) (below x) (below y))
+  levels_above f x y = subst (λ k. k ≤ 2) (sym (form_known x y)) (f (variable_number x) (variable_number y) (below x) (below y))
 
   -- the note that is stored is the closure of what the form means
   pub read_is : closure (record { said = said_in said; level = levels_in form.levels; side = form.side }) ≡ closure (meaning kind form)
   read_is = ap closure (note_same (record { said = said_in said; level = levels_in form.levels; side = form.side }) (meaning kind form) (fun_ext h) refl refl)
 
--- what a form says, by the numbers of the places
+-- what a form says, by the numbers of the variables
 pub form_says : (kind : Kind) (form : Form) (said : List Said) → ((x : ℕ) → x < 8 → said_of (get_or form.regs x Unset) ≡ get_or said x Nothing) →
-    ((k : Input) → said_in said (place.Input k) ≡ entry_said kind (place.Input k)) → (x : Place) → form_said kind form x ≡ said_in said x
-form_says kind form said h k (place.Register r) = h (register_number r) (register_below r)
-form_says kind form said h k (place.Input i) = sym (k i)
+    ((k : Input) → said_in said (variable.Input k) ≡ entry_said kind (variable.Input k)) → (x : Variable) → form_said kind form x ≡ said_in said x
+form_says kind form said h k (variable.Register r) = h (register_number r) (register_below r)
+form_says kind form said h k (variable.Input i) = sym (k i)
 
 -- the first note has the levels of the start
 pub first_is : (kind : Kind) (form : Form) (levels : List (List ℕ)) → meaning kind form ≡ closure (entry kind) →
-    ((x y : Place) → levels_in levels x y ≡ entry_level x y) → meaning kind (record form { levels = levels }) ≡ entry kind
+    ((x y : Variable) → levels_in levels x y ≡ entry_level x y) → meaning kind (record form { levels = levels }) ≡ entry kind
 unfolding entry
 first_is kind form levels e h =
     note_same _ _ (ap (λ n. n.said) e ∙ said_same (entry kind)) (level_same _ _ h) (ap (λ n. n.side) e ∙ side_same (entry kind))

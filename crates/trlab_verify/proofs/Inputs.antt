@@ -6,8 +6,8 @@ use Rattle.trlab_code.specs.declared.instruction.Input.{Input}
 use Rattle.trlab_code.specs.declared.instruction.Input.TheVariants.{Speed, Limit, Gap, SideGap, SideBack, Lane, Headspeed}
 use Rattle.trlab_code.specs.declared.instruction.Instr.{Instr}
 use Rattle.trlab_code.specs.declared.instruction.Instr.TheVariants.{JumpLess, JumpAtMost, JumpTrue, JumpFalse}
-use Rattle.trlab_code.specs.declared.instruction.Place.{Place}
-use Rattle.trlab_code.specs.declared.instruction.Place.TheVariants as place
+use Rattle.trlab_code.specs.declared.instruction.Variable.{Variable}
+use Rattle.trlab_code.specs.declared.instruction.Variable.TheVariants as variable
 use Rattle.trlab_code.specs.declared.instruction.Register.{Register}
 use Rattle.trlab_code.specs.Machine.{update, register_number, input_number, allows_input}
 use Rattle.trlab_code.specs.Flow.{target, destination}
@@ -19,7 +19,7 @@ use Rattle.trlab_notes.specs.Order.{join, join_said}
 use Rattle.trlab_notes.specs.Reasons.{is_flag}
 use Rattle.trlab_notes.specs.Stored.{note_of, maybe_note}
 use Rattle.trlab_notes.specs.Transfer.{assign, assign_any, assign_result, refine_order, refine_flag, next_note, jump_note}
-use Rattle.trlab_notes.proofs.Places.{register_below}
+use Rattle.trlab_notes.proofs.Variables.{register_below}
 use Rattle.trlab_verify.specs.Incoming.{add_note, add_notes, if_here, next_note_to, jump_note_to, is_target, incoming}
 use Rattle.trlab_verify.specs.TableForm.{SaysRanges}
 
@@ -33,7 +33,7 @@ range_plain SideBack = refl
 range_plain Lane = refl
 range_plain Headspeed = refl
 
-plain : (kind : Kind) (k : Input) (b : Bool) → allows_input kind k ≡ b → is_flag (entry_said kind (place.Input k)) ≡ false
+plain : (kind : Kind) (k : Input) (b : Bool) → allows_input kind k ≡ b → is_flag (entry_said kind (variable.Input k)) ≡ false
 plain kind k true e = rw e (range_plain k)
 plain kind k false e = rw e refl
 
@@ -56,7 +56,7 @@ module _ (kind : Kind) where
       let e : nat_eq (8 + input_number k) (register_number d) ≡ false = grind (arith, l) in
       rw e (f k)
 
-  refine_shows : (m : Note) (p q : Place) (k : ℕ) → SaysRanges kind m → SaysRanges kind (refine_order m p q k)
+  refine_shows : (m : Note) (p q : Variable) (k : ℕ) → SaysRanges kind m → SaysRanges kind (refine_order m p q k)
   unfolding refine_order
   refine_shows m p q k f = f
 
@@ -69,21 +69,21 @@ module _ (kind : Kind) where
   any_shows m i (Some d) f = assign_shows m d i f
 
   next_shows : (m : Note) (i : Instr) → SaysRanges kind m → IfSome (next_note m i) (SaysRanges kind)
-  next_shows m (JumpLess a b t) f = refine_shows m (place.Register b) (place.Register a) 1 f
-  next_shows m (JumpAtMost a b t) f = refine_shows m (place.Register b) (place.Register a) 2 f
+  next_shows m (JumpLess a b t) f = refine_shows m (variable.Register b) (variable.Register a) 1 f
+  next_shows m (JumpAtMost a b t) f = refine_shows m (variable.Register b) (variable.Register a) 2 f
   next_shows m (JumpTrue a t) f = f
   next_shows m (JumpFalse a t) f = flag_shows m a f
   next_shows m i f = any_shows m i (destination i) f
 
   jump_shows : (m : Note) (i : Instr) → SaysRanges kind m → SaysRanges kind (jump_note m i)
-  jump_shows m (JumpLess a b t) f = refine_shows m (place.Register a) (place.Register b) 2 f
-  jump_shows m (JumpAtMost a b t) f = refine_shows m (place.Register a) (place.Register b) 1 f
+  jump_shows m (JumpLess a b t) f = refine_shows m (variable.Register a) (variable.Register b) 2 f
+  jump_shows m (JumpAtMost a b t) f = refine_shows m (variable.Register a) (variable.Register b) 1 f
   jump_shows m (JumpTrue a t) f = flag_shows m a f
   jump_shows m i f = f
 
   join_shows : (m n : Note) → SaysRanges kind m → SaysRanges kind n → SaysRanges kind (join m n)
   unfolding join said_with_side
-  join_shows m n f g k = both_same m.side n.side (entry_said kind (place.Input k)) (m.said (place.Input k)) (n.said (place.Input k)) (plain kind k (allows_input kind k) refl) (f k) (g k)
+  join_shows m n f g k = both_same m.side n.side (entry_said kind (variable.Input k)) (m.said (variable.Input k)) (n.said (variable.Input k)) (plain kind k (allows_input kind k) refl) (f k) (g k)
 
   edge_shows : (old new : Option Note) → IfSome old (SaysRanges kind) → IfSome new (SaysRanges kind) → IfSome (add_note old new) (SaysRanges kind)
   edge_shows old None f g = f

@@ -9,15 +9,15 @@ use Rattle.trlab_code.specs.declared.instruction.Instr.TheVariants.{Get}
 use Rattle.trlab_code.specs.Machine.{allows_input}
 use Rattle.trlab_code.specs.Program.{Program}
 use Rattle.trlab_notes.specs.declared.note.Said.{Said}
-use Rattle.trlab_notes.specs.Notes.{Note, with_side, said_with_side, level_between, known_level, same_place, entry, entry_said, entry_level}
+use Rattle.trlab_notes.specs.Notes.{Note, with_side, said_with_side, level_between, known_level, same_variable, entry, entry_said, entry_level}
 use Rattle.trlab_notes.specs.Transfer.{next_note}
 use Rattle.trlab_notes.specs.Reasons.{reason_against, reason_number, may_stand}
 use Rattle.trlab_notes.specs.declared.reason.Reason.{Reason}
 use Rattle.trlab_notes.specs.declared.reason.Reason.TheVariants.{WrongProgram}
 use Rattle.std.specs.Option.{option_map}
 use Rattle.trlab_code.specs.declared.instruction.Input.{Input}
-use Rattle.trlab_code.specs.declared.instruction.Place.{Place}
-use Rattle.trlab_code.specs.declared.instruction.Place.TheVariants as place
+use Rattle.trlab_code.specs.declared.instruction.Variable.{Variable}
+use Rattle.trlab_code.specs.declared.instruction.Variable.TheVariants as variable
 use Rattle.trlab_notes.specs.Order.{SaysNoMore, IsNoStronger}
 use Rattle.trlab_verify.specs.Incoming.{note_at}
 use Rattle.trlab_verify.specs.Verdict.{least_reason, fault_at, IsRefused}
@@ -29,10 +29,10 @@ use Rattle.trlab_verify.proofs.Reasons.{noted}
 use Rattle.trlab_verify.proofs.Runs.{fetch}
 use Rattle.trlab_verify.proofs.Best.{Below, all_best, no_fault, ahead}
 
--- the places that programs of both kinds see
-abbrev Both : Place → Type 0
-Both (place.Register r) = Unit {0}
-Both (place.Input k) = allows_input Motion k ≡ true
+-- the variables that programs of both kinds see
+abbrev Both : Variable → Type 0
+Both (variable.Register r) = Unit {0}
+Both (variable.Input k) = allows_input Motion k ≡ true
 
 both_closed : Closed Both
 both_closed = record { regs = λ r. tt; limit = refl; gap = refl }
@@ -60,16 +60,16 @@ seen_by : (kind : Kind) (k : Input) → allows_input Motion k ≡ true → allow
 seen_by Motion k h = h
 seen_by Change k h = refl
 
-same_entry : (kind own : Kind) (x : Place) → Both x → entry_said own x ≡ entry_said kind x
-same_entry kind own (place.Register r) h = refl
-same_entry kind own (place.Input k) h = rw (seen_by own k h, seen_by kind k h) refl
+same_entry : (kind own : Kind) (x : Variable) → Both x → entry_said own x ≡ entry_said kind x
+same_entry kind own (variable.Register r) h = refl
+same_entry kind own (variable.Input k) h = rw (seen_by own k h, seen_by kind k h) refl
 
 entry_on : (kind own : Kind) (m : Note) → IsNoStronger m (entry own) → On Both m (entry kind)
 unfolding entry said_with_side known_level
 entry_on kind own m f = record {
   said = λ x l. subst (λ z. SaysNoMore (said_with_side m x) (with_side false z)) (same_entry kind own x l) (f.said x);
   order = λ x y l k.
-      let level : Said → Said → ℕ = λ s t. level_between s t (same_place x y) (entry_level x y) in
+      let level : Said → Said → ℕ = λ s t. level_between s t (same_variable x y) (entry_level x y) in
       let own_first : known_level m x y ≤ level (entry_said kind x) (entry_said own y) = subst (λ z. known_level m x y ≤ level z (entry_said own y)) (same_entry kind own x l) (f.order x y) in
       subst (λ z. known_level m x y ≤ level (entry_said kind x) z) (same_entry kind own y k) own_first;
   beside = f.beside;

@@ -22,12 +22,12 @@ use Rattle.trlab_verify.specs.Verdict.{IsAccepted}
 use Rattle.trlab_code.specs.declared.instruction.Register.{Register}
 use Rattle.trlab_code.specs.declared.instruction.Input.{Input}
 use Rattle.trlab_code.specs.declared.instruction.Input.TheVariants.{Speed, Limit, Gap, SideGap, SideBack, Lane, Headspeed}
-use Rattle.trlab_code.specs.declared.instruction.Place.{Place}
-use Rattle.trlab_code.specs.declared.instruction.Place.TheVariants as place
+use Rattle.trlab_code.specs.declared.instruction.Variable.{Variable}
+use Rattle.trlab_code.specs.declared.instruction.Variable.TheVariants as variable
 use Rattle.trlab_code.specs.Machine.{Unset, allows_input}
 use Rattle.trlab_notes.specs.declared.note.Said.TheVariants.{Nothing}
 use Rattle.trlab_notes.specs.Notes.{entry_said, entry_level, input_range}
-use Rattle.trlab_notes.proofs.Places.{register_below}
+use Rattle.trlab_notes.proofs.Variables.{register_below}
 use Rattle.trlab_verify.proofs.Reasons.{noted}
 use Rattle.trlab_notes.proofs.Fits.{Fits, FitsSaid, Ahead, joined_left, joined_right, fits_from}
 use Rattle.trlab_notes.proofs.Steps.{Leads, IsClear, clear, leads, not_false, kind_allows}
@@ -88,7 +88,7 @@ falls_where m Stay next e = absurd (cc e)
 falls_where m i next e = refl
 
 sees_after : (kind : Kind) (view : View) (s : Store) (d : Register) (v : Value) →
-    ((k : Input) → s (place.Input k) ≡ start kind view (place.Input k)) → (k : Input) → update s (place.Register d) v (place.Input k) ≡ start kind view (place.Input k)
+    ((k : Input) → s (variable.Input k) ≡ start kind view (variable.Input k)) → (k : Input) → update s (variable.Register d) v (variable.Input k) ≡ start kind view (variable.Input k)
 unfolding update
 sees_after kind view s d v sees k =
     let l : register_number d < 8 = register_below d in
@@ -113,7 +113,7 @@ module _ (kind own : Kind) (code : List Instr) (accepted : IsAccepted kind (reco
   RunsFrom pc s = (answer : Answer) × (n : ℕ) × EndsFrom kind code view words (At pc s) answer (suc n) × HasWay code pc (suc n)
 
   abbrev Sees : Store → Type 0
-  Sees s = (k : Input) → s (place.Input k) ≡ start kind view (place.Input k)
+  Sees s = (k : Input) → s (variable.Input k) ≡ start kind view (variable.Input k)
 
   module _ (pc : ℕ) (m : Note) (i : Instr) (s : Store) (em : note_at kind code pc ≡ Some m) (ei : slice_get code pc ≡ Some i) (sees : Sees s) (c : IsClear kind own (length code) pc m i) (onward : (q : ℕ) → pc < q → q < length code → (s' : Store) → Sees s' → Covers view.side s' (note_at kind code q) → RunsFrom q s') where
     falls_on : (next : Note) → next_note m i ≡ Some next → (suc pc < length code) × Follows code pc (suc pc)
@@ -126,7 +126,7 @@ module _ (kind own : Kind) (code : List Instr) (accepted : IsAccepted kind (reco
         (answer : Answer) × (n : ℕ) × EndsFrom kind code view words (state_after pc s e) answer n × HasWay code pc (suc n)
     after_effect (Writes d v) (next, ef, fits) =
         let f = falls_on next ef in
-        let r = onward (suc pc) (omega arith) f.0 (update s (place.Register d) v) (sees_after kind view s d v sees) (fall_covers kind code view.side (update s (place.Register d) v) pc m i next em ei ef fits) in
+        let r = onward (suc pc) (omega arith) f.0 (update s (variable.Register d) v) (sees_after kind view s d v sees) (fall_covers kind code view.side (update s (variable.Register d) v) pc m i next em ei ef fits) in
         (r.0, suc r.1, r.2, (suc pc, f.1, r.3))
     after_effect Falls (next, ef, fits) =
         let f = falls_on next ef in
@@ -177,10 +177,10 @@ allowed_fits : (side b : Bool) (said : Said) (n : ℕ) → FitsSaid side said (N
 allowed_fits side true said n f = f
 allowed_fits side false said n f = tt
 
-place_fits : (kind : Kind) (view : View) → IsView view → (x : Place) → FitsSaid view.side (entry_said kind x) (start kind view x)
+variable_fits : (kind : Kind) (view : View) → IsView view → (x : Variable) → FitsSaid view.side (entry_said kind x) (start kind view x)
 unfolding start
-place_fits kind view h (place.Register r) = tt
-place_fits kind view h (place.Input k) = allowed_fits view.side (allows_input kind k) (input_range k) (seen view k) (input_fits view h k)
+variable_fits kind view h (variable.Register r) = tt
+variable_fits kind view h (variable.Input k) = allowed_fits view.side (allows_input kind k) (input_range k) (seen view k) (input_fits view h k)
 
 number_is : (m n : ℕ) → Number m ≡ Number n → m ≡ n
 number_is m n e = grind (arith, e)
@@ -190,19 +190,19 @@ at_limit : (v limit m n : ℕ) → v ≤ limit → Number v ≡ Number m → Num
 at_limit v limit m n h vx vy = let e = number_is v m vx in let f = number_is limit n vy in λ _. omega (arith, e, f, h)
 
 -- the speed and that of the car ahead are at most the limit
-level_fits : (kind : Kind) (view : View) → IsView view → (x y : Place) (m n : ℕ) → start kind view x ≡ Number m → start kind view y ≡ Number n →
+level_fits : (kind : Kind) (view : View) → IsView view → (x y : Variable) (m n : ℕ) → start kind view x ≡ Number m → start kind view y ≡ Number n →
     Ahead (entry_level x y) m n
 unfolding start
-level_fits Motion view h (place.Input Speed) (place.Input Limit) m n vx vy = at_limit view.speed view.limit m n h.speed vx vy
-level_fits Change view h (place.Input Speed) (place.Input Limit) m n vx vy = at_limit view.speed view.limit m n h.speed vx vy
-level_fits Motion view h (place.Input Headspeed) (place.Input Limit) m n vx vy = at_limit view.headspeed view.limit m n h.headspeed vx vy
-level_fits Change view h (place.Input Headspeed) (place.Input Limit) m n vx vy = at_limit view.headspeed view.limit m n h.headspeed vx vy
+level_fits Motion view h (variable.Input Speed) (variable.Input Limit) m n vx vy = at_limit view.speed view.limit m n h.speed vx vy
+level_fits Change view h (variable.Input Speed) (variable.Input Limit) m n vx vy = at_limit view.speed view.limit m n h.speed vx vy
+level_fits Motion view h (variable.Input Headspeed) (variable.Input Limit) m n vx vy = at_limit view.headspeed view.limit m n h.headspeed vx vy
+level_fits Change view h (variable.Input Headspeed) (variable.Input Limit) m n vx vy = at_limit view.headspeed view.limit m n h.headspeed vx vy
 level_fits kind view h x y m n vx vy = λ p. omega arith
 
 -- at the start the values fit the entry note
 entry_fits : (kind : Kind) (view : View) → IsView view → Fits view.side (entry kind) (start kind view)
 unfolding entry
-entry_fits kind view h = fits_from view.side (entry kind) (start kind view) (place_fits kind view h) (level_fits kind view h) (λ e. absurd (cc e))
+entry_fits kind view h = fits_from view.side (entry kind) (start kind view) (variable_fits kind view h) (level_fits kind view h) (λ e. absurd (cc e))
 
 -- a way begins inside the code
 way_inside : (code : List Instr) (n : ℕ) → HasWay code 0 n → 1 ≤ length code

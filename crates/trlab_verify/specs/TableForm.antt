@@ -2,8 +2,8 @@
 use Rattle.std.specs.Prelude.{◌≡◌, ℕ, ◌≤◌, List, [], map, false, slice_index_or}
 use Rattle.trlab_code.specs.declared.kind.Kind.{Kind}
 use Rattle.trlab_code.specs.declared.instruction.Input.{Input}
-use Rattle.trlab_code.specs.declared.instruction.Place.{Place}
-use Rattle.trlab_code.specs.declared.instruction.Place.TheVariants as place
+use Rattle.trlab_code.specs.declared.instruction.Variable.{Variable}
+use Rattle.trlab_code.specs.declared.instruction.Variable.TheVariants as variable
 use Rattle.trlab_code.specs.Machine.{register_number}
 use Rattle.trlab_code.specs.Program.{Program}
 use Rattle.trlab_notes.specs.declared.note.Said.{Said}
@@ -23,10 +23,10 @@ said_of Unset = Nothing
 said_of (Num lo hi) = Between lo hi
 said_of (Flag imp) = Implies imp
 
--- what a form says of a place: of the registers what is marked, of the inputs of a kind their ranges
-abbrev pub form_said : Kind → Form → Place → Said
-form_said kind form (place.Register r) = said_of (slice_index_or form.regs (register_number r) Unset)
-form_said kind form (place.Input k) = entry_said kind (place.Input k)
+-- what a form says of a variable: of the registers what is marked, of the inputs of a kind their ranges
+abbrev pub form_said : Kind → Form → Variable → Said
+form_said kind form (variable.Register r) = said_of (slice_index_or form.regs (register_number r) Unset)
+form_said kind form (variable.Input k) = entry_said kind (variable.Input k)
 
 -- the note that a form means
 abbrev pub meaning : Kind → Form → Note
@@ -46,11 +46,11 @@ meaning_at kind forms pc = meaning kind (slice_index_or forms pc empty_form)
 
 -- no level that is looked at is above 2
 abbrev pub HasLevels : Note → Type 0
-HasLevels note = (x y : Place) → known_level note x y ≤ 2
+HasLevels note = (x y : Variable) → known_level note x y ≤ 2
 
 -- of the inputs a note says their ranges
 abbrev pub SaysRanges : Kind → Note → Type 0
-SaysRanges kind note = (k : Input) → note.said (place.Input k) ≡ entry_said kind (place.Input k)
+SaysRanges kind note = (k : Input) → note.said (variable.Input k) ≡ entry_said kind (variable.Input k)
 
 -- what a fault tells of a program whose notes were asked for
 abbrev pub HasNoNotes : Program → NotesFault → Type 0

@@ -3,7 +3,7 @@
 //! Each law is the contract of a function with nothing to do.
 
 ghost use Rattle.std.specs.Prelude.{◌≡◌, ◌≢◌, ◌⊎◌, ℕ, ◌<◌, ◌≤◌, List, Some, length};
-ghost use Rattle.trlab_code.specs.declared.instruction.Place.{Place};
+ghost use Rattle.trlab_code.specs.declared.instruction.Variable.{Variable};
 ghost use Rattle.trlab_code.specs.declared.kind.Kind.{Kind};
 ghost use Rattle.trlab_code.specs.Machine.{IsSafe};
 ghost use Rattle.trlab_code.specs.Program.{Program, IsProgram};
@@ -73,9 +73,9 @@ pub fn refused_without_notes()
         IsRefused kind program at reason → reason ≢ 2 → ¬ (SomeTableChecks program.kind program) }
 {}
 
-/// In a table that checks no two places have a level above 2.
+/// In a table that checks no two variables have a level above 2.
 pub fn levels_are_at_most_two()
-    ensures { (kind : Kind) (program : Program) (table : List Note) (pc : ℕ) (x y : Place) →
+    ensures { (kind : Kind) (program : Program) (table : List Note) (pc : ℕ) (x y : Variable) →
         Checks kind program table → pc < length program.instrs →
         known_level (note_in table pc) x y ≤ 2 }
 {}

@@ -1,14 +1,14 @@
-//! The form in which callers write and read notes: marks of the registers, and levels by the numbers of places. Of
+//! The form in which callers write and read notes: marks of the registers, and levels by the numbers of variables. Of
 //! the inputs a form says nothing, since their ranges are known (docs/PROGRAMS.md).
 
 ghost use Rattle.std.specs.Prelude.{◌≡◌, ◌↔◌, ℕ, ◌<◌, ◌≤◌, IfSome, IsTrue, None, slice_index};
-ghost use Rattle.trlab_code.specs.declared.instruction.Place.{Place as APlace};
+ghost use Rattle.trlab_code.specs.declared.instruction.Variable.{Variable as AVariable};
 ghost use Rattle.trlab_notes.specs.Notes.{closure, entry};
 ghost use Rattle.trlab_notes.specs.Rows.{AreLevels, known_with, said_in};
 ghost use Rattle.trlab_notes.specs.Stored.{note_of};
 ghost use Rattle.trlab_verify.specs.TableForm.{form_said, said_of, meaning, HasLevels, SaysRanges};
 
-use trlab_code::{Kind, PLACES};
+use trlab_code::{Kind, VARIABLES};
 use trlab_notes::{Said, Stored, entry_levels, entry_said, level_between};
 
 /// What a note says of a register.
@@ -28,11 +28,11 @@ pub enum Mark {
 pub struct Note {
     /// What is known of the registers `r0` to `r7`.
     pub regs: [Mark; 8],
-    /// How the places are ordered: `levels[x][y]` is 1 where place x is at most place y, 2 where it
-    /// is below, and 0 where nothing is known beyond what the ranges tell. The places are `r0` to
-    /// `r7`, speed, limit, gap, sidegap, sideback, lane and headspeed. Entries with x = y, or of a place
+    /// How the variables are ordered: `levels[x][y]` is 1 where variable x is at most variable y, 2 where it
+    /// is below, and 0 where nothing is known beyond what the ranges tell. The variables are `r0` to
+    /// `r7`, speed, limit, gap, sidegap, sideback, lane and headspeed. Entries with x = y, or of a variable
     /// that holds no number, are not looked at.
-    pub levels: [[u8; PLACES]; PLACES],
+    pub levels: [[u8; VARIABLES]; VARIABLES],
     /// Is the side cell known to be empty?
     pub side: bool,
 }
@@ -59,24 +59,24 @@ fn mark_of(said: Said) -> Mark
     }
 }
 
-/// What a form says of the places, in the order of their numbers.
-fn places(kind: Kind, form: &Note) -> [Said; PLACES]
-    ensures { (x : APlace) → said_in result x ≡ form_said kind form.now x }
+/// What a form says of the variables, in the order of their numbers.
+fn variables(kind: Kind, form: &Note) -> [Said; VARIABLES]
+    ensures { (x : AVariable) → said_in result x ≡ form_said kind form.now x }
 {
-    let mut places = entry_said(kind);
+    let mut variables = entry_said(kind);
     for x in 0..8 {
-        places[x] = said_by(form.regs[x]);
+        variables[x] = said_by(form.regs[x]);
     }
-    places
+    variables
 }
 
-/// Whether no level of the place with the number x that is looked at is above 2.
-fn has_levels_from(said: &[Said; PLACES], levels: &[u8; PLACES], x: usize) -> bool
-    requires { x < PLACES }
-    ensures { IsTrue result ↔ ((y : ℕ) → y < PLACES →
+/// Whether no level of the variable with the number x that is looked at is above 2.
+fn has_levels_from(said: &[Said; VARIABLES], levels: &[u8; VARIABLES], x: usize) -> bool
+    requires { x < VARIABLES }
+    ensures { IsTrue result ↔ ((y : ℕ) → y < VARIABLES →
         known_with said.now x y (slice_index levels.now y) ≤ 2) }
 {
-    for y in 0..PLACES {
+    for y in 0..VARIABLES {
         if level_between(said[x], said[y], x == y, levels[y]) > 2 {
             return false;
         }
@@ -85,10 +85,10 @@ fn has_levels_from(said: &[Said; PLACES], levels: &[u8; PLACES], x: usize) -> bo
 }
 
 /// Whether no level that is looked at is above 2.
-fn has_levels(said: &[Said; PLACES], levels: &[[u8; PLACES]; PLACES]) -> bool
+fn has_levels(said: &[Said; VARIABLES], levels: &[[u8; VARIABLES]; VARIABLES]) -> bool
     ensures { IsTrue result ↔ AreLevels said.now levels.now }
 {
-    for x in 0..PLACES {
+    for x in 0..VARIABLES {
         if !has_levels_from(said, &levels[x], x) {
             return false;
         }
@@ -102,7 +102,7 @@ pub fn read(kind: Kind, form: &Note) -> Option<Stored>
     ensures some { IfSome result (λ stored. HasLevels (meaning kind form.now)) }
     ensures stored { IfSome result (λ stored. note_of stored ≡ closure (meaning kind form.now)) }
 {
-    let said = places(kind, form);
+    let said = variables(kind, form);
     if !has_levels(&said, &form.levels) {
         return None;
     }

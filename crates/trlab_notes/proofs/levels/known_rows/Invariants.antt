@@ -1,5 +1,5 @@
 use Rattle.std.proofs.Common.{◌≡◌, ℕ, ◌<◌, [], length, nat_eq, get_or}
-use Rattle.trlab_bounds.specs.declared.programs.TheConstants.{PLACES}
+use Rattle.trlab_bounds.specs.declared.programs.TheConstants.{VARIABLES}
 use Rattle.trlab_notes.specs.declared.note.Said.TheVariants.{Nothing}
 use Rattle.trlab_notes.specs.Notes.{level_between}
 use Rattle.trlab_notes.specs.Rows.{level_of}
@@ -7,7 +7,7 @@ use Rattle.trlab_notes.proofs.levels.known_rows.Given as goal
 
 abbrev pub invariant-loop-x : goal.invariant-loop-x
 invariant-loop-x l = record {
-  all : length l.rows ≡ PLACES;
-  so_far : (k : ℕ) → k < l.x → (y : ℕ) → y < PLACES → level_of l.rows k y ≡
+  all : length l.rows ≡ VARIABLES;
+  so_far : (k : ℕ) → k < l.x → (y : ℕ) → y < VARIABLES → level_of l.rows k y ≡
       level_between (get_or l.said k Nothing) (get_or l.said y Nothing) (nat_eq k y) (get_or (get_or l.levels k []) y 0);
 }

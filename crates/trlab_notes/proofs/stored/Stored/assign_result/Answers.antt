@@ -10,18 +10,18 @@ use Rattle.trlab_notes.proofs.stored.Stored.assign_result.Goals as goal
 pub invariant_of-result : goal.invariant_of-result
 invariant_of-result c =
     let a = c.args.self.now in
-    let d = c.number-place.result in
+    let d = c.number-variable.result in
     let s = c.result_said.result in
-    let inside = c.number-place.ensures.in_range in
+    let inside = c.number-variable.ensures.in_range in
     record {
-      ranges = after_tells a d s (level_in c.result_to.result) (level_in c.to_result.result) c.with_place.result (level_in c.known_ways.result.0) (level_in c.known_ways.result.1) inside (search rules) c.known_ways.ensures.to c.known_ways.ensures.from c.with_place.ensures;
-      transposed = after_back a d c.with_place.result c.with_place-2.result (level_in c.known_ways.result.0) (level_in c.known_ways.result.1) (c.known_ways.ensures.to d inside ∙ corner (get_or (set a.said d s) d Nothing) d (level_in c.result_to.result d) (level_in c.to_result.result d) ∙ sym (c.known_ways.ensures.from d inside)) c.with_place.ensures c.with_place-2.ensures;
+      ranges = after_tells a d s (level_in c.result_to.result) (level_in c.to_result.result) c.with_variable.result (level_in c.known_ways.result.0) (level_in c.known_ways.result.1) inside (search rules) c.known_ways.ensures.to c.known_ways.ensures.from c.with_variable.ensures;
+      transposed = after_back a d c.with_variable.result c.with_variable-2.result (level_in c.known_ways.result.0) (level_in c.known_ways.result.1) (c.known_ways.ensures.to d inside ∙ corner (get_or (set a.said d s) d Nothing) d (level_in c.result_to.result d) (level_in c.to_result.result d) ∙ sym (c.known_ways.ensures.from d inside)) c.with_variable.ensures c.with_variable-2.ensures;
     }
 
 pub returns : goal.returns
 returns c =
     let a = c.args.self.now in
-    let d = c.number-place.result in
+    let d = c.number-variable.result in
     let i = c.args.instr in
-    after_is a d c.result_said.result (level_in c.result_to.result) (level_in c.to_result.result) c.with_place.result (level_in c.known_ways.result.0) (level_in c.known_ways.result.1) c.number-place.ensures.in_range (search rules) c.known_ways.ensures.to c.known_ways.ensures.from c.with_place.ensures c.args.dest (result_to (note_of a) i) (to_result (note_of a) i) c.number-place.ensures.value c.result_to.ensures c.to_result.ensures
+    after_is a d c.result_said.result (level_in c.result_to.result) (level_in c.to_result.result) c.with_variable.result (level_in c.known_ways.result.0) (level_in c.known_ways.result.1) c.number-variable.ensures.in_range (search rules) c.known_ways.ensures.to c.known_ways.ensures.from c.with_variable.ensures c.args.dest (result_to (note_of a) i) (to_result (note_of a) i) c.number-variable.ensures.value c.result_to.ensures c.to_result.ensures
     ∙ ap (λ said. closure (assign (note_of a) c.args.dest said (result_to (note_of a) i) (to_result (note_of a) i))) c.result_said.ensures

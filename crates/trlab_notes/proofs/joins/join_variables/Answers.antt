@@ -1,6 +1,6 @@
 use Rattle.std.proofs.Common.{◌<◌, ◌≢◌, length, arith, get_or-set_other, get_or-set_same, below_more}
 use Rattle.std.proofs.lemmas.Grind.{common_steps}
-use Rattle.trlab_notes.proofs.joins.join_places.Goals as goal
+use Rattle.trlab_notes.proofs.joins.join_variables.Goals as goal
 
 pub loop-x-preserved : goal.loop-x-preserved
 loop-x-preserved c = (
