@@ -38,7 +38,7 @@ class _Counted:
 
     @property
     def standing(self) -> float:
-        """The share of cars that stand, 0 to 1; 0 where there is no car."""
+        """The share of stopped cars, 0 to 1; 0 where there is no car."""
         return self.stopped / (self.cars * self.steps) if self.cars else 0.0
 
 
@@ -82,7 +82,7 @@ class Window(_WindowColumns, _Counted):
     """A line of a series: what was counted in so many steps, up to the picture `step`.
 
     Units are those of a `Point`. `cars0`, `distance0` and `stopped0` are sums, over the roads behind the steps, of what
-    is on lane 0 then: the cars, their speeds, the cars that stand; those that end in 1 are of lane 1."""
+    is on lane 0 then: the cars, their speeds, the stopped cars; those that end in 1 are of lane 1."""
 
     __slots__ = ()
 

@@ -21,7 +21,7 @@ class Nasch:
 class SlowToStart:
     """The rule of Barlovic, Santen, Schadschneider and Schreckenberg (1998).
 
-    `brake` is the chance to brake of a car that moves, `standing` that of a car that stands, 0 to 1."""
+    `brake` is the chance to brake of a car that moves, `standing` that of a stopped car, 0 to 1."""
 
     brake: Chance
     standing: Chance

@@ -44,14 +44,14 @@ def _side_by_side(cars: int, cells: int) -> List[int]:
 
 
 even = Start(_evenly)
-"""Evenly spread, all standing: the start of every sweep. On two lanes a count of cars that divides the length of a
+"""Evenly spread, all stopped: the start of every sweep. On two lanes a count of cars that divides the length of a
 lane fills lane 0 alone."""
 
 moving = Start(_evenly, None)
 """Evenly spread, all at the limit."""
 
 jam = Start(_side_by_side)
-"""All standing in one block, on the first cells of the road."""
+"""All stopped in one block, on the first cells of the road."""
 
 
 def random(seed: int, speed: Optional[int] = 0) -> Start:

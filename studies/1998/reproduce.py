@@ -1,6 +1,6 @@
 #!/usr/bin/env python3
 """Both branches of cars that start late, after Barlovic, Santen, Schadschneider and Schreckenberg (1998), and how long
-the upper one lives: limit 5, chance to brake 1/64, of cars that stand 3/4.
+the upper one lives: limit 5, chance to brake 1/64, of stopped cars 3/4.
 
 Some two minutes of processor time; --full takes ten keys in place of three, twelve times as long, and ten times the
 lives."""
@@ -54,7 +54,7 @@ def lives(is_full):
 
 
 def life(job):
-    """The first step in which a car stands, or that no car did in all steps."""
+    """The first step in which a car is stopped, or that none was in all steps."""
     return next((window.step for window in job.series() if window.stopped), LIFE_STEPS)
 
 
