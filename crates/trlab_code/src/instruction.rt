@@ -60,7 +60,7 @@ impl Input {
     }
 }
 
-/// Where a program finds a value: a register, which it writes and reads, or an input, which it reads.
+/// A variable of a program: a register, which it writes and reads, or an input, which it reads.
 #[derive(Clone, Copy, Debug, PartialEq, Eq)]
 pub enum Variable {
     Register(Register),

@@ -18,9 +18,6 @@ pub use fault::CodeFault;
 pub use instruction::{Input, Instr, Register, Variable};
 pub use kind::Kind;
 pub use program::Code;
-pub use trlab_bounds::programs::{
-    CERTAIN, HEADER_BYTES, HEADSPEED_VERSION, INSTR_BYTES, MAGIC, MOST_INSTRUCTIONS, PLAIN_VERSION,
-    VARIABLES, WORDS,
-};
+pub use trlab_bounds::programs::{CERTAIN, MOST_INSTRUCTIONS, VARIABLES, WORDS};
 pub use trlab_bounds::roads::{GREATEST_GAP, GREATEST_LIMIT};
 pub use view::{ChangeView, MotionView, View};

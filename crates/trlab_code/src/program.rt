@@ -2,7 +2,7 @@
 
 ghost use Rattle.std.specs.Prelude.{◌≡◌, ◌↔◌, ◌≤◌, IsTrue, MatchOption, IfSome};
 ghost use Rattle.std.specs.List.{list_any};
-ghost use Rattle.trlab_code.specs.Program.{Program, IsInRange, IsProgram, Draws, IsOfVersion, reads_headspeed, version_of};
+ghost use Rattle.trlab_code.specs.Program.{Program, IsInRange, IsProgram, IsOfVersion, reads_headspeed, version_of};
 
 use crate::instruction::{Input, Instr};
 use crate::kind::Kind;
@@ -38,7 +38,7 @@ pub(crate) fn is_in_range(instr: Instr) -> bool
 }
 
 /// Whether an instruction reads the speed of the next car ahead.
-pub(crate) fn reads_headspeed(instr: Instr) -> bool
+fn reads_headspeed(instr: Instr) -> bool
     ensures { result ≡ reads_headspeed instr }
 {
     matches!(instr, Instr::Get(_, Input::Headspeed))
@@ -107,14 +107,5 @@ impl Code {
         } else {
             PLAIN_VERSION
         }
-    }
-
-    /// Whether the program draws on random words.
-    pub fn draws(&self) -> bool
-        ensures { IsTrue result ↔ Draws self.now.instrs }
-    {
-        self.instrs
-            .iter()
-            .any(|instr| matches!(instr, Instr::Draw(..)))
     }
 }

@@ -20,7 +20,7 @@ pub(crate) struct Row {
 }
 
 impl Row {
-    /// The row that stands in the bytes from a place on.
+    /// The row that stands in the bytes from an index on.
     pub(crate) fn read(bytes: &[u8], start: usize) -> Row
         requires { start + INSTR_BYTES ≤ length bytes.now }
         ensures { row_bytes result ≡ take INSTR_BYTES (drop start bytes.now) }

@@ -73,7 +73,7 @@ known_same (Between a b) (Implies i) level m n e = λ p. omega arith
 known_same Nothing sy level m n e = λ p. omega arith
 known_same (Implies i) sy level m n e = λ p. omega arith
 
-number_is : (m n : ℕ) → Number m ≡ Number n → m ≡ n
+pub number_is : (m n : ℕ) → Number m ≡ Number n → m ≡ n
 number_is m n e = grind (arith, e)
 
 -- numbers that are one number, and one that is not

@@ -5,5 +5,6 @@ pub mod Tables
 pub mod Fits
 pub mod Steps
 pub mod Order
+pub mod Growth
 pub mod Monotone
 pub mod Closure

@@ -1,8 +1,7 @@
 -- What follows from a note follows from each note that says at least as much.
-use Rattle.std.proofs.Common.{◌≡◌, ℕ, zero, suc, ◌/◌, ◌≤◌, ◌&&◌, ◌||◌, not, max, refl, arith, List, [], ◌∷◌, Bool, true, false, IsTrue, Option, Some, None, nat_eq, cond}
+use Rattle.std.proofs.Common.{◌≡◌, ℕ, ◌≤◌, ◌||◌, not, refl, arith, List, [], ◌∷◌, Bool, true, false, IsTrue, Option, Some, None, cond}
 use Rattle.std.proofs.lemmas.Bool.{or_parts}
-use Rattle.std.proofs.Math.Nat.{mul-le-mul_right, div-mul-le_self}
-use Rattle.std.proofs.lemmas.Nat.{le-div}
+use Rattle.std.proofs.Math.Nat.{mul-le-mul_right}
 use Rattle.trlab_code.specs.declared.kind.Kind.{Kind}
 use Rattle.trlab_code.specs.declared.instruction.Input.{Input}
 use Rattle.trlab_code.specs.declared.instruction.Input.TheVariants.{Limit, Gap}
@@ -14,77 +13,14 @@ use Rattle.trlab_code.specs.declared.instruction.Variable.TheVariants as variabl
 use Rattle.trlab_code.specs.Machine.{update}
 use Rattle.trlab_code.specs.Flow.{destination}
 use Rattle.trlab_notes.specs.declared.note.Said.{Said}
-use Rattle.trlab_notes.specs.declared.note.Said.TheVariants.{Nothing, Between, Implies}
 use Rattle.trlab_notes.specs.Notes.{Note, same_variable, with_side, said_with_side, low, high, implies, level_between, known_level}
-use Rattle.trlab_notes.specs.Transfer.{assign_any, sharpen, slacken, least_difference, assign, assign_result, result_said, result_to, to_result, chain, refine_order, refine_flag, next_note, jump_note}
+use Rattle.trlab_notes.specs.Transfer.{assign_any, assign, assign_result, result_said, result_to, to_result, refine_order, refine_flag, next_note, jump_note}
 use Rattle.trlab_notes.specs.Order.{SaysNoMore, IsNoStronger, AreNoStronger}
-use Rattle.trlab_notes.specs.Reasons.{among, is_nothing, is_range, is_flag, number_operands, some_unset, some_of_other_kind, may_be_too_large, may_be_below_zero, may_be_above, may_be_occupied, flag_operands, other_operands, reason_against}
+use Rattle.trlab_notes.specs.Reasons.{among, is_nothing, is_range, is_flag, numbers_of, operands_of, some_unset, some_of_other_kind, may_be_too_large, may_be_below_zero, may_be_above, may_be_occupied, flags_of, values_of, reason_against}
 use Rattle.trlab_notes.specs.declared.reason.Reason.{Reason}
 use Rattle.trlab_notes.proofs.Steps.{IsClear}
 use Rattle.trlab_notes.proofs.Order.{Wider, wider, known_up, Closed, On}
-
--- levels
-sharper_up : (j k l h : ℕ) → j ≤ k → l ≤ h → sharpen j l ≤ sharpen k h
-sharper_up zero k l h p q = omega arith
-sharper_up (suc j) (suc k) zero zero p q = omega arith
-sharper_up (suc j) (suc k) zero (suc h) p q = omega arith
-sharper_up (suc j) (suc k) (suc l) (suc h) p q = omega arith
-sharper_up (suc j) zero l h p q = absurd (omega arith)
-sharper_up (suc j) (suc k) (suc l) zero p q = absurd (omega arith)
-
-just_below_up : (j k l h : ℕ) → j ≤ k → h ≤ l → slacken j l ≤ slacken k h
-just_below_up j k l h p q = grind arith
-
-least_gap_up : (j k : ℕ) → j ≤ k → least_difference j ≤ least_difference k
-least_gap_up j k p = grind arith
-
-chained_up : (h i k l m : ℕ) → h ≤ i → l ≤ m → chain h k l ≤ chain i k m
-chained_up zero i k l m p q = omega arith
-chained_up (suc h) i k zero m p q = omega arith
-chained_up (suc h) (suc i) k (suc l) (suc m) p q = omega arith
-chained_up (suc h) zero k (suc l) m p q = absurd (omega arith)
-chained_up (suc h) (suc i) k (suc l) zero p q = absurd (omega arith)
-
--- what is said of a variable
-low_up : (s t : Said) → Wider s t → low s ≤ low t
-low_up Nothing t w = omega arith
-low_up (Implies i) t w = omega arith
-low_up (Between a b) (Between c d) w = w.0
-low_up (Between a b) Nothing w = absurd w
-low_up (Between a b) (Implies i) w = absurd w
-
-high_down : (s t : Said) → is_nothing s ≡ false → is_flag s ≡ false → Wider s t → high t ≤ high s
-high_down (Between a b) (Between c d) p q w = w.1
-high_down (Between a b) Nothing p q w = absurd w
-high_down (Between a b) (Implies i) p q w = absurd w
-high_down Nothing t p q w = absurd (cc p)
-high_down (Implies i) t p q w = absurd (cc q)
-
-told_twice : (p q : Bool) (s t : Said) → SaysNoMore (with_side p s) (with_side q t) →
-    SaysNoMore (with_side p (with_side p s)) (with_side q (with_side q t))
-told_twice p q Nothing t h = tt
-told_twice p q (Between a b) (Between c d) h = h
-told_twice p q (Between a b) Nothing h = h
-told_twice p q (Between a b) (Implies j) h = h
-told_twice p q (Implies i) Nothing h = h
-told_twice p q (Implies i) (Between c d) h = h
-told_twice true q (Implies i) (Implies true) h = λ e. refl
-told_twice true q (Implies true) (Implies false) h = λ e. or_second q (h refl)
-  where
-    or_second : (b : Bool) → IsTrue b → IsTrue (b || b)
-    or_second true e = refl
-    or_second false e = e
-told_twice true q (Implies false) (Implies false) h = λ e. or_second q (h refl)
-  where
-    or_second : (b : Bool) → IsTrue b → IsTrue (b || b)
-    or_second true e = refl
-    or_second false e = e
-told_twice false q (Implies true) (Implies j) h = λ e. or_left (j || q) q (h refl)
-  where
-    or_left : (a b : Bool) → IsTrue a → IsTrue (a || b)
-    or_left true b e = refl
-    or_left false b e = absurd (cc e)
-told_twice false q (Implies false) (Implies j) h = λ e. absurd (cc e)
+use Rattle.trlab_notes.proofs.Growth.{sharper_up, just_below_up, least_gap_up, chained_up, low_up, high_down, told_twice, learnt_level, implies_up, trust_side, more_side, div_mono, or_up, and_up, still_set, still_range, still_flag, both_false, still_positive}
 
 module _ (V : Variable → Type 0) (closed : Closed V) where
   -- a write: what is said and the levels say no more, and so does the note
@@ -112,20 +48,6 @@ module _ (V : Variable → Type 0) (closed : Closed V) where
       level_at x y lx ly false true = known_up _ _ _ _ (same_variable x y) _ _ (wide x lx false) (wide y ly true) (above x lx)
       level_at x y lx ly false false = f.order x y lx ly
 
-  -- what is learnt
-  learnt_level : (sx sy tx ty : Said) (same : Bool) (j k c d : ℕ) → Wider sx tx → Wider sy ty →
-      level_between sx sy same j ≤ level_between tx ty same k → c ≤ d → level_between sx sy same (max j c) ≤ level_between tx ty same (max k d)
-  learnt_level (Between a b) (Between c d) (Between e f) (Between g h) true j k v w p q l r = omega arith
-  learnt_level (Between a b) (Between c d) (Between e f) (Between g h) false j k v w p q l r = grind arith
-  learnt_level (Between a b) (Between c d) Nothing ty same j k v w p q l r = absurd p
-  learnt_level (Between a b) (Between c d) (Implies i) ty same j k v w p q l r = absurd p
-  learnt_level (Between a b) (Between c d) (Between e f) Nothing same j k v w p q l r = absurd q
-  learnt_level (Between a b) (Between c d) (Between e f) (Implies i) same j k v w p q l r = absurd q
-  learnt_level (Between a b) Nothing tx ty same j k v w p q l r = omega arith
-  learnt_level (Between a b) (Implies i) tx ty same j k v w p q l r = omega arith
-  learnt_level Nothing sy tx ty same j k v w p q l r = omega arith
-  learnt_level (Implies i) sy tx ty same j k v w p q l r = omega arith
-
   pub learnt_up : (m n : Note) (p q : Variable) (k : ℕ) → V p → V q → On V m n → On V (refine_order m p q k) (refine_order n p q k)
   unfolding refine_order said_with_side known_level
   learnt_up m n p q k lp lq f = record {
@@ -135,45 +57,6 @@ module _ (V : Variable → Type 0) (closed : Closed V) where
         (chained_up _ _ k _ _ (f.order x p lx lp) (f.order q y lq ly)));
     beside = f.beside;
   }
-
-  -- what a flag implies
-  implies_up : (p q : Bool) (s t : Said) → SaysNoMore (with_side p s) (with_side q t) → IsTrue (implies (with_side p s)) → IsTrue (implies (with_side q t))
-  implies_up p q (Implies i) (Implies j) h e = h e
-  implies_up p q (Implies i) Nothing h e = absurd h
-  implies_up p q (Implies i) (Between a b) h e = absurd h
-  implies_up p q Nothing t h e = absurd (cc e)
-  implies_up p q (Between a b) t h e = absurd (cc e)
-
-  trust_side : (p q : Bool) (s t : Said) → (IsTrue p → IsTrue q) → SaysNoMore (with_side p s) (with_side q t) →
-      IsTrue (p || implies s) → IsTrue (q || implies t)
-  trust_side p true s t f h e = refl
-  trust_side true false s t f h e = absurd (cc (f refl))
-  trust_side false false (Implies i) (Implies j) f h e = or_false j (h (false_or i e))
-    where
-      or_false : (j : Bool) → IsTrue (j || false) → IsTrue j
-      or_false true e = e
-      or_false false e = e
-
-      false_or : (i : Bool) → IsTrue i → IsTrue (i || false)
-      false_or true e = e
-      false_or false e = e
-  trust_side false false (Implies i) Nothing f h e = absurd h
-  trust_side false false (Implies i) (Between a b) f h e = absurd h
-  trust_side false false Nothing t f h e = absurd (cc e)
-  trust_side false false (Between a b) t f h e = absurd (cc e)
-
-  -- a greater side on both
-  more_side : (p q p' q' : Bool) (s t : Said) → (IsTrue p' → IsTrue q') → (IsTrue q → IsTrue q') → SaysNoMore (with_side p s) (with_side q t) →
-      SaysNoMore (with_side p' s) (with_side q' t)
-  more_side p q p' q' Nothing t f g h = tt
-  more_side p q p' q' (Between a b) (Between c d) f g h = h
-  more_side p q p' q' (Between a b) Nothing f g h = h
-  more_side p q p' q' (Between a b) (Implies j) f g h = h
-  more_side p q p' q' (Implies i) Nothing f g h = h
-  more_side p q p' q' (Implies i) (Between c d) f g h = h
-  more_side p q p' q' (Implies i) (Implies true) f g h = λ e. refl
-  more_side p q p' q' (Implies true) (Implies false) f g h = λ e. g (h refl)
-  more_side p q p' q' (Implies false) (Implies false) f g h = f
 
   at_reg : (r : Register) → V (variable.Register r)
   at_reg = closed.regs
@@ -193,11 +76,6 @@ module _ (V : Variable → Type 0) (closed : Closed V) where
       grows : IsTrue (m.side || implies (m.said (variable.Register a))) → IsTrue (n.side || implies (n.said (variable.Register a)))
       grows = trust_side m.side n.side (m.said (variable.Register a)) (n.said (variable.Register a)) f.beside (f.said (variable.Register a) (at_reg a))
 
-  -- also at 0, where a quotient is 0
-  div_mono : (a b n : ℕ) → a ≤ b → a / n ≤ b / n
-  div_mono a b zero h = omega arith
-  div_mono a b (suc n) h = le-div (a / suc n) b (suc n) (omega arith) (omega (arith, div-mul-le_self a (suc n)))
-
   -- the inputs that an instruction reads
   abbrev pub Reaches : Instr → Type 0
   Reaches (Get d j) = V (variable.Input j)
@@ -208,16 +86,6 @@ module _ (V : Variable → Type 0) (closed : Closed V) where
   BothOn (Some m) (Some n) = On V m n
   BothOn _ _ = ⊥
 
-  or_up : (p q r s : Bool) → (IsTrue p → IsTrue r) → (IsTrue q → IsTrue s) → IsTrue (p || q) → IsTrue (r || s)
-  or_up p q true s f g h = refl
-  or_up true q false s f g h = absurd (cc (f refl))
-  or_up false q false s f g h = g h
-
-  and_up : (p q r s : Bool) → (IsTrue p → IsTrue r) → (IsTrue q → IsTrue s) → IsTrue (p && q) → IsTrue (r && s)
-  and_up true q true s f g h = g h
-  and_up true q false s f g h = absurd (cc (f refl))
-  and_up false q r s f g h = absurd (cc h)
-
   none_true : (b : Bool) (r : Reason) (rest : Option Reason) → b ≡ false → rest ≡ None → cond b (Some r) rest ≡ None
   none_true true r rest e h = absurd (cc e)
   none_true false r rest e h = h
@@ -227,34 +95,6 @@ module _ (V : Variable → Type 0) (closed : Closed V) where
       reason_against kind own len pc m i ≡ None
   passes kind own len pc m i c =
       none_true _ _ _ c.allowed (none_true _ _ _ c.set (none_true _ _ _ c.kinds (none_true _ _ _ c.forward (none_true _ _ _ c.within (none_true _ _ _ c.follows (none_true _ _ _ c.fits (none_true _ _ _ c.positive (none_true _ _ _ c.gap (none_true _ _ _ c.limit (none_true _ _ _ c.beside refl))))))))))
-
-  -- what is said is of one kind
-  still_set : (p q : Bool) (s t : Said) → SaysNoMore (with_side p s) (with_side q t) → is_nothing s ≡ false → is_nothing t ≡ false
-  still_set p q Nothing t h e = absurd (cc e)
-  still_set p q s (Between a b) h e = refl
-  still_set p q s (Implies i) h e = refl
-  still_set p q (Between a b) Nothing h e = absurd h
-  still_set p q (Implies i) Nothing h e = absurd h
-
-  still_range : (p q : Bool) (s t : Said) → SaysNoMore (with_side p s) (with_side q t) → is_nothing s ≡ false → is_flag s ≡ false → is_flag t ≡ false
-  still_range p q Nothing t h e g = absurd (cc e)
-  still_range p q (Implies i) t h e g = absurd (cc g)
-  still_range p q (Between a b) (Between c d) h e g = refl
-  still_range p q (Between a b) Nothing h e g = absurd h
-  still_range p q (Between a b) (Implies i) h e g = absurd h
-
-  still_flag : (p q : Bool) (s t : Said) → SaysNoMore (with_side p s) (with_side q t) → is_nothing s ≡ false → is_range s ≡ false → is_range t ≡ false
-  still_flag p q Nothing t h e g = absurd (cc e)
-  still_flag p q (Between a b) t h e g = absurd (cc g)
-  still_flag p q (Implies i) (Implies j) h e g = refl
-  still_flag p q (Implies i) Nothing h e g = absurd h
-  still_flag p q (Implies i) (Between c d) h e g = absurd h
-
-  both_false : (p q : Bool) → p ≡ false → q ≡ false → (p || q) ≡ false
-  both_false p q e h = rw e h
-
-  still_positive : (j k : ℕ) → j ≤ k → nat_eq j 0 ≡ false → nat_eq k 0 ≡ false
-  still_positive j k h e = grind (arith, e)
 
   module _ (m n : Note) (f : On V m n) where
     wide_at : (x : Variable) → V x → Wider (m.said x) (n.said x)
@@ -383,14 +223,14 @@ module _ (V : Variable → Type 0) (closed : Closed V) where
     set_up i h =
         let a = or_parts _ _ h in
         let b = or_parts _ _ a.1 in
-        both_false _ _ (sets (number_operands i) a.0) (both_false _ _ (sets (flag_operands i) b.0) (sets (other_operands i) b.1))
+        both_false _ _ (sets (numbers_of (operands_of i)) a.0) (both_false _ _ (sets (flags_of (operands_of i)) b.0) (sets (values_of (operands_of i)) b.1))
 
     kinds_up : (i : Instr) → some_unset m i ≡ false → some_of_other_kind m i ≡ false → some_of_other_kind n i ≡ false
     kinds_up i h g =
         let a = or_parts _ _ h in
         let b = or_parts _ _ a.1 in
         let c = or_parts _ _ g in
-        both_false _ _ (ranges_stay (number_operands i) a.0 c.0) (flags_stay (flag_operands i) b.0 c.1)
+        both_false _ _ (ranges_stay (numbers_of (operands_of i)) a.0 c.0) (flags_stay (flags_of (operands_of i)) b.0 c.1)
 
     size_up : (i : Instr) → some_unset m i ≡ false → some_of_other_kind m i ≡ false → may_be_too_large m i ≡ false → may_be_too_large n i ≡ false
     size_up (Add d a b) h k e = let o = two_numbers a b _ h k in grind (arith, e, o.0.hi, o.1.hi)

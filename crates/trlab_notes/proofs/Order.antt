@@ -8,6 +8,7 @@ use Rattle.trlab_notes.specs.declared.note.Said.{Said}
 use Rattle.trlab_notes.specs.declared.note.Said.TheVariants.{Nothing, Between, Implies}
 use Rattle.trlab_notes.specs.Notes.{Note, same_variable, with_side, said_with_side, level_between, known_level}
 use Rattle.trlab_notes.specs.Order.{join_said, join, SaysNoMore, IsNoStronger}
+use Rattle.trlab_notes.proofs.Fits.{and_left, and_right}
 
 -- where one says a range, so does the other, and within it
 abbrev pub Wider : Said → Said → Type 0
@@ -121,14 +122,6 @@ both_most r p q (Implies i) (Between c d) t f g h k = absurd h
 both_most r p q (Implies i) (Implies j) Nothing f g h k = absurd k
 both_most r p q (Implies i) (Implies j) (Between c d) f g h k = absurd k
 
-and_first : (p q : Bool) → IsTrue (p && q) → IsTrue p
-and_first true q h = refl
-and_first false q h = h
-
-and_second : (p q : Bool) → IsTrue (p && q) → IsTrue q
-and_second true q h = h
-and_second false q h = absurd (cc h)
-
 and_both : (p q : Bool) → IsTrue p → IsTrue q → IsTrue (p && q)
 and_both true q h k = k
 and_both false q h k = h
@@ -141,7 +134,7 @@ join_first m n = record {
       (wider (m.side && n.side) m.side _ (m.said x) (both_first m.side n.side (m.said x) (n.said x)))
       (wider (m.side && n.side) m.side _ (m.said y) (both_first m.side n.side (m.said y) (n.said y)))
       (omega arith));
-  beside = λ h. and_first m.side n.side h;
+  beside = λ h. and_left m.side n.side h;
 }
 
 pub join_second : (m n : Note) → IsNoStronger (join m n) n
@@ -152,7 +145,7 @@ join_second m n = record {
       (wider (m.side && n.side) n.side _ (n.said x) (both_second m.side n.side (m.said x) (n.said x)))
       (wider (m.side && n.side) n.side _ (n.said y) (both_second m.side n.side (m.said y) (n.said y)))
       (omega arith));
-  beside = λ h. and_second m.side n.side h;
+  beside = λ h. and_right m.side n.side h;
 }
 
 -- what is known by a level, where both variables hold numbers wherever something is known

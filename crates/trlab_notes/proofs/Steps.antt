@@ -1,8 +1,7 @@
 -- An instruction without a fault, on values that fit its note, is not stuck, and what it makes fits the note on its way.
 use Rattle.std.proofs.Common.{◌≡◌, ◌≢◌, ℕ, zero, suc, ◌+◌, ◌-◌, ◌*◌, ◌/◌, ◌<◌, ◌≤◌, ◌&&◌, ◌||◌, not, min, max, refl, sym, ap, subst, arith, List, [], ◌∷◌, Bool, true, false, IsTrue, Option, Some, None, nat_eq, nat_lt, nat_le, cond, ◌∙◌}
 use Rattle.std.proofs.lemmas.Bool.{or_parts, le-leb, ltb-true, ltb-false, leb-true, leb-false}
-use Rattle.std.proofs.Math.Nat.{mul-le-mul_right, div-le_self, div-mul-le_self}
-use Rattle.std.proofs.lemmas.Nat.{le-div}
+use Rattle.std.proofs.Math.Nat.{mul-le-mul_right, div-le_self}
 use Rattle.trlab_code.specs.declared.kind.Kind.{Kind}
 use Rattle.trlab_code.specs.declared.kind.Kind.TheVariants.{Motion, Change}
 use Rattle.trlab_code.specs.declared.instruction.Register.{Register}
@@ -22,7 +21,8 @@ use Rattle.trlab_notes.specs.Notes.{Note, said_with_side, low, high, implies, kn
 use Rattle.trlab_notes.specs.Transfer.{assign, sharpen, slacken, least_difference, next_note, jump_note}
 use Rattle.trlab_notes.specs.Reasons.{on_target, may_stand, reason_against, among, is_nothing, is_range, is_flag, some_unset, some_of_other_kind, falls_out, may_be_too_large, may_be_below_zero, may_be_above, may_be_occupied}
 use Rattle.trlab_notes.specs.declared.reason.Reason.{Reason}
-use Rattle.trlab_notes.proofs.Fits.{Ahead, FitsSaid, Fits, sharper_right, sharper_less, just_right, ahead_max, written_fits, told_fits, learnt_fits, trusted_fits, and_left, and_right, either_true}
+use Rattle.trlab_notes.proofs.Fits.{number_is, Ahead, FitsSaid, Fits, sharper_right, sharper_less, just_right, ahead_max, written_fits, told_fits, learnt_fits, trusted_fits, and_left, and_right, either_true}
+use Rattle.trlab_notes.proofs.Growth.{div_mono}
 
 abbrev none : Variable → ℕ
 none y = 0
@@ -101,14 +101,6 @@ value_there side (Implies i) Unset p f = absurd f
 value_there side (Implies i) (Number n) p f = absurd f
 value_there side (Implies i) (Flag b) p f = λ e. cc e
 
--- also at 0, where a quotient is 0
-div_mono : (a b n : ℕ) → a ≤ b → a / n ≤ b / n
-div_mono a b zero h = omega arith
-div_mono a b (suc n) h = le-div (a / suc n) b (suc n) (omega arith) (omega (arith, div-mul-le_self a (suc n)))
-
-number_is : (m n : ℕ) → Number m ≡ Number n → m ≡ n
-number_is m n e = grind (arith, e)
-
 on_number_at : (P : Effect → Type 0) (v : Value) (n : ℕ) (f : ℕ → Effect) → v ≡ Number n → P (f n) → P (on_number v f)
 on_number_at P v n f e h = subst (λ w. P (on_number w f)) (sym e) h
 
@@ -135,7 +127,7 @@ imp_flag side (Implies imp) b f h k = f h k
 imp_flag side Nothing b f h k = absurd (cc h)
 imp_flag side (Between lo hi) b f h k = absurd (cc h)
 
-both_true : (p q : Bool) → p ≡ true → q ≡ true → (p && q) ≡ true
+pub both_true : (p q : Bool) → p ≡ true → q ≡ true → (p && q) ≡ true
 both_true true q e f = f
 both_true false q e f = e
 

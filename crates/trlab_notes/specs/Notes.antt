@@ -10,8 +10,8 @@ use Rattle.trlab_code.specs.Machine.{variable_number, allows_input}
 use Rattle.trlab_notes.specs.declared.note.Said.{Said}
 use Rattle.trlab_notes.specs.declared.note.Said.TheVariants.{Nothing, Between, Implies}
 
--- An abstract state: what is said of each variable, the level of each variable to each, and whether the side cell
--- is known to be empty. Level 0 says nothing, 1 that one is at most the other, 2 that it is below.
+-- An abstract state: what is said of each variable, the level of each to each, and whether the side cell is
+-- known to be empty. Level 0 says nothing, 1 that one is at most the other, 2 that it is below.
 pub record Note : Type 0 where
   pub said : Variable → Said
   pub level : Variable → Variable → ℕ

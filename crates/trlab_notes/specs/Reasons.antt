@@ -13,6 +13,8 @@ use Rattle.trlab_code.specs.Machine.{allows}
 use Rattle.trlab_code.specs.Flow.{target, falls}
 use Rattle.trlab_notes.specs.declared.note.Said.{Said}
 use Rattle.trlab_notes.specs.declared.note.Said.TheVariants.{Nothing, Between, Implies}
+use Rattle.trlab_notes.specs.declared.operands.Operands.{Operands}
+use Rattle.trlab_notes.specs.declared.operands.Operands.TheVariants as read
 use Rattle.trlab_notes.specs.declared.reason.Reason.{Reason}
 use Rattle.trlab_notes.specs.declared.reason.Reason.TheVariants as why
 use Rattle.trlab_notes.specs.Notes.{Note, known_level}
@@ -42,36 +44,41 @@ reason_number reason = range_reason_number reason
 abbrev pub may_stand : Kind → Kind → Instr → Bool
 may_stand kind own i = allows kind i && allows own i
 
--- the operands of arithmetic
-abbrev pub arithmetic_operands : Instr → List Register
-arithmetic_operands (Add d a b) = a ∷ b ∷ []
-arithmetic_operands (Sub d a b) = a ∷ b ∷ []
-arithmetic_operands (Mul d a n) = a ∷ []
-arithmetic_operands (Div d a n) = a ∷ []
-arithmetic_operands (Min d a b) = a ∷ b ∷ []
-arithmetic_operands (Max d a b) = a ∷ b ∷ []
-arithmetic_operands _ = []
+-- the registers that an instruction reads, by what each has to hold
+abbrev pub operands_of : Instr → Operands
+operands_of (Copy d a) = read.Value a
+operands_of (Add d a b) = read.Numbers a b
+operands_of (Sub d a b) = read.Numbers a b
+operands_of (Mul d a n) = read.Number a
+operands_of (Div d a n) = read.Number a
+operands_of (Min d a b) = read.Numbers a b
+operands_of (Max d a b) = read.Numbers a b
+operands_of (Not d a) = read.Flag a
+operands_of (And d a b) = read.Flags a b
+operands_of (Or d a b) = read.Flags a b
+operands_of (JumpLess a b t) = read.Numbers a b
+operands_of (JumpAtMost a b t) = read.Numbers a b
+operands_of (JumpTrue a t) = read.Flag a
+operands_of (JumpFalse a t) = read.Flag a
+operands_of (Go a) = read.Number a
+operands_of _ = read.Nothing
 
--- the operands that have to be numbers
-abbrev pub number_operands : Instr → List Register
-number_operands (JumpLess a b t) = a ∷ b ∷ []
-number_operands (JumpAtMost a b t) = a ∷ b ∷ []
-number_operands (Go a) = a ∷ []
-number_operands i = arithmetic_operands i
+-- those that have to be numbers
+abbrev pub numbers_of : Operands → List Register
+numbers_of (read.Number a) = a ∷ []
+numbers_of (read.Numbers a b) = a ∷ b ∷ []
+numbers_of _ = []
 
--- the operands that have to be flags
-abbrev pub flag_operands : Instr → List Register
-flag_operands (Not d a) = a ∷ []
-flag_operands (And d a b) = a ∷ b ∷ []
-flag_operands (Or d a b) = a ∷ b ∷ []
-flag_operands (JumpTrue a t) = a ∷ []
-flag_operands (JumpFalse a t) = a ∷ []
-flag_operands _ = []
+-- those that have to be flags
+abbrev pub flags_of : Operands → List Register
+flags_of (read.Flag a) = a ∷ []
+flags_of (read.Flags a b) = a ∷ b ∷ []
+flags_of _ = []
 
--- the operands that may be numbers or flags
-abbrev pub other_operands : Instr → List Register
-other_operands (Copy d a) = a ∷ []
-other_operands _ = []
+-- those that may be numbers or flags
+abbrev pub values_of : Operands → List Register
+values_of (read.Value a) = a ∷ []
+values_of _ = []
 
 -- nothing is said: the variable may be unset
 abbrev pub is_nothing : Said → Bool
@@ -95,12 +102,13 @@ among test m registers = list_any (λ a. test (register_said m a)) registers
 -- an operand may be unset
 abbrev pub some_unset : Note → Instr → Bool
 some_unset m i =
-    among is_nothing m (number_operands i)
-    || (among is_nothing m (flag_operands i) || among is_nothing m (other_operands i))
+    among is_nothing m (numbers_of (operands_of i))
+    || (among is_nothing m (flags_of (operands_of i)) || among is_nothing m (values_of (operands_of i)))
 
 -- a flag stands where a number has to be, or a number where a flag has to be
 abbrev pub some_of_other_kind : Note → Instr → Bool
-some_of_other_kind m i = among is_flag m (number_operands i) || among is_range m (flag_operands i)
+some_of_other_kind m i =
+    among is_flag m (numbers_of (operands_of i)) || among is_range m (flags_of (operands_of i))
 
 -- whether a jump's target passes a test
 abbrev pub on_target : (ℕ → Bool) → Option ℕ → Bool

@@ -1,4 +1,4 @@
--- Arrays in the order of the variables' numbers: what is said of each variable, and levels as numbers and as bits.
+-- Arrays in the order of the variables' numbers: what is said of each, and levels as numbers and as bits.
 use Rattle.std.specs.Prelude.{◌≡◌, ℕ, ◌*◌, ◌<◌, ◌≤◌, max, List, [], nat_eq, slice_index, slice_index_or}
 use Rattle.std.specs.Int.{bit_at}
 use Rattle.trlab_bounds.specs.declared.programs.TheConstants.{VARIABLES}
@@ -36,7 +36,8 @@ known_with said x y level =
 
 -- no level of two variables is above 2, as far as it is looked at
 abbrev pub AreLevels : List Said → List (List ℕ) → Type 0
-AreLevels said levels = (x y : ℕ) → x < VARIABLES → y < VARIABLES → known_with said x y (level_at levels x y) ≤ 2
+AreLevels said levels = (x y : ℕ) → x < VARIABLES → y < VARIABLES →
+    known_with said x y (level_at levels x y) ≤ 2
 
 -- the rows tell all that the ranges tell of the order, and nothing of a variable that holds no number
 abbrev pub TellsRanges : List Said → List Row → Type 0
@@ -45,4 +46,5 @@ TellsRanges said rows = (x y : ℕ) → x < VARIABLES → y < VARIABLES →
 
 -- the columns are the rows with the two variables exchanged
 abbrev pub IsTransposed : List Row → List Row → Type 0
-IsTransposed rows columns = (x y : ℕ) → x < VARIABLES → y < VARIABLES → level_of columns y x ≡ level_of rows x y
+IsTransposed rows columns = (x y : ℕ) → x < VARIABLES → y < VARIABLES →
+    level_of columns y x ≡ level_of rows x y

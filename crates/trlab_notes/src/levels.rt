@@ -85,7 +85,7 @@ impl Stored {
 
     /// What is said of a variable, the side cell considered.
     #[tactic(auto, unfolding(crate::specs::Notes::said_with_side))]
-    pub fn said_with_side(&self, variable: Variable) -> Said
+    pub(crate) fn said_with_side(&self, variable: Variable) -> Said
         ensures { result ≡ said_with_side (note_of self.now) variable }
     {
         self.said_at(variable.number())
@@ -106,7 +106,7 @@ impl Stored {
     }
 
     /// The known level of a variable to another: 1 at most, 2 below, 0 not known.
-    pub fn known_level(&self, from: Variable, to: Variable) -> u8
+    pub(crate) fn known_level(&self, from: Variable, to: Variable) -> u8
         ensures { result ≡ known_level (note_of self.now) from to }
     {
         self.row(from).level(to.number())

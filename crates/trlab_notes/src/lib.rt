@@ -8,6 +8,7 @@ mod joins;
 pub mod laws;
 mod levels;
 mod note;
+mod operands;
 mod reason;
 mod reasons;
 mod refine;
@@ -19,6 +20,7 @@ mod transfer;
 
 pub use joins::{join, join_itself};
 pub use note::{Said, entry_levels, entry_said, level_between};
+pub use operands::Operands;
 pub use reason::Reason;
 pub use reasons::reason_against;
 pub use stored::Stored;

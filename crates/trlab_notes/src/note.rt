@@ -26,7 +26,7 @@ pub enum Said {
 
 impl Said {
     /// The least number of a range.
-    pub fn low(self) -> u32
+    pub(crate) fn low(self) -> u32
         ensures { result ≡ low self }
     {
         match self {
@@ -36,7 +36,7 @@ impl Said {
     }
 
     /// The greatest number of a range.
-    pub fn high(self) -> u32
+    pub(crate) fn high(self) -> u32
         ensures { result ≡ high self }
     {
         match self {
@@ -46,7 +46,7 @@ impl Said {
     }
 
     /// Whether a flag implies that the side cell is empty.
-    pub fn implies(self) -> bool
+    pub(crate) fn implies(self) -> bool
         ensures { result ≡ implies self }
     {
         match self {

@@ -1,6 +1,6 @@
 //! Why an instruction can be refused.
 
-ghost use Rattle.std.specs.Prelude.{◌≡◌, ◌≤◌};
+ghost use Rattle.std.specs.Prelude.{◌≡◌, ◌≤◌, MatchOption};
 
 /// A reason to refuse an instruction. They are numbered in the order in which they are looked for.
 #[derive(Clone, Copy, Debug, PartialEq, Eq)]
@@ -11,7 +11,7 @@ pub enum Reason {
     WrongProgram,
     /// 3: an operand may be unset.
     MaybeUnset,
-    /// 4: an operand is a flag in place of a number, or a number in place of a flag.
+    /// 4: an operand is a flag where a number has to be, or a number where a flag has to be.
     WrongValue,
     /// 5: it jumps, and not forward.
     JumpsBack,
@@ -41,5 +41,27 @@ impl Reason {
         ensures to { result ≤ 12 }
     {
         self as u32
+    }
+
+    /// The reason with a number, where that is 1 to 12.
+    pub fn from_number(number: u32) -> Option<Reason>
+        ensures { MatchOption result (¬ ((1 ≤ number) × (number ≤ 12)))
+            (λ reason. reason_number reason ≡ number) }
+    {
+        match number {
+            1 => Some(Reason::Unreachable),
+            2 => Some(Reason::WrongProgram),
+            3 => Some(Reason::MaybeUnset),
+            4 => Some(Reason::WrongValue),
+            5 => Some(Reason::JumpsBack),
+            6 => Some(Reason::JumpsOut),
+            7 => Some(Reason::FallsOut),
+            8 => Some(Reason::MaybeTooLarge),
+            9 => Some(Reason::MaybeBelowZero),
+            10 => Some(Reason::MaybeAboveGap),
+            11 => Some(Reason::MaybeAboveLimit),
+            12 => Some(Reason::MaybeOccupied),
+            _ => None,
+        }
     }
 }

@@ -3,11 +3,12 @@
 ghost use Rattle.std.specs.Prelude.{◌≡◌, ◌<◌, nat_le};
 ghost use Rattle.trlab_code.specs.Machine.{allows, allows_input};
 ghost use Rattle.trlab_code.specs.Flow.{target};
-ghost use Rattle.trlab_notes.specs.Reasons.{is_nothing, is_range, is_flag, may_stand, some_unset, some_of_other_kind, may_be_too_large, may_be_below_zero, may_be_above, may_be_occupied, on_target, falls_out, first_reason, form_checks, range_checks, reason_against};
+ghost use Rattle.trlab_notes.specs.Reasons.{is_nothing, is_range, is_flag, may_stand, some_unset, some_of_other_kind, may_be_too_large, may_be_below_zero, may_be_above, may_be_occupied, on_target, falls_out, first_reason, range_checks, reason_against};
 ghost use Rattle.trlab_notes.specs.Stored.{note_of};
 ghost use Rattle.trlab_notes.specs.Transfer.{register_said};
 
 use crate::note::Said;
+use crate::operands::Operands;
 use crate::reason::Reason;
 use crate::stored::Stored;
 use trlab_bounds::programs::GREATEST_NUMBER;
@@ -67,41 +68,23 @@ fn has_flag(note: &Stored, register: Register) -> bool
 fn has_unset(note: &Stored, instr: Instr) -> bool
     ensures { result ≡ some_unset (note_of note.now) instr }
 {
-    match instr {
-        Instr::Add(_, a, b)
-        | Instr::Sub(_, a, b)
-        | Instr::Min(_, a, b)
-        | Instr::Max(_, a, b)
-        | Instr::And(_, a, b)
-        | Instr::Or(_, a, b)
-        | Instr::JumpLess(a, b, _)
-        | Instr::JumpAtMost(a, b, _) => is_unset(note, a) || is_unset(note, b),
-        Instr::Mul(_, a, _)
-        | Instr::Div(_, a, _)
-        | Instr::Go(a)
-        | Instr::Not(_, a)
-        | Instr::JumpTrue(a, _)
-        | Instr::JumpFalse(a, _)
-        | Instr::Copy(_, a) => is_unset(note, a),
-        _ => false,
+    match Operands::of(instr) {
+        Operands::Numbers(a, b) | Operands::Flags(a, b) => is_unset(note, a) || is_unset(note, b),
+        Operands::Number(a) | Operands::Flag(a) | Operands::Value(a) => is_unset(note, a),
+        Operands::Nothing => false,
     }
 }
 
-/// Whether an operand is a flag in place of a number, or a number in place of a flag.
+/// Whether an operand is a flag where a number has to be, or a number where a flag has to be.
 fn has_other_kind(note: &Stored, instr: Instr) -> bool
     ensures { result ≡ some_of_other_kind (note_of note.now) instr }
 {
-    match instr {
-        Instr::Add(_, a, b)
-        | Instr::Sub(_, a, b)
-        | Instr::Min(_, a, b)
-        | Instr::Max(_, a, b)
-        | Instr::JumpLess(a, b, _)
-        | Instr::JumpAtMost(a, b, _) => has_flag(note, a) || has_flag(note, b),
-        Instr::And(_, a, b) | Instr::Or(_, a, b) => has_number(note, a) || has_number(note, b),
-        Instr::Mul(_, a, _) | Instr::Div(_, a, _) | Instr::Go(a) => has_flag(note, a),
-        Instr::Not(_, a) | Instr::JumpTrue(a, _) | Instr::JumpFalse(a, _) => has_number(note, a),
-        _ => false,
+    match Operands::of(instr) {
+        Operands::Numbers(a, b) => has_flag(note, a) || has_flag(note, b),
+        Operands::Number(a) => has_flag(note, a),
+        Operands::Flags(a, b) => has_number(note, a) || has_number(note, b),
+        Operands::Flag(a) => has_number(note, a),
+        Operands::Value(_) | Operands::Nothing => false,
     }
 }
 
@@ -176,35 +159,6 @@ fn falls_out(len: usize, pc: usize, instr: Instr) -> bool
     instr.falls() && len <= pc + 1
 }
 
-/// The least of the reasons 2 to 7: what the instruction is, reads and leads to.
-fn form_reason(
-    kind: Kind,
-    own: Kind,
-    len: usize,
-    pc: usize,
-    note: &Stored,
-    instr: Instr,
-) -> Option<Reason>
-    requires { pc < len }
-    ensures { result ≡ first_reason (form_checks kind own len pc (note_of note.now) instr) }
-{
-    if !is_of_kind(kind, own, instr) {
-        Some(Reason::WrongProgram)
-    } else if has_unset(note, instr) {
-        Some(Reason::MaybeUnset)
-    } else if has_other_kind(note, instr) {
-        Some(Reason::WrongValue)
-    } else if jumps_back(pc, instr) {
-        Some(Reason::JumpsBack)
-    } else if jumps_out(len, instr) {
-        Some(Reason::JumpsOut)
-    } else if falls_out(len, pc, instr) {
-        Some(Reason::FallsOut)
-    } else {
-        None
-    }
-}
-
 /// The least of the reasons 8 to 12: the number or the answer that the instruction makes.
 fn range_reason(note: &Stored, instr: Instr) -> Option<Reason>
     ensures { result ≡ first_reason (range_checks (note_of note.now) instr) }
@@ -236,8 +190,19 @@ pub fn reason_against(
     requires { pc < len }
     ensures { result ≡ reason_against kind own len pc (note_of note.now) instr }
 {
-    match form_reason(kind, own, len, pc, note, instr) {
-        None => range_reason(note, instr),
-        reason => reason,
+    if !is_of_kind(kind, own, instr) {
+        Some(Reason::WrongProgram)
+    } else if has_unset(note, instr) {
+        Some(Reason::MaybeUnset)
+    } else if has_other_kind(note, instr) {
+        Some(Reason::WrongValue)
+    } else if jumps_back(pc, instr) {
+        Some(Reason::JumpsBack)
+    } else if jumps_out(len, instr) {
+        Some(Reason::JumpsOut)
+    } else if falls_out(len, pc, instr) {
+        Some(Reason::FallsOut)
+    } else {
+        range_reason(note, instr)
     }
 }

@@ -26,7 +26,7 @@ impl Stored {
     }
 
     /// The note once the flag in a register is known to be true.
-    pub fn refine_flag(&self, register: Register) -> Stored
+    pub(crate) fn refine_flag(&self, register: Register) -> Stored
         ensures { note_of result ≡ closure (refine_flag (note_of self.now) register) }
     {
         let said = self.said[Variable::Register(register).number()];

@@ -200,7 +200,7 @@ impl Stored {
     }
 
     /// The note once an instruction has written its result to `dest`.
-    pub fn assign_result(&self, dest: Register, instr: Instr) -> Stored
+    pub(crate) fn assign_result(&self, dest: Register, instr: Instr) -> Stored
         requires in_range { IsInRange instr }
         requires fits { may_be_too_large (note_of self.now) instr ≡ false }
         ensures { note_of result ≡ closure (assign_result (note_of self.now) dest instr) }

@@ -137,7 +137,8 @@ impl Row {
     pub fn with(self, variable: usize, level: u8) -> Row
         requires inside { variable < VARIABLES }
         requires in_range { level ≤ 2 }
-        ensures { (y : ℕ) → y < VARIABLES → level_in result y ≡ (if nat_eq y variable then level else level_in self y) }
+        ensures { (y : ℕ) → y < VARIABLES →
+            level_in result y ≡ (if nat_eq y variable then level else level_in self y) }
     {
         Row {
             at_most: with_bit(self.at_most, variable, level == AT_MOST),
