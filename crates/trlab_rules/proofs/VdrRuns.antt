@@ -45,7 +45,7 @@ module _ (p p0 : ℕ) (view : View) (words : List ℕ) (seen : IsView view) wher
       (if_false-jumps R3 14 refl refl
       (go R0 safe refl refl (omega arith) (omega arith)))))))
 
-  -- before the draw it asks whether the car stands
+  -- before the draw it asks whether the car is stopped
   runs : (stands : Bool) (h : Bool) → nat_eq view.speed 0 ≡ stands → happens_at (vdr_chance p p0 view.speed) words 0 ≡ h →
       Run Motion (vdr_program p p0).instrs view words (At 0 (start Motion view)) (Goes (brake h safe))
   unfolding start update

@@ -45,7 +45,7 @@ pub record IsRickert (p c : ℕ) (rule : Programs) : Type 0 where
 abbrev pub Refuses : Kind → Program → Type 0
 Refuses kind program = (at : ℕ) × (reason : ℕ) × IsRefused kind program at reason
 
--- the fault Refused tells that a program is refused; want of memory says nothing of any program
+-- the fault Refused tells that a program is refused; that memory ran out says nothing of any program
 abbrev pub Tells : Type 0 → StandardFault → Type 0
 Tells refused Refused = refused
 Tells refused Memory = Unit {0}

@@ -11,49 +11,30 @@ ghost use Rattle.trlab_rules.specs.StandardRules.{IsMotion, IsChange, Refuses, T
 use crate::fault::StandardFault;
 use crate::programs::{nasch_instrs, rickert_instrs, vdr_instrs};
 use std::alloc::Global;
-use trlab_code::{Code, Instr, Kind};
-use trlab_verify::{Change, Motion, VerifyFault, verify_change, verify_motion};
+use trlab_code::{Code, Instr};
+use trlab_verify::{AcceptedProgram, Change, Motion, ProgramKind, VerifyFault, verify_as};
 use trlab_words::Chance;
 
-/// The motion program of these instructions, as it is accepted.
+/// The program of the kind `K` with these instructions, as it is accepted.
 ///
 /// # Errors
 ///
 /// `Refused` where the verifier refuses it, and `Memory` where memory runs out.
-fn checked_motion(alloc: Global, instrs: Vec<Instr>) -> Result<Motion, StandardFault>
-    requires { IsProgram (record { kind = OfMotion; instrs = instrs.items }) }
-    ensures accepted { let program : Program = record { kind = OfMotion; instrs = instrs.items } in
-        IfOk result (λ motion. (motion.program ≡ program) × IsAccepted OfMotion program) }
+fn checked<K: ProgramKind>(
+    alloc: Global,
+    instrs: Vec<Instr>,
+) -> Result<AcceptedProgram<K>, StandardFault>
+    requires { IsProgram (record { kind = K.KIND; instrs = instrs.items }) }
+    ensures accepted { let program : Program = record { kind = K.KIND; instrs = instrs.items } in
+        IfOk result (λ accepted. (accepted.program ≡ program) × IsAccepted K.KIND program) }
     ensures refused { IfErr result
-        (Tells (Refuses OfMotion (record { kind = OfMotion; instrs = instrs.items }))) }
+        (Tells (Refuses K.KIND (record { kind = K.KIND; instrs = instrs.items }))) }
 {
-    let Some(code) = Code::new(Kind::Motion, instrs) else {
+    let Some(code) = Code::new(K::KIND, instrs) else {
         unreachable!()
     };
-    match verify_motion(alloc, code) {
-        Ok(motion) => Ok(motion),
-        Err((_, VerifyFault::Why { .. })) => Err(StandardFault::Refused),
-        Err((_, VerifyFault::Memory)) => Err(StandardFault::Memory),
-    }
-}
-
-/// The change program of these instructions, as it is accepted.
-///
-/// # Errors
-///
-/// `Refused` where the verifier refuses it, and `Memory` where memory runs out.
-fn checked_change(alloc: Global, instrs: Vec<Instr>) -> Result<Change, StandardFault>
-    requires { IsProgram (record { kind = OfChange; instrs = instrs.items }) }
-    ensures accepted { let program : Program = record { kind = OfChange; instrs = instrs.items } in
-        IfOk result (λ change. (change.program ≡ program) × IsAccepted OfChange program) }
-    ensures refused { IfErr result
-        (Tells (Refuses OfChange (record { kind = OfChange; instrs = instrs.items }))) }
-{
-    let Some(code) = Code::new(Kind::Change, instrs) else {
-        unreachable!()
-    };
-    match verify_change(alloc, code) {
-        Ok(change) => Ok(change),
+    match verify_as(alloc, code) {
+        Ok(program) => Ok(program),
         Err((_, VerifyFault::Why { .. })) => Err(StandardFault::Refused),
         Err((_, VerifyFault::Memory)) => Err(StandardFault::Memory),
     }
@@ -68,7 +49,7 @@ pub fn nasch_motion(alloc: Global, p: Chance) -> Result<Motion, StandardFault>
     ensures motion { IfOk result (IsMotion (nasch_speed p) (nasch_program p)) }
     ensures refused { IfErr result (Tells (Refuses OfMotion (nasch_program p))) }
 {
-    checked_motion(alloc, nasch_instrs(alloc, p)?)
+    checked(alloc, nasch_instrs(alloc, p)?)
 }
 
 /// The accepted motion of 1998, which brakes with the chance `p0` where the car is stopped, and with
@@ -81,7 +62,7 @@ pub fn vdr_motion(alloc: Global, p: Chance, p0: Chance) -> Result<Motion, Standa
     ensures motion { IfOk result (IsMotion (vdr_speed p p0) (vdr_program p p0)) }
     ensures refused { IfErr result (Tells (Refuses OfMotion (vdr_program p p0))) }
 {
-    checked_motion(alloc, vdr_instrs(alloc, p, p0)?)
+    checked(alloc, vdr_instrs(alloc, p, p0)?)
 }
 
 /// The accepted lane change of 1996, with the chance `c`.
@@ -93,5 +74,5 @@ pub fn rickert_change(alloc: Global, c: Chance) -> Result<Change, StandardFault>
     ensures change { IfOk result (IsChange (rickert_crosses c) (rickert_program c)) }
     ensures refused { IfErr result (Tells (Refuses OfChange (rickert_program c))) }
 {
-    checked_change(alloc, rickert_instrs(alloc, c)?)
+    checked(alloc, rickert_instrs(alloc, c)?)
 }

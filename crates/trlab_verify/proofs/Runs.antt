@@ -1,5 +1,5 @@
 -- A program with no fault ends on each view and all words, within its longest way.
-use Rattle.std.proofs.Common.{◌≡◌, ℕ, zero, suc, ◌+◌, ◌<◌, ◌≤◌, ◌&&◌, ◌||◌, refl, sym, subst, arith, ◌∙◌, inl, inr, List, [], ◌∷◌, length, Bool, true, false, Option, Some, None, nat_eq, nat_le, cond}
+use Rattle.std.proofs.Common.{◌≡◌, ℕ, zero, suc, ◌+◌, ◌<◌, ◌≤◌, ◌&&◌, refl, sym, subst, arith, ◌∙◌, inl, inr, List, [], ◌∷◌, length, Bool, true, false, Option, Some, None, nat_eq, nat_le, cond}
 use Rattle.std.specs.Prelude.{slice_get}
 use Rattle.std.proofs.lemmas.Bool.{eq-eqb, leb-false, cases_lt}
 use Rattle.trlab_code.specs.declared.kind.Kind.{Kind}
@@ -29,8 +29,9 @@ use Rattle.trlab_notes.specs.declared.note.Said.TheVariants.{Nothing}
 use Rattle.trlab_notes.specs.Notes.{entry_said, entry_level, input_range}
 use Rattle.trlab_notes.proofs.Variables.{register_below}
 use Rattle.trlab_verify.proofs.Reasons.{noted}
-use Rattle.trlab_notes.proofs.Fits.{Fits, FitsSaid, Ahead, joined_left, joined_right, fits_from}
+use Rattle.trlab_notes.proofs.Fits.{number_is, Fits, FitsSaid, Ahead, joined_left, joined_right, fits_from}
 use Rattle.trlab_notes.proofs.Steps.{Leads, IsClear, clear, leads, not_false, kind_allows}
+use Rattle.trlab_verify.proofs.Ways.{either_left, either_right}
 
 -- some note has come in that the values fit
 abbrev pub Covers : Bool → Store → Option Note → Type 0
@@ -98,14 +99,6 @@ pub fetch : (code : List Instr) (pc : ℕ) → pc < length code → (i : Instr) 
 fetch [] pc h = absurd (omega arith)
 fetch (i ∷ code) zero h = (i, refl)
 fetch (i ∷ code) (suc pc) h = fetch code pc (omega arith)
-
-either_right : (p q : Bool) → q ≡ true → (p || q) ≡ true
-either_right true q e = refl
-either_right false q e = e
-
-either_left : (p q : Bool) → p ≡ true → (p || q) ≡ true
-either_left true q e = refl
-either_left false q e = absurd (cc e)
 
 module _ (kind own : Kind) (code : List Instr) (accepted : IsAccepted kind (record { kind = own; instrs = code })) (view : View) (words : List ℕ) where
   -- the run from pc with the values s ends after as many steps as some way from pc has
@@ -181,9 +174,6 @@ variable_fits : (kind : Kind) (view : View) → IsView view → (x : Variable) �
 unfolding start
 variable_fits kind view h (variable.Register r) = tt
 variable_fits kind view h (variable.Input k) = allowed_fits view.side (allows_input kind k) (input_range k) (seen view k) (input_fits view h k)
-
-number_is : (m n : ℕ) → Number m ≡ Number n → m ≡ n
-number_is m n e = grind (arith, e)
 
 -- a number that is at most the limit
 at_limit : (v limit m n : ℕ) → v ≤ limit → Number v ≡ Number m → Number limit ≡ Number n → Ahead 1 m n

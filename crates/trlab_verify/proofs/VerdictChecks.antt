@@ -1,5 +1,5 @@
 -- The notes of an accepted program check.
-use Rattle.std.proofs.Common.{◌≡◌, ◌∙◌, ℕ, zero, suc, ◌<◌, ◌≤◌, ◌&&◌, ◌||◌, refl, sym, ap, subst, arith, inl, inr, List, length, Bool, true, false, Option, Some, None, nat_eq, nat_le}
+use Rattle.std.proofs.Common.{◌≡◌, ◌∙◌, ℕ, zero, suc, ◌<◌, ◌≤◌, refl, sym, ap, subst, arith, inl, inr, List, length, Bool, true, false, Option, Some, None, nat_eq, nat_le}
 use Rattle.std.specs.Prelude.{slice_get, IfSome, map}
 use Rattle.std.specs.List.{range_with_len}
 use Rattle.std.proofs.lemmas.List.{get_or_past}
@@ -20,9 +20,10 @@ use Rattle.trlab_verify.specs.Verdict.{IsAccepted}
 use Rattle.trlab_verify.specs.Tables.{Checks, ChecksAt, AreVerdictNotes, blank, note_in}
 use Rattle.trlab_verify.proofs.Checking.{ChecksBy, as_table}
 use Rattle.trlab_notes.proofs.Order.{same_note, through, join_first, join_second, blank_least}
-use Rattle.trlab_notes.proofs.Steps.{IsClear, clear}
+use Rattle.trlab_notes.proofs.Steps.{IsClear, both_true, clear}
 use Rattle.trlab_verify.proofs.Reasons.{noted as noted_at}
 use Rattle.trlab_verify.proofs.Runs.{falls_where, fetch}
+use Rattle.trlab_verify.proofs.Ways.{either_left, either_right}
 
 -- a note, or the other where there is none
 abbrev note_or : Note → Option Note → Note
@@ -57,18 +58,6 @@ under_edges n pc (Some m) None q old h = h
 -- what comes in from pc to q
 abbrev Sent : List Instr → ℕ → ℕ → Type 0
 Sent code n q = (pc : ℕ) × Follows code pc q
-
-either_left : (p q : Bool) → p ≡ true → (p || q) ≡ true
-either_left true q e = refl
-either_left false q e = absurd (cc e)
-
-either_right : (p q : Bool) → q ≡ true → (p || q) ≡ true
-either_right true q e = refl
-either_right false q e = e
-
-both : (p q : Bool) → p ≡ true → q ≡ true → (p && q) ≡ true
-both true q e f = f
-both false q e f = e
 
 on_target_is : (t : Option ℕ) (q : ℕ) → is_target t q ≡ true → on_target (nat_eq q) t ≡ true
 on_target_is (Some t) q h = h
@@ -125,7 +114,7 @@ module _ (kind : Kind) (program : Program) (accepted : IsAccepted kind program) 
     where
       at : (b : Bool) (o : Option Note) (d : Bool) → nat_eq q (suc k) ≡ b → next_note n i ≡ o → is_target (target i) q ≡ d →
           add_note (add_note None (if_here b o)) (if_here d (Some (jump_note n i))) ≡ Some m → Sent code (suc k) q
-      at true (Some x) d eb eo ed s = (k, (i, ei, either_left _ _ (both _ _ (falls_where n i x eo) eb)))
+      at true (Some x) d eb eo ed s = (k, (i, ei, either_left _ _ (both_true _ _ (falls_where n i x eo) eb)))
       at b o true eb eo ed s = (k, (i, ei, either_right _ _ (on_target_is (target i) q ed)))
       at true None false eb eo ed s = absurd (cc s)
       at false o false eb eo ed s = absurd (cc s)

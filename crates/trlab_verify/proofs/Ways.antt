@@ -43,24 +43,24 @@ of_target longest t = option_map_or longest t 0
 abbrev comes_after : Bool → Option ℕ → ℕ → ℕ → Bool
 comes_after b t pc q = (b && nat_eq q (suc pc)) || on_target (nat_eq q) t
 
-on_left : (p q : Bool) → p ≡ true → (p || q) ≡ true
-on_left true q e = refl
-on_left false q e = absurd (cc e)
+pub either_left : (p q : Bool) → p ≡ true → (p || q) ≡ true
+either_left true q e = refl
+either_left false q e = absurd (cc e)
 
-on_right : (p q : Bool) → q ≡ true → (p || q) ≡ true
-on_right true q e = refl
-on_right false q e = e
+pub either_right : (p q : Bool) → q ≡ true → (p || q) ≡ true
+either_right true q e = refl
+either_right false q e = e
 
 -- the longer of two ways is one of the two
 longer : (longest : ℕ → ℕ) (pc : ℕ) (b : Bool) (t : Option ℕ) → (b ≡ false → t ≡ None → ⊥) →
     (q : ℕ) × IsTrue (comes_after b t pc q) × (max (cond b (longest (suc pc)) 0) (of_target longest t) ≡ longest q)
 longer longest pc false None h = absurd (h refl refl)
-longer longest pc true None h = (suc pc, on_left (nat_eq (suc pc) (suc pc)) false (eq-eqb (suc pc) (suc pc) refl), omega arith)
+longer longest pc true None h = (suc pc, either_left (nat_eq (suc pc) (suc pc)) false (eq-eqb (suc pc) (suc pc) refl), omega arith)
 longer longest pc false (Some t) h = (t, eq-eqb t t refl, omega arith)
 longer longest pc true (Some t) h =
     elim (cases_lt (longest (suc pc)) (longest t)) [
-      | inl lt ↦ (t, on_right (nat_eq t (suc pc)) (nat_eq t t) (eq-eqb t t refl), omega arith)
-      | inr ge ↦ (suc pc, on_left (nat_eq (suc pc) (suc pc)) (nat_eq (suc pc) t) (eq-eqb (suc pc) (suc pc) refl), omega arith)
+      | inl lt ↦ (t, either_right (nat_eq t (suc pc)) (nat_eq t t) (eq-eqb t t refl), omega arith)
+      | inr ge ↦ (suc pc, either_left (nat_eq (suc pc) (suc pc)) (nat_eq (suc pc) t) (eq-eqb (suc pc) (suc pc) refl), omega arith)
     ]
 
 pub either_of : (p q : Bool) → IsTrue (p || q) → (p ≡ true) ⊎ (q ≡ true)
@@ -135,12 +135,12 @@ longest_is code pc i longest e later = longest_at code pc i longest (is_end i) r
 pub next_inside : (code : List Instr) (pc : ℕ) (i : Instr) → IsForward code → slice_get code pc ≡ Some i →
     falls i ≡ true → suc pc < length code
 next_inside code pc i forward e falls_on =
-    (forward pc (suc pc) (i, e, on_left (falls i && nat_eq (suc pc) (suc pc)) (on_target (nat_eq (suc pc)) (target i)) (rw (falls_on, eq-eqb (suc pc) (suc pc) refl) refl))).1
+    (forward pc (suc pc) (i, e, either_left (falls i && nat_eq (suc pc) (suc pc)) (on_target (nat_eq (suc pc)) (target i)) (rw (falls_on, eq-eqb (suc pc) (suc pc) refl) refl))).1
 
 pub target_inside : (code : List Instr) (pc t : ℕ) (i : Instr) → IsForward code → slice_get code pc ≡ Some i →
     target i ≡ Some t → t < length code
 target_inside code pc t i forward e to =
-    (forward pc t (i, e, on_right (falls i && nat_eq t (suc pc)) (on_target (nat_eq t) (target i)) (rw (to, eq-eqb t t refl) refl))).1
+    (forward pc t (i, e, either_right (falls i && nat_eq t (suc pc)) (on_target (nat_eq t) (target i)) (rw (to, eq-eqb t t refl) refl))).1
 
 pub each_some : (o : Option ℕ) (n : ℕ) → ((t : ℕ) → o ≡ Some t → t < n) → IfSome o (λ t. t < n)
 each_some None n h = tt

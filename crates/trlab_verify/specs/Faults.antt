@@ -7,7 +7,7 @@ use Rattle.trlab_verify.specs.declared.fault.VerifyFault.TheVariants.{Why, Memor
 use Rattle.trlab_verify.specs.Tables.{SomeTableChecks}
 use Rattle.trlab_verify.specs.Verdict.{IsRefused}
 
--- a reason is the program's refusal; want of memory says nothing of the program
+-- a reason is the program's refusal; that memory ran out says nothing of the program
 abbrev pub Tells : Kind → Program → VerifyFault → Type 0
 Tells kind program (Why at reason) = IsRefused kind program at reason
 Tells kind program Memory = Unit {0}

@@ -15,4 +15,4 @@ mod verify;
 pub use fault::VerifyFault;
 pub use program::{AcceptedProgram, Change, ChangeKind, Motion, MotionKind, ProgramKind};
 pub use table::{Mark, Note, NotesFault, check_notes, notes, notes_of_refused};
-pub use verify::{verify_change, verify_motion};
+pub use verify::{verify_as, verify_change, verify_motion};

@@ -3,10 +3,10 @@
 
 mod best;
 mod check;
-mod front;
 mod note;
+mod refused;
 
 pub use best::{NotesFault, notes};
 pub use check::check_notes;
-pub use front::notes_of_refused;
 pub use note::{Mark, Note};
+pub use refused::notes_of_refused;

@@ -17,7 +17,16 @@ use std::alloc::Global;
 use trlab_code::Code;
 
 /// The code as an accepted program of the kind `K`, or the same code and why it is refused.
-fn verify<K: ProgramKind>(
+///
+/// What is accepted is safe within its budget, for every view and all random words, and the budget is
+/// its longest way, in instructions. It is accepted exactly where some table of notes checks: what is
+/// refused is beyond notes of this kind.
+///
+/// # Errors
+///
+/// `Why` where the program is refused as one of the kind: its first instruction that is refused, and
+/// the least reason there. `Memory` where there is no memory for the notes.
+pub fn verify_as<K: ProgramKind>(
     alloc: Global,
     code: Code,
 ) -> Result<AcceptedProgram<K>, (Code, VerifyFault)>
@@ -45,16 +54,12 @@ fn verify<K: ProgramKind>(
     }
 }
 
-/// The code as an accepted motion program, or the same code and why it is refused.
-///
-/// What is accepted is safe within its budget, for every view and all random words, and the budget is
-/// its longest way, in instructions. It is accepted exactly where some table of notes checks: what is
-/// refused is beyond notes of this kind.
+/// The code as an accepted motion program, or the same code and why it is refused; all is as for
+/// [`verify_as`].
 ///
 /// # Errors
 ///
-/// `Why` where the program is refused as a motion program: its first instruction that is refused, and
-/// the least reason there. `Memory` where there is no memory for the notes.
+/// `Why` where the program is refused as a motion program, and `Memory`.
 pub fn verify_motion(alloc: Global, code: Code) -> Result<Motion, (Code, VerifyFault)>
     ensures accepted { IfOk result (λ motion. (motion.program ≡ code) × IsAccepted OfMotion code) }
     ensures longest { IfOk result (λ motion. IsLongest code.instrs 0 motion.budget) }
@@ -64,11 +69,11 @@ pub fn verify_motion(alloc: Global, code: Code) -> Result<Motion, (Code, VerifyF
     ensures some_table { IfOk result (λ motion. SomeTableChecks OfMotion code) }
     ensures no_table { IfErr result (λ refused. NoTableChecks OfMotion code refused.1) }
 {
-    verify(alloc, code)
+    verify_as(alloc, code)
 }
 
 /// The code as an accepted change program, or the same code and why it is refused; all is as for
-/// [`verify_motion`].
+/// [`verify_as`].
 ///
 /// # Errors
 ///
@@ -82,5 +87,5 @@ pub fn verify_change(alloc: Global, code: Code) -> Result<Change, (Code, VerifyF
     ensures some_table { IfOk result (λ change. SomeTableChecks OfChange code) }
     ensures no_table { IfErr result (λ refused. NoTableChecks OfChange code refused.1) }
 {
-    verify(alloc, code)
+    verify_as(alloc, code)
 }

@@ -3,7 +3,7 @@ use Rattle.trlab_verify.proofs.Accepted.{checked, forward}
 use Rattle.trlab_verify.proofs.Refusals.{called, own}
 use Rattle.trlab_verify.proofs.VerdictChecks.{table_checks}
 use Rattle.trlab_verify.proofs.Runs.{sound}
-use Rattle.trlab_verify.proofs.verify.verify.Goals as goal
+use Rattle.trlab_verify.proofs.verify.verify_as.Goals as goal
 
 pub longest_way-budget-requires-clause-forward : goal.longest_way-budget-requires-clause-forward
 longest_way-budget-requires-clause-forward g c =

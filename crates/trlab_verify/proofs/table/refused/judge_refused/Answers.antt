@@ -4,7 +4,7 @@ use Rattle.trlab_notes.specs.Reasons.{reason_number}
 use Rattle.trlab_notes.specs.Stored.{notes_of, maybe_note}
 use Rattle.trlab_verify.specs.Tables.{noted_count}
 use Rattle.trlab_verify.proofs.FirstNotes.{stored_note, first_notes}
-use Rattle.trlab_verify.proofs.table.front.judge_refused.Goals as goal
+use Rattle.trlab_verify.proofs.table.refused.judge_refused.Goals as goal
 
 pub write_all-requires : goal.write_all-requires
 write_all-requires c = λ pc lt.
