@@ -1,13 +1,15 @@
-//! Writes the lines of its input again, and behind each call that stands there the answer: `done` or `refused`, and what
-//! is written. A line `WORDS | TEXT` begins a call, `| TEXT` is one more line of its text, and `?` stands where the answer
-//! is wanted; other lines are titles and comments. The calls are these:
+//! Writes the lines of its input again, and behind each call that stands there the answer: `done` or
+//! `refused`, and what is written. A line `WORDS | TEXT` begins a call, `| TEXT` is one more line of its
+//! text, and `?` stands where the answer is wanted; other lines are titles and comments. The calls are:
 //!
-//! - `motion` or `change`, a program's lines, which are assembled: out come its bytes in hexadecimal, eight on a line, and
-//!   its canonical text, or `line N why K`;
-//! - `code`, a program's bytes in hexadecimal, which are decoded: out come its kind and its canonical text, or the fault;
-//! - `notes motion` or `notes change`, a program's lines: out come its notes, one on a line, which check as a table;
-//! - `road`, a limit and the pictures of lanes, or `even`, a count of lanes, a length, a limit and a count of cars that are
-//!   spread: out comes the road, or the fault;
+//! - `motion` or `change`, a program's lines, which are assembled: out come its bytes in hexadecimal,
+//!   eight on a line, and its canonical text, or `line N why K`;
+//! - `code`, a program's bytes in hexadecimal, which are decoded: out come its kind and its canonical
+//!   text, or the fault;
+//! - `notes motion` or `notes change`, a program's lines: out come its notes, one on a line, which check
+//!   as a table;
+//! - `road`, a limit and the pictures of lanes, or `even`, a count of lanes, a length, a limit and a count
+//!   of cars that are spread: out comes the road, or the fault;
 //! - `step`, a job text: out comes its first step.
 #![tactic(auto)]
 

@@ -94,7 +94,7 @@ impl Page {
     ///
     /// # Errors
     ///
-    /// Want of memory.
+    /// `AllocError` where memory ran out.
     pub fn show_all(&mut self, bytes: &[u8]) -> Result<(), AllocError>
         ensures { OnOk result (self.new ≡ self.old ++ all_shown bytes.now) }
     {
@@ -108,7 +108,7 @@ impl Page {
     ///
     /// # Errors
     ///
-    /// Want of memory.
+    /// `AllocError` where memory ran out.
     pub fn say(&mut self, words: &str) -> Result<(), AllocError>
         ensures { OnOk result (self.new ≡ self.old ++ all_shown words.now) }
     {
@@ -119,7 +119,7 @@ impl Page {
     ///
     /// # Errors
     ///
-    /// Want of memory.
+    /// `AllocError` where memory ran out.
     pub fn number(&mut self, number: u64) -> Result<(), AllocError>
         ensures { OnOk result (self.new ≡ self.old ++ decimal number) }
     {
@@ -131,7 +131,7 @@ impl Page {
     ///
     /// # Errors
     ///
-    /// Want of memory.
+    /// `AllocError` where memory ran out.
     pub fn end_line(&mut self) -> Result<(), AllocError>
         ensures { OnOk result (self.new ≡ self.old ++ 10 ∷ []) }
     {
@@ -142,7 +142,7 @@ impl Page {
     ///
     /// # Errors
     ///
-    /// Want of memory.
+    /// `AllocError` where memory ran out.
     pub fn line(&mut self, words: &str) -> Result<(), AllocError>
         ensures { OnOk result (self.new ≡ self.old ++ all_shown words.now ++ 10 ∷ []) }
     {
@@ -154,7 +154,7 @@ impl Page {
     ///
     /// # Errors
     ///
-    /// Want of memory.
+    /// `AllocError` where memory ran out.
     pub fn quote(&mut self, line: &[u8]) -> Result<(), AllocError>
         ensures { OnOk result (self.new ≡ self.old ++ quoted line.now) }
     {
@@ -173,7 +173,7 @@ impl Page {
     ///
     /// # Errors
     ///
-    /// Want of memory.
+    /// `AllocError` where memory ran out.
     pub fn add(&mut self, page: &Page) -> Result<(), AllocError>
         ensures { OnOk result (self.new ≡ self.old ++ page.now) }
     {

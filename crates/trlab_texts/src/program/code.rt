@@ -27,7 +27,7 @@ fn code_of_bytes(alloc: Global, bytes: &[u8]) -> Result<Code, LineFault>
 /// # Errors
 ///
 /// `Cause::Line` for other lines, `Cause::Hex`, or `Cause::Code` with the first fault of the bytes; or
-/// want of memory.
+/// that memory ran out.
 pub fn code_line(alloc: Global, line: &[u8]) -> Result<Code, LineFault>
     ensures { ReportsLine (code_line line.now) result }
 {

@@ -34,7 +34,7 @@ pub fn heads(kind: Kind, line: &[u8]) -> bool
 ///
 /// # Errors
 ///
-/// The first fault of these lines, at its line of the whole text; or want of memory.
+/// The first fault of these lines, at its line of the whole text; or that memory ran out.
 pub fn program_behind(alloc: Global, kind: Kind, first: u32, text: &[u8]) -> Result<Code, TextFault>
     requires { first + length (lines_of text.now) < 2 ^ 32 }
     ensures { Reports (λ says. says ≡ program_behind kind first (lines_of text.now)) result }
@@ -106,7 +106,7 @@ fn accepted_change(alloc: Global, first: u32, code: Code) -> Result<Change, Text
 ///
 /// # Errors
 ///
-/// The first fault of the part, or the verifier's refusal at its first line; or want of memory.
+/// The first fault of the part, or the verifier's refusal at its first line; or that memory ran out.
 pub fn motion(alloc: Global, rest: Rest<'_>) -> Result<(Motion, Rest<'_>), TextFault>
     ensures { Reports (part OfMotion rest.entry) result }
 {
