@@ -1,11 +1,10 @@
-//! A book without a history: its job is run by calls of the book alone, and what it refuses to take: a rule of
-//! two lanes for a road of one, and more jobs than it has room for.
+//! What a book without a history refuses to take: a rule of two lanes for a road of one, and more jobs than it has
+//! room for.
 
-use crate::trials::jobs::{NEVER, is_seen, rule_of, seed_of, two_cars};
+use crate::trials::jobs::{NEVER, rule_of, seed_of, two_cars};
 use std::alloc::Global;
 use trlab_rules::{Rule, rickert};
-use trlab_sequential_book::{Book, BookFault, Lease, Snapshot};
-use trlab_step::Caller;
+use trlab_sequential_book::{Book, BookFault};
 use trlab_words::{CERTAIN, Chance};
 
 /// The rule of 1996, which wants two lanes.
@@ -22,54 +21,6 @@ fn submit(alloc: Global, book: &mut Book, rule: Option<Rule>) -> Result<u32, Boo
         Some(seed) => book.submit(alloc, seed, rule, 4),
         None => Err(BookFault::Memory),
     }
-}
-
-/// Has a lease take the step that is ordered.
-fn takes_step(alloc: Global, book: &mut Book, lease: &mut Lease) -> bool {
-    match book.order(alloc, lease) {
-        Ok(order) => lease.advance_by(&Caller, alloc, &order).is_ok(),
-        Err(_) => false,
-    }
-}
-
-/// Has a lease of the job take a step, and gives it back.
-fn goes_on(alloc: Global, book: &mut Book) -> bool {
-    match book.lease(alloc) {
-        Ok(Some(mut lease)) => {
-            let took = takes_step(alloc, book, &mut lease);
-            book.give_back(lease).is_ok() && took
-        }
-        _ => false,
-    }
-}
-
-/// Whether a snapshot is of a step, with this sum of the cells that cars went, and this picture.
-fn is_at(alloc: Global, seen: &Snapshot, step: u32, distance: u64, picture: &[u8]) -> bool {
-    seen.tally().distance == distance && is_seen(alloc, seen, step, picture) == Some(true)
-}
-
-/// Whether the job is read so.
-fn reads(alloc: Global, book: &mut Book, step: u32, distance: u64, picture: &[u8]) -> bool {
-    match book.read(alloc, 0) {
-        Ok(seen) => is_at(alloc, &seen, step, distance, picture),
-        Err(_) => false,
-    }
-}
-
-/// Whether the job of a new book is read so at its start and behind each of two steps.
-fn runs(alloc: Global) -> bool {
-    let mut book = Book::new(alloc);
-    submit(alloc, &mut book, rule_of(alloc, NEVER)) == Ok(0)
-        && reads(alloc, &mut book, 0, 0, b"0.0.......")
-        && goes_on(alloc, &mut book)
-        && reads(alloc, &mut book, 1, 2, b".1.1......")
-        && goes_on(alloc, &mut book)
-        && reads(alloc, &mut book, 2, 5, b"..1..2....")
-}
-
-#[test]
-fn a_job_goes_on_from_lease_to_lease(rt: HostRuntime) {
-    assert!(rt; runs(rt.alloc()));
 }
 
 /// Whether a book takes so many jobs, each by the next number.

@@ -1,6 +1,5 @@
 //! How runners end, and what a book leaves when it closes.
 
-use trlab_book::laws::first_fault;
 use trlab_book::{Desk, RunFault, SharedBook};
 use trlab_sequential_book::Event;
 use trlab_strands::Ledger;
@@ -27,14 +26,4 @@ pub fn events_of<L: Ledger>(book: SharedBook<L>, desk: Desk<L>) -> Option<usize>
         Some(history) => Some(history.len()),
         None => None,
     }
-}
-
-#[test]
-fn a_full_history_is_told_before_memory(rt: HostRuntime) {
-    let memory = Err(RunFault::Memory);
-    let full = Err(RunFault::HistoryFull);
-    assert!(rt; first_fault(memory, full) == full && first_fault(full, memory) == full);
-    assert!(rt; first_fault(Ok(()), memory) == memory && first_fault(memory, Ok(())) == memory);
-    assert!(rt; first_fault(Ok(()), full) == full && first_fault(full, Ok(())) == full);
-    assert!(rt; first_fault(Ok(()), Ok(())) == Ok(()));
 }

@@ -1,7 +1,7 @@
-//! Tests of the book of jobs by public calls, with values worked out by hand: the book without threads, call
-//! by call; what calls at a desk of a shared book answer and leave in the history, leases of another book,
-//! full books, the book under the lock; and by several threads: desks, runners, runners that are held by
-//! gates, and the example of the guide to the book.
+//! Tests of the book of jobs by public calls, with values worked out by hand: a book without threads that is full of
+//! jobs; what calls at a desk of a shared book answer and leave in the history, leases of another book, and full
+//! books; and by several threads: desks, runners, runners that are held by gates, and the example of the guide to the
+//! book.
 #![tactic(auto)]
 
 #[cfg(test)]
@@ -22,8 +22,6 @@ mod full;
 mod gates;
 #[cfg(test)]
 mod held;
-#[cfg(test)]
-mod kept;
 #[cfg(test)]
 mod meeting;
 #[cfg(test)]
