@@ -1,4 +1,4 @@
--- Any text says a program, or has a first fault that is not want of memory.
+-- Any text says a program, or has a first fault, which is never that memory ran out.
 use Rattle.std.proofs.Common.{◌≡◌, ◌≢◌, ℕ, suc, ◌+◌, ◌-◌, ◌<◌, ◌≤◌, Bool, true, false, ◌&&◌, ◌==◌, if◌then◌else◌, nat_le, nat_lt, List, [], ◌∷◌, length, All, Option, Some, None, Result, Ok, Err, MatchResult, refl, arith, length-append, leb-true, ltb-true, codes}
 use Rattle.std.specs.Prelude.{ok_or}
 use Rattle.std.specs.Str.Parse.{digits_value}
@@ -25,7 +25,7 @@ use Rattle.trlab_asm.specs.declared.fault.Why.{Why}
 use Rattle.trlab_asm.specs.declared.fault.Why.TheVariants.{Memory, Number, Operand, TooLong, Word}
 use Rattle.trlab_asm.specs.declared.fault.AsmFault.{AsmFault}
 
--- a result has a property, or is a fault that is not want of memory
+-- a result has a property, or is a fault other than that memory ran out
 abbrev Gives : {A : Type 0} → (A → Type 0) → Result A Why → Type 0
 Gives P (Ok x) = P x
 Gives P (Err why) = why ≢ Memory

@@ -12,7 +12,7 @@ use Rattle.trlab_asm.specs.Canonical.{text_of}
 use Rattle.trlab_asm.specs.declared.names.Mnemonic.{Mnemonic}
 use Rattle.trlab_asm.specs.declared.fault.Why.TheVariants.{Memory}
 
--- any text says a program, or has a first fault that is not want of memory
+-- any text says a program, or has a first fault, which is never that memory ran out
 abbrev pub TextsSaySomething : Type 0
 TextsSaySomething = (kind : Kind) (text : List ℕ)
     → MatchResult (code_of kind (lines_of text)) IsProgram (λ fault. fault.why ≢ Memory)

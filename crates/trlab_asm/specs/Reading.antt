@@ -87,7 +87,7 @@ instruction pc parts = do
   name ← ok_or (mnemonic_named parts.0) Word
   if nat_lt pc MOST_INSTRUCTIONS then (draft_of name parts.1 >>= λ draft. Ok (Some draft)) else Err TooLong
 
--- the instruction of a text without blanks at its front, if it is not empty
+-- the instruction of a text without leading blanks, if it is not empty
 abbrev pub body : ℕ → List ℕ → Result (Option Draft) Why
 body pc text = if length text == 0 then Ok None else instruction pc (up_to_blank text)
 

@@ -115,7 +115,7 @@ fn instrs_of(alloc: Global, parts: &Parts<'_>) -> Result<Vec<Instr>, AsmFault>
 ///
 /// # Errors
 ///
-/// The first fault of the text, as `Why` orders them; or want of memory.
+/// The first fault of the text, as `Why` orders them; or `Memory`, where memory ran out.
 pub fn assemble(alloc: Global, kind: Kind, text: &[u8]) -> Result<Code, AsmFault>
     ensures told { MatchResult result
         (λ code. code_of kind (lines_of text.now) ≡ Ok code)
@@ -140,7 +140,7 @@ fn numbers_of(alloc: Global, reads: &[LineDraft<'_>]) -> Result<Vec<usize>, Allo
 ///
 /// # Errors
 ///
-/// The first fault of the text, where it is not a jump's label that is nowhere; or want of memory.
+/// The first fault of the text, where it is not a jump's label that is nowhere; or `Memory`, where memory ran out.
 pub fn instruction_lines(alloc: Global, text: &[u8]) -> Result<Vec<usize>, AsmFault>
     ensures { MatchResult result
         (λ numbers. (parts : Found)

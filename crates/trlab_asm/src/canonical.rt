@@ -34,7 +34,7 @@ fn is_target(instrs: &[Instr], pc: u32) -> bool
 ///
 /// # Errors
 ///
-/// Want of memory.
+/// Where memory ran out.
 pub fn disassemble(alloc: Global, code: &Code) -> Result<Vec<u8>, AllocError>
     ensures canonical { IfOk result (λ text. text.items ≡ text_of code.now.instrs) }
 

@@ -12,7 +12,7 @@ pub fn names()
     ensures instructions { InstructionsAreNamed }
 {}
 
-/// Any text says a program, or has a first fault; want of memory is the fault of none.
+/// Any text says a program, or has a first fault, which is never that memory ran out.
 #[tactic(auto, using(crate::proofs::Said::something))]
 pub fn texts_say_something()
     ensures { TextsSaySomething }

@@ -22,24 +22,25 @@ fn both<A: Drop, B: Drop>(first: Result<A, Why>, second: Result<B, Why>) -> Resu
     Ok((first?, second?))
 }
 
+/// The one word of an operand.
+fn word(text: &[u8]) -> Result<&[u8], Why>
+    ensures { map_ok (λ word. word.now) result ≡ word text.now }
+{
+    only_word(text).ok_or(Why::Operand)
+}
+
 /// A register.
 pub(crate) fn register(text: &[u8]) -> Result<Register, Why>
     ensures { result ≡ register text.now }
 {
-    match only_word(text) {
-        Some(word) => register_named(word).ok_or(Why::Operand),
-        None => Err(Why::Operand),
-    }
+    register_named(word(text)?).ok_or(Why::Operand)
 }
 
 /// An input.
 fn input(text: &[u8]) -> Result<Input, Why>
     ensures { result ≡ input text.now }
 {
-    match only_word(text) {
-        Some(word) => input_named(word).ok_or(Why::Operand),
-        None => Err(Why::Operand),
-    }
+    input_named(word(text)?).ok_or(Why::Operand)
 }
 
 /// The digits of an operand that has the form of a number.
@@ -47,10 +48,7 @@ fn numeral(text: &[u8]) -> Result<&[u8], Why>
     ensures value { map_ok (λ digits. digits.now) result ≡ numeral text.now }
     ensures digits { IfOk result (λ digits. all_digits digits.now ≡ true) }
 {
-    match only_word(text) {
-        Some(word) => digits_of(word),
-        None => Err(Why::Operand),
-    }
+    digits_of(word(text)?)
 }
 
 /// A number that is at least low.
@@ -58,20 +56,14 @@ fn number(low: u32, text: &[u8]) -> Result<u32, Why>
     ensures value { result ≡ number low GREATEST_NUMBER text.now }
     ensures low { IfOk result (λ n. low ≤ n) }
 {
-    match only_word(text) {
-        Some(word) => number_of(low, word),
-        None => Err(Why::Operand),
-    }
+    number_of(low, word(text)?)
 }
 
 /// A jump's operand.
 pub(crate) fn target(text: &[u8]) -> Result<Target<'_>, Why>
     ensures { result ≡ target text.now }
 {
-    match only_word(text) {
-        Some(word) => target_named(word),
-        None => Err(Why::Operand),
-    }
+    target_named(word(text)?)
 }
 
 /// No operand.

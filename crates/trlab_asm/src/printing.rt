@@ -41,10 +41,10 @@ fn target(count: usize, pc: u32) -> Operand
 }
 
 /// A text and decimal digits.
-fn push_number(alloc: Global, out: &mut Vec<u8>, front: &str, n: u32) -> Result<(), AllocError>
-    ensures { OnOk result (out.new.items ≡ out.old.items ++ (front.now ++ decimal n)) }
+fn push_number(alloc: Global, out: &mut Vec<u8>, prefix: &str, n: u32) -> Result<(), AllocError>
+    ensures { OnOk result (out.new.items ≡ out.old.items ++ (prefix.now ++ decimal n)) }
 {
-    let text = format!(in alloc; "{front}{n}")?;
+    let text = format!(in alloc; "{prefix}{n}")?;
     out.extend_from_slice(text.as_bytes())
 }
 
@@ -52,12 +52,12 @@ fn push_number(alloc: Global, out: &mut Vec<u8>, front: &str, n: u32) -> Result<
 fn push_operand(
     alloc: Global,
     out: &mut Vec<u8>,
-    front: &[u8],
+    prefix: &[u8],
     operand: Operand,
 ) -> Result<(), AllocError>
-    ensures { OnOk result (out.new.items ≡ out.old.items ++ (front.now ++ operand_text operand)) }
+    ensures { OnOk result (out.new.items ≡ out.old.items ++ (prefix.now ++ operand_text operand)) }
 {
-    out.extend_from_slice(front)?;
+    out.extend_from_slice(prefix)?;
     match operand {
         Register(register) => out.extend_from_slice(register_text(register)),
         Input(input) => out.extend_from_slice(input_text(input)),

@@ -43,7 +43,7 @@ fn instruction<'a>(pc: usize, name: &[u8], operands: &'a [u8]) -> Result<Option<
     }
 }
 
-/// The instruction of a text without blanks at its front, if it is not empty.
+/// The instruction of a text without leading blanks, if it is not empty.
 fn body(pc: usize, text: &[u8]) -> Result<Option<Draft<'_>>, Why>
     ensures value { result ≡ body pc text.now }
     ensures room { IfOk result (λ draft. OnSome draft (pc < MOST_INSTRUCTIONS)) }

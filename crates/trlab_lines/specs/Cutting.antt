@@ -11,10 +11,10 @@ around text (Some i) = Some (take i text, drop (i + 1) text)
 abbrev pub cut : ℕ → List ℕ → Option (List ℕ × List ℕ)
 cut c text = around text (position (λ b. b == c) text)
 
--- what follows a front of a text
+-- what follows a prefix of a text
 abbrev pub behind : List ℕ → List ℕ → Option (List ℕ)
-behind front text =
-    if bytes_eq (take (length front) text) front then Some (drop (length front) text) else None
+behind prefix text =
+    if bytes_eq (take (length prefix) text) prefix then Some (drop (length prefix) text) else None
 
 -- a space or a tab
 abbrev pub is_blank : ℕ → Bool
@@ -25,7 +25,7 @@ abbrev pub from_position : List ℕ → Option ℕ → List ℕ
 from_position text None = []
 from_position text (Some i) = drop i text
 
--- a text without the blanks at its front
+-- a text without its leading blanks
 abbrev pub without_indent : List ℕ → List ℕ
 without_indent text = from_position text (position (λ b. not (is_blank b)) text)
 

@@ -49,7 +49,7 @@ pub fn cut(text: &[u8], byte: u8) -> Option<(&[u8], &[u8])>
     }
 }
 
-/// A text without the blanks at its front.
+/// A text without its leading blanks.
 pub fn without_indent(text: &[u8]) -> &[u8]
     ensures { result.now ≡ without_indent text.now }
 {

@@ -20,7 +20,7 @@ pub fn is_numeral(text: &[u8]) -> bool
     !text.is_empty() && all_digits(text)
 }
 
-/// The number that at most ten decimal digits stand for, of which some may be 0 in front.
+/// The value of at most ten decimal digits, the first of which may be zeros.
 pub fn digits_value(digits: &[u8]) -> u64
     requires digits { all_digits digits.now ≡ true }
     requires few { length digits.now ≤ MOST_DIGITS }
