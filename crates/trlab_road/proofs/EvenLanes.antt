@@ -1,11 +1,12 @@
 -- Evenly spread cars.
 use Rattle.std.proofs.Common.{◌≡◌, ◌≢◌, ℕ, ◌+◌, ◌*◌, ◌/◌, ◌<◌, ◌≤◌, Some, None, length, set, replicate, sym, ◌∙◌, ap, subst, inl, inr, arith}
 use Rattle.std.proofs.Math.Nat.{div-add-mod, div-mul-le_self, le-div_iff_mul-le, div-lt_iff_lt-mul, mul-le-mul_left}
-use Rattle.std.proofs.lemmas.Bool.{cases_lt, cases_eq, cases_order}
-use Rattle.std.proofs.lemmas.List.{get_or-set_same, get_or-set_other, length-set, get_or-replicate, length-replicate, get_or_past}
+use Rattle.std.proofs.lemmas.Bool.{cases_eq, cases_order}
+use Rattle.std.proofs.lemmas.List.{get_or-set_same, get_or-set_other, length-set, length-replicate}
 use Rattle.std.proofs.lemmas.Option.{some_pair_parts}
 use Rattle.trlab_road.specs.Cells.{Lane, at}
 use Rattle.trlab_road.specs.Spreading.{flat_cell, even_lane, even_place, IsEvenLane}
+use Rattle.trlab_road.proofs.MotionByCar.{all_empty}
 
 -- a car further on stands on a later cell
 pub flat_rises : (lanes cells n i j : ℕ) → n ≤ lanes * cells → 0 < n → i < j
@@ -61,13 +62,6 @@ pub record EvenUpTo (lanes cells n l i : ℕ) (lane : Lane) : Type 0 where
   pub stands : (k : ℕ) → k < i → even_lane lanes cells n k ≡ l → at lane (even_place lanes cells n k) ≡ Some (k, 0)
   pub nothing_else : (x number speed : ℕ) → at lane x ≡ Some (number, speed)
       → (number < i) × (even_lane lanes cells n number ≡ l) × (even_place lanes cells n number ≡ x)
-
-all_empty : (n y : ℕ) → at (replicate n None) y ≡ None
-all_empty n y =
-    elim (cases_lt y n) [
-      | inl below ↦ get_or-replicate n y None None below
-      | inr past ↦ get_or_past (replicate n None) y None (rw length-replicate past)
-    ]
 
 pub even_none : (lanes cells n l : ℕ) → EvenUpTo lanes cells n l 0 (replicate cells None)
 even_none lanes cells n l = record {

@@ -29,7 +29,7 @@ same_car : (a b w u v : ℕ) → ◌≡◌ {A = Option (ℕ × ℕ)} (Some (a, u
     → ◌≡◌ {A = Option (ℕ × ℕ)} (Some (a, w)) (Some (b, w))
 same_car a b w u v h = same_car_speed a b w (same_parts a b u v h).0
 
-all_empty : (n y : ℕ) → at (replicate n None) y ≡ None
+pub all_empty : (n y : ℕ) → at (replicate n None) y ≡ None
 all_empty n y =
     elim (cases_lt y n) [
       | inl below ↦ get_or-replicate n y None None below

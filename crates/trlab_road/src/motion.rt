@@ -79,7 +79,7 @@ fn move_straight(cars: &mut [LaneCar], speeds: &[u8], from: usize)
 /// Moves the cars of a lane ahead, where their speeds stand from an index on.
 ///
 /// A car that passes the end was the last, and is the first then.
-pub fn move_lane(cars: &mut Vec<LaneCar>, cells: u32, speeds: &[u8], from: usize)
+fn move_lane(cars: &mut Vec<LaneCar>, cells: u32, speeds: &[u8], from: usize)
     requires small { cells ≤ GREATEST_LENGTH }
     requires sorted { Rises 0 cells cars.old.items }
     requires one_each { from + length cars.old.items ≤ length speeds.now }

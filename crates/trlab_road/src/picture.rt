@@ -10,10 +10,10 @@ use std::alloc::AllocError;
 use trlab_bounds::roads::GREATEST_LIMIT;
 
 /// The character of an empty cell.
-pub const POINT: u8 = b'.';
+const POINT: u8 = b'.';
 
 /// The character of a speed: its digit, and from 10 on a letter.
-pub fn speed_character(speed: u32) -> u8
+fn speed_character(speed: u32) -> u8
     requires { speed ≤ GREATEST_LIMIT }
     ensures { result ≡ speed_character speed }
 {

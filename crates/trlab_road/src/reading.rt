@@ -13,7 +13,7 @@ use std::alloc::{AllocError, Global};
 use trlab_bounds::roads::{GREATEST_LENGTH, GREATEST_LIMIT, MOST_LANES};
 
 /// The place of the first character that shows no cell, or the length.
-pub fn first_bad(limit: u32, picture: &[u8]) -> usize
+fn first_bad(limit: u32, picture: &[u8]) -> usize
     requires { limit ≤ GREATEST_LIMIT }
     ensures within { result ≤ length picture.now }
     ensures before { (x : ℕ) → x < result → ShowsCell limit (slice_index picture.now x) }
@@ -29,7 +29,7 @@ pub fn first_bad(limit: u32, picture: &[u8]) -> usize
 }
 
 /// Have the lanes one length, which a lane may have?
-pub fn has_equal_lanes(pictures: &[&[u8]]) -> bool
+fn has_equal_lanes(pictures: &[&[u8]]) -> bool
     requires { LanesFit (length (pictures_of pictures.now)) }
     ensures { IsTrue result ↔ HaveEqualLengths (pictures_of pictures.now) }
 {
@@ -72,7 +72,7 @@ pub fn check_pictures(limit: u32, pictures: &[&[u8]]) -> Result<(), RoadFault>
 }
 
 /// The cars of the lane that a picture shows, numbered from a number on.
-pub fn draw_lane(alloc: Global, picture: &[u8], from: u32) -> Result<Vec<LaneCar>, AllocError>
+fn draw_lane(alloc: Global, picture: &[u8], from: u32) -> Result<Vec<LaneCar>, AllocError>
     requires shown { EachIndex picture.now (λ x.
         ShowsCell GREATEST_LIMIT (slice_index picture.now x)) }
     requires small { length picture.now ≤ GREATEST_LENGTH }

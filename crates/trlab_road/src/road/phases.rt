@@ -1,0 +1,86 @@
+//! The road after each phase of a step: after the motion, and after the lane change.
+
+ghost use Rattle.std.specs.Prelude.{◌≡◌, ℕ, Bool, IfOk};
+ghost use Rattle.trlab_road.specs.Legal.{IsLegal};
+ghost use Rattle.trlab_road.specs.LaneChange.{CleanLaneChange, Crosses, MayCross};
+ghost use Rattle.trlab_road.specs.Motion.{MayMove, CleanMotion, Moves, in_order};
+
+use crate::lane_change::change_lanes;
+use crate::motion::{in_bytes, move_lanes};
+use crate::road::Road;
+use crate::room::Room;
+use std::alloc::{AllocError, Global};
+
+impl Road {
+    /// The road after the motion: all cars go ahead at once, each by its speed of the list, which stands
+    /// in standing order and gives the new speeds, in cells a step.
+    ///
+    /// # Errors
+    ///
+    /// Where an allocation was refused.
+    pub fn after_motion(&self, alloc: Global, speeds: &[u32]) -> Result<Road, AllocError>
+        requires { MayMove self.now speeds.now }
+        ensures moves { IfOk result (λ next. (answer : ℕ → ℕ → ℕ)
+            → speeds.now ≡ in_order answer self.now → Moves answer self.now next) }
+        ensures clean { IfOk result (λ next. CleanMotion self.now next) }
+        ensures legal { IfOk result (λ next. IsLegal next) }
+    {
+        let mut next = self.copy(alloc)?;
+        next.move_cars(&in_bytes(alloc, speeds)?);
+        Ok(next)
+    }
+
+    /// Moves all cars ahead at once, each by its speed of the list, which stands in standing order and
+    /// gives the new speeds. It takes no memory.
+    pub fn move_cars(&mut self, speeds: &[u8])
+        requires { MayMove self.old speeds.now }
+        ensures moves { (answer : ℕ → ℕ → ℕ)
+            → speeds.now ≡ in_order answer self.old → Moves answer self.old self.new }
+        ensures clean { CleanMotion self.old self.new }
+        ensures legal { IsLegal self.new }
+    {
+        move_lanes(&mut self.lanes, self.cells, speeds);
+    }
+
+    /// The road of two lanes after the lane change: all cars that cross do so at once. Whether each car
+    /// crosses stands in standing order.
+    ///
+    /// # Errors
+    ///
+    /// Where an allocation was refused.
+    pub fn after_lane_change(&self, alloc: Global, crosses: &[bool]) -> Result<Road, AllocError>
+        requires { MayCross self.now crosses.now }
+        ensures crosses { IfOk result (λ next. (answer : ℕ → ℕ → Bool)
+            → crosses.now ≡ in_order answer self.now → Crosses answer self.now next) }
+        ensures clean { IfOk result (λ next. CleanLaneChange self.now next) }
+        ensures legal { IfOk result (λ next. IsLegal next) }
+    {
+        self.after_lane_change_in(alloc, &mut Room::new(alloc), crosses)
+    }
+
+    /// The road as `after_lane_change` tells it, which takes its memory from the room.
+    ///
+    /// # Errors
+    ///
+    /// Where an allocation was refused; the room may have lost its lists then. Any room serves for any lane
+    /// change, this one too: nothing that stands in a room is asked for or told.
+    pub fn after_lane_change_in(
+        &self,
+        alloc: Global,
+        room: &mut Room,
+        crosses: &[bool],
+    ) -> Result<Road, AllocError>
+        requires { MayCross self.now crosses.now }
+        ensures crosses { IfOk result (λ next. (answer : ℕ → ℕ → Bool)
+            → crosses.now ≡ in_order answer self.now → Crosses answer self.now next) }
+        ensures clean { IfOk result (λ next. CleanLaneChange self.now next) }
+        ensures legal { IfOk result (λ next. IsLegal next) }
+    {
+        let lanes = change_lanes(alloc, room, &self.lanes, self.cells, crosses)?;
+        Ok(Road {
+            limit: self.limit,
+            cells: self.cells,
+            lanes,
+        })
+    }
+}
