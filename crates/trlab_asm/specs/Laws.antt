@@ -27,17 +27,17 @@ abbrev pub OneProgramOfAText : Type 0
 OneProgramOfAText = (first second : Program) → IsStored first → IsStored second
     → first.kind ≡ second.kind → text_of first.instrs ≡ text_of second.instrs → first ≡ second
 
--- a word names a register just where it is its text
+-- a word names a register exactly where it is its text
 abbrev pub RegistersAreNamed : Type 0
 RegistersAreNamed = (word : List ℕ) (register : Register)
     → register_named word ≡ Some register ↔ (word ≡ register_text register)
 
--- a word names an input just where it is its text
+-- a word names an input exactly where it is its text
 abbrev pub InputsAreNamed : Type 0
 InputsAreNamed = (word : List ℕ) (input : Input)
     → input_named word ≡ Some input ↔ (word ≡ input_text input)
 
--- a word names an instruction just where it is its text
+-- a word names an instruction exactly where it is its text
 abbrev pub InstructionsAreNamed : Type 0
 InstructionsAreNamed = (word : List ℕ) (name : Mnemonic)
     → mnemonic_named word ≡ Some name ↔ (word ≡ mnemonic_text name)

@@ -56,7 +56,7 @@ fn read_draw(text: &[u8]) -> Result<Draft<'_>, Why>
     Ok(whole_draft(Instr::Draw(d, k as u8, t)))
 }
 
-/// `div` with its operands, of which the number is at least 1.
+/// `div` with its operands; the number is at least 1.
 fn read_div(text: &[u8]) -> Result<Draft<'_>, Why>
     ensures { result ≡ draft_of Div text.now }
 {

@@ -71,7 +71,7 @@ good_spelling program is k h = record {
 good : (program : Program) → IsProgram program → IsGoodBefore (spelling program) (length program.instrs)
 good program is = good_spelling program is (length program.instrs) (omega arith)
 
--- the second version is for programs of which an instruction reads the speed of the car ahead
+-- the second version is for programs with an instruction that reads the speed of the car ahead
 reads_in_second : (program : Program) → stated_version (spelling program) ≡ 2 → list_any reads_headspeed program.instrs ≡ true
 unfolding spelling
 reads_in_second program second = elim (cases_Bool (list_any reads_headspeed program.instrs)) [ inl some ↦ some | inr none ↦ absurd (cc) ]

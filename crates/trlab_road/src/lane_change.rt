@@ -110,7 +110,7 @@ fn change_lane(
             }
             standing = next_place(own.cars, i, cells);
         } else {
-            // who comes finds the cell empty, or its car leaves
+            // a car that comes finds the cell empty, or the car there leaves
             let own_here = standing == due;
             let car = if own_here && !crosses[own.from + i] {
                 car_at(own.cars, i)

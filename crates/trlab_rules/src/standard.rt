@@ -19,7 +19,7 @@ use trlab_words::Chance;
 ///
 /// # Errors
 ///
-/// `Refused` just where the verifier refuses the program, and `Memory` where memory runs out.
+/// `Refused` exactly where the verifier refuses the program, and `Memory` where memory runs out.
 pub fn nasch(alloc: Global, p: Chance) -> Result<Rule, StandardFault>
     ensures published { IfOk result (IsNasch p) }
     ensures rule { IfOk result IsRule }
@@ -35,7 +35,7 @@ pub fn nasch(alloc: Global, p: Chance) -> Result<Rule, StandardFault>
 ///
 /// # Errors
 ///
-/// `Refused` just where the verifier refuses the program, and `Memory` where memory runs out.
+/// `Refused` exactly where the verifier refuses the program, and `Memory` where memory runs out.
 pub fn vdr(alloc: Global, p: Chance, p0: Chance) -> Result<Rule, StandardFault>
     ensures published { IfOk result (IsVdr p p0) }
     ensures rule { IfOk result IsRule }
@@ -47,13 +47,13 @@ pub fn vdr(alloc: Global, p: Chance, p0: Chance) -> Result<Rule, StandardFault>
 /// The rule of two lanes of Rickert, Nagel, Schreckenberg and Latour (1996), with distances of this
 /// project's own.
 ///
-/// A car crosses just where its side cell is empty, its gap is below its speed and one more, the gap
+/// A car crosses exactly where its side cell is empty, its gap is below its speed and one more, the gap
 /// ahead on the other lane is above that, the gap behind there is above the limit, and the chance `c`
 /// happens on its word 1. Then all cars move as by `nasch` with the chance `p`.
 ///
 /// # Errors
 ///
-/// `Refused` just where the verifier refuses one of the two programs, and `Memory` where memory runs
+/// `Refused` exactly where the verifier refuses one of the two programs, and `Memory` where memory runs
 /// out.
 pub fn rickert(alloc: Global, p: Chance, c: Chance) -> Result<Rule, StandardFault>
     ensures published { IfOk result (IsRickert p c) }

@@ -116,7 +116,7 @@ fn checks_at(kind: Kind, instrs: &[Instr], table: &[Note], pc: usize) -> bool
 /// what holds at the start, each instruction is reached and has no reason to be refused, and what
 /// comes from it on each way says at least what the note there says.
 ///
-/// Where it checks, the program ends untrapped within its longest way on each view and all random
+/// Where it checks, the program is never stuck and ends within its longest way, on each view and all random
 /// words, whoever made the table. This takes no memory, and judges a table that was handed in from
 /// anywhere: a table with more or fewer notes than the program has instructions does not check, and
 /// none does in which a level above 2 is looked at.

@@ -10,7 +10,7 @@ use mir.Val.{bool_byte}
 not_lower : (p x : ℕ) → x ≤ p → nat_lt p x ≡ false
 not_lower p x high = grind (arith, nat_tests, high)
 
--- a car is passed just where it stands before the place
+-- a car is passed exactly where it stands before the place
 passed : (p x n : ℕ) → n ≡ bool_byte (nat_lt p x) → ((n ≡ 1) × (p < x)) ⊎ ((n ≡ 0) × (x ≤ p))
 passed p x n is =
     elim (cases_lt p x) [
