@@ -97,10 +97,10 @@ fn change_lane(
     next.reserve(own.cars.len())?;
     let mut i = 0;
     let mut j = 0;
-    let mut standing = next_place(own.cars, i, cells);
+    let mut own_next = next_place(own.cars, i, cells);
     let mut due = next_place(coming, j, cells);
-    while standing.min(due) < cells {
-        if standing < due {
+    while own_next.min(due) < cells {
+        if own_next < due {
             if crosses[own.from + i] {
                 i += 1;
             } else {
@@ -108,10 +108,10 @@ fn change_lane(
                 next.extend_from_slice(&own.cars[i..end])?;
                 i = end;
             }
-            standing = next_place(own.cars, i, cells);
+            own_next = next_place(own.cars, i, cells);
         } else {
             // a car that comes finds the cell empty, or the car there leaves
-            let own_here = standing == due;
+            let own_here = own_next == due;
             let car = if own_here && !crosses[own.from + i] {
                 car_at(own.cars, i)
             } else {
@@ -120,7 +120,7 @@ fn change_lane(
             next.push(car)?;
             i += usize::from(own_here);
             j += 1;
-            standing = next_place(own.cars, i, cells);
+            own_next = next_place(own.cars, i, cells);
             due = next_place(coming, j, cells);
         }
     }

@@ -4,12 +4,12 @@ use Rattle.trlab_road.proofs.ListLaneChange.{IsDue, Merged}
 use Rattle.trlab_road.proofs.lane_change.change_lane.Given as goal
 
 -- the cells before the next car of either list are done
-abbrev pub invariant-loop-standing : goal.invariant-loop-standing
-invariant-loop-standing l = record {
-  own_due : IsDue l.cells l.own.cars.now l.i l.standing;
+abbrev pub invariant-loop-own_next : goal.invariant-loop-own_next
+invariant-loop-own_next l = record {
+  own_due : IsDue l.cells l.own.cars.now l.i l.own_next;
   coming_due : IsDue l.cells l.coming l.j l.due;
-  merged : Merged l.cells l.own.cars.now l.coming (lane_crosses_at (cells_of l.cells l.own.cars.now) l.crosses l.own.from) (λ _. true) l.next.items l.i l.j (min l.standing l.due);
+  merged : Merged l.cells l.own.cars.now l.coming (lane_crosses_at (cells_of l.cells l.own.cars.now) l.crosses l.own.from) (λ _. true) l.next.items l.i l.j (min l.own_next l.due);
 }
 
-abbrev pub decreases-loop-standing : goal.decreases-loop-standing
-decreases-loop-standing l = length l.own.cars.now - l.i + (length l.coming - l.j)
+abbrev pub decreases-loop-own_next : goal.decreases-loop-own_next
+decreases-loop-own_next l = length l.own.cars.now - l.i + (length l.coming - l.j)
