@@ -1,5 +1,5 @@
-//! What strands and their keeper know, and the rule that holds of it in each atomic step. All of this is
-//! for contracts: at run time there is one word.
+//! What strands and their keeper know, and the rule that holds of it in each atomic step. All of this is for
+//! contracts: at run time there is one word.
 
 use atomic_table::{Join, Play, Split, TableRule};
 use std::collections::LinkedList;
@@ -11,9 +11,9 @@ pub struct Noted<E> {
     pub event: E,
 }
 
-/// What is known at a seat: of a strand its parts, the events that it noted, and the least number that its next
-/// one may have; of the keeper the whole list. No value of it is made.
-pub struct Stock<E> {
+/// What is known at a seat: of a strand its parts, the events that it noted, and the least number that its
+/// next one may have; of the keeper the whole list. No value of it is made.
+pub struct Knowledge<E> {
     pub parts: u32,
     pub own: LinkedList<Noted<E>>,
     pub least: u64,
@@ -26,19 +26,19 @@ pub struct OncePerEvent<E> {
     marker: PhantomData<E>,
 }
 
-impl<E> TableRule<E, Stock<E>, ()> for OncePerEvent<E> {
+impl<E> TableRule<E, Knowledge<E>, ()> for OncePerEvent<E> {
     ghost use Rattle.trlab_strands.specs.Rule.{KeepsStrands};
-    ghost use Rattle.trlab_strands.specs.Stocks.{opening_stock};
+    ghost use Rattle.trlab_strands.specs.Knowledge.{opening_knowledge};
 
     ghost holds = { λ key. KeepsStrands };
 
-    ghost first = { λ key. opening_stock };
+    ghost first = { λ key. opening_knowledge };
 }
 
 /// The step that notes an event.
 pub struct NoteEvent;
 
-impl<E> Play<E, Stock<E>> for NoteEvent {
+impl<E> Play<E, Knowledge<E>> for NoteEvent {
     ghost use Rattle.trlab_strands.specs.Rule.{NotesEvent};
 
     ghost then = { NotesEvent };
@@ -47,7 +47,7 @@ impl<E> Play<E, Stock<E>> for NoteEvent {
 /// A step that changes nothing.
 pub struct Look;
 
-impl<E> Play<E, Stock<E>> for Look {
+impl<E> Play<E, Knowledge<E>> for Look {
     ghost use Rattle.trlab_strands.specs.Rule.{Looks};
 
     ghost then = { Looks };
@@ -56,8 +56,8 @@ impl<E> Play<E, Stock<E>> for Look {
 /// The list leaves a strand.
 pub struct Apart;
 
-impl<E> Split<Stock<E>> for Apart {
-    ghost use Rattle.trlab_strands.specs.Stocks.{without_list, list_alone};
+impl<E> Split<Knowledge<E>> for Apart {
+    ghost use Rattle.trlab_strands.specs.Knowledge.{without_list, list_alone};
 
     ghost left = { without_list };
 
@@ -67,8 +67,8 @@ impl<E> Split<Stock<E>> for Apart {
 /// One part goes to another strand.
 pub struct OnePart;
 
-impl<E> Split<Stock<E>> for OnePart {
-    ghost use Rattle.trlab_strands.specs.Stocks.{less_a_part, one_part};
+impl<E> Split<Knowledge<E>> for OnePart {
+    ghost use Rattle.trlab_strands.specs.Knowledge.{less_a_part, one_part};
 
     ghost left = { less_a_part };
 
@@ -78,8 +78,8 @@ impl<E> Split<Stock<E>> for OnePart {
 /// Two strands become one, or a strand meets the list.
 pub struct Together;
 
-impl<E> Join<Stock<E>> for Together {
-    ghost use Rattle.trlab_strands.specs.Stocks.{union, nothing};
+impl<E> Join<Knowledge<E>> for Together {
+    ghost use Rattle.trlab_strands.specs.Knowledge.{union, nothing};
 
     ghost both = { union };
 
