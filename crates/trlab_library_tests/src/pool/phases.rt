@@ -10,7 +10,7 @@ use trlab_machine::Dice;
 use trlab_road::Road;
 use trlab_rules::{Rule, rickert};
 use trlab_segments::{Gate, OpenGate, Pool};
-use trlab_step::{Nobody, choose_part, move_part};
+use trlab_step::{Asker, Nobody, choose_part, move_part};
 use trlab_verify::Change;
 use trlab_words::{CERTAIN, Chance, Key};
 
@@ -38,40 +38,45 @@ pub fn spread(alloc: Global) -> Option<Traffic> {
     spread_over(alloc, 100, 60)
 }
 
-/// What a list is that came with a road, if that is still this one.
-fn with_road<T: Drop>(road: &Road, back: Road, told: Option<Vec<T>>) -> Option<Vec<T>> {
-    if back.equals(road) { told } else { None }
-}
-
-/// The speeds that a pool tells in a step of road 9, where the road comes back as it was.
+/// The speeds that a pool tells in a step of road 9, where the road stays as it was.
 pub fn speeds_told<R: Wait, G: Gate>(
     pool: &Pool<R, G>,
     alloc: Global,
     traffic: &Traffic,
     step: u32,
 ) -> Option<Vec<u8>> {
-    let motion = traffic.rule.motion().copy(alloc).ok()?;
-    let road = traffic.road.copy(alloc).ok()?;
+    let Traffic { road, rule } = traffic;
+    let mut copy = road.copy(alloc).ok()?;
+    let mut speeds = Vec::new(alloc);
     let dice = Dice::new(&Key([7; 32]), 9, step);
-    let (back, told) = pool.speeds_of(alloc, road, motion, dice, &mut Nobody);
-    with_road(&traffic.road, back, told.ok())
+    pool.speeds(
+        alloc,
+        &mut speeds,
+        &mut copy,
+        rule.motion(),
+        &dice,
+        &mut Nobody,
+    )
+    .ok()?;
+    if copy.equals(road) { Some(speeds) } else { None }
 }
 
-/// Who crosses by a change program, as a pool tells it in a step of road 9, where the road comes back as
-/// it was.
+/// Who crosses by a change program, as a pool tells it in a step of road 9, where the road stays as it was.
 fn crossings_by<R: Wait, G: Gate>(
     pool: &Pool<R, G>,
     alloc: Global,
     road: &Road,
-    change: Change,
+    change: &Change,
     step: u32,
 ) -> Option<Vec<bool>>
     requires { HasTwoLanes road.now }
 {
-    let copy = road.copy(alloc).ok()?;
+    let mut copy = road.copy(alloc).ok()?;
+    let mut crosses = Vec::new(alloc);
     let dice = Dice::new(&Key([7; 32]), 9, step);
-    let (back, told) = pool.crossings_of(alloc, copy, change, dice, &mut Nobody);
-    with_road(road, back, told.ok())
+    pool.crossings(alloc, &mut crosses, &mut copy, change, &dice, &mut Nobody)
+        .ok()?;
+    if copy.equals(road) { Some(crosses) } else { None }
 }
 
 /// The same by the change program of the rule.
@@ -85,7 +90,7 @@ fn crossings_told<R: Wait, G: Gate>(
     if road.lanes() != 2 {
         return None;
     }
-    crossings_by(pool, alloc, road, rule.change()?.copy(alloc).ok()?, step)
+    crossings_by(pool, alloc, road, rule.change()?, step)
 }
 
 /// Whether these are speeds, each in a byte.
