@@ -10,8 +10,8 @@ use Rattle.trlab_sequential_book.specs.Leases.{LeaseState}
 use Rattle.trlab_sequential_book.specs.Machine.{State}
 use Rattle.trlab_sequential_book.specs.Replay.{event}
 use Rattle.trlab_strands.specs.declared.ledger.Ledger.{Ghosts}
-use Rattle.trlab_strands.specs.declared.stock.Noted.{Noted}
-use Rattle.trlab_strands.specs.Stocks.{noted, number_of}
+use Rattle.trlab_strands.specs.declared.knowledge.Noted.{Noted}
+use Rattle.trlab_strands.specs.Knowledge.{noted, number_of}
 use Rattle.trlab_strands.specs.Tokens as strand
 use Rattle.trlab_book.specs.declared.desk.Desk.{Desk}
 use Rattle.trlab_book.specs.Desks.{AreOfRunners, GoesOn, IsOneEvent, MakesOf, subhistory_of, is_of_runner, least_of, parts_of}

@@ -13,8 +13,8 @@ use Rattle.trlab_sequential_book.specs.declared.event.Reply.{Reply}
 use Rattle.trlab_sequential_book.specs.Machine.{State, reply_of}
 use Rattle.trlab_sequential_book.specs.Answers.{is_event}
 use Rattle.trlab_sequential_book.specs.Replay.{Replays, event}
-use Rattle.trlab_strands.specs.declared.stock.Noted.{Noted}
-use Rattle.trlab_strands.specs.Stocks.{number_of}
+use Rattle.trlab_strands.specs.declared.knowledge.Noted.{Noted}
+use Rattle.trlab_strands.specs.Knowledge.{number_of}
 use Rattle.trlab_strands.specs.declared.ledger.Ledger.{Ghosts}
 use Rattle.trlab_strands.specs.Tokens as strand
 use Rattle.trlab_book.specs.declared.desk.Desk.{Desk}

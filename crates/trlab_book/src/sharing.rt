@@ -4,7 +4,7 @@
 ghost use Rattle.std.specs.Prelude.{◌≡◌, ◌+◌, ◌<◌, ◌++◌, [], max, IfOk, IfErr, IsOk};
 ghost use Rattle.trlab_sequential_book.specs.Replay.{Replays};
 ghost use Rattle.trlab_book.specs.Desks.{IsSame, subhistory_of, least_of, parts_of};
-ghost use Rattle.trlab_strands.specs.Stocks.{IsLinearization};
+ghost use Rattle.trlab_strands.specs.Knowledge.{IsLinearization};
 ghost use Rattle.trlab_strands.specs.Tokens.{name_of};
 ghost use Rattle.trlab_strands.specs.declared.limits.TheConstants.{ALL_PARTS};
 

@@ -3,11 +3,10 @@ use Rattle.std.proofs.Common.{◌≡◌, Bool, true, false, List, [], ◌++◌, 
 use Rattle.std.proofs.lemmas.List.{map-append}
 use Rattle.std.proofs.lemmas.List.Elements.{All-append}
 use Rattle.trlab_segments.specs.Answered.{HasParts, number_of}
-use Rattle.trlab_segments.specs.Drawers.{IsFrom, tickets_of, is_ended}
-use Rattle.trlab_segments.specs.declared.drawer.Drawer.{Drawer}
-use Rattle.trlab_segments.specs.declared.drawer.Tickets.{Tickets}
-use Rattle.trlab_segments.specs.declared.part.Part.{Part}
-use Rattle.trlab_segments.specs.Trays.{IsJoined, IsNew, Joins}
+use Rattle.trlab_segments.specs.Drawers.{IsFrom, IsJoined, IsNew, Joins, is_ended, tickets_of}
+use Rattle.trlab_segments.specs.declared.tickets.drawer.Drawer.{Drawer}
+use Rattle.trlab_segments.specs.declared.tickets.drawer.Tickets.{Tickets}
+use Rattle.trlab_segments.specs.declared.phase.part.Part.{Part}
 
 or_true : (x : Bool) → (x || true) ≡ true
 or_true true = refl
@@ -24,23 +23,34 @@ module _ {A : Type 0} (Fits : Part A → Type 0) (t : Tickets) where
     ended = joins.ended ∙ ap (λ x. x || is_ended e) first.ended;
   }
 
-  -- parts that were laid down before, and more
+  -- the same, where both were told
+  pub told_parts : {B E : Type 0} (d e f : Drawer) (some more all : Result (Vec (Part A) B) E)
+      → IfOk some (λ parts. HasParts Fits d parts.items) → IfOk more (λ parts. HasParts Fits e parts.items)
+      → IfOk all (λ v. IsOkAnd some (λ a. IsOkAnd more (λ b. v.items ≡ a.items ++ b.items)))
+      → Joins t d e f → IfOk all (λ parts. HasParts Fits f parts.items)
+  told_parts d e f some more (Err x) first second items joins = tt
+  told_parts d e f (Err x) more (Ok v) first second items joins = absurd items
+  told_parts d e f (Ok a) (Err x) (Ok v) first second items joins = absurd items
+  told_parts d e f (Ok a) (Ok b) (Ok v) first second items joins =
+      both_parts d e f a.items b.items v.items first second items joins
+
+  -- parts that were deposited before, and more
   pub all_parts : (before : Option Drawer) (e f : Drawer) (some more all : List (Part A))
       → MatchOption before (some ≡ []) (λ d. IsFrom t d × HasParts Fits d some) → IsFrom t e × HasParts Fits e more
       → all ≡ some ++ more → IsJoined t before e f → IsFrom t f × HasParts Fits f all
   all_parts None e f some more all none done items same =
       subst (λ d. IsFrom t d × HasParts Fits d all) (sym same) (subst (λ xs. IsFrom t e × HasParts Fits e xs)
       (sym (items ∙ ap (λ xs. xs ++ more) none)) done)
-  all_parts (Some d) e f some more all laid done items joins =
-      (joins.from, both_parts d e f some more all laid.1 done.1 items joins)
+  all_parts (Some d) e f some more all deposited done items joins =
+      (joins.from, both_parts d e f some more all deposited.1 done.1 items joins)
 
   -- the same, where more was told
   pub all_told : {B E : Type 0} (before : Option Drawer) (e f : Drawer) (some all : List (Part A)) (told : Result (Vec (Part A) B) E)
       → MatchOption before (some ≡ []) (λ d. IsFrom t d × HasParts Fits d some)
       → IsFrom t e × IfOk told (λ more. HasParts Fits e more.items) → IsOkAnd told (λ more. all ≡ some ++ more.items)
       → IsJoined t before e f → IsFrom t f × HasParts Fits f all
-  all_told before e f some all (Ok more) laid done items joins = all_parts before e f some more.items all laid (done.0, done.1) items joins
-  all_told before e f some all (Err x) laid done items joins = absurd items
+  all_told before e f some all (Ok more) deposited done items joins = all_parts before e f some more.items all deposited (done.0, done.1) items joins
+  all_told before e f some all (Err x) deposited done items joins = absurd items
 
   -- a drawer that drew nothing changes no parts
   pub with_reserve : (reserve : Option Drawer) (e f : Drawer) (parts : List (Part A)) → IfSome reserve (IsNew t)
@@ -55,11 +65,11 @@ module _ {A : Type 0} (Fits : Part A → Type 0) (t : Tickets) where
     },
   )
 
--- what was laid down came from these tickets
-pub laid_from : (t : Tickets) (before : Option Drawer) (Empty : Type 0) (Has : Drawer → Type 0)
+-- what was deposited came from these tickets
+pub deposited_from : (t : Tickets) (before : Option Drawer) (Empty : Type 0) (Has : Drawer → Type 0)
     → MatchOption before Empty (λ d. IsFrom t d × Has d) → IfSome before (IsFrom t)
-laid_from t None Empty Has laid = tt
-laid_from t (Some d) Empty Has laid = laid.0
+deposited_from t None Empty Has deposited = tt
+deposited_from t (Some d) Empty Has deposited = deposited.0
 
 -- what is joined came from these tickets
 pub joined_from : (t : Tickets) (before : Option Drawer) (d all : Drawer) → IsFrom t d → IsJoined t before d all → IsFrom t all

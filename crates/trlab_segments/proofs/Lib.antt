@@ -3,5 +3,4 @@ pub mod Borders
 pub mod Wholes
 pub mod Locks
 pub mod Cuts
-pub mod Copies
 pub mod Joining

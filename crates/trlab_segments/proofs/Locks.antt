@@ -5,7 +5,7 @@ use mathlib.Core.Option.{some}
 use native.Mathlib.Decide.{ℕ_discrete}
 use Rattle.atomic_table.specs.Table.{Me, keeps, takes, gives, Allows, Arrives}
 use Rattle.atomic_table.proofs.Lists.{set_here}
-use Rattle.trlab_segments.specs.Lockers.{Guarded, Seized}
+use Rattle.trlab_segments.specs.KeyedLocks.{Guarded, Seized}
 
 module _ {T K : Type 0} (Fits : T → Type 0) where
   -- who has the value puts one back that fits

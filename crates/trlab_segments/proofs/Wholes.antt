@@ -1,7 +1,7 @@
 -- What a whole list of tickets has.
 use Rattle.std.proofs.Common.{◌≡◌, ℕ, ◌<◌, List, arith}
 use Rattle.std.proofs.lemmas.Bool.Decides.{nat_tests}
-use Rattle.trlab_segments.specs.Stocks.{IsWhole, once_below, times}
+use Rattle.trlab_segments.specs.Knowledge.{IsWhole, once_below, times}
 
 at_one : (k n : ℕ) → k < n → once_below k n ≡ 1
 at_one k n less = grind (arith, nat_tests)

@@ -1,11 +1,12 @@
 -- What the cars of a part of a road answer, and the parts that a worker asked.
-use Rattle.std.specs.Prelude.{◌≡◌, ℕ, ◌+◌, ◌<◌, true, Bool, List, All, map, length, slice_index_or, Result, IfOk, Vec}
+use Rattle.std.specs.Prelude.{◌≡◌, ℕ, ◌+◌, ◌<◌, true, Bool, List, All, map, length, slice_index_or}
+use Rattle.std.specs.Prelude.{Result, IfOk, Vec}
 use Rattle.trlab_machine.specs.declared.dice.Dice.{Dice}
 use Rattle.trlab_road.specs.Cells.{Cells, cars}
-use Rattle.trlab_segments.specs.declared.part.Part.{Part}
+use Rattle.trlab_segments.specs.declared.phase.part.Part.{Part}
 use Rattle.trlab_segments.specs.declared.phase.Phase.{Phase}
-use Rattle.trlab_segments.specs.declared.drawer.Drawer.{Drawer}
-use Rattle.trlab_segments.specs.declared.drawer.Tickets.{Tickets}
+use Rattle.trlab_segments.specs.declared.tickets.drawer.Drawer.{Drawer}
+use Rattle.trlab_segments.specs.declared.tickets.drawer.Tickets.{Tickets}
 use Rattle.trlab_segments.specs.Drawers.{IsFrom, is_ended, passes_of, tickets_of}
 use Rattle.trlab_segments.specs.Segments.{first_car}
 use Rattle.trlab_step.specs.Answers.{AnswersSpeedsPart, AnswersCrossingsPart, FitsPart, CrossesFreePart}
@@ -35,13 +36,17 @@ IsCrossesPart change dice road from to crosses =
 abbrev pub number_of : {A : Type 0} → Part A → ℕ
 number_of p = p.number
 
--- a part has what the cars of its segment answer in a phase, where the cars are cut into so many
+-- a part has what a program answers to the cars of its segment, where the cars are cut into so many
+abbrev pub AnswersSegment : {P A : Type 0} → (P → Dice → Cells → ℕ → ℕ → List A → Type 0)
+    → P → Dice → Cells → ℕ → Part A → Type 0
+AnswersSegment answers program dice road count p =
+    let first = first_car (cars road) count in
+    answers program dice road (first p.number) (first (p.number + 1)) p.answers.items
+
+-- the same in a phase
 abbrev pub IsPart : {P A : Type 0} → (P → Dice → Cells → ℕ → ℕ → List A → Type 0)
     → Phase P → ℕ → Part A → Type 0
-IsPart answers phase count p =
-    let from = first_car (cars phase.road.now) count p.number in
-    let to = first_car (cars phase.road.now) count (p.number + 1) in
-    answers phase.program.now phase.dice.now phase.road.now from to p.answers.items
+IsPart answers phase = AnswersSegment answers phase.program.now phase.dice.now phase.road.now
 
 -- a drawer has ended, and these are the parts of the tickets that it drew, in its order
 pub record HasParts {A : Type 0} (Fits : Part A → Type 0) (d : Drawer) (parts : List (Part A)) : Type 0 where

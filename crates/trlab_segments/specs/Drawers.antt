@@ -1,7 +1,8 @@
 -- What callers see of tickets and drawers.
-use Rattle.std.specs.Prelude.{◌≡◌, ℕ, ◌+◌, ◌<◌, ◌≤◌, Bool, false, List, [], ◌∷◌, ◌++◌}
-use Rattle.trlab_segments.specs.declared.drawer.Tickets.{Tickets}
-use Rattle.trlab_segments.specs.declared.drawer.Drawer.{Drawer}
+use Rattle.std.specs.Prelude.{◌≡◌, ℕ, ◌+◌, ◌<◌, ◌≤◌, Bool, false, ◌||◌, List, [], ◌∷◌, ◌++◌}
+use Rattle.std.specs.Prelude.{Option, MatchOption}
+use Rattle.trlab_segments.specs.declared.tickets.drawer.Tickets.{Tickets}
+use Rattle.trlab_segments.specs.declared.tickets.drawer.Drawer.{Drawer}
 
 -- the tickets are the numbers below this
 abbrev pub count_of : Tickets → ℕ
@@ -35,6 +36,10 @@ IsFrom t d = (d.seat.table_id ≡ t.table.shared.table_id) × (d.seat.me.0.plan 
 abbrev pub IsFresh : Drawer → Type 0
 IsFresh d = (tickets_of d ≡ []) × (is_ended d ≡ false)
 
+-- a drawer of these tickets that drew nothing
+abbrev pub IsNew : Tickets → Drawer → Type 0
+IsNew tickets d = IsFrom tickets d × (tickets_of d ≡ [])
+
 -- the drawer has every pass
 abbrev pub HasAll : Tickets → Drawer → Type 0
 HasAll t d = passes_of d ≡ drawers_of t
@@ -50,3 +55,13 @@ abbrev pub IsSame : Drawer → Drawer → Type 0
 IsSame d e =
     (d.seat.table_id ≡ e.seat.table_id) × (d.seat.me ≡ e.seat.me)
     × (d.passes ≡ e.passes) × (d.ended ≡ e.ended)
+
+-- a drawer has what one drew, and then what another drew
+pub record Joins (t : Tickets) (one other all : Drawer) : Type 0 where
+  pub from : IsFrom t all
+  pub tickets : tickets_of all ≡ tickets_of one ++ tickets_of other
+  pub ended : is_ended all ≡ (is_ended one || is_ended other)
+
+-- a drawer has what another drew before, if there is one, and then what a second drew
+abbrev pub IsJoined : Tickets → Option Drawer → Drawer → Drawer → Type 0
+IsJoined tickets before d all = MatchOption before (all ≡ d) (λ b. Joins tickets b d all)

@@ -5,22 +5,22 @@ use mathlib.Core.Option.{some}
 use lib.ListN.{get_elem?}
 use Rattle.atomic_table.specs.Table.{State}
 use Rattle.trlab_bounds.specs.declared.runs.TheConstants.{MOST_WORKERS}
-use Rattle.trlab_segments.specs.declared.stock.Plan.{Plan}
-use Rattle.trlab_segments.specs.declared.stock.Stock.{Stock}
-use Rattle.trlab_segments.specs.Stocks.{IsWhole}
-use Rattle.trlab_segments.specs.Rule.{KeepsTickets, word_of}
+use Rattle.trlab_segments.specs.declared.tickets.knowledge.Plan.{Plan}
+use Rattle.trlab_segments.specs.declared.tickets.knowledge.Knowledge.{Knowledge}
+use Rattle.trlab_segments.specs.Knowledge.{IsWhole}
+use Rattle.trlab_segments.specs.Rule.{KeepsTickets, counter_of}
 use Rattle.trlab_segments.specs.Segments.{segment_count, first_car, segment}
 
--- the word is at most the count and as many draws more as there can be drawers
-abbrev pub WordIsBounded : Type 0
-WordIsBounded = (plan : Plan) (s : State ℕ Stock)
-    → KeepsTickets plan s → word_of s ≤ plan.count + MOST_WORKERS
+-- the counter is at most the count, and one more for each drawer that there can be
+abbrev pub CounterIsBounded : Type 0
+CounterIsBounded = (plan : Plan) (s : State ℕ Knowledge)
+    → KeepsTickets plan s → counter_of s ≤ plan.count + MOST_WORKERS
 
--- a drawer with all passes has every ticket, once, just where the word has come to the count
+-- a drawer with all passes has every ticket, once, just where the counter has come to the count
 abbrev pub AllPassesHaveAllTickets : Type 0
-AllPassesHaveAllTickets = (plan : Plan) (s : State ℕ Stock) (seat : ℕ) (mine : Stock)
+AllPassesHaveAllTickets = (plan : Plan) (s : State ℕ Knowledge) (seat : ℕ) (mine : Knowledge)
     → KeepsTickets plan s → get_elem? s.views seat ≡ some mine → mine.passes ≡ plan.drawers
-    → IsWhole mine.tickets plan.count ↔ (plan.count ≤ word_of s)
+    → IsWhole mine.tickets plan.count ↔ (plan.count ≤ counter_of s)
 
 -- segment 0 begins with car 0, and behind the last segment there is no car
 abbrev pub SegmentsBeginAndEnd : Type 0

@@ -1,9 +1,9 @@
-pub mod Stocks
+pub mod Knowledge
 pub mod Rule
 pub mod Drawers
 pub mod Segments
 pub mod Laws
 pub mod Answered
 pub mod Joined
-pub mod Lockers
-pub mod Trays
+pub mod KeyedLocks
+pub mod Results

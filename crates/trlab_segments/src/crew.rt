@@ -1,19 +1,24 @@
 //! The workers of a step, who ask the cars of a road together.
 
+mod calls;
+mod sharing;
+mod step;
+
 ghost use Rattle.std.specs.Prelude.{◌≡◌, ◌<◌, ◌≤◌, IfOk};
 ghost use Rattle.trlab_bounds.specs.declared.runs.TheConstants.{MOST_WORKERS};
 ghost use Rattle.trlab_road.specs.Cells.{cars};
 ghost use Rattle.trlab_segments.specs.Answered.{IsCrossesPart, HasTwoLanes, IsSpeedsPart};
 
-use crate::asked::Asked;
-use crate::drawer::Tickets;
+use crate::crew::sharing::share;
 use crate::gate::Gate;
-use crate::lineup::line_up;
-use crate::phase::Phase;
+use crate::phase::lineup::collect;
+use crate::phase::{Asked, Phase};
 use crate::segment::segment_count;
-use crate::work::share;
+use crate::tickets::Tickets;
+pub use calls::Calls;
 use std::alloc::{AllocError, Global};
 use std::thread::Threads;
+pub use step::step_shared;
 use trlab_machine::Dice;
 use trlab_road::Road;
 use trlab_verify::{Change, Motion};
@@ -52,15 +57,11 @@ impl<'a, R: Threads + Sync, G: Gate + Sync> Crew<'a, R, G> {
         ensures { IfOk result (λ answers. P.answers phase.now.program.now phase.now.dice.now
             phase.now.road.now 0 (cars phase.now.road.now) answers.items) }
     {
-        let cars = phase.road.cars();
-        let count = segment_count(cars, self.workers);
+        let count = segment_count(phase.road.cars(), self.workers);
         let (tickets, drawer) = Tickets::start(alloc, count, self.workers)?;
         let (drawer, parts) = share(self.rt, alloc, phase, &tickets, drawer, self.gate);
         let parts = parts?;
-        match tickets.finish(drawer) {
-            Ok(()) => line_up(alloc, phase, count, &parts),
-            Err(_) => unreachable!(),
-        }
+        collect(alloc, phase, tickets, drawer, &parts)
     }
 
     /// The speeds that a motion program answers to all cars of a road, in standing order, each in a byte.

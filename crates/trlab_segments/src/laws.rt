@@ -4,14 +4,14 @@
 //! Each law is the contract of a function with nothing to do.
 
 ghost use Rattle.std.specs.Prelude.{ℕ, Bool};
-ghost use Rattle.trlab_segments.specs.Laws.{AllPassesHaveAllTickets, WordIsBounded};
+ghost use Rattle.trlab_segments.specs.Laws.{AllPassesHaveAllTickets, CounterIsBounded};
 ghost use Rattle.trlab_segments.specs.Laws.{AnswersJoin};
 ghost use Rattle.trlab_segments.specs.Laws.{SegmentsAreAllCars, SegmentsBeginAndEnd, SegmentsHaveCars};
 
-/// What the rule says of the shared word: it stays near the count, so it never overflows, and a drawer
-/// with all passes has all tickets just where the word has come to the count.
-pub fn word_says_what_was_drawn()
-    ensures bounded { WordIsBounded }
+/// What the rule says of the shared counter: it stays near the count, so it never overflows, and a drawer
+/// with all passes has all tickets just where the counter has come to the count.
+pub fn counter_says_what_was_drawn()
+    ensures bounded { CounterIsBounded }
     ensures all { AllPassesHaveAllTickets }
 {}
 

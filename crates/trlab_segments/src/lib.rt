@@ -1,42 +1,22 @@
-//! Work that is shared out by numbers: the cars of a road are cut into segments, and whoever is free
-//! draws the number of the next one, its ticket. One word is shared, with no lock, and yet each
-//! ticket is drawn once.
+//! Workers, who share out the cars of a road: the cars are cut into segments, and whoever is free draws the
+//! number of the next one, its ticket. One counter is shared, with no lock, and yet each ticket is drawn once.
+//!
+//! A crew takes one step, by threads that end with each phase of it (`step_shared`). A pool asks the cars in all
+//! steps of a run, by threads that live as long as the run. Both draw tickets, ask the cars of a segment and put
+//! the answers of all segments in order in the same way.
 #![tactic(auto)]
 
-mod ask;
-mod asked;
-mod asker;
-mod board;
-mod brief;
-mod calls;
 mod crew;
-mod drawer;
-mod drawing;
 mod gate;
-mod hall;
-mod help;
 pub mod laws;
-pub mod lineup;
-mod locker;
-mod part;
 mod phase;
 mod pool;
-mod right;
 mod segment;
-mod step;
-mod stock;
-mod task;
 mod tickets;
-mod tray;
-pub mod work;
 
-pub use asked::Asked;
-pub use calls::Calls;
-pub use crew::Crew;
-pub use drawer::{Drawer, Tickets};
+pub use crew::{Calls, Crew, step_shared};
 pub use gate::{Gate, OpenGate};
-pub use part::Part;
-pub use phase::Phase;
-pub use pool::{CARS_A_WORKER, Pool};
+pub use phase::{Asked, Phase};
+pub use pool::Pool;
 pub use segment::{Segment, segment_count};
-pub use step::step_shared;
+pub use tickets::{Drawer, Tickets};

@@ -1,5 +1,12 @@
-//! A phase of a step, as all workers see it.
+//! A phase of a step, as all workers see it, what is asked in it, and what a worker does.
 
+mod asked;
+pub mod lineup;
+pub mod part;
+pub mod work;
+
+pub use asked::Asked;
+pub use part::Part;
 use trlab_machine::Dice;
 use trlab_road::Road;
 

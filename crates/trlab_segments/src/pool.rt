@@ -1,31 +1,34 @@
 //! The pool of a run: the calling thread, and the helpers that live as long as the run.
 
-ghost use Rattle.std.specs.Prelude.{◌≡◌, ◌<◌, ◌≤◌, IfOk};
-ghost use Rattle.trlab_bounds.specs.declared.runs.TheConstants.{MOST_WORKERS};
-ghost use Rattle.trlab_road.specs.Cells.{cars};
-ghost use Rattle.trlab_segments.specs.Answered.{IsCrossesPart, HasTwoLanes, IsSpeedsPart};
+mod ask;
+mod asker;
+mod brief;
+mod keyed_lock;
+mod rendezvous;
+mod results;
+mod task;
+mod task_slot;
 
-use crate::Gate;
-use crate::hall::{Hall, help_all};
-use std::alloc::{AllocError, Global};
+ghost use Rattle.std.specs.Prelude.{◌<◌, ◌≤◌};
+ghost use Rattle.trlab_bounds.specs.declared.runs.TheConstants.{MOST_WORKERS};
+
+use crate::gate::Gate;
+use crate::pool::rendezvous::{Rendezvous, help_all};
+use std::alloc::Global;
 use std::sync::Wait;
 use std::thread;
 use std::thread::{Threads, join_mut};
-use trlab_machine::Dice;
-use trlab_road::Road;
-use trlab_step::Onlooker;
-use trlab_verify::{Change, Motion};
 
 /// How many cars keep a worker busy for longer than it takes to wake one.
-pub const CARS_A_WORKER: u32 = 1000;
+const CARS_A_WORKER: u32 = 1000;
 
 /// 1 to 16 workers and their gate. The calling thread is worker 0; the others are started once, for a
 /// whole run, and help with its phases.
 #[derive(Drop)]
 pub struct Pool<'a, R, G> {
-    pub(crate) rt: &'a R,
-    pub(crate) gate: &'a G,
-    pub(crate) hall: Hall,
+    rt: &'a R,
+    gate: &'a G,
+    rendezvous: Rendezvous,
     workers: u32,
     /// Whether only those help that make the work faster.
     is_sparing: bool,
@@ -60,7 +63,7 @@ impl<'a, R: Threads + Wait + Sync, G: Gate + Sync> Pool<'a, R, G> {
         Pool {
             rt,
             gate,
-            hall: Hall::new(),
+            rendezvous: Rendezvous::new(),
             workers,
             is_sparing: false,
         }
@@ -72,7 +75,7 @@ impl<'a, R: Threads + Wait + Sync, G: Gate + Sync> Pool<'a, R, G> {
         Pool {
             rt: self.rt,
             gate: self.gate,
-            hall: Hall::watchful(),
+            rendezvous: Rendezvous::watchful(),
             workers: within_processors(self.rt, self.workers),
             is_sparing: true,
         }
@@ -89,17 +92,17 @@ impl<'a, R: Threads + Wait + Sync, G: Gate + Sync> Pool<'a, R, G> {
         }
         let rt = self.rt;
         let gate = self.gate;
-        let hall = &self.hall;
+        let rendezvous = &self.rendezvous;
         let helpers = self.workers - 1;
         let (_, told) = join_mut(
             rt,
-            &mut || help_all(rt, alloc, hall, helpers, gate),
+            &mut || help_all(rt, alloc, rendezvous, helpers, gate),
             &mut || -> T
                 requires { D.pre drive.now }
                 ensures { D.step drive.entry.now result drive.exit.now }
             {
                 let told = drive();
-                hall.close();
+                rendezvous.close();
                 told
             },
         );
@@ -109,7 +112,7 @@ impl<'a, R: Threads + Wait + Sync, G: Gate + Sync> Pool<'a, R, G> {
 
 impl<'a, R: Wait, G: Gate> Pool<'a, R, G> {
     /// How many workers ask so many cars.
-    pub(crate) fn workers_for(&self, cars: u32) -> u32
+    fn workers_for(&self, cars: u32) -> u32
         ensures some { 0 < result }
         ensures few { result ≤ MOST_WORKERS }
     {
@@ -121,63 +124,13 @@ impl<'a, R: Wait, G: Gate> Pool<'a, R, G> {
     }
 
     /// Wakes the helpers of so many workers, of whom the calling thread is one.
-    pub(crate) fn wake(&self, workers: u32)
+    fn wake(&self, workers: u32)
         requires { 0 < workers }
     {
         if workers == self.workers {
-            self.hall.call_all();
+            self.rendezvous.wake_all();
         } else {
-            self.hall.call(workers - 1);
+            self.rendezvous.wake(workers - 1);
         }
-    }
-
-    /// Whether the calling thread asks so many cars alone, and at once.
-    pub fn asks_alone(&self, cars: u32) -> bool {
-        self.workers_for(cars) == 1
-    }
-
-    /// The road, and the speeds that a motion program answers to all its cars, in standing order, each in
-    /// a byte. An onlooker sees the road while they are asked.
-    ///
-    /// # Errors
-    ///
-    /// Where an allocation was refused to any worker.
-    pub fn speeds_of<O: Onlooker>(
-        &self,
-        alloc: Global,
-        road: Road,
-        motion: Motion,
-        dice: Dice,
-        onlooker: &mut O,
-    ) -> (Road, Result<Vec<u8>, AllocError>)
-        ensures road { result.0 ≡ road }
-        ensures seen { O.sees onlooker.old road onlooker.new }
-        ensures speeds { IfOk result.1 (λ speeds.
-            IsSpeedsPart motion dice road 0 (cars road) speeds.items) }
-    {
-        self.answers_of(alloc, &self.hall.motions, motion, dice, road, onlooker)
-    }
-
-    /// The road of two lanes, and whether its cars cross, in standing order, as a change program answers. An
-    /// onlooker sees the road while they are asked.
-    ///
-    /// # Errors
-    ///
-    /// Where an allocation was refused to any worker.
-    pub fn crossings_of<O: Onlooker>(
-        &self,
-        alloc: Global,
-        road: Road,
-        change: Change,
-        dice: Dice,
-        onlooker: &mut O,
-    ) -> (Road, Result<Vec<bool>, AllocError>)
-        requires { HasTwoLanes road }
-        ensures road { result.0 ≡ road }
-        ensures seen { O.sees onlooker.old road onlooker.new }
-        ensures crosses { IfOk result.1 (λ crosses.
-            IsCrossesPart change dice road 0 (cars road) crosses.items) }
-    {
-        self.answers_of(alloc, &self.hall.changes, change, dice, road, onlooker)
     }
 }

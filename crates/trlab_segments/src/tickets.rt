@@ -1,14 +1,18 @@
 //! How tickets are drawn: each call is one atomic step, or two, and waits for no other drawer.
 
-ghost use Rattle.std.specs.Prelude.{◌≡◌, ◌<◌, ◌≤◌, ◌+◌, [], ◌++◌, ◌||◌, ◌↔◌, true, None, IfOk, IfErr, IsOk, IfSome, IfNone};
+mod drawer;
+mod knowledge;
+
+ghost use Rattle.std.specs.Prelude.{◌≡◌, ◌<◌, ◌≤◌, ◌+◌, [], ◌++◌, ◌||◌, ◌↔◌, true};
+ghost use Rattle.std.specs.Prelude.{None, IfOk, IfErr, IsOk, IfSome, IfNone};
 ghost use Rattle.trlab_bounds.specs.declared.runs.TheConstants.{MOST_WORKERS};
 ghost use Rattle.trlab_segments.specs.Drawers.{IsFrom, IsFresh, HasAll, Draws, IsSame};
 ghost use Rattle.trlab_segments.specs.Drawers.{count_of, drawers_of, passes_of, tickets_of, is_ended};
-ghost use Rattle.trlab_segments.specs.Stocks.{IsWhole};
+ghost use Rattle.trlab_segments.specs.Knowledge.{IsWhole};
 
-use crate::drawer::{Drawer, Tickets};
-use crate::stock::{DrawNext, OnePass, Plan, ReadWord, Together};
+use crate::tickets::knowledge::{DrawNext, OnePass, Plan, ReadCounter, Together};
 use atomic_table::Table;
+pub use drawer::{Drawer, Tickets};
 use std::alloc::{AllocError, Global};
 
 impl Tickets {
@@ -17,7 +21,7 @@ impl Tickets {
     ///
     /// # Errors
     ///
-    /// Where there is no memory for the word.
+    /// Where there is no memory for the counter.
     pub fn start(alloc: Global, count: u32, drawers: u32) -> Result<(Tickets, Drawer), AllocError>
         requires { (0 < drawers) × (drawers ≤ MOST_WORKERS) }
         ensures from { IfOk result (λ r. IsFrom r.0 r.1) }
@@ -43,7 +47,8 @@ impl Tickets {
         ensures from { IsFrom self.now drawer.new }
         ensures passes { passes_of drawer.new ≡ passes_of drawer.old }
         ensures some { IfSome result (λ i. Draws self.now drawer.old i drawer.new) }
-        ensures none { IfNone result ((tickets_of drawer.new ≡ tickets_of drawer.old) × (is_ended drawer.new ≡ true)) }
+        ensures none { IfNone result (
+            (tickets_of drawer.new ≡ tickets_of drawer.old) × (is_ended drawer.new ≡ true)) }
         ensures ended { is_ended drawer.old ≡ true → (result ≡ None) × (is_ended drawer.new ≡ true) }
     {
         if drawer.ended {
@@ -69,7 +74,8 @@ impl Tickets {
         ensures from { IsFrom self.now drawer.new × IsFrom self.now result }
         ensures passes { (passes_of drawer.new + 1 ≡ passes_of drawer.old) × (passes_of result ≡ 1) }
         ensures tickets { (tickets_of drawer.new ≡ tickets_of drawer.old) × (tickets_of result ≡ []) }
-        ensures ended { (is_ended drawer.new ≡ is_ended drawer.old) × (is_ended result ≡ is_ended drawer.old) }
+        ensures ended { (is_ended drawer.new ≡ is_ended drawer.old)
+            × (is_ended result ≡ is_ended drawer.old) }
     {
         let seat = self.table.shared.split_seat::<OnePass>(&mut drawer.seat);
         drawer.passes -= 1;
@@ -99,8 +105,8 @@ impl Tickets {
             seat: joined,
         } = other;
         self.table.shared.join_seat::<Together>(&mut seat, joined);
-        // A look at the word tells that the passes are no more than the drawers, so that they add up.
-        self.table.shared.load::<ReadWord>(&mut seat, 0);
+        // A look at the counter tells that the passes are no more than the drawers, so that they add up.
+        self.table.shared.load::<ReadCounter>(&mut seat, 0);
         Drawer {
             passes: some + more,
             ended: one_ended || other_ended,
@@ -124,7 +130,7 @@ impl Tickets {
         let next = self
             .table
             .shared
-            .fetch_add::<ReadWord>(&mut drawer.seat, 0, 0);
+            .fetch_add::<ReadCounter>(&mut drawer.seat, 0, 0);
         if drawer.passes == self.plan.drawers && next >= self.plan.count as u64 {
             Ok(())
         } else {

@@ -10,10 +10,10 @@ use lib.ListN.{get_elem?}
 use prog.Atomic.{either}
 use Rattle.atomic_table.specs.Table.{State, Me, step, keeps, Allows, Splits, Joins}
 use Rattle.atomic_table.proofs.Lists.{at_set, at_snoc, set_again, set_else}
-use Rattle.trlab_strands.specs.declared.stock.Noted.{Noted}
-use Rattle.trlab_strands.specs.declared.stock.Stock.{Stock}
-use Rattle.trlab_strands.specs.Stocks.{noted, number_of, times, once_below, StandsIn, StandIn, stock, nothing, without_list, list_alone, less_a_part, one_part, union, with_event}
-use Rattle.trlab_strands.specs.Rule.{IsStock, AreStocks, KeepsStrands, NotesEvent, Learns, Looks}
+use Rattle.trlab_strands.specs.declared.knowledge.Noted.{Noted}
+use Rattle.trlab_strands.specs.declared.knowledge.Knowledge.{Knowledge}
+use Rattle.trlab_strands.specs.Knowledge.{noted, number_of, times, once_below, StandsIn, StandIn, knowledge, nothing, without_list, list_alone, less_a_part, one_part, union, with_event}
+use Rattle.trlab_strands.specs.Rule.{IsSound, AreSound, KeepsStrands, NotesEvent, Learns, Looks}
 
 off : false ≡ true → ⊥
 off e = true≢false (sym e)
@@ -44,18 +44,18 @@ module _ {E : Type 0} where
   times_append : (k : ℕ) (xs ys : List (Noted E)) → times k (xs ++ ys) ≡ times k xs + times k ys
   times_append k xs ys = sum_by-append (λ (y : Noted E). cond (eqb (number_of y) k) 1 0) xs ys
 
-  total_set : (f : Stock E → ℕ) (views : List (Stock E)) (i : ℕ) (v w : Stock E) → get_elem? views i ≡ some v → sum_by f (set views i w) + f v ≡ sum_by f views + f w
-  total_set f views i v w at = let g = at_get views i v v at in subst (λ (u : Stock E). sum_by f (set views i w) + f u ≡ sum_by f views + f w) g.1 (sum_by-set f views i w v g.0)
+  total_set : (f : Knowledge E → ℕ) (views : List (Knowledge E)) (i : ℕ) (v w : Knowledge E) → get_elem? views i ≡ some v → sum_by f (set views i w) + f v ≡ sum_by f views + f w
+  total_set f views i v w at = let g = at_get views i v v at in subst (λ (u : Knowledge E). sum_by f (set views i w) + f u ≡ sum_by f views + f w) g.1 (sum_by-set f views i w v g.0)
 
-  -- two stocks have no more than all
-  two_le : (f : Stock E → ℕ) → f nothing ≡ 0 → (views : List (Stock E)) (i j : ℕ) (v u : Stock E) → j ≢ i → get_elem? views i ≡ some v → get_elem? views j ≡ some u → f v + f u ≤ sum_by f views
+  -- two seats have no more than all
+  two_le : (f : Knowledge E → ℕ) → f nothing ≡ 0 → (views : List (Knowledge E)) (i j : ℕ) (v u : Knowledge E) → j ≢ i → get_elem? views i ≡ some v → get_elem? views j ≡ some u → f v + f u ≤ sum_by f views
   two_le f none_left views i j v u apart at there =
       let a = total_set f views i v nothing at in
       let b = total_set f (set views i nothing) j u nothing (set_else views i j nothing apart ∙ there) in
       omega arith
 
-  -- of two stocks at most one keeps the list
-  one_keeper : (events : List E) (views : List (Stock E)) (i j : ℕ) (v u : Stock E) → AreStocks events views → j ≢ i → get_elem? views i ≡ some v → get_elem? views j ≡ some u → v.keeps ≡ true → u.keeps ≡ true → ⊥
+  -- of two seats at most one keeps the list
+  one_keeper : (events : List E) (views : List (Knowledge E)) (i j : ℕ) (v u : Knowledge E) → AreSound events views → j ≢ i → get_elem? views i ≡ some v → get_elem? views j ≡ some u → v.keeps ≡ true → u.keeps ≡ true → ⊥
   one_keeper events views i j v u r apart at there first second =
       let both = two_le (λ s. cond s.keeps 1 0) refl views i j v u apart at there in
       let total = r.keepers in
@@ -64,7 +64,7 @@ module _ {E : Type 0} where
       omega arith
 
   -- the list is longer, and another keeps it
-  later : (events : List E) (e : E) (u : Stock E) → (u.keeps ≡ true → ⊥) → IsStock events u → IsStock (events ++ e ∷ []) u
+  later : (events : List E) (e : E) (u : Knowledge E) → (u.keeps ≡ true → ⊥) → IsSound events u → IsSound (events ++ e ∷ []) u
   later events e u another r = record {
     idle = r.idle;
     rises = let l = length-append events (e ∷ []) in let p = r.rises in omega arith;
@@ -72,24 +72,24 @@ module _ {E : Type 0} where
     list = λ has. absurd (another has);
   }
 
-  each_set : (events : List E) (views : List (Stock E)) (id : ℕ) (w : Stock E) → IsStock events w
-      → ((j : ℕ) (u : Stock E) → j ≢ id → get_elem? views j ≡ some u → IsStock events u) → (j : ℕ) (u : Stock E) → get_elem? (set views id w) j ≡ some u → IsStock events u
+  each_set : (events : List E) (views : List (Knowledge E)) (id : ℕ) (w : Knowledge E) → IsSound events w
+      → ((j : ℕ) (u : Knowledge E) → j ≢ id → get_elem? views j ≡ some u → IsSound events u) → (j : ℕ) (u : Knowledge E) → get_elem? (set views id w) j ≡ some u → IsSound events u
   each_set events views id w mine others j u e = ⊎_elim
-      (λ (t : (j ≡ id) × (w ≡ u)). subst (IsStock events) t.1 mine)
+      (λ (t : (j ≡ id) × (w ≡ u)). subst (IsSound events) t.1 mine)
       (λ (t : (j ≢ id) × (get_elem? views j ≡ some u)). others j u t.0 t.1)
       (at_set views id j w u e)
 
-  -- a new seat with a stock
-  each_snoc : (events : List E) (views : List (Stock E)) (w : Stock E) → IsStock events w
-      → ((j : ℕ) (u : Stock E) → get_elem? views j ≡ some u → IsStock events u) → (j : ℕ) (u : Stock E) → get_elem? (views ++ w ∷ []) j ≡ some u → IsStock events u
+  -- a new seat
+  each_snoc : (events : List E) (views : List (Knowledge E)) (w : Knowledge E) → IsSound events w
+      → ((j : ℕ) (u : Knowledge E) → get_elem? views j ≡ some u → IsSound events u) → (j : ℕ) (u : Knowledge E) → get_elem? (views ++ w ∷ []) j ≡ some u → IsSound events u
   each_snoc events views w mine others j u e = ⊎_elim
       (λ was. others j u was)
-      (λ (same : w ≡ u). subst (IsStock events) same mine)
+      (λ (same : w ≡ u). subst (IsSound events) same mine)
       (at_snoc views w u j e)
 
-  -- the event behind the list is of the stock that keeps it
-  notes : (events : List E) (views : List (Stock E)) (id : ℕ) (v : Stock E) (e : E) → get_elem? views id ≡ some v → v.keeps ≡ true → 0 < v.parts
-      → AreStocks events views → AreStocks (events ++ e ∷ []) (set views id (with_event v e))
+  -- the event behind the list is of the strand that keeps it
+  notes : (events : List E) (views : List (Knowledge E)) (id : ℕ) (v : Knowledge E) (e : E) → get_elem? views id ≡ some v → v.keeps ≡ true → 0 < v.parts
+      → AreSound events views → AreSound (events ++ e ∷ []) (set views id (with_event v e))
   notes events views id v e at keeping some_part r =
       let w = with_event v e in
       let mine = r.each id v at in
@@ -119,8 +119,8 @@ module _ {E : Type 0} where
             (λ j u apart there. later events e u (λ theirs. one_keeper events views id j v u r apart at there keeping theirs) (r.each j u there));
       }
 
-  -- the list leaves a stock
-  pub apart : (id : ℕ) (v : Stock E) → Splits KeepsStrands id v (without_list v) (list_alone v)
+  -- the list leaves a strand
+  pub apart : (id : ℕ) (v : Knowledge E) → Splits KeepsStrands id v (without_list v) (list_alone v)
   apart id v s r at =
       let l = without_list v in
       let o = list_alone v in
@@ -130,18 +130,18 @@ module _ {E : Type 0} where
       let views = set s.views id l in (
         events,
         record {
-          parts = let t = total_set (λ u. u.parts) s.views id v l at in let n = sum_by_push (λ (u : Stock E). u.parts) views o in let p = k.parts in omega arith;
-          keepers = let t = total_set (λ u. cond u.keeps 1 0) s.views id v l at in let n = sum_by_push (λ (u : Stock E). cond u.keeps 1 0) views o in let p = k.keepers in omega arith;
-          count = let t = total_set (λ u. length u.own) s.views id v l at in let n = sum_by_push (λ (u : Stock E). length u.own) views o in let p = k.count in omega arith;
-          once = λ x. let t = total_set (λ u. times x u.own) s.views id v l at in let n = sum_by_push (λ (u : Stock E). times x u.own) views o in let p = k.once x in omega arith;
+          parts = let t = total_set (λ u. u.parts) s.views id v l at in let n = sum_by_push (λ (u : Knowledge E). u.parts) views o in let p = k.parts in omega arith;
+          keepers = let t = total_set (λ u. cond u.keeps 1 0) s.views id v l at in let n = sum_by_push (λ (u : Knowledge E). cond u.keeps 1 0) views o in let p = k.keepers in omega arith;
+          count = let t = total_set (λ u. length u.own) s.views id v l at in let n = sum_by_push (λ (u : Knowledge E). length u.own) views o in let p = k.count in omega arith;
+          once = λ x. let t = total_set (λ u. times x u.own) s.views id v l at in let n = sum_by_push (λ (u : Knowledge E). times x u.own) views o in let p = k.once x in omega arith;
           each = each_snoc events views o
               (record { idle = λ _. refl; rises = zero-le; stand = All-nil _; list = mine.list })
               (each_set events s.views id l (record { idle = mine.idle; rises = mine.rises; stand = mine.stand; list = λ e. absurd (off e) }) (λ j u _ there. k.each j u there));
         },
       )
 
-  -- one part goes to a new stock
-  pub splits : (id : ℕ) (v : Stock E) → 1 < v.parts → Splits KeepsStrands id v (less_a_part v) (one_part v)
+  -- one part goes to a new strand
+  pub splits : (id : ℕ) (v : Knowledge E) → 1 < v.parts → Splits KeepsStrands id v (less_a_part v) (one_part v)
   splits id v two s r at =
       let l = less_a_part v in
       let o = one_part v in
@@ -151,25 +151,25 @@ module _ {E : Type 0} where
       let views = set s.views id l in (
         events,
         record {
-          parts = let t = total_set (λ u. u.parts) s.views id v l at in let n = sum_by_push (λ (u : Stock E). u.parts) views o in let p = k.parts in omega arith;
-          keepers = let t = total_set (λ u. cond u.keeps 1 0) s.views id v l at in let n = sum_by_push (λ (u : Stock E). cond u.keeps 1 0) views o in let p = k.keepers in omega arith;
-          count = let t = total_set (λ u. length u.own) s.views id v l at in let n = sum_by_push (λ (u : Stock E). length u.own) views o in let p = k.count in omega arith;
-          once = λ x. let t = total_set (λ u. times x u.own) s.views id v l at in let n = sum_by_push (λ (u : Stock E). times x u.own) views o in let p = k.once x in omega arith;
+          parts = let t = total_set (λ u. u.parts) s.views id v l at in let n = sum_by_push (λ (u : Knowledge E). u.parts) views o in let p = k.parts in omega arith;
+          keepers = let t = total_set (λ u. cond u.keeps 1 0) s.views id v l at in let n = sum_by_push (λ (u : Knowledge E). cond u.keeps 1 0) views o in let p = k.keepers in omega arith;
+          count = let t = total_set (λ u. length u.own) s.views id v l at in let n = sum_by_push (λ (u : Knowledge E). length u.own) views o in let p = k.count in omega arith;
+          once = λ x. let t = total_set (λ u. times x u.own) s.views id v l at in let n = sum_by_push (λ (u : Knowledge E). times x u.own) views o in let p = k.once x in omega arith;
           each = each_snoc events views o
               (record { idle = λ _. refl; rises = mine.rises; stand = All-nil _; list = λ e. absurd (off e) })
               (each_set events s.views id l (record { idle = λ z. absurd (omega arith); rises = mine.rises; stand = mine.stand; list = mine.list }) (λ j u _ there. k.each j u there));
         },
       )
 
-  -- a strand without the list takes in another stock
-  pub joins : (id : ℕ) (v : Stock E) (other : ℕ) (w : Stock E) → 0 < v.parts → v.keeps ≡ false → Joins KeepsStrands id v other w (union v w) nothing
+  -- a strand without the list takes in what is known at another seat
+  pub joins : (id : ℕ) (v : Knowledge E) (other : ℕ) (w : Knowledge E) → 0 < v.parts → v.keeps ≡ false → Joins KeepsStrands id v other w (union v w) nothing
   joins id v other w some_part unkept s r at apart_ there =
       let b = union v w in
       let events = r.0 in
       let k = r.1 in
       let views = set s.views id b in
       let mine = k.each id v at in
-      let theirs : IsStock events w = ⊎_elim
+      let theirs : IsSound events w = ⊎_elim
       (λ (t : (other ≡ id) × (b ≡ w)). absurd (apart_ t.0))
       (λ (t : (other ≢ id) × (get_elem? s.views other ≡ some w)). k.each other w t.1)
       (at_set s.views id other b w there) in
@@ -187,8 +187,8 @@ module _ {E : Type 0} where
         },
       )
 
-  -- where all that the stocks have of a kind is one's, and who has none of it has no event, the others have no event
-  all_spent : (f g : Stock E → ℕ) → (views : List (Stock E)) → ((j : ℕ) (u : Stock E) → get_elem? views j ≡ some u → f u ≡ 0 → g u ≡ 0) → sum_by f views ≡ 0 → sum_by g views ≡ 0
+  -- where all that the seats have of a kind is one's, and whoever has none of it has no event, the others have no event
+  all_spent : (f g : Knowledge E → ℕ) → (views : List (Knowledge E)) → ((j : ℕ) (u : Knowledge E) → get_elem? views j ≡ some u → f u ≡ 0 → g u ≡ 0) → sum_by f views ≡ 0 → sum_by g views ≡ 0
   all_spent f g [] idle none_left = omega arith
   all_spent f g (v ∷ vs) idle none_left =
       let a = sum_by-cons f v vs in
@@ -196,8 +196,8 @@ module _ {E : Type 0} where
       let t = all_spent f g vs (λ j u e. idle (suc j) u e) (omega arith) in
       omega (arith, sum_by-cons g v vs)
 
-  alone : (f g : Stock E → ℕ) → f nothing ≡ 0 → g nothing ≡ 0 → (views : List (Stock E)) (id : ℕ) (v : Stock E) → get_elem? views id ≡ some v
-      → ((j : ℕ) (u : Stock E) → get_elem? views j ≡ some u → f u ≡ 0 → g u ≡ 0) → sum_by f views ≡ f v → sum_by g views ≡ g v
+  alone : (f g : Knowledge E → ℕ) → f nothing ≡ 0 → g nothing ≡ 0 → (views : List (Knowledge E)) (id : ℕ) (v : Knowledge E) → get_elem? views id ≡ some v
+      → ((j : ℕ) (u : Knowledge E) → get_elem? views j ≡ some u → f u ≡ 0 → g u ≡ 0) → sum_by f views ≡ f v → sum_by g views ≡ g v
   alone f g no_f no_g views id v at idle every =
       let t = total_set f views id v nothing at in
       let others = all_spent f g (set views id nothing)
@@ -206,7 +206,7 @@ module _ {E : Type 0} where
       let q = total_set g views id v nothing at in
       omega arith
 
-  learns : (id : ℕ) (v : Stock E) (s : State E (Stock E)) → KeepsStrands s → get_elem? s.views id ≡ some v → Learns v
+  learns : (id : ℕ) (v : Knowledge E) (s : State E (Knowledge E)) → KeepsStrands s → get_elem? s.views id ≡ some v → Learns v
   learns id v s r at =
       let events = r.0 in
       let k = r.1 in
@@ -226,14 +226,14 @@ module _ {E : Type 0} where
       }
 
   -- nothing is changed
-  still : (s : State E (Stock E)) (id : ℕ) (v : Stock E) → get_elem? s.views id ≡ some v → KeepsStrands s → (words : List ℕ) → (homes : List (mathlib.Core.Option.Option E))
+  still : (s : State E (Knowledge E)) (id : ℕ) (v : Knowledge E) → get_elem? s.views id ≡ some v → KeepsStrands s → (words : List ℕ) → (homes : List (mathlib.Core.Option.Option E))
       → KeepsStrands (record { words = words; homes = homes; views = set s.views id v })
-  still s id v at r words homes = (r.0, subst (AreStocks r.0) (sym (set_again s.views id v at)) r.1)
+  still s id v at r words homes = (r.0, subst (AreSound r.0) (sym (set_again s.views id v at)) r.1)
 
-  pub looks : (slots id : ℕ) (me : Me E (Stock E)) → Allows KeepsStrands slots id me 0 (λ n. n) (Looks (step slots 0 0 0 none) me)
+  pub looks : (slots id : ℕ) (me : Me E (Knowledge E)) → Allows KeepsStrands slots id me 0 (λ n. n) (Looks (step slots 0 0 0 none) me)
   looks slots id me s r _ at _ = (me.0, keeps, tt, still s id me.0 at r (set s.words 0 (slice_index s.words 0)) s.homes, (refl, learns id me.0 s r at))
 
-  pub writes : (slots id : ℕ) (me : Me E (Stock E)) (e : E) → me.0.keeps ≡ true → 0 < me.0.parts
+  pub writes : (slots id : ℕ) (me : Me E (Knowledge E)) (e : E) → me.0.keeps ≡ true → 0 < me.0.parts
       → Allows KeepsStrands slots id me 0 (λ n. either (eqb n 0) 0 n) (NotesEvent (step slots 0 0 0 (some e)) me)
   writes slots id me e keeping some_part s r _ at _ =
       let mine = r.1.each id me.0 at in
@@ -247,15 +247,15 @@ module _ {E : Type 0} where
       )
 
   -- a strand that meets the list
-  pub meets : (v k : Stock E) → k.keeps ≡ true → union v (list_alone k) ≡ stock v.parts v.own v.least true k.all
+  pub meets : (v k : Knowledge E) → k.keeps ≡ true → union v (list_alone k) ≡ knowledge v.parts v.own v.least true k.all
   meets v k keeping =
       let a : v.parts + 0 ≡ v.parts = omega arith in
       let b : v.own ++ [] ≡ v.own = append-nil v.own in
       let c : max v.least 0 ≡ v.least = omega arith in
-      λ i. stock (a i) (b i) (c i) (keeping i) k.all
+      λ i. knowledge (a i) (b i) (c i) (keeping i) k.all
 
 -- a strand that has noted an event, and the list behind it
-pub record HasNoted {E : Type 0} (v k : Stock E) (e : E) (left right : Me E (Stock E)) : Type 0 where
+pub record HasNoted {E : Type 0} (v k : Knowledge E) (e : E) (left right : Me E (Knowledge E)) : Type 0 where
   pub left_slot : left.1 ≡ []
   pub left_list : left.0.keeps ≡ false
   pub left_some : 0 < left.0.parts
@@ -268,15 +268,15 @@ pub record HasNoted {E : Type 0} (v k : Stock E) (e : E) (left right : Me E (Sto
 
 module _ {E : Type 0} where
   -- a strand meets the list, notes an event, and the list leaves it again
-  pub noting : (v k : Stock E) (c : List (ℕ × E)) (e : E) (list met new left right : Me E (Stock E)) → k.keeps ≡ true → c ≡ [] → 0 < v.parts
+  pub noting : (v k : Knowledge E) (c : List (ℕ × E)) (e : E) (list met new left right : Me E (Knowledge E)) → k.keeps ≡ true → c ≡ [] → 0 < v.parts
       → list ≡ (list_alone k, []) → met ≡ (union v list.0, c) → (new ≡ (with_event met.0 e, met.1)) × (met.0.least ≤ length met.0.all)
       → left ≡ (without_list new.0, new.1) → right ≡ (list_alone new.0, []) → HasNoted v k e left right
   noting v k c e list met new left right keeping free some_part from joined noted left_is right_is =
-      let M : Type 0 = Me E (Stock E) in
-      let both : met ≡ (stock v.parts v.own v.least true k.all, c) = joined ∙ (ap (λ (l : M). (union v l.0, c)) from ∙ ap (λ (u : Stock E). (u, c)) (meets v k keeping)) in
-      let now : new ≡ (with_event (stock v.parts v.own v.least true k.all) e, c) = noted.0 ∙ ap (λ (m : M). (with_event m.0 e, m.1)) both in
-      let l : left ≡ (without_list (with_event (stock v.parts v.own v.least true k.all) e), c) = left_is ∙ ap (λ (m : M). (without_list m.0, m.1)) now in
-      let r : right ≡ (list_alone (with_event (stock v.parts v.own v.least true k.all) e), []) = right_is ∙ ap (λ (m : M). (list_alone m.0, [])) now in
+      let M : Type 0 = Me E (Knowledge E) in
+      let both : met ≡ (knowledge v.parts v.own v.least true k.all, c) = joined ∙ (ap (λ (l : M). (union v l.0, c)) from ∙ ap (λ (u : Knowledge E). (u, c)) (meets v k keeping)) in
+      let now : new ≡ (with_event (knowledge v.parts v.own v.least true k.all) e, c) = noted.0 ∙ ap (λ (m : M). (with_event m.0 e, m.1)) both in
+      let l : left ≡ (without_list (with_event (knowledge v.parts v.own v.least true k.all) e), c) = left_is ∙ ap (λ (m : M). (without_list m.0, m.1)) now in
+      let r : right ≡ (list_alone (with_event (knowledge v.parts v.own v.least true k.all) e), []) = right_is ∙ ap (λ (m : M). (list_alone m.0, [])) now in
       record {
         left_slot = ap (λ (m : M). m.1) l ∙ free;
         left_list = ap (λ (m : M). m.0.keeps) l;
@@ -290,21 +290,21 @@ module _ {E : Type 0} where
       }
 
   -- a strand that has met the list keeps it, and has as many parts
-  pub met_list : (v k : Stock E) (c : List (ℕ × E)) (list met : Me E (Stock E)) → k.keeps ≡ true → 0 < v.parts → list ≡ (list_alone k, []) → met ≡ (union v list.0, c)
+  pub met_list : (v k : Knowledge E) (c : List (ℕ × E)) (list met : Me E (Knowledge E)) → k.keeps ≡ true → 0 < v.parts → list ≡ (list_alone k, []) → met ≡ (union v list.0, c)
       → (met.0.keeps ≡ true) × (0 < met.0.parts)
   met_list v k c list met keeping some_part from joined =
-      let M : Type 0 = Me E (Stock E) in
-      let both : met ≡ (stock v.parts v.own v.least true k.all, c) = joined ∙ (ap (λ (l : M). (union v l.0, c)) from ∙ ap (λ (u : Stock E). (u, c)) (meets v k keeping)) in
+      let M : Type 0 = Me E (Knowledge E) in
+      let both : met ≡ (knowledge v.parts v.own v.least true k.all, c) = joined ∙ (ap (λ (l : M). (union v l.0, c)) from ∙ ap (λ (u : Knowledge E). (u, c)) (meets v k keeping)) in
       (ap (λ (m : M). m.0.keeps) both, subst (λ (m : M). 0 < m.0.parts) (sym both) some_part)
 
   -- what a strand that has met the list learns by a look
-  pub learns_met : (v k : Stock E) (c : List (ℕ × E)) (list met : Me E (Stock E)) → k.keeps ≡ true → list ≡ (list_alone k, []) → met ≡ (union v list.0, c)
-      → Learns met.0 → Learns (stock v.parts v.own v.least true k.all)
+  pub learns_met : (v k : Knowledge E) (c : List (ℕ × E)) (list met : Me E (Knowledge E)) → k.keeps ≡ true → list ≡ (list_alone k, []) → met ≡ (union v list.0, c)
+      → Learns met.0 → Learns (knowledge v.parts v.own v.least true k.all)
   learns_met v k c list met keeping from joined learnt =
-      let M : Type 0 = Me E (Stock E) in
-      let both : met ≡ (stock v.parts v.own v.least true k.all, c) = joined ∙ (ap (λ (l : M). (union v l.0, c)) from ∙ ap (λ (u : Stock E). (u, c)) (meets v k keeping)) in
+      let M : Type 0 = Me E (Knowledge E) in
+      let both : met ≡ (knowledge v.parts v.own v.least true k.all, c) = joined ∙ (ap (λ (l : M). (union v l.0, c)) from ∙ ap (λ (u : Knowledge E). (u, c)) (meets v k keeping)) in
       subst Learns (ap (λ (m : M). m.0) both) learnt
 
   -- a list that is alone holds no slot
-  pub no_slot : (v : Stock E) (m : Me E (Stock E)) → m ≡ (v, []) → m.1 ≡ []
-  no_slot v m e = ap (λ (x : Me E (Stock E)). x.1) e
+  pub no_slot : (v : Knowledge E) (m : Me E (Knowledge E)) → m ≡ (v, []) → m.1 ≡ []
+  no_slot v m e = ap (λ (x : Me E (Knowledge E)). x.1) e

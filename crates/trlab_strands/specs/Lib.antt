@@ -1,3 +1,3 @@
-pub mod Stocks
+pub mod Knowledge
 pub mod Rule
 pub mod Tokens

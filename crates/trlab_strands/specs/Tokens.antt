@@ -5,8 +5,8 @@ use Rattle.trlab_strands.specs.declared.tokens.Blank.{Blank}
 use Rattle.trlab_strands.specs.declared.ledger.Ledger.{Ghosts}
 use Rattle.trlab_strands.specs.declared.tokens.Keeper.{Keeper}
 use Rattle.trlab_strands.specs.declared.tokens.Strand.{Strand}
-use Rattle.trlab_strands.specs.declared.stock.Noted.{Noted}
-use Rattle.trlab_strands.specs.Stocks.{noted}
+use Rattle.trlab_strands.specs.declared.knowledge.Noted.{Noted}
+use Rattle.trlab_strands.specs.Knowledge.{noted}
 
 -- the name by which a ledger has the strands of a blank
 abbrev pub name_of : {E : Type 0} → Blank E → TableId
@@ -28,9 +28,10 @@ subhistory_of s = s.seat.me.0.own
 abbrev pub least_of : {L E : Type 0} {ledger : Ghosts L} → Strand L E ledger → ℕ
 least_of s = s.seat.me.0.least
 
--- one event more, behind the strand's own and behind all that stood in the list, of which the strand had seen no
--- more
-abbrev pub Adds : {L E : Type 0} {ledger : Ghosts L} → Strand L E ledger → List E → E → Strand L E ledger → Type 0
+-- one event more, behind the strand's own and behind all that stood in the list, of which the strand had
+-- seen no more
+abbrev pub Adds : {L E : Type 0} {ledger : Ghosts L}
+    → Strand L E ledger → List E → E → Strand L E ledger → Type 0
 Adds old before event new =
     (parts_of new ≡ parts_of old) × (least_of old ≤ length before)
     × (subhistory_of new ≡ subhistory_of old ++ noted before event ∷ []) × (least_of new ≡ length before + 1)

@@ -2,12 +2,12 @@
 //! nobody.
 
 ghost use Rattle.std.specs.Prelude.{◌≡◌, ◌<◌, ◌≤◌, ◌+◌, max, [], ◌∷◌, ◌++◌, length};
-ghost use Rattle.trlab_strands.specs.Stocks.{IsLinearization, StandIn};
+ghost use Rattle.trlab_strands.specs.Knowledge.{IsLinearization, StandIn};
 ghost use Rattle.trlab_strands.specs.Tokens.{Adds, IsSame, subhistory_of, least_of, list_of, parts_of};
 ghost use Rattle.trlab_strands.specs.declared.limits.TheConstants.{ALL_PARTS};
 
+use crate::knowledge::{Apart, Look, NoteEvent, OnePart, Together};
 use crate::ledger::Ledger;
-use crate::stock::{Apart, Look, NoteEvent, OnePart, Together};
 use crate::tokens::{Keeper, Strand, Strands};
 use std::marker::PhantomData;
 
@@ -24,9 +24,9 @@ impl<L: Ledger, E: Drop> Keeper<L, E> {
         self.seat = shared.split_seat::<Apart>(&mut strand.seat);
     }
 
-    /// Changes nothing, and tells how the list and a strand agree: each event of the strand stands in the list
-    /// behind what stood before it; with all parts the strand has as many events as the list; and where it has
-    /// as many, the list is a linearization of them.
+    /// Changes nothing, and tells how the list and a strand agree: each event of the strand stands in the
+    /// list behind what stood before it; with all parts the strand has as many events as the list; and where
+    /// it has as many, the list is a linearization of them.
     pub fn audit(&mut self, strands: &Strands<L, E>, strand: &mut Strand<L, E>)
         ensures same { (list_of self.new ≡ list_of self.old) × IsSame strand.old strand.new }
         ensures few { parts_of strand.old ≤ ALL_PARTS }
@@ -45,13 +45,14 @@ impl<L: Ledger, E: Drop> Keeper<L, E> {
 }
 
 impl<L: Ledger, E: Drop> Strands<L, E> {
-    /// A strand without events, with one part of a strand that has two or more, which keeps the others and its
-    /// events.
+    /// A strand without events, with one part of a strand that has two or more, which keeps the others and
+    /// its events.
     pub fn split(&self, strand: &mut Strand<L, E>) -> Strand<L, E>
         requires { 1 < parts_of strand.old }
         ensures parts { (parts_of strand.new + 1 ≡ parts_of strand.old) × (parts_of result ≡ 1) }
         ensures events { (subhistory_of strand.new ≡ subhistory_of strand.old) × (subhistory_of result ≡ []) }
-        ensures least { (least_of strand.new ≡ least_of strand.old) × (least_of result ≡ least_of strand.old) }
+        ensures least { (least_of strand.new ≡ least_of strand.old)
+            × (least_of result ≡ least_of strand.old) }
     {
         let seat = self.table.shared.split_seat::<OnePart>(&mut strand.seat);
         Strand {

@@ -12,5 +12,13 @@ pub trait Ledger {
 impl Ledger for Brand {
     ghost use Rattle.std.specs.Prelude.{[]};
 
-    ghost name = { record { words = 0; slots = 0; views_name = 0; atom = 0; block = 0; offset = 0; slot_names = [] } };
+    ghost name = { record {
+      words = 0;
+      slots = 0;
+      views_name = 0;
+      atom = 0;
+      block = 0;
+      offset = 0;
+      slot_names = [];
+    } };
 }

@@ -6,11 +6,11 @@
 #![tactic(auto)]
 
 mod calls;
+mod knowledge;
 pub mod laws;
 mod ledger;
 mod limits;
 mod opening;
-mod stock;
 mod tokens;
 
 pub use ledger::Ledger;

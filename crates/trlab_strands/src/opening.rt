@@ -4,8 +4,8 @@ ghost use Rattle.std.specs.Prelude.{◌≡◌, [], IfOk};
 ghost use Rattle.trlab_strands.specs.Tokens.{subhistory_of, least_of, list_of, name_of, parts_of};
 ghost use Rattle.trlab_strands.specs.declared.limits.TheConstants.{ALL_PARTS};
 
+use crate::knowledge::Apart;
 use crate::ledger::Ledger;
-use crate::stock::Apart;
 use crate::tokens::{Blank, Keeper, Strand, Strands};
 use atomic_table::Table;
 use std::alloc::{AllocError, Global};

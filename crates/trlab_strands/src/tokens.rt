@@ -1,10 +1,10 @@
 //! What threads hold of a list: its strands, their keeper, and what all of them share.
 
 ghost use Rattle.std.specs.Prelude.{◌≡◌, ◌<◌, true, false, []};
-ghost use Rattle.trlab_strands.specs.Stocks.{opening_stock};
+ghost use Rattle.trlab_strands.specs.Knowledge.{opening_knowledge};
 
+use crate::knowledge::{Knowledge, OncePerEvent};
 use crate::ledger::Ledger;
-use crate::stock::{OncePerEvent, Stock};
 use atomic_table::{Seat, Table};
 use std::alloc::Global;
 use std::marker::PhantomData;
@@ -12,17 +12,17 @@ use std::marker::PhantomData;
 /// The strands of an empty list, before a ledger has their name.
 #[derive(Drop)]
 pub struct Blank<E> {
-    pub(crate) table: Table<E, Stock<E>, (), OncePerEvent<E>, Global>,
-    pub(crate) seat: Seat<E, Stock<E>>,
+    pub(crate) table: Table<E, Knowledge<E>, (), OncePerEvent<E>, Global>,
+    pub(crate) seat: Seat<E, Knowledge<E>>,
     ghost one_word: { table.shared.table_id.words ≡ 1 },
     ghost from: { seat.table_id ≡ table.shared.table_id },
-    ghost first: { seat.me ≡ (opening_stock, []) },
+    ghost first: { seat.me ≡ (opening_knowledge, []) },
 }
 
 /// What all strands of one list share, by reference: one word.
 #[derive(Drop)]
 pub struct Strands<L: Ledger, E> {
-    pub(crate) table: Table<E, Stock<E>, (), OncePerEvent<E>, Global>,
+    pub(crate) table: Table<E, Knowledge<E>, (), OncePerEvent<E>, Global>,
     pub(crate) ledger: PhantomData<L>,
     ghost at: { table.shared.table_id ≡ L.name },
     ghost one_word: { table.shared.table_id.words ≡ 1 },
@@ -31,7 +31,7 @@ pub struct Strands<L: Ledger, E> {
 /// Knows the whole list, and lies beside it.
 #[derive(Drop)]
 pub struct Keeper<L: Ledger, E> {
-    pub(crate) seat: Seat<E, Stock<E>>,
+    pub(crate) seat: Seat<E, Knowledge<E>>,
     pub(crate) ledger: PhantomData<L>,
     ghost at: { seat.table_id ≡ L.name },
     ghost no_slot: { seat.me.1 ≡ [] },
@@ -41,7 +41,7 @@ pub struct Keeper<L: Ledger, E> {
 /// What one thread added to the list, and the right to add more, in one part or more of 1024.
 #[derive(Drop)]
 pub struct Strand<L: Ledger, E> {
-    pub(crate) seat: Seat<E, Stock<E>>,
+    pub(crate) seat: Seat<E, Knowledge<E>>,
     pub(crate) ledger: PhantomData<L>,
     ghost at: { seat.table_id ≡ L.name },
     ghost no_slot: { seat.me.1 ≡ [] },

@@ -1,5 +1,5 @@
 use Rattle.std.proofs.Common.{rules, ap}
-use Rattle.trlab_segments.specs.declared.task.Task.{Task}
+use Rattle.trlab_segments.specs.declared.pool.task.Task.{Task}
 use Rattle.trlab_segments.proofs.pool.Pool.open.Goals as goal
 
 pub returns : goal.returns

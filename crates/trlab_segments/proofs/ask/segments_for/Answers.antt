@@ -1,6 +1,0 @@
-use Rattle.trlab_segments.proofs.Cuts.{no_car_behind}
-use Rattle.std.proofs.Common.{arith}
-use Rattle.trlab_segments.proofs.ask.segments_for.Goals as goal
-
-pub returns : goal.returns
-returns c = no_car_behind c.args.cars c.max.result c.args.workers c.requires.some (omega (arith, c.segment_count.ensures, c.max.ensures))

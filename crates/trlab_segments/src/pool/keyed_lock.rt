@@ -1,0 +1,119 @@
+//! A lock whose value fits a key that never changes: what it is to fit is a fact that the value's type
+//! names. Whoever takes the value knows that it fits, and puts back one that does.
+
+ghost use Rattle.std.specs.Prelude.{◌≡◌, IfOk, IfSome};
+ghost use Rattle.trlab_segments.specs.KeyedLocks.{Guarded, HasOnly, Seized};
+
+use atomic_table::{Play, Refused, Seat, Table, TableRule};
+use std::alloc::{AllocError, Global};
+use std::marker::PhantomData;
+use std::sync::Wait;
+use std::thread;
+
+/// A value that fits some keys.
+pub trait Keyed<K> {
+    // The keys that it fits.
+    ghost fits: { K → Self → Type 0 };
+}
+
+/// The rule of the lock.
+pub struct LockRule<T, K> {
+    marker: PhantomData<(T, K)>,
+}
+
+/// The step that takes the value.
+struct Acquire<T, K> {
+    marker: PhantomData<(T, K)>,
+}
+
+impl<K, T: Keyed<K>> TableRule<Option<T>, K, K> for LockRule<T, K> {
+    ghost holds = { λ key. Guarded (T.fits key) };
+
+    ghost first = { λ key. key };
+}
+
+impl<K, T: Keyed<K>> Play<Option<T>, K> for Acquire<T, K> {
+    ghost then = { λ st m r n. r ≡ 0 → Seized (T.fits m.0) n };
+}
+
+/// The step that puts the value back.
+struct Release;
+
+impl<T, K> Play<Option<T>, K> for Release {
+    ghost then = { λ st m r n. Unit {0} };
+}
+
+/// A value that fits a key. One word says whether somebody has it.
+#[derive(Drop)]
+pub struct KeyedLock<T: Keyed<K>, K> {
+    pub table: Table<Option<T>, K, K, LockRule<T, K>, Global>,
+    ghost one_word: { table.shared.table_id.words ≡ 1 },
+    ghost one_slot: { table.shared.table_id.slots ≡ 1 },
+}
+
+/// What somebody has who took the value, and gives up to put it back.
+#[derive(Drop)]
+pub struct Guard<T, K> {
+    pub seat: Seat<Option<T>, K>,
+}
+
+impl<K, T: Keyed<K> + Drop> KeyedLock<T, K> {
+    /// Keeps a value for a key.
+    ///
+    /// # Errors
+    ///
+    /// Where an allocation was refused; then the value is dropped.
+    pub fn new(alloc: Global, value: T, key: &K) -> Result<KeyedLock<T, K>, AllocError>
+        requires { T.fits key.now value }
+        ensures { IfOk result (λ lock. lock.table.shared.key ≡ key.now) }
+    {
+        let mut slots = Vec::with_capacity(alloc, 1)?;
+        slots.push_reserved(Some(value));
+        match Table::new(alloc, &[0], slots, key) {
+            Ok((table, _seat)) => Ok(KeyedLock { table }),
+            Err(Refused { slots: _ }) => Err(AllocError),
+        }
+    }
+
+    /// The value, or none where somebody has it.
+    fn try_take(&self) -> Option<(T, Guard<T, K>)>
+        ensures fits { IfSome result (λ taken. T.fits self.now.table.shared.key taken.0) }
+        ensures from { IfSome result (λ taken. taken.1.seat.table_id ≡ self.now.table.shared.table_id) }
+        ensures guard { IfSome result (λ taken. HasOnly taken.1.seat.me) }
+    {
+        let shared = &self.table.shared;
+        let (found, mut seat) = shared.swap_new_seat::<Acquire<T, K>>(0, 1);
+        if found == 0 {
+            let value = shared.exchange(&mut seat, 0, None).unwrap();
+            return Some((value, Guard { seat }));
+        }
+        None
+    }
+
+    /// The value, once nobody else has it.
+    pub fn take<R: Wait>(&self, rt: &R) -> (T, Guard<T, K>)
+        ensures fits { T.fits self.now.table.shared.key result.0 }
+        ensures from { result.1.seat.table_id ≡ self.now.table.shared.table_id }
+        ensures guard { HasOnly result.1.seat.me }
+    {
+        for _ in rt.forever() {
+            if let Some(taken) = self.try_take() {
+                return taken;
+            }
+            thread::yield_now();
+        }
+        unreachable!()
+    }
+
+    /// Puts the value back, or another that fits.
+    pub fn put_back(&self, value: T, guard: Guard<T, K>)
+        requires fits { T.fits self.now.table.shared.key value }
+        requires from { guard.seat.table_id ≡ self.now.table.shared.table_id }
+        requires guard { HasOnly guard.seat.me }
+    {
+        let Guard { mut seat } = guard;
+        let shared = &self.table.shared;
+        drop(shared.exchange(&mut seat, 0, Some(value)));
+        shared.store::<Release>(&mut seat, 0, 0);
+    }
+}

@@ -1,0 +1,161 @@
+//! Where helpers wait for the next phase, and find it.
+
+ghost use Rattle.std.specs.Thread.{IsSync};
+
+use crate::gate::Gate;
+use crate::pool::task_slot::TaskSlot;
+use std::alloc::Global;
+use std::hint;
+use std::sync::Wait;
+use std::sync::atomic::{AtomicBool, AtomicU64, Ordering};
+use std::thread::{Threads, join};
+use std::time::Duration;
+use trlab_verify::{Change, Motion};
+
+/// How long a helper sleeps at most before it looks for a phase, in microseconds.
+const NAP: u64 = 1000;
+
+/// How often a watchful helper looks for the next phase before it sleeps: for some longer than the calling
+/// thread is alone between two phases of a road of some ten thousand cars.
+const LOOKS: u32 = 30000;
+
+/// How many phases a helper that looked in vain awaits asleep, before it looks again.
+const NAPS: u32 = 32;
+
+/// The phases that are open, of which there is one at a time, and a number that grows with each.
+#[derive(Drop)]
+pub struct Rendezvous {
+    pub motions: TaskSlot<u8, Motion>,
+    pub changes: TaskSlot<bool, Change>,
+    turn: AtomicU64,
+    closed: AtomicBool,
+    /// How often a helper looks for the next phase before it sleeps.
+    looks: u32,
+}
+
+impl Rendezvous {
+    /// A rendezvous with no phase, whose helpers sleep until they are woken.
+    pub fn new() -> Rendezvous {
+        Rendezvous::with_looks(0)
+    }
+
+    /// A rendezvous with no phase, whose helpers look for the next one before they sleep.
+    pub fn watchful() -> Rendezvous {
+        Rendezvous::with_looks(LOOKS)
+    }
+
+    fn with_looks(looks: u32) -> Rendezvous {
+        Rendezvous {
+            motions: TaskSlot::new(),
+            changes: TaskSlot::new(),
+            turn: AtomicU64::new(0),
+            closed: AtomicBool::new(false),
+            looks,
+        }
+    }
+
+    /// Wakes so many helpers, since a phase was opened; the others see it when they look.
+    pub fn wake(&self, helpers: u32) {
+        self.turn.fetch_add(1, Ordering::SeqCst);
+        for _ in 0..helpers {
+            self.turn.wake_one();
+        }
+    }
+
+    /// Wakes all helpers, which takes one call of the system and not one for each.
+    pub fn wake_all(&self) {
+        self.turn.fetch_add(1, Ordering::SeqCst);
+        self.turn.wake_all();
+    }
+
+    /// Sends all helpers home.
+    pub fn close(&self) {
+        self.closed.store(true, Ordering::SeqCst);
+        self.wake_all();
+    }
+
+    /// Whether helpers are sent home.
+    fn is_closed(&self) -> bool {
+        self.closed.load(Ordering::SeqCst)
+    }
+
+    /// The number, once it is not this one.
+    fn next<R: Wait>(&self, rt: &R, seen: u64) -> u64 {
+        for _ in rt.forever() {
+            let now = self.turn.load(Ordering::SeqCst);
+            if now != seen {
+                return now;
+            }
+            self.turn.park_timeout(rt, (seen & 0xffff_ffff) as u32, Duration::from_micros(NAP));
+        }
+        unreachable!()
+    }
+
+    /// Whether the number changes while a helper looks at it.
+    fn changes_soon(&self, seen: u64) -> bool {
+        for _ in 0..self.looks {
+            if self.turn.load(Ordering::SeqCst) != seen {
+                return true;
+            }
+            hint::spin_loop();
+        }
+        false
+    }
+
+    /// Looks for the next phase, but where a helper did so in vain not long ago, and answers for how many
+    /// phases it sleeps at once from then on.
+    fn watch(&self, seen: u64, naps: u32) -> u32 {
+        if naps > 0 {
+            naps - 1
+        } else if self.changes_soon(seen) {
+            0
+        } else {
+            NAPS
+        }
+    }
+
+    /// Helps with each phase until the rendezvous is closed.
+    fn serve<R: Wait, G: Gate>(&self, rt: &R, alloc: Global, gate: &G) {
+        let mut seen = 0;
+        let mut naps = 0;
+        for _ in rt.forever() {
+            naps = self.watch(seen, naps);
+            seen = self.next(rt, seen);
+            if self.is_closed() {
+                return;
+            }
+            if let Some(task) = self.motions.task(rt) {
+                task.help(rt, alloc, gate);
+            }
+            if let Some(task) = self.changes.task(rt) {
+                task.help(rt, alloc, gate);
+            }
+        }
+    }
+}
+
+/// Has so many helpers serve at a rendezvous, each in a thread of its own; each starts the next one, unless
+/// the run has ended by then.
+pub fn help_all<R: Threads + Wait + Sync, G: Gate + Sync>(
+    rt: &R,
+    alloc: Global,
+    rendezvous: &Rendezvous,
+    helpers: u32,
+    gate: &G,
+) {
+    if helpers == 0 || rendezvous.is_closed() {
+        return;
+    }
+    let rest = helpers - 1;
+    if rest == 0 {
+        rendezvous.serve(rt, alloc, gate);
+        return;
+    }
+    join(
+        rt,
+        move || -> ()
+            requires { IsSync R.row × IsSync G.row }
+        { help_all(rt, alloc, rendezvous, rest, gate) },
+        move || rendezvous.serve(rt, alloc, gate),
+    );
+}

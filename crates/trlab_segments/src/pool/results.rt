@@ -1,0 +1,150 @@
+//! The results of a phase so far: what helpers have deposited, and the passes that none of them has taken.
+
+ghost use Rattle.std.specs.Prelude.{IfOk, IfSome};
+ghost use Rattle.trlab_segments.specs.Results.{AreResults, HasDone, TellsDone};
+ghost use Rattle.trlab_segments.specs.Drawers.{IsFrom, IsJoined, IsNew};
+
+use crate::phase::part::joined;
+use crate::phase::{Asked, Part};
+use crate::pool::brief::Brief;
+use crate::pool::keyed_lock::Keyed;
+use crate::tickets::{Drawer, Tickets};
+use std::alloc::{AllocError, Global};
+
+/// The passes that no helper has taken yet, what helpers have drawn, and the answers that they deposited.
+#[derive(Drop)]
+pub struct Results<A> {
+    pub reserve: Option<Drawer>,
+    pub done: Option<Drawer>,
+    pub parts: Vec<Part<A>>,
+    /// Whether an allocation was refused to a helper.
+    pub failed: bool,
+}
+
+impl<A, P: Asked<A>> Keyed<Brief<P>> for Results<A> {
+    ghost fits = { λ brief results. AreResults P.answers P.can_ask brief results };
+}
+
+/// A pass of the reserve for a helper, if one is left, and the number of its worker, from 1 on.
+pub fn take_pass<A: Drop, P: Asked<A>>(
+    brief: &Brief<P>,
+    results: Results<A>,
+) -> (Results<A>, Option<(Drawer, u32)>)
+    requires { AreResults P.answers P.can_ask brief.now results }
+    ensures results { AreResults P.answers P.can_ask brief.now result.0 }
+    ensures new { IfSome result.1 (λ taken. IsNew brief.now.tickets taken.0) }
+{
+    let Results {
+        reserve,
+        done,
+        parts,
+        failed,
+    } = results;
+    let (reserve, taken) = match reserve {
+        None => (None, None),
+        Some(drawer) => {
+            let worker = drawer.passes();
+            let (left, pass) = split_pass(&brief.tickets, drawer);
+            (left, Some((pass, worker)))
+        }
+    };
+    (
+        Results {
+            reserve,
+            done,
+            parts,
+            failed,
+        },
+        taken,
+    )
+}
+
+/// What is left of a drawer, and a pass of it: the last pass is the drawer itself.
+pub fn split_pass(tickets: &Tickets, drawer: Drawer) -> (Option<Drawer>, Drawer)
+    requires { IsNew tickets.now drawer }
+    ensures left { IfSome result.0 (IsNew tickets.now) }
+    ensures pass { IsNew tickets.now result.1 }
+{
+    let mut drawer = drawer;
+    if drawer.passes() < 2 {
+        return (None, drawer);
+    }
+    let pass = tickets.split(&mut drawer);
+    (Some(drawer), pass)
+}
+
+/// The results, where a helper has deposited what it did.
+pub fn deposit<A: Drop, P: Asked<A>>(
+    alloc: Global,
+    brief: &Brief<P>,
+    results: Results<A>,
+    drawer: Drawer,
+    more: Result<Vec<Part<A>>, AllocError>,
+) -> Results<A>
+    requires results { AreResults P.answers P.can_ask brief.now results }
+    requires done { TellsDone P.answers brief.now drawer more }
+    ensures { AreResults P.answers P.can_ask brief.now result }
+{
+    let Results {
+        reserve,
+        done,
+        parts,
+        failed,
+    } = results;
+    let drawer = one_drawer(&brief.tickets, done, drawer);
+    match joined(Ok(parts), more) {
+        Ok(parts) => Results {
+            reserve,
+            done: Some(drawer),
+            parts,
+            failed,
+        },
+        Err(_) => Results {
+            reserve,
+            done: None,
+            parts: Vec::new(alloc),
+            failed: true,
+        },
+    }
+}
+
+/// A drawer with what another drew before, if there is one, and what this drew.
+fn one_drawer(tickets: &Tickets, before: Option<Drawer>, drawer: Drawer) -> Drawer
+    requires before { IfSome before (IsFrom tickets.now) }
+    requires from { IsFrom tickets.now drawer }
+    ensures { IsJoined tickets.now before drawer result }
+{
+    match before {
+        None => drawer,
+        Some(before) => tickets.gather(before, drawer),
+    }
+}
+
+/// What everyone did, with every pass that came back.
+///
+/// # Errors
+///
+/// Where an allocation was refused, to a helper or to the caller.
+pub fn gathered<A: Drop, P: Asked<A>>(
+    brief: &Brief<P>,
+    results: Results<A>,
+    mine: Drawer,
+    parts: Result<Vec<Part<A>>, AllocError>,
+) -> Result<(Drawer, Vec<Part<A>>), AllocError>
+    requires results { AreResults P.answers P.can_ask brief.now results }
+    requires done { TellsDone P.answers brief.now mine parts }
+    ensures { IfOk result (λ all. HasDone P.answers brief.now all.0 all.1.items) }
+{
+    let Results {
+        reserve,
+        done,
+        parts: theirs,
+        failed,
+    } = results;
+    let drawn = one_drawer(&brief.tickets, done, mine);
+    let drawer = one_drawer(&brief.tickets, reserve, drawn);
+    match joined(Ok(theirs), parts) {
+        Ok(parts) if !failed => Ok((drawer, parts)),
+        _ => Err(AllocError),
+    }
+}

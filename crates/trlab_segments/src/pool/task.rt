@@ -1,0 +1,125 @@
+//! A phase that threads have in common: what is asked, and the results so far.
+
+ghost use Rattle.std.specs.Prelude.{◌≡◌, IfErr, IfOk, IfSome};
+ghost use Rattle.trlab_segments.specs.Results.{AnswersAll, AreResults, IsCutWhole, TellsDone};
+ghost use Rattle.trlab_segments.specs.Drawers.{IsNew};
+ghost use Rattle.trlab_segments.specs.KeyedLocks.{HasOnly};
+
+use crate::gate::Gate;
+use crate::phase::{Asked, Part};
+use crate::pool::brief::{Brief, draw_all, finish};
+use crate::pool::keyed_lock::{Guard, KeyedLock};
+use crate::pool::results::{Results, deposit, gathered, take_pass};
+use crate::tickets::Drawer;
+use std::alloc::{AllocError, Global};
+use std::sync::Wait;
+use trlab_road::Road;
+
+/// What is asked, and the results so far, which are kept right for it.
+#[derive(Drop)]
+pub struct Task<A, P: Asked<A>> {
+    pub brief: Brief<P>,
+    results: KeyedLock<Results<A>, Brief<P>>,
+    ghost keyed: { results.table.shared.key ≡ brief },
+}
+
+impl<A: Copy + Drop, P: Asked<A> + Drop> Task<A, P> {
+    /// A phase in which helpers may take the passes of a drawer, if there is one.
+    ///
+    /// # Errors
+    ///
+    /// Gives back what is asked where an allocation was refused.
+    pub fn begin(
+        alloc: Global,
+        brief: Brief<P>,
+        reserve: Option<Drawer>,
+    ) -> Result<Task<A, P>, Brief<P>>
+        requires reserve { IfSome reserve (IsNew brief.tickets) }
+        requires lanes { P.can_ask brief.road }
+        ensures ok { IfOk result (λ task. task.brief ≡ brief) }
+        ensures err { IfErr result (λ back. back ≡ brief) }
+    {
+        let results = Results {
+            reserve,
+            done: None,
+            parts: Vec::new(alloc),
+            failed: false,
+        };
+        match KeyedLock::new(alloc, results, &brief) {
+            Ok(results) => Ok(Task { brief, results }),
+            Err(_) => Err(brief),
+        }
+    }
+
+    /// The results so far, once nobody else has them.
+    fn take<R: Wait>(&self, rt: &R) -> (Results<A>, Guard<Results<A>, Brief<P>>)
+        ensures results { AreResults P.answers P.can_ask self.now.brief result.0 }
+        ensures from { result.1.seat.table_id ≡ self.now.results.table.shared.table_id }
+        ensures guard { HasOnly result.1.seat.me }
+    {
+        self.results.take(rt)
+    }
+
+    /// Puts the results back.
+    fn put_back(&self, results: Results<A>, guard: Guard<Results<A>, Brief<P>>)
+        requires results { AreResults P.answers P.can_ask self.now.brief results }
+        requires from { guard.seat.table_id ≡ self.now.results.table.shared.table_id }
+        requires guard { HasOnly guard.seat.me }
+    {
+        self.results.put_back(results, guard);
+    }
+
+    /// Helps, where a pass is left: asks the cars of segments until none is left, and deposits the answers.
+    pub fn help<R: Wait, G: Gate>(&self, rt: &R, alloc: Global, gate: &G) {
+        let (results, guard) = self.take(rt);
+        let (results, taken) = take_pass(&self.brief, results);
+        self.put_back(results, guard);
+        let Some((mut drawer, worker)) = taken else {
+            return;
+        };
+        let parts = draw_all(alloc, &self.brief, &mut drawer, worker, gate);
+        let (results, guard) = self.take(rt);
+        let results = deposit(alloc, &self.brief, results, drawer, parts);
+        self.put_back(results, guard);
+    }
+
+    /// The road, and the answers of all its cars, once no helper is left, by the parts that helpers deposited
+    /// and those that the caller drew itself.
+    ///
+    /// # Errors
+    ///
+    /// Where an allocation was refused, to the caller or to a helper.
+    pub fn settle<R: Wait>(
+        self,
+        rt: &R,
+        alloc: Global,
+        mine: Drawer,
+        parts: Result<Vec<Part<A>>, AllocError>,
+    ) -> (Road, Result<Vec<A>, AllocError>)
+        requires cut { IsCutWhole self.brief }
+        requires done { TellsDone P.answers self.brief mine parts }
+        ensures road { result.0 ≡ self.brief.road }
+        ensures answers { IfOk result.1 (λ answers. AnswersAll P.answers self.brief answers.items) }
+    {
+        let (found, _) = self.take(rt);
+        let Task {
+            brief,
+            results: _results,
+        } = self;
+        match gathered(&brief, found, mine, parts) {
+            Ok((drawer, parts)) => finish(alloc, brief, drawer, &parts),
+            Err(_) => (brief.into_road(), Err(AllocError)),
+        }
+    }
+
+    /// The road alone.
+    pub fn into_road(self) -> Road
+        ensures { result ≡ self.brief.road }
+    {
+        let Task {
+            brief,
+            results: _results,
+        } = self;
+        brief.into_road()
+    }
+}

@@ -1,0 +1,77 @@
+-- The subhistory of a strand is its own events, each with all that stood before it in the one list. A strand
+-- knows how many parts it has, and which events are its own; the keeper knows the list.
+use Rattle.std.specs.Prelude.{◌≡◌, ℕ, ◌+◌, ◌-◌, max, Bool, true, false, cond, eqb, ltb}
+use Rattle.std.specs.Prelude.{List, [], ◌∷◌, ◌++◌, length, count_by, All}
+use Rattle.trlab_strands.specs.declared.limits.TheConstants.{ALL_PARTS}
+use Rattle.trlab_strands.specs.declared.knowledge.Noted.{Noted}
+use Rattle.trlab_strands.specs.declared.knowledge.Knowledge.{Knowledge}
+
+-- how often a number is to be had: once where it is below the count, else never
+abbrev pub once_below : ℕ → ℕ → ℕ
+once_below k count = cond (ltb k count) 1 0
+
+-- an event by what stood before it
+abbrev pub noted : {E : Type 0} → List E → E → Noted E
+noted before event = record { before = before; event = event }
+
+-- its number in the list: how many stood before it
+abbrev pub number_of : {E : Type 0} → Noted E → ℕ
+number_of n = length n.before
+
+-- how often this number is among theirs
+abbrev pub times : {E : Type 0} → ℕ → List (Noted E) → ℕ
+times k own = count_by (λ n. eqb (number_of n) k) own
+
+-- the list begins with what stood before the event, and goes on with it
+abbrev pub StandsIn : {E : Type 0} → List E → Noted E → Type 0
+StandsIn {E} events n = (later : List E) × (events ≡ n.before ++ n.event ∷ later)
+
+-- each of these events stands in the list
+abbrev pub StandIn : {E : Type 0} → List E → List (Noted E) → Type 0
+StandIn events own = All (StandsIn events) own
+
+-- the list is a linearization of these events, that is, all of them in the order of their numbers: there are
+-- as many, each stands in the list behind what stood before it, and each place of the list is the number of
+-- exactly one
+pub record IsLinearization {E : Type 0} (events : List E) (own : List (Noted E)) : Type 0 where
+  pub count : length own ≡ length events
+  pub stand : StandIn events own
+  pub once : (k : ℕ) → times k own ≡ once_below k (length events)
+
+-- what is known at a seat, by its parts
+abbrev pub knowledge : {E : Type 0} → ℕ → List (Noted E) → ℕ → Bool → List E → Knowledge E
+knowledge parts own least keeps all =
+    record { parts = parts; own = own; least = least; keeps = keeps; all = all }
+
+-- what is left at the seat of a strand that was gathered into another
+abbrev pub nothing : {E : Type 0} → Knowledge E
+nothing = knowledge 0 [] 0 false []
+
+-- the first seat has all parts, no event, and the empty list
+abbrev pub opening_knowledge : {E : Type 0} → Knowledge E
+opening_knowledge = knowledge ALL_PARTS [] 0 true []
+
+-- a strand that the list has left
+abbrev pub without_list : {E : Type 0} → Knowledge E → Knowledge E
+without_list k = knowledge k.parts k.own k.least false []
+
+-- the list by itself, if it was there
+abbrev pub list_alone : {E : Type 0} → Knowledge E → Knowledge E
+list_alone k = knowledge 0 [] 0 k.keeps k.all
+
+-- what a strand keeps that gives a part away
+abbrev pub less_a_part : {E : Type 0} → Knowledge E → Knowledge E
+less_a_part k = knowledge (k.parts - 1) k.own k.least k.keeps k.all
+
+-- the part that it gives away, which has seen as much of the list
+abbrev pub one_part : {E : Type 0} → Knowledge E → Knowledge E
+one_part k = knowledge 1 [] k.least false []
+
+-- a strand without the list, and what is known at another seat
+abbrev pub union : {E : Type 0} → Knowledge E → Knowledge E → Knowledge E
+union k l = knowledge (k.parts + l.parts) (k.own ++ l.own) (max k.least l.least) l.keeps l.all
+
+-- one event more, behind the list
+abbrev pub with_event : {E : Type 0} → Knowledge E → E → Knowledge E
+with_event k e =
+    knowledge k.parts (k.own ++ noted k.all e ∷ []) (length k.all + 1) k.keeps (k.all ++ e ∷ [])
