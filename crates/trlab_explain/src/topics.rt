@@ -1,8 +1,7 @@
 //! The pages on what a number means that refused texts and programs tell.
 
-ghost use Rattle.std.specs.Prelude.{◌≡◌, ◌++◌, ◌↔◌, IfOk, OnOk, true, false};
-ghost use Rattle.trlab_campaign.specs.Ending.{EndsSo, HandsOn};
-ghost use Rattle.trlab_campaign.specs.declared.end.End.TheVariants.{DeviceFault};
+ghost use Rattle.std.specs.Prelude.{◌≡◌, ◌++◌, IfOk, OnOk, false};
+ghost use Rattle.trlab_campaign.specs.Ending.{EndsSo, LeavesWriter};
 ghost use Rattle.trlab_explain.specs.Explanations.{BeginsWith, TellsNumber, topic_front};
 
 use crate::explain::write_told;
@@ -43,11 +42,7 @@ pub fn explain_number<R: AllocGlobal, K: Sink>(
     writer: &mut K,
 ) -> End
     requires writer_works { K.failed writer.old ≡ false }
-    // Where the writer tells the bytes that it has.
-    ensures answer { EndsSo (TellsNumber topic number) result (K.written writer.old) (K.written writer.new) }
-    ensures handed { HandsOn result
-        (K.handed_on writer.new) (K.flushes writer.old) (K.flushes writer.new) }
-    ensures device { (result ≡ DeviceFault) ↔ (K.failed writer.new ≡ true) }
+    ensures { LeavesWriter K.Sink (EndsSo (TellsNumber topic number)) result writer.old writer.new }
 {
     write_told(number_page(rt.alloc(), topic, number), writer)
 }
