@@ -20,7 +20,7 @@ pub struct Edit {
 ///
 /// # Errors
 ///
-/// Want of memory.
+/// Where memory ran out.
 pub fn edited(
     alloc: Global,
     text: &[u8],

@@ -10,10 +10,10 @@ mod repair;
 mod subject;
 mod trial;
 
-pub use edit::{Edit, edited};
+pub use edit::Edit;
 pub use instruction::{name_and_operands, start_of_name};
 pub use line::Place;
 pub use odd::{Oddity, oddity_of};
 pub use repair::{Change, Repair, Why, where_it_helps};
 pub use subject::{Subject, is_named, subject_of};
-pub use trial::{first_fault, gets_further, may_follow};
+pub use trial::may_follow;

@@ -114,7 +114,7 @@ fn helps(
 ///
 /// # Errors
 ///
-/// Want of memory.
+/// Where memory ran out.
 pub fn where_it_helps(
     alloc: Global,
     subject: Subject,

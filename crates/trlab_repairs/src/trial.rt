@@ -14,7 +14,7 @@ use trlab_texts::{Cause, TextFault};
 ///
 /// # Errors
 ///
-/// Want of memory.
+/// Where memory ran out.
 pub fn first_fault(
     alloc: Global,
     subject: Subject,
@@ -59,7 +59,7 @@ fn is_behind(text: &[u8], number: u32, mended: &[u8], fault: Option<(u32, Cause)
 ///
 /// # Errors
 ///
-/// Want of memory.
+/// Where memory ran out.
 pub fn gets_further(
     alloc: Global,
     text: &[u8],
@@ -88,7 +88,7 @@ fn is_past(number: u32, fault: Option<(u32, Cause)>) -> bool
 ///
 /// # Errors
 ///
-/// Want of memory.
+/// Where memory ran out.
 pub fn may_follow(
     alloc: Global,
     subject: Subject,

@@ -55,7 +55,7 @@ fn push_chance(page: &mut Page, parts: u32) -> Result<(), AllocError> {
 ///
 /// # Errors
 ///
-/// Want of memory.
+/// Where memory ran out.
 pub fn push_chances(page: &mut Page, line: &[u8]) -> Result<(), AllocError> {
     let mut left = behind_rule(line).unwrap_or(b"");
     for _ in 0..MOST_CHANCES {

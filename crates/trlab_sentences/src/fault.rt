@@ -1,13 +1,22 @@
 //! What is told of a fault.
 
-use crate::causes::meaning_of_cause;
-use crate::findings::push_finding;
-use crate::forms::{INSTRUCTIONS, form_of};
-use crate::hints::look_at;
+pub mod causes;
+mod findings;
+mod forms;
+mod hints;
+mod mends;
+mod part;
+mod spots;
+
+use crate::fault::causes::meaning_of_cause;
+use crate::fault::findings::push_finding;
+use crate::fault::forms::{INSTRUCTIONS, form_of};
+use crate::fault::hints::look_at;
+use crate::fault::mends::push_mend;
+use crate::fault::part::push_part_refusal;
+use crate::fault::spots::{EXPECTED_OF_CHECK, push_wanted};
 use crate::lines::{push_both, push_count, push_meaning};
-use crate::mends::push_mend;
-use crate::part::push_part_refusal;
-use crate::spots::{EXPECTED_OF_CHECK, push_wanted};
+use crate::numbered::reason_of;
 use std::alloc::{AllocError, Global};
 use trlab_asm::{Why, mnemonic_named};
 use trlab_code::CodeFault;
@@ -17,6 +26,25 @@ use trlab_repairs::{Place, Subject, name_and_operands};
 use trlab_road::RoadFault;
 use trlab_texts::Cause;
 use trlab_texts::word::head_word;
+
+/// The first fault of a text.
+#[derive(Clone, Copy)]
+struct Fault<'a> {
+    /// What the text is read as.
+    subject: Subject,
+    /// Where the fault is.
+    place: Place<'a>,
+    cause: Cause,
+    /// The lines that may stand there, where they are asked for.
+    wanted: &'a [Wanted],
+}
+
+impl<'a> Fault<'a> {
+    /// The line at fault, which is empty where the text has ended.
+    fn line(&self) -> &'a [u8] {
+        self.place.line.unwrap_or(b"")
+    }
+}
 
 /// Adds what a text is read as.
 fn push_read_as(page: &mut Page, subject: Subject) -> Result<(), AllocError> {
@@ -39,25 +67,14 @@ fn push_place(page: &mut Page, cause: Cause) -> Result<(), AllocError> {
     push_count(page, words, u64::from(place), ", counted from 0.")
 }
 
-/// The line of a job or sweep text that has this first word.
-fn line_named(place: &Place<'_>) -> Option<Wanted> {
-    Wanted::named(head_word(place.line?))
-}
-
-/// Adds what has to stand at a place of a text, where these lines may.
-fn push_expected(
-    page: &mut Page,
-    subject: Subject,
-    place: &Place<'_>,
-    cause: Cause,
-    wanted: &[Wanted],
-) -> Result<(), AllocError> {
-    if subject == Subject::Check {
+/// Adds what has to stand at a fault.
+fn push_expected(page: &mut Page, fault: &Fault<'_>) -> Result<(), AllocError> {
+    if fault.subject == Subject::Check {
         return page.line(EXPECTED_OF_CHECK);
     }
-    match line_named(place) {
-        Some(line) if cause != Cause::Line => push_wanted(page, &[line]),
-        _ => push_wanted(page, wanted),
+    match Wanted::named(head_word(fault.line())) {
+        Some(line) if fault.cause != Cause::Line => push_wanted(page, &[line]),
+        _ => push_wanted(page, fault.wanted),
     }
 }
 
@@ -73,23 +90,22 @@ fn push_form(page: &mut Page, line: &[u8]) -> Result<(), AllocError> {
     }
 }
 
+/// Adds why the program at a fault is refused, where the verifier refuses it.
+fn push_refusal_of(alloc: Global, page: &mut Page, fault: &Fault<'_>) -> Result<(), AllocError> {
+    match reason_of(fault.cause) {
+        Some(reason) => push_part_refusal(alloc, page, &fault.place, reason),
+        None => Ok(()),
+    }
+}
+
 /// Adds what was expected at a fault.
-fn push_expectation(
-    alloc: Global,
-    page: &mut Page,
-    subject: Subject,
-    place: &Place<'_>,
-    cause: Cause,
-    wanted: &[Wanted],
-) -> Result<(), AllocError> {
-    match cause {
-        Cause::Line | Cause::Number | Cause::Key | Cause::Order => push_expected(
-            page, subject, place, cause, wanted,
-        ),
-        Cause::Program(Why::Operand | Why::Number) => push_form(page, place.line.unwrap_or(b"")),
+fn push_expectation(alloc: Global, page: &mut Page, fault: &Fault<'_>) -> Result<(), AllocError> {
+    match fault.cause {
+        Cause::Line | Cause::Number | Cause::Key | Cause::Order => push_expected(page, fault),
+        Cause::Program(Why::Operand | Why::Number) => push_form(page, fault.line()),
         Cause::Program(Why::Word) => page.line(INSTRUCTIONS),
-        Cause::Verdict(reason) => push_part_refusal(alloc, page, place, reason),
-        _ => push_place(page, cause),
+        Cause::Verdict(_) => push_refusal_of(alloc, page, fault),
+        cause => push_place(page, cause),
     }
 }
 
@@ -97,7 +113,7 @@ fn push_expectation(
 ///
 /// # Errors
 ///
-/// Want of memory.
+/// Where memory ran out.
 pub fn push_hint(page: &mut Page, cause: Cause) -> Result<(), AllocError> {
     match look_at(cause) {
         Some(hint) => push_both(page, "Look at: ", hint),
@@ -110,60 +126,49 @@ const NO_HEADING: &str =
     "Look at: the line above this instruction: its program begins with `motion` or `change`.";
 
 /// Whether an instruction stands where a program may begin.
-fn lacks_heading(subject: Subject, place: &Place<'_>, cause: Cause, wanted: &[Wanted]) -> bool {
-    let may_begin = match subject {
-        Subject::Check => place.number == 1,
-        _ => wanted.contains(&Wanted::Motion) || wanted.contains(&Wanted::Change),
+fn lacks_heading(fault: &Fault<'_>) -> bool {
+    let may_begin = match fault.subject {
+        Subject::Check => fault.place.number == 1,
+        _ => fault.wanted.contains(&Wanted::Motion) || fault.wanted.contains(&Wanted::Change),
     };
-    let (name, _) = name_and_operands(place.line.unwrap_or(b""));
-    cause == Cause::Line && may_begin && mnemonic_named(name).is_some()
+    let (name, _) = name_and_operands(fault.line());
+    fault.cause == Cause::Line && may_begin && mnemonic_named(name).is_some()
 }
 
 /// Adds a repair that is likely, or else what to look at where nothing was found.
 fn push_repair(
     alloc: Global,
     page: &mut Page,
-    subject: Subject,
-    place: Place<'_>,
-    cause: Cause,
-    wanted: &[Wanted],
+    fault: &Fault<'_>,
     is_found: bool,
 ) -> Result<(), AllocError> {
-    match likely_repair(alloc, subject, place, cause, wanted)? {
-        Some(repair) => push_mend(page, &place, &repair),
-        None if is_found => Ok(()),
-        None if lacks_heading(subject, &place, cause, wanted) => page.line(NO_HEADING),
-        None => push_hint(page, cause),
-    }
-}
-
-/// Adds what is told of a fault, where these lines may stand there.
-fn push_fault(
-    alloc: Global,
-    page: &mut Page,
-    subject: Subject,
-    place: Place<'_>,
-    cause: Cause,
-    wanted: &[Wanted],
-) -> Result<(), AllocError> {
-    if cause != Cause::TooBig {
-        push_read_as(page, subject)?;
-    }
-    push_meaning(page, "Cause ", cause.number(), meaning_of_cause(cause))?;
-    push_expectation(alloc, page, subject, &place, cause, wanted)?;
-    let finding = finding_of(&place, cause, wanted);
-    if let Some(finding) = finding {
-        push_finding(page, finding)?;
-    }
-    push_repair(
-        alloc,
-        page,
+    let Fault {
         subject,
         place,
         cause,
         wanted,
-        finding.is_some(),
-    )
+    } = *fault;
+    match likely_repair(alloc, subject, place, cause, wanted)? {
+        Some(repair) => push_mend(page, &place, &repair),
+        None if is_found => Ok(()),
+        None if lacks_heading(fault) => page.line(NO_HEADING),
+        None => push_hint(page, cause),
+    }
+}
+
+/// Adds what is told of a fault.
+fn push_fault(alloc: Global, page: &mut Page, fault: &Fault<'_>) -> Result<(), AllocError> {
+    let cause = fault.cause;
+    if cause != Cause::TooBig {
+        push_read_as(page, fault.subject)?;
+    }
+    push_meaning(page, "Cause ", cause.number(), meaning_of_cause(cause))?;
+    push_expectation(alloc, page, fault)?;
+    let finding = finding_of(&fault.place, cause, fault.wanted);
+    if let Some(finding) = finding {
+        push_finding(page, finding)?;
+    }
+    push_repair(alloc, page, fault, finding.is_some())
 }
 
 /// The lines that may stand at a fault, where they are asked for.
@@ -184,7 +189,7 @@ fn wanted_lines(
 ///
 /// # Errors
 ///
-/// Want of memory.
+/// Where memory ran out.
 pub fn fault_words(
     alloc: Global,
     subject: Subject,
@@ -192,7 +197,13 @@ pub fn fault_words(
     cause: Cause,
 ) -> Result<Page, AllocError> {
     let wanted = wanted_lines(alloc, subject, &place, cause)?;
+    let fault = Fault {
+        subject,
+        place,
+        cause,
+        wanted: &wanted,
+    };
     let mut page = Page::new(alloc);
-    push_fault(alloc, &mut page, subject, place, cause, &wanted)?;
+    push_fault(alloc, &mut page, &fault)?;
     Ok(page)
 }

@@ -77,7 +77,7 @@ fn push_job(page: &mut Page, text: &[u8], job: &Job) -> Result<(), AllocError> {
 ///
 /// # Errors
 ///
-/// Want of memory.
+/// Where memory ran out.
 pub fn job_page(alloc: Global, text: &[u8], job: &Job) -> Result<Page, AllocError> {
     let mut page = Page::new(alloc);
     push_job(&mut page, text, job)?;

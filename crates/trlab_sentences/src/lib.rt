@@ -3,25 +3,11 @@
 //! these are, but how a line of a text is quoted.
 #![tactic(auto)]
 
-mod accepted;
-mod causes;
 mod chances;
 mod fault;
-mod findings;
-mod forms;
-mod hints;
-mod instr_lines;
 mod job;
 mod lines;
-mod marks;
-mod mends;
 mod numbered;
-mod operands;
-mod part;
-mod placed;
-mod reasons;
-mod refusal;
-mod spots;
 mod sweep;
 mod topics;
 mod verdict;

@@ -13,7 +13,7 @@ use trlab_texts::word::head_word;
 ///
 /// # Errors
 ///
-/// Want of memory.
+/// Where memory ran out.
 pub fn push_count(
     page: &mut Page,
     front: &str,
@@ -29,7 +29,7 @@ pub fn push_count(
 ///
 /// # Errors
 ///
-/// Want of memory.
+/// Where memory ran out.
 pub fn push_counts(page: &mut Page, rows: &[(&str, u64, &str)]) -> Result<(), AllocError> {
     for row in rows {
         push_count(page, row.0, row.1, row.2)?;
@@ -41,7 +41,7 @@ pub fn push_counts(page: &mut Page, rows: &[(&str, u64, &str)]) -> Result<(), Al
 ///
 /// # Errors
 ///
-/// Want of memory.
+/// Where memory ran out.
 pub fn push_both(page: &mut Page, front: &str, behind: &str) -> Result<(), AllocError> {
     page.say(front)?;
     page.line(behind)
@@ -63,7 +63,7 @@ pub struct Filled<'a> {
 ///
 /// # Errors
 ///
-/// Want of memory.
+/// Where memory ran out.
 pub fn push_filled(page: &mut Page, filled: Filled<'_>) -> Result<(), AllocError> {
     let mut number = filled.first;
     for byte in filled.words.as_bytes() {
@@ -85,7 +85,7 @@ pub fn push_filled(page: &mut Page, filled: Filled<'_>) -> Result<(), AllocError
 ///
 /// # Errors
 ///
-/// Want of memory.
+/// Where memory ran out.
 pub fn push_pieces(page: &mut Page, pieces: &[&[u8]]) -> Result<(), AllocError> {
     for piece in pieces {
         page.show_all(piece)?;
@@ -97,7 +97,7 @@ pub fn push_pieces(page: &mut Page, pieces: &[&[u8]]) -> Result<(), AllocError> 
 ///
 /// # Errors
 ///
-/// Want of memory.
+/// Where memory ran out.
 pub fn push_meaning(
     page: &mut Page,
     what: &str,
@@ -114,7 +114,7 @@ pub fn push_meaning(
 ///
 /// # Errors
 ///
-/// Want of memory.
+/// Where memory ran out.
 pub fn push_quote(page: &mut Page, number: u32, line: Option<&[u8]>) -> Result<(), AllocError>
     ensures { OnOk result
         (page.new ≡ page.old ++ quote_line number (option_map (λ line. line.now) line.entry)) }
@@ -134,7 +134,7 @@ pub fn push_quote(page: &mut Page, number: u32, line: Option<&[u8]>) -> Result<(
 ///
 /// # Errors
 ///
-/// Want of memory.
+/// Where memory ran out.
 pub fn push_rules(
     page: &mut Page,
     heading: &str,

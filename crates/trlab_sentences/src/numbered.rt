@@ -1,12 +1,17 @@
-//! The cause of a number.
+//! The causes and reasons of numbers.
 
-ghost use Rattle.std.specs.Prelude.{◌≡◌, IfSome};
+ghost use Rattle.std.specs.Prelude.{◌≡◌, ◌<◌, ◌⊎◌, IfSome, None};
+ghost use Rattle.trlab_notes.specs.Reasons.{reason_number};
 ghost use Rattle.trlab_texts.specs.Causes.{cause_number};
 
 use trlab_asm::Why;
 use trlab_code::CodeFault;
+use trlab_notes::Reason;
 use trlab_road::RoadFault;
 use trlab_texts::Cause;
+
+/// The greatest number of a reason.
+const MOST_REASON: u32 = 12;
 
 /// The causes that a text may be refused for; of those that name a place in it, one for any place.
 const CAUSES: [Cause; 30] = [
@@ -42,8 +47,35 @@ const CAUSES: [Cause; 30] = [
     Cause::StandardRefused,
 ];
 
-/// The reasons that the verifier may have.
-pub const MOST_REASON: u32 = 12;
+/// The reason of a number, where the verifier may have it.
+pub fn reason_numbered(number: u32) -> Option<Reason>
+    ensures number { IfSome result (λ reason. reason_number reason ≡ number) }
+    ensures none { result ≡ None → (number ≡ 0) ⊎ (12 < number) }
+{
+    match number {
+        1 => Some(Reason::Unreachable),
+        2 => Some(Reason::WrongProgram),
+        3 => Some(Reason::MaybeUnset),
+        4 => Some(Reason::WrongValue),
+        5 => Some(Reason::JumpsBack),
+        6 => Some(Reason::JumpsOut),
+        7 => Some(Reason::FallsOut),
+        8 => Some(Reason::MaybeTooLarge),
+        9 => Some(Reason::MaybeBelowZero),
+        10 => Some(Reason::MaybeAboveGap),
+        11 => Some(Reason::MaybeAboveLimit),
+        12 => Some(Reason::MaybeOccupied),
+        _ => None,
+    }
+}
+
+/// The reason of a cause, where the verifier refuses a program.
+pub fn reason_of(cause: Cause) -> Option<Reason> {
+    match cause {
+        Cause::Verdict(number) => reason_numbered(number),
+        _ => None,
+    }
+}
 
 /// The cause of a number, where a text may be refused for it.
 pub fn cause_numbered(number: u32) -> Option<Cause>

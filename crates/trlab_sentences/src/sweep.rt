@@ -167,7 +167,7 @@ fn push_sweep(page: &mut Page, text: &[u8], sweep: &Sweep) -> Result<(), AllocEr
 ///
 /// # Errors
 ///
-/// Want of memory.
+/// Where memory ran out.
 pub fn sweep_page(alloc: Global, text: &[u8], sweep: &Sweep) -> Result<Page, AllocError> {
     let mut page = Page::new(alloc);
     push_sweep(&mut page, text, sweep)?;

@@ -1,12 +1,13 @@
 //! What a number means that refused texts and programs tell.
 
-use crate::causes::meaning_of_cause;
+use crate::fault::causes::meaning_of_cause;
 use crate::fault::push_hint;
 use crate::lines::push_both;
-use crate::numbered::{MOST_REASON, cause_numbered};
-use crate::reasons::{meaning_of_reason, repair_of_reason};
+use crate::numbered::{cause_numbered, reason_numbered, reason_of};
+use crate::verdict::reasons::{meaning_of_reason, repair_of_reason};
 use std::alloc::{AllocError, Global};
 use trlab_code::Kind;
+use trlab_notes::Reason;
 use trlab_pages::Page;
 use trlab_texts::Cause;
 
@@ -20,7 +21,7 @@ pub enum Topic {
 }
 
 /// Adds what is advised for a reason.
-fn push_repairs(page: &mut Page, reason: u32) -> Result<(), AllocError> {
+fn push_repairs(page: &mut Page, reason: Reason) -> Result<(), AllocError> {
     let motion = repair_of_reason(reason, Kind::Motion);
     let change = repair_of_reason(reason, Kind::Change);
     if motion == change {
@@ -30,17 +31,23 @@ fn push_repairs(page: &mut Page, reason: u32) -> Result<(), AllocError> {
     push_both(page, "Advice for a change program: ", change)
 }
 
+/// Adds the reason of a cause, and what is advised for it, where the verifier refuses a program.
+fn push_reason_of(page: &mut Page, cause: Cause) -> Result<(), AllocError> {
+    let Some(reason) = reason_of(cause) else {
+        return Ok(());
+    };
+    push_both(
+        page,
+        "It is refused for this reason: ",
+        meaning_of_reason(reason),
+    )?;
+    push_repairs(page, reason)
+}
+
 /// Adds what is told of a cause behind its number.
 fn push_cause(page: &mut Page, cause: Cause) -> Result<(), AllocError> {
     page.line(meaning_of_cause(cause))?;
-    if let Cause::Verdict(reason) = cause {
-        push_both(
-            page,
-            "It is refused for this reason: ",
-            meaning_of_reason(reason),
-        )?;
-        push_repairs(page, reason)?;
-    }
+    push_reason_of(page, cause)?;
     push_hint(page, cause)?;
     page.line(
         "`trlab explain < FILE` tells it of a text that has it; docs/TEXTS.md has all causes.",
@@ -48,7 +55,7 @@ fn push_cause(page: &mut Page, cause: Cause) -> Result<(), AllocError> {
 }
 
 /// Adds what is told of a reason behind its number.
-fn push_reason(page: &mut Page, reason: u32) -> Result<(), AllocError> {
+fn push_reason(page: &mut Page, reason: Reason) -> Result<(), AllocError> {
     page.line(meaning_of_reason(reason))?;
     push_repairs(page, reason)?;
     page.line(
@@ -58,9 +65,9 @@ fn push_reason(page: &mut Page, reason: u32) -> Result<(), AllocError> {
 
 /// Adds what is told of a number behind it, and answers whether there is no such number.
 fn push_number(page: &mut Page, topic: Topic, number: u32) -> Result<bool, AllocError> {
-    match (topic, cause_numbered(number)) {
-        (Topic::Cause, Some(cause)) => push_cause(page, cause)?,
-        (Topic::Reason, _) if 1 <= number && number <= MOST_REASON => push_reason(page, number)?,
+    match (topic, cause_numbered(number), reason_numbered(number)) {
+        (Topic::Cause, Some(cause), _) => push_cause(page, cause)?,
+        (Topic::Reason, _, Some(reason)) => push_reason(page, reason)?,
         _ => {
             page.line("there is none of this number.")?;
             return Ok(true);
@@ -73,7 +80,7 @@ fn push_number(page: &mut Page, topic: Topic, number: u32) -> Result<bool, Alloc
 ///
 /// # Errors
 ///
-/// Want of memory.
+/// Where memory ran out.
 pub fn number_words(alloc: Global, topic: Topic, number: u32) -> Result<(bool, Page), AllocError> {
     let mut page = Page::new(alloc);
     let is_none = push_number(&mut page, topic, number)?;

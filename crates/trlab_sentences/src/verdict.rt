@@ -1,13 +1,23 @@
 //! What is told of the program of a check text.
 
-use crate::accepted::push_accepted;
-use crate::instr_lines::instr_lines;
-use crate::placed::Placed;
-use crate::refusal::push_refused;
+mod accepted;
+pub mod instr_lines;
+mod marks;
+mod operands;
+pub mod placed;
+pub mod reasons;
+pub mod refusal;
+
+use crate::numbered::reason_numbered;
+use crate::verdict::accepted::push_accepted;
+use crate::verdict::instr_lines::instr_lines;
+use crate::verdict::placed::Placed;
+use crate::verdict::refusal::push_refused;
 use std::alloc::{AllocError, Global};
 use trlab_asm::disassemble;
 use trlab_code::Code;
 use trlab_lines::next_line;
+use trlab_notes::Reason;
 use trlab_pages::Page;
 use trlab_texts::word::behind;
 
@@ -27,7 +37,7 @@ enum Verdict {
     /// It is accepted, with this budget.
     Accepted(u32),
     /// It is refused for this reason.
-    Refused(u32),
+    Refused(Reason),
 }
 
 /// The page on the verdict on the program of a check text.
@@ -57,7 +67,7 @@ fn verdict_page(
 ///
 /// # Errors
 ///
-/// Want of memory.
+/// Where memory ran out.
 pub fn accepted_page(
     alloc: Global,
     text: &[u8],
@@ -67,16 +77,19 @@ pub fn accepted_page(
     verdict_page(alloc, text, code, Verdict::Accepted(budget))
 }
 
-/// What is told of a program that is refused, which its head stands above.
+/// What is told of a program that is refused for the reason of a number, which its head stands above.
 ///
 /// # Errors
 ///
-/// Want of memory.
+/// Where memory ran out.
 pub fn refused_words(
     alloc: Global,
     text: &[u8],
     code: &Code,
     reason: u32,
 ) -> Result<Page, AllocError> {
-    verdict_page(alloc, text, code, Verdict::Refused(reason))
+    match reason_numbered(reason) {
+        Some(reason) => verdict_page(alloc, text, code, Verdict::Refused(reason)),
+        None => Ok(Page::new(alloc)),
+    }
 }

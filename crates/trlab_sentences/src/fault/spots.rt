@@ -41,7 +41,7 @@ fn form_of_line(line: Wanted) -> &'static str {
 ///
 /// # Errors
 ///
-/// Want of memory.
+/// Where memory ran out.
 pub fn push_wanted(page: &mut Page, wanted: &[Wanted]) -> Result<(), AllocError> {
     let mut is_first = true;
     for line in wanted {

@@ -127,7 +127,7 @@ fn push_edit(page: &mut Page, fault: &Place<'_>, edit: &Edit) -> Result<(), Allo
 ///
 /// # Errors
 ///
-/// Want of memory.
+/// Where memory ran out.
 pub fn push_mend(page: &mut Page, fault: &Place<'_>, repair: &Repair) -> Result<(), AllocError> {
     push_both(page, "Repair: ", words_of(repair.why))?;
     match &repair.change {

@@ -1,7 +1,7 @@
 //! Programs and where they stand in a text.
 
-use crate::instr_lines::NumberedLine;
 use crate::lines::push_quote;
+use crate::verdict::instr_lines::NumberedLine;
 use std::alloc::AllocError;
 use trlab_code::Code;
 use trlab_pages::Page;

@@ -37,92 +37,59 @@ fn operand_words(operand: Operand) -> &'static str {
 }
 
 /// What is wrong at a fault, in words: in these `$` stands for the word, and `#` for the numbers.
-fn words_of<'a>(finding: Finding<'a>) -> (&'static str, &'a [u8], u64, u64) {
+fn words_of(finding: Finding<'_>) -> &'static str {
     match finding {
-        Finding::Odd(oddity) => (odd_words(oddity), b"", 0, 0),
-        Finding::Elsewhere => (
+        Finding::Odd(oddity) => odd_words(oddity),
+        Finding::Elsewhere =>
             "a line of this name stands elsewhere: one is missing above, or this is one too many.",
-            b"",
-            0,
-            0,
-        ),
-        Finding::Ended => ("the text has ended, and a line is missing.", b"", 0, 0),
-        Finding::Endless => (
-            "the text has ended, and a program has no line `end`.",
-            b"",
-            0,
-            0,
-        ),
-        Finding::Chances { found, wanted } => (
-            "words behind the name of the rule: #; it wants #.",
-            b"",
-            found,
-            wanted,
-        ),
-        Finding::NoNumber(word) => (
+        Finding::Ended => "the text has ended, and a line is missing.",
+        Finding::Endless => "the text has ended, and a program has no line `end`.",
+        Finding::Chances { .. } => "words behind the name of the rule: #; it wants #.",
+        Finding::NoNumber(_) =>
             "`$` is no number: one has 1 to 10 decimal digits and no needless 0.",
-            word,
-            0,
-            0,
-        ),
-        Finding::Below(word, least) => ("`$` is below #.", word, least, 0),
-        Finding::Above(word, most) => ("`$` is above #.", word, most, 0),
-        Finding::KeyLength(count) => ("the key has # characters, not 64.", b"", count, 0),
-        Finding::OddDigits(count) => (
-            "these are # digits, and each byte wants two.",
-            b"",
-            count,
-            0,
-        ),
-        Finding::NoDigit(place) => (
+        Finding::Below(..) => "`$` is below #.",
+        Finding::Above(..) => "`$` is above #.",
+        Finding::KeyLength(_) => "the key has # characters, not 64.",
+        Finding::OddDigits(_) => "these are # digits, and each byte wants two.",
+        Finding::NoDigit(_) =>
             "the character at place # of the digits, counted from 1, is no hexadecimal digit.",
-            b"",
-            place,
-            0,
-        ),
-        Finding::Order { least, steps } => (
-            "the step must be # or more, and below #.",
-            b"",
-            least,
-            steps,
-        ),
-        Finding::Work { points, steps } => (
+        Finding::Order { .. } => "the step must be # or more, and below #.",
+        Finding::Work { .. } =>
             "up to here there are # points, and steps of them together #; a sweep may have 500000.",
-            b"",
-            points,
-            points.saturating_mul(steps),
-        ),
-        Finding::NoLabel(word) => (
+        Finding::NoLabel(_) =>
             "`$` is no label: one is at most 32 letters, digits and `_`, and begins with no digit.",
-            word,
-            0,
-            0,
-        ),
-        Finding::Operands { found, wanted } => (
-            "operands: #; the instruction wants #.",
-            b"",
-            found,
-            wanted,
-        ),
-        Finding::NoOperand(operand, word) => (operand_words(operand), word, 0, 0),
-        Finding::Cells(count) => (
-            "the lane has # cells; at most 100000 are taken.",
-            b"",
-            count,
-            0,
-        ),
-        Finding::BothCells(first, second) => (
-            "the first lane has # cells, this one #.",
-            b"",
-            first,
-            second,
-        ),
-        Finding::Speed { speed, limit } => (
-            "the speed of this car is #, and the limit #.",
-            b"",
-            speed,
-            limit,
-        ),
+        Finding::Operands { .. } => "operands: #; the instruction wants #.",
+        Finding::NoOperand(operand, _) => operand_words(operand),
+        Finding::Cells(_) => "the lane has # cells; at most 100000 are taken.",
+        Finding::BothCells(..) => "the first lane has # cells, this one #.",
+        Finding::Speed { .. } => "the speed of this car is #, and the limit #.",
+    }
+}
+
+/// The word of the text that is told, which is empty where none is.
+fn word_of(finding: Finding<'_>) -> &[u8] {
+    match finding {
+        Finding::NoNumber(word)
+        | Finding::Below(word, _)
+        | Finding::Above(word, _)
+        | Finding::NoLabel(word)
+        | Finding::NoOperand(_, word) => word,
+        _ => b"",
+    }
+}
+
+/// The numbers that are told, from left to right; one that is not is 0.
+fn numbers_of(finding: Finding<'_>) -> (u64, u64) {
+    match finding {
+        Finding::Chances { found, wanted } | Finding::Operands { found, wanted } => (found, wanted),
+        Finding::Below(_, bound) | Finding::Above(_, bound) => (bound, 0),
+        Finding::KeyLength(count) | Finding::OddDigits(count) | Finding::Cells(count) => (count, 0),
+        Finding::NoDigit(place) => (place, 0),
+        Finding::Order { least, steps } => (least, steps),
+        Finding::Work { points, steps } => (points, points.saturating_mul(steps)),
+        Finding::BothCells(first, second) => (first, second),
+        Finding::Speed { speed, limit } => (speed, limit),
+        _ => (0, 0),
     }
 }
 
@@ -130,15 +97,15 @@ fn words_of<'a>(finding: Finding<'a>) -> (&'static str, &'a [u8], u64, u64) {
 ///
 /// # Errors
 ///
-/// Want of memory.
+/// Where memory ran out.
 pub fn push_finding(page: &mut Page, finding: Finding<'_>) -> Result<(), AllocError> {
-    let (words, word, first, second) = words_of(finding);
+    let (first, second) = numbers_of(finding);
     page.say("Found: ")?;
     push_filled(
         page,
         Filled {
-            words,
-            word,
+            words: words_of(finding),
+            word: word_of(finding),
             put: b"",
             first,
             second,

@@ -2,13 +2,14 @@
 //! and the usual repair.
 
 use crate::lines::{push_both, push_count, push_meaning, push_pieces};
-use crate::marks::push_known;
-use crate::operands::{leads_to, operands};
-use crate::placed::{Placed, push_instruction};
-use crate::reasons::{meaning_of_reason, repair_of_reason};
+use crate::verdict::marks::push_known;
+use crate::verdict::operands::{leads_to, operands};
+use crate::verdict::placed::{Placed, push_instruction};
+use crate::verdict::reasons::{meaning_of_reason, repair_of_reason};
 use std::alloc::{AllocError, Global};
 use trlab_asm::register_text;
 use trlab_code::{Instr, Register};
+use trlab_notes::Reason;
 use trlab_pages::Page;
 use trlab_verify::{Mark, Note, notes_of_refused};
 
@@ -19,8 +20,8 @@ struct Refused<'a> {
     program: Placed<'a>,
     /// The refused instruction, counted from 0.
     at: u32,
-    /// The number of the reason, 1 to 12.
-    reason: u32,
+    /// The reason.
+    reason: Reason,
     /// What the verifier knows before each instruction up to the refused one.
     notes: &'a [Note],
 }
@@ -99,12 +100,14 @@ fn push_speed(page: &mut Page, instr: Instr, words: &str) -> Result<(), AllocErr
 }
 
 /// Adds what the operands have to do with the reason.
-fn push_why(page: &mut Page, reason: u32, note: &Note, instr: Instr) -> Result<(), AllocError> {
+fn push_why(page: &mut Page, reason: Reason, note: &Note, instr: Instr) -> Result<(), AllocError> {
     match reason {
-        8 => push_largest(page, note, instr),
-        9 => push_difference(page, instr),
-        10 => push_speed(page, instr, " is not known to be at most the gap."),
-        11 => push_speed(page, instr, " is not known to be at most the limit."),
+        Reason::MaybeTooLarge => push_largest(page, note, instr),
+        Reason::MaybeBelowZero => push_difference(page, instr),
+        Reason::MaybeAboveGap => { push_speed(page, instr, " is not known to be at most the gap.") }
+        Reason::MaybeAboveLimit => {
+            push_speed(page, instr, " is not known to be at most the limit.")
+        }
         _ => Ok(()),
     }
 }
@@ -169,8 +172,8 @@ fn push_note(page: &mut Page, refused: &Refused<'_>) -> Result<(), AllocError> {
 fn push_refusal(page: &mut Page, refused: &Refused<'_>) -> Result<(), AllocError> {
     push_instruction(page, refused.program, refused.at)?;
     let meaning = meaning_of_reason(refused.reason);
-    push_meaning(page, "Reason ", u64::from(refused.reason), meaning)?;
-    if refused.reason == 1 {
+    push_meaning(page, "Reason ", u64::from(refused.reason.number()), meaning)?;
+    if refused.reason == Reason::Unreachable {
         push_skip(page, refused)?;
     } else {
         push_note(page, refused)?;
@@ -182,9 +185,9 @@ fn push_refusal(page: &mut Page, refused: &Refused<'_>) -> Result<(), AllocError
 
 /// The refused instruction, by the reason and by how many instructions have notes: one to which no way leads
 /// has none.
-fn refused_at(reason: u32, notes: usize) -> u32 {
+fn refused_at(reason: Reason, notes: usize) -> u32 {
     let notes = u32::try_from(notes).unwrap_or(u32::MAX);
-    if reason == 1 {
+    if reason == Reason::Unreachable {
         notes
     } else {
         notes.saturating_sub(1)
@@ -195,12 +198,12 @@ fn refused_at(reason: u32, notes: usize) -> u32 {
 ///
 /// # Errors
 ///
-/// Want of memory.
+/// Where memory ran out.
 pub fn push_refused(
     alloc: Global,
     page: &mut Page,
     program: Placed<'_>,
-    reason: u32,
+    reason: Reason,
 ) -> Result<(), AllocError> {
     let Some(notes) = notes_of_refused(alloc, program.code)? else {
         return Ok(());

@@ -1,11 +1,12 @@
 //! The refused program of a job.
 
-use crate::instr_lines::{instr_lines, part_of};
-use crate::placed::Placed;
-use crate::refusal::push_refused;
+use crate::verdict::instr_lines::{instr_lines, part_of};
+use crate::verdict::placed::Placed;
+use crate::verdict::refusal::push_refused;
 use std::alloc::{AllocError, Global};
 use trlab_asm::{assemble, disassemble};
 use trlab_code::Kind;
+use trlab_notes::Reason;
 use trlab_pages::Page;
 use trlab_repairs::Place;
 use trlab_texts::program::{code_line, heads};
@@ -27,7 +28,7 @@ fn push_block(
     page: &mut Page,
     kind: Kind,
     place: &Place<'_>,
-    reason: u32,
+    reason: Reason,
 ) -> Result<(), AllocError> {
     let Some(part) = part_of(place.below()) else {
         return Ok(());
@@ -53,7 +54,7 @@ fn push_code_line(
     alloc: Global,
     page: &mut Page,
     line: &[u8],
-    reason: u32,
+    reason: Reason,
 ) -> Result<(), AllocError> {
     let Ok(code) = code_line(alloc, line) else {
         return Ok(());
@@ -76,12 +77,12 @@ fn push_code_line(
 ///
 /// # Errors
 ///
-/// Want of memory.
+/// Where memory ran out.
 pub fn push_part_refusal(
     alloc: Global,
     page: &mut Page,
     place: &Place<'_>,
-    reason: u32,
+    reason: Reason,
 ) -> Result<(), AllocError> {
     let line = place.line.unwrap_or(b"");
     match heading_kind(line) {

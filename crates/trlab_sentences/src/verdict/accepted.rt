@@ -1,8 +1,8 @@
 //! The explanation of an accepted program.
 
 use crate::lines::push_count;
-use crate::marks::push_known;
-use crate::placed::{Placed, push_instruction};
+use crate::verdict::marks::push_known;
+use crate::verdict::placed::{Placed, push_instruction};
 use std::alloc::{AllocError, Global};
 use trlab_asm::REGISTERS;
 use trlab_pages::Page;
@@ -36,7 +36,7 @@ fn push_table(page: &mut Page, program: Placed<'_>, table: &[Note]) -> Result<()
 ///
 /// # Errors
 ///
-/// Want of memory.
+/// Where memory ran out.
 pub fn push_accepted(
     alloc: Global,
     page: &mut Page,

@@ -42,7 +42,7 @@ fn lines_numbered<'a>(
 ///
 /// # Errors
 ///
-/// Want of memory.
+/// Where memory ran out.
 pub fn instr_lines<'a>(
     alloc: Global,
     above: u32,
