@@ -1,5 +1,5 @@
 -- What is noted at a desk is the last event of the history.
-use Rattle.std.proofs.Common.{◌≡◌, ◌+◌, Bool, true, false, List, [], ◌∷◌, ◌++◌, refl, sym, ap, ◌∙◌, subst, MatchBool}
+use Rattle.std.proofs.Common.{◌≡◌, Bool, true, false, List, [], ◌∷◌, ◌++◌, refl, sym, ap, ◌∙◌, subst, MatchBool}
 use Rattle.trlab_sequential_book.specs.declared.event.Call.{Call}
 use Rattle.trlab_sequential_book.specs.declared.event.Event.{Event}
 use Rattle.trlab_sequential_book.specs.declared.event.Reply.{Reply}

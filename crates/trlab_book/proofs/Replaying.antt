@@ -1,21 +1,23 @@
 -- One event more is one call more to replay.
 use Rattle.std.specs.List.{position}
-use Rattle.std.proofs.Common.{◌≡◌, ℕ, ◌+◌, ◌==◌, ◌||◌, max, ◌↔◌, IsTrue, Bool, List, [], ◌∷◌, ◌++◌, true, false, map, refl, sym, ap, subst, ◌∙◌, arith, length-append, MatchBool, Option, Some, None, slice_get, slice_set}
-use Rattle.std.specs.Prelude.{is_some, not, ltb, length, if◌then◌else◌}
-use Rattle.std.proofs.lemmas.Bool.{cond-false, cond_both, false≢true}
+use Rattle.std.proofs.Common.{◌≡◌, ℕ, ◌+◌, ◌==◌, ◌||◌, inl, inr, max, ◌↔◌, IsTrue, Bool, List, [], ◌∷◌, ◌++◌, true, false, map, refl, sym, ap, subst, ◌∙◌, arith, length-append, MatchBool, Option, Some, None, slice_get, slice_set}
+use Rattle.std.specs.Prelude.{Result, Ok, Err, ◌⊎◌, is_some, not, ltb, length, if◌then◌else◌}
+use Rattle.std.proofs.lemmas.Bool.{MatchBool-at_false, MatchBool-at_true, cond-false, cond_both, false≢true}
 use Rattle.std.proofs.lemmas.List.{map-append}
 use Rattle.std.proofs.Math.Logic.{∥∥₁_map}
 use Rattle.trlab_sequential_book.specs.declared.event.Call.{Call}
 use Rattle.trlab_sequential_book.specs.declared.event.Event.{Event}
-use Rattle.trlab_sequential_book.specs.declared.event.Call.TheVariants.{GiveBack, Read, Replace, Revoke, Submit}
+use Rattle.trlab_sequential_book.specs.declared.event.Call.TheVariants.{Cancel, GiveBack, Read, Replace, Revoke, Submit}
+use Rattle.trlab_sequential_book.specs.declared.event.Call.TheVariants as call
 use Rattle.trlab_sequential_book.specs.declared.event.Offered.{Offered}
 use Rattle.trlab_sequential_book.specs.declared.event.Reply.{Reply}
 use Rattle.trlab_sequential_book.specs.declared.event.Reply.TheVariants.{Done, Number, Ordered, Refused}
-use Rattle.trlab_sequential_book.specs.declared.fault.BookFault.TheVariants.{Ended, Full, HistoryFull, LanesMismatch, NoSuchJob, SheetFull, StrangerLease}
-use Rattle.trlab_sequential_book.specs.Answers.{is_event}
+use Rattle.trlab_sequential_book.specs.declared.fault.BookFault.{BookFault}
+use Rattle.trlab_sequential_book.specs.declared.fault.BookFault.TheVariants.{Ended, Full, HistoryFull, LanesMismatch, Memory, NoSuchJob, SheetFull, StrangerLease}
+use Rattle.trlab_sequential_book.specs.Answers.{LeadsAs, RepliesAs, is_event, is_memory}
 use Rattle.trlab_sequential_book.specs.Comparison.{IsSame, LeaseCall, OrderCall, offered}
 use Rattle.trlab_sequential_book.specs.Leases.{LeaseState, suits}
-use Rattle.trlab_sequential_book.specs.Machine.{JobState, Outcome, Served, State, after, giving_back, is_free, is_full, is_own, leasing, new_job, next_after, on_free, on_job, ordering, reading, refused, replacing, reply_of, revoking, served, start, submitting}
+use Rattle.trlab_sequential_book.specs.Machine.{JobState, Outcome, Served, State, after, cancelling, giving_back, is_free, is_full, is_own, leasing, new_job, next_after, on_free, on_job, ordering, reading, refused, replacing, reply_of, revoking, served, start, submitting}
 use Rattle.trlab_sequential_book.specs.Sheets.{begin_in_force, entered}
 use Rattle.trlab_sequential_book.specs.declared.seed.Seed.{Seed}
 use Rattle.trlab_rules.specs.Rules.{Programs}
@@ -57,26 +59,11 @@ pub replays_start : (items : List Event) (s : State) → items ≡ [] → s ≡ 
 replays_start items s none begun = rw (none, begun) (∣ record { replies = refl; state_is = refl; count_is = refl } ∣₁)
 
 -- a history with a call and its reply behind it replays to the state after the call
-pub replays_on : (history items : List Event) (s t : State) (c : Call) (told : Reply)
+replays_on : (history items : List Event) (s t : State) (c : Call) (told : Reply)
     → ∥ Replays history s ∥₁ → is_full s ≡ false → items ≡ history ++ event c told ∷ []
     → told ≡ reply_of s c → t ≡ after s c → ∥ Replays items t ∥₁
 replays_on history items s t c told replays room items_are answered state_is =
     rw (items_are, answered, state_is) (∥∥₁_map replays (λ r. replays_more history s c r room))
-
--- a call with an event's reply, noted behind the history
-pub makes : (old ready new : Kept) (call noted : Call) (told said : Reply) → IsUnchanged old ready
-    → new.history.items ≡ ready.history.items ++ event noted told ∷ [] → noted ≡ call → told ≡ said → is_event said ≡ true
-    → said ≡ reply_of ready.book call → new.book ≡ after ready.book call → Makes old call said new
-makes old ready new call noted told said same pushed noted_is told_is is_one answered state_is =
-    let here = ready.history.items in
-    let there = old.history.items in
-    subst (λ b. MatchBool b (Appends old call said new) (IsUnchanged old new)) (sym is_one) (record {
-      history = pushed ∙ ap (λ c. here ++ event c told ∷ []) noted_is ∙ ap (λ r. here ++ event call r ∷ []) (told_is ∙ answered)
-          ∙ ap (λ b. here ++ event call (reply_of b call) ∷ []) same.book
-          ∙ ap (λ xs. xs ++ event call (reply_of old.book call) ∷ []) same.history;
-      book = state_is ∙ ap (λ b. after b call) same.book;
-      answered = answered ∙ ap (λ b. reply_of b call) same.book;
-    })
 
 -- the reply to a call is an event's, where the book is not full and its job's reply is one
 job_is_event : (jobs : List JobState) (i : ℕ) (made : JobState → Outcome) → ((job : JobState) → is_event (made job).reply ≡ true) → is_event (on_job jobs i made).reply ≡ true
@@ -96,7 +83,7 @@ reply_is_event : (s : State) (call : Call) → is_full s ≡ false → is_event 
 reply_is_event s call free is_one =
     ap is_event (cond-false (is_full s) (Refused HistoryFull) (served s call).reply free) ∙ is_one
 
-pub back_is_event : (s : State) (lease : Offered) → is_full s ≡ false → is_event (reply_of s (GiveBack lease)) ≡ true
+back_is_event : (s : State) (lease : Offered) → is_full s ≡ false → is_event (reply_of s (GiveBack lease)) ≡ true
 back_is_event s lease free = reply_is_event s (GiveBack lease) free (job_is_event s.jobs lease.job (giving_back lease) taken)
   where
     taken : (job : JobState) → is_event (giving_back lease job).reply ≡ true
@@ -104,7 +91,7 @@ back_is_event s lease free = reply_is_event s (GiveBack lease) free (job_is_even
         let done : Outcome = record { reply = Done; job = record job { done = lease.step; out = None } } in
         cond_both (is_own lease job) done (refused StrangerLease job) (λ (o : Outcome). is_event o.reply ≡ true) (λ _. refl) (λ _. refl)
 
-pub order_is_event : (s : State) (lease : Offered) → is_full s ≡ false → is_event (reply_of s (OrderCall lease)) ≡ true
+order_is_event : (s : State) (lease : Offered) → is_full s ≡ false → is_event (reply_of s (OrderCall lease)) ≡ true
 order_is_event s lease free = reply_is_event s (OrderCall lease) free (job_is_event s.jobs lease.job (ordering lease) taken)
   where
     taken : (job : JobState) → is_event (ordering lease job).reply ≡ true
@@ -119,7 +106,7 @@ order_is_event s lease free = reply_is_event s (OrderCall lease) free (job_is_ev
         cond_both (job.cancelled || (lease.step == job.steps)) (refused Ended job) going P (λ _. refl)
         (λ _. cond_both (is_own lease job) told refusal P (λ _. refl) (λ _. refl))
 
-pub revoke_is_event : (s : State) (i : ℕ) → is_full s ≡ false → is_event (reply_of s (Revoke i)) ≡ true
+revoke_is_event : (s : State) (i : ℕ) → is_full s ≡ false → is_event (reply_of s (Revoke i)) ≡ true
 revoke_is_event s i free = reply_is_event s (Revoke i) free (job_is_event s.jobs i revoking taken)
   where
     taken : (job : JobState) → is_event (revoking job).reply ≡ true
@@ -127,7 +114,7 @@ revoke_is_event s i free = reply_is_event s (Revoke i) free (job_is_event s.jobs
         let done : Outcome = record { reply = Done; job = record job { out = None } } in
         cond_both (is_some job.out) done (refused StrangerLease job) (λ (o : Outcome). is_event o.reply ≡ true) (λ _. refl) (λ _. refl)
 
-pub replace_is_event : (s : State) (i : ℕ) (rule : Programs) → is_full s ≡ false → is_event (reply_of s (Replace i rule)) ≡ true
+replace_is_event : (s : State) (i : ℕ) (rule : Programs) → is_full s ≡ false → is_event (reply_of s (Replace i rule)) ≡ true
 replace_is_event s i rule free = reply_is_event s (Replace i rule) free (job_is_event s.jobs i (replacing rule) taken)
   where
     taken : (job : JobState) → is_event (replacing rule job).reply ≡ true
@@ -141,7 +128,7 @@ replace_is_event s i rule free = reply_is_event s (Replace i rule) free (job_is_
         (λ _. cond_both (not (suits rule job.seed.road)) (refused LanesMismatch job) full P (λ _. refl)
         (λ _. cond_both (ltb 1024 (length sheet)) (refused SheetFull job) made P (λ _. refl) (λ _. refl)))
 
-pub submit_is_event : (s : State) (seed : Seed) (rule : Programs) (steps : ℕ) → is_full s ≡ false → is_event (reply_of s (Submit seed rule steps)) ≡ true
+submit_is_event : (s : State) (seed : Seed) (rule : Programs) (steps : ℕ) → is_full s ≡ false → is_event (reply_of s (Submit seed rule steps)) ≡ true
 submit_is_event s seed rule steps free = reply_is_event s (Submit seed rule steps) free taken
   where
     taken : is_event (submitting s.jobs seed rule steps).reply ≡ true
@@ -154,20 +141,146 @@ submit_is_event s seed rule steps free = reply_is_event s (Submit seed rule step
         cond_both (not (suits rule seed.road)) lanes some P (λ _. refl)
         (λ _. cond_both (ltb (length s.jobs) 256) made full P (λ _. refl) (λ _. refl))
 
-pub read_is_event : (s : State) (i : ℕ) → is_full s ≡ false → is_event (reply_of s (Read i)) ≡ true
+read_is_event : (s : State) (i : ℕ) → is_full s ≡ false → is_event (reply_of s (Read i)) ≡ true
 read_is_event s i free = reply_is_event s (Read i) free (job_is_event s.jobs i reading (λ _. refl))
 
-pub lease_is_event : (s : State) → is_full s ≡ false → is_event (reply_of s LeaseCall) ≡ true
+lease_is_event : (s : State) → is_full s ≡ false → is_event (reply_of s LeaseCall) ≡ true
 lease_is_event s free = reply_is_event s LeaseCall free (of_free (position is_free s.jobs))
   where
     of_free : (found : Option ℕ) → is_event (on_free s.jobs s.next found).reply ≡ true
     of_free None = refl
     of_free (Some i) = job_is_event s.jobs i (leasing i s.next) (λ _. refl)
 
--- an event's reply does not say that the history is full
-pub tells_event : (old : Kept) (said : Reply) → is_full old.book ≡ false → is_event said ≡ true → TellsFull old said
-tells_event old said free is_one =
-    (λ e. absurd (false≢true (sym (ap is_event e) ∙ is_one)), λ full. absurd (false≢true (sym free ∙ full)))
+cancel_is_event : (s : State) (i : ℕ) → is_full s ≡ false → is_event (reply_of s (Cancel i)) ≡ true
+cancel_is_event s i free = reply_is_event s (Cancel i) free (job_is_event s.jobs i cancelling taken)
+  where
+    taken : (job : JobState) → is_event (cancelling job).reply ≡ true
+    taken job =
+        let done : Outcome = record { reply = Done; job = record job { cancelled = true; out = None } } in
+        cond_both (job.cancelled || (job.done == job.steps)) (refused Ended job) done (λ (o : Outcome). is_event o.reply ≡ true) (λ _. refl) (λ _. refl)
+
+call_is_event : (s : State) (call : Call) → is_full s ≡ false → is_event (reply_of s call) ≡ true
+call_is_event s (Submit seed rule steps) free = submit_is_event s seed rule steps free
+call_is_event s (Replace job rule) free = replace_is_event s job rule free
+call_is_event s call.Lease free = lease_is_event s free
+call_is_event s (call.Order lease) free = order_is_event s lease free
+call_is_event s (GiveBack lease) free = back_is_event s lease free
+call_is_event s (Revoke job) free = revoke_is_event s job free
+call_is_event s (Cancel job) free = cancel_is_event s job free
+call_is_event s (Read job) free = read_is_event s job free
+
+-- an answer that says that memory ran out
+pub memory_is : {A : Type 0} (answer : Result A BookFault) → is_memory answer ≡ true → answer ≡ Err Memory
+memory_is {A} (Ok done) is = absurd (false≢true is)
+memory_is {A} (Err fault) is = ap Err (by fault is)
+  where
+    by : (fault : BookFault) → is_memory {A = A} (Err fault) ≡ true → fault ≡ Memory
+    by Memory is = refl
+    by Full is = absurd (false≢true is)
+    by NoSuchJob is = absurd (false≢true is)
+    by Ended is = absurd (false≢true is)
+    by LanesMismatch is = absurd (false≢true is)
+    by SheetFull is = absurd (false≢true is)
+    by StrangerLease is = absurd (false≢true is)
+    by HistoryFull is = absurd (false≢true is)
+
+-- a call of a book that is not full, its answer, and what its event has added to the history
+pub record IsPut (s t : State) (call : Call) (said : Reply) (history items : List Event) : Type 0 where
+  pub free : is_full s ≡ false
+  pub ran_out : Bool
+  pub memory : ran_out ≡ true → said ≡ Refused Memory
+  pub replies : RepliesAs ran_out said s call
+  pub leads : LeadsAs ran_out s call t
+  pub items_are : MatchBool (is_event said) (items ≡ history ++ event call said ∷ []) (items ≡ history)
+
+-- it is what `put_event` leaves
+pub put : {s t : State} {call noted : Call} {told said : Reply} {history items : List Event} (ran_out : Bool) → is_full s ≡ false
+    → (ran_out ≡ true → said ≡ Refused Memory) → RepliesAs ran_out said s call → LeadsAs ran_out s call t → noted ≡ call → told ≡ said
+    → MatchBool (is_event told) (items ≡ history ++ event noted told ∷ []) (items ≡ history) → IsPut s t call said history items
+put {s} {t} {call} {noted} {told} {said} {history} {items} ran_out free memory replies leads noted_is told_is ensured =
+    let P : Call → Reply → Type 0 = λ c r. MatchBool (is_event r) (items ≡ history ++ event c r ∷ []) (items ≡ history) in
+    record {
+      free = free;
+      ran_out = ran_out;
+      memory = memory;
+      replies = replies;
+      leads = leads;
+      items_are = subst (λ (r : Reply). P call r) told_is (subst (λ (c : Call). P c told) noted_is ensured);
+    }
+
+-- where memory ran out nothing has changed
+record Stays (s t : State) (said : Reply) (history items : List Event) : Type 0 where
+  memory : said ≡ Refused Memory
+  state : t ≡ s
+  items_are : items ≡ history
+
+-- else there is an event more
+record Grows (s t : State) (call : Call) (said : Reply) (history items : List Event) : Type 0 where
+  reply : said ≡ reply_of s call
+  is_one : is_event said ≡ true
+  state : t ≡ after s call
+  items_are : items ≡ history ++ event call said ∷ []
+
+settled : {s t : State} {call : Call} {said : Reply} {history items : List Event} → IsPut s t call said history items
+    → Stays s t said history items ⊎ Grows s t call said history items
+settled {s} {t} {call} {said} {history} {items} p = by p.ran_out p.memory p.replies p.leads
+  where
+    by : (ran_out : Bool) → (ran_out ≡ true → said ≡ Refused Memory) → RepliesAs ran_out said s call → LeadsAs ran_out s call t
+        → Stays s t said history items ⊎ Grows s t call said history items
+    by true memory replies leads = inl (record {
+      memory = memory refl;
+      state = leads;
+      items_are = MatchBool-at_false _ _ (ap is_event (memory refl)) p.items_are;
+    })
+    by false memory replies leads =
+        let one : is_event said ≡ true = ap is_event replies ∙ call_is_event s call p.free in
+        inr (record { reply = replies; is_one = one; state = leads; items_are = MatchBool-at_true _ _ one p.items_are })
+
+-- the history replays to the book, as it did before
+pub replays_put : {s t : State} {call : Call} {said : Reply} {history items : List Event} → IsPut s t call said history items
+    → ∥ Replays history s ∥₁ → ∥ Replays items t ∥₁
+replays_put {s} {t} {call} {said} {history} {items} p replays = by (settled p)
+  where
+    by : Stays s t said history items ⊎ Grows s t call said history items → ∥ Replays items t ∥₁
+    by (inl stays) = rw (stays.items_are, stays.state) replays
+    by (inr grows) = replays_on history items s t call said replays p.free grows.items_are grows.reply grows.state
+
+-- what the call has done to the book and its history
+pub makes_put : (old ready new : Kept) (call : Call) (said : Reply) → IsUnchanged old ready
+    → IsPut ready.book new.book call said ready.history.items new.history.items → Makes old call said new
+makes_put old ready new call said same p = by (settled p)
+  where
+    P : Bool → Type 0
+    P one = MatchBool one (Appends old call said new) (IsUnchanged old new)
+
+    by : Stays ready.book new.book said ready.history.items new.history.items ⊎ Grows ready.book new.book call said ready.history.items new.history.items
+        → Makes old call said new
+    by (inl stays) = subst P (sym (ap is_event stays.memory)) (record {
+      history = stays.items_are ∙ same.history;
+      book = stays.state ∙ same.book;
+    })
+    by (inr grows) = subst P (sym grows.is_one) (record {
+      history = grows.items_are ∙ ap (λ r. ready.history.items ++ event call r ∷ []) grows.reply
+          ∙ ap (λ b. ready.history.items ++ event call (reply_of b call) ∷ []) same.book
+          ∙ ap (λ xs. xs ++ event call (reply_of old.book call) ∷ []) same.history;
+      book = grows.state ∙ ap (λ b. after b call) same.book;
+      answered = grows.reply ∙ ap (λ b. reply_of b call) same.book;
+    })
+
+-- its answer does not say that the history is full, since it is not
+pub tells_put : {t : State} {call : Call} {items : List Event} (old ready : Kept) (said : Reply) → IsUnchanged old ready
+    → IsPut ready.book t call said ready.history.items items → TellsFull old said
+tells_put {t} {call} {items} old ready said same p = (
+  λ full. absurd (by (settled p) full),
+  λ full. absurd (false≢true (sym (sym (ap is_full same.book) ∙ p.free) ∙ full)),
+)
+  where
+    clash : said ≡ Refused Memory → said ≡ Refused HistoryFull → ⊥
+    clash memory full = cc
+
+    by : Stays ready.book t said ready.history.items items ⊎ Grows ready.book t call said ready.history.items items → said ≡ Refused HistoryFull → ⊥
+    by (inl stays) full = clash stays.memory full
+    by (inr grows) full = false≢true (sym (ap is_event full) ∙ grows.is_one)
 
 -- two answers to one question are the same
 one_answer : (a b : Bool) (P : Type 0) → (IsTrue a ↔ P) → (IsTrue b ↔ P) → a ≡ b
@@ -177,14 +290,10 @@ one_answer true false P x y = absurd (false≢true (y.1 (x.0 refl)))
 one_answer false true P x y = absurd (false≢true (x.1 (y.0 refl)))
 
 -- a call that offers a lease, whichever way it is told whether the lease runs its job's road
-pub makes_offered : (call : Offered → Call) (old ready new : Kept) (lease : LeaseState) (same other : Bool) (noted : Offered) (told said : Reply) → IsUnchanged old ready
-    → is_event (reply_of ready.book (call (offered lease same))) ≡ true → IsTrue same ↔ IsSame ready.book.jobs lease → IsTrue other ↔ IsSame old.book.jobs lease
-    → new.history.items ≡ ready.history.items ++ event (call noted) told ∷ [] → noted ≡ offered lease same → told ≡ said
-    → said ≡ reply_of ready.book (call (offered lease same)) → new.book ≡ after ready.book (call (offered lease same))
-    → Makes old (call (offered lease other)) said new
-makes_offered call old ready new lease same other noted told said unchanged is_one is is_other pushed noted_is told_is answered state_is =
+pub makes_offered : (call : Offered → Call) (old ready new : Kept) (lease : LeaseState) (same other : Bool) (said : Reply) → IsUnchanged old ready
+    → IsTrue same ↔ IsSame ready.book.jobs lease → IsTrue other ↔ IsSame old.book.jobs lease
+    → IsPut ready.book new.book (call (offered lease same)) said ready.history.items new.history.items → Makes old (call (offered lease other)) said new
+makes_offered call old ready new lease same other said unchanged is is_other p =
     let mine = subst (λ (b : State). IsTrue other ↔ IsSame b.jobs lease) (sym unchanged.book) is_other in
     let one = one_answer same other (IsSame ready.book.jobs lease) is mine in
-    subst (λ (s : Bool). Makes old (call (offered lease s)) said new) one
-    (makes old ready new (call (offered lease same)) (call noted) told said unchanged pushed (ap call noted_is) told_is
-    (ap is_event answered ∙ is_one) answered state_is)
+    subst (λ (s : Bool). Makes old (call (offered lease s)) said new) one (makes_put old ready new (call (offered lease same)) said unchanged p)

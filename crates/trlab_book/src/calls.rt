@@ -1,24 +1,32 @@
 //! Calls of a shared book through a desk: each takes the lock once, and is one event of the desk's
 //! subhistory: this call, as it was made, with the reply that its caller has.
 
-ghost use Rattle.std.specs.Prelude.{◌≡◌, Bool, IfErr};
-ghost use Rattle.trlab_sequential_book.specs.Answers.{back_reply, done_reply, lease_reply};
+ghost use Rattle.std.specs.Prelude.{◌≡◌, ◌++◌, ◌∷◌, [], Bool, IfErr, MatchBool};
+ghost use Rattle.trlab_sequential_book.specs.Answers.{back_reply, done_reply, is_event, lease_reply};
 ghost use Rattle.trlab_sequential_book.specs.Answers.{number_reply, order_reply, seen_reply};
 ghost use Rattle.trlab_sequential_book.specs.Comparison.{LeaseCall, OrderCall, offered};
-ghost use Rattle.trlab_sequential_book.specs.declared.event.Call.TheVariants.{Cancel, GiveBack, Read, Replace, Revoke, Submit};
-ghost use Rattle.trlab_book.specs.Desks.{IsOfLease, IsOfOrder, IsOfRead, Makes, MakesOf, TellsSame};
+ghost use Rattle.trlab_sequential_book.specs.Replay.{event};
+ghost use Rattle.trlab_sequential_book.specs.declared.event.Call.{Call};
+ghost use Rattle.trlab_sequential_book.specs.declared.event.Call.TheVariants.{Cancel, GiveBack, Read};
+ghost use Rattle.trlab_sequential_book.specs.declared.event.Call.TheVariants.{Replace, Revoke, Submit};
+ghost use Rattle.trlab_book.specs.Desks.{IsOfLease, IsOfOrder, IsOfRead, Makes, MakesOf, PutsDown, TellsSame};
+ghost use Rattle.trlab_strands.specs.Tokens.{list_of};
 
-use crate::desk::{Desk, SharedBook};
+use crate::desk::{Desk, Locked, SharedBook};
 use crate::events::{copied_replace, copied_submit};
+use crate::replies::{
+    is_event, reply_to_back, reply_to_done, reply_to_lease, reply_to_number, reply_to_order,
+    reply_to_read,
+};
 use std::alloc::Global;
 use std::sync::Wait;
 use trlab_rules::Rule;
-use trlab_sequential_book::{BookFault, BoxedSeed, Lease, Order, Seed, Snapshot};
-use trlab_strands::Ledger;
+use trlab_sequential_book::{BookFault, BoxedSeed, Event, Lease, Order, Reply, Seed, Snapshot};
+use trlab_strands::{Keeper, Ledger, Strands};
 
 impl<L: Ledger> SharedBook<L> {
-    /// Submits a job, and answers its number. The history shares the seed with the job, and keeps a copy of the
-    /// rule, which is made before the lock is taken.
+    /// Submits a job, and answers its number. The history shares the seed with the job, and keeps a copy
+    /// of the rule, which is made before the lock is taken.
     ///
     /// # Errors
     ///
@@ -35,12 +43,15 @@ impl<L: Ledger> SharedBook<L> {
         ensures { Makes desk.old (Submit seed rule steps) (number_reply result) desk.new }
     {
         let Ok(boxed) = BoxedSeed::new(alloc, seed) else {
-            return Err(self.lock.lock(rt).kept.wanting());
+            return Err(self.lock.lock(rt).kept.fault_without_memory());
         };
         let copied = copied_submit(alloc, &boxed, &rule, steps);
-        self.lock
-            .lock(rt)
-            .submit(&self.strands, desk, alloc, boxed, rule, steps, copied)
+        let mut guard = self.lock.lock(rt);
+        let Locked { kept, keeper } = &mut *guard;
+        let answer = kept.submit_copied(alloc, boxed, rule, steps, copied);
+        let reply = reply_to_number(&answer);
+        note_event(keeper, &self.strands, desk, &kept.history, reply);
+        answer
     }
 
     /// Puts a rule in force from the first step on that was never ordered, and answers that step.
@@ -59,9 +70,12 @@ impl<L: Ledger> SharedBook<L> {
         ensures { Makes desk.old (Replace job rule) (number_reply result) desk.new }
     {
         let copied = copied_replace(alloc, job, &rule);
-        self.lock
-            .lock(rt)
-            .replace(&self.strands, desk, job, rule, copied)
+        let mut guard = self.lock.lock(rt);
+        let Locked { kept, keeper } = &mut *guard;
+        let answer = kept.replace_copied(job, rule, copied);
+        let reply = reply_to_number(&answer);
+        note_event(keeper, &self.strands, desk, &kept.history, reply);
+        answer
     }
 
     /// Leases the least job that is free, or answers that there is none.
@@ -77,7 +91,12 @@ impl<L: Ledger> SharedBook<L> {
     ) -> Result<Option<Lease>, BookFault>
         ensures { MakesOf (IsOfLease result) desk.old LeaseCall (lease_reply result) desk.new }
     {
-        self.lock.lock(rt).lease(&self.strands, desk, alloc)
+        let mut guard = self.lock.lock(rt);
+        let Locked { kept, keeper } = &mut *guard;
+        let answer = kept.lease(alloc);
+        let reply = reply_to_lease(&answer);
+        note_event(keeper, &self.strands, desk, &kept.history, reply);
+        answer
     }
 
     /// The order for the step at which a lease stands.
@@ -96,7 +115,12 @@ impl<L: Ledger> SharedBook<L> {
             × MakesOf (IsOfOrder lease.now same result) desk.old
             (OrderCall (offered lease.now same)) (order_reply result) desk.new }
     {
-        self.lock.lock(rt).order(&self.strands, desk, alloc, lease)
+        let mut guard = self.lock.lock(rt);
+        let Locked { kept, keeper } = &mut *guard;
+        let answer = kept.order(alloc, lease);
+        let reply = reply_to_order(&answer);
+        note_event(keeper, &self.strands, desk, &kept.history, reply);
+        answer
     }
 
     /// Gives a lease back: the job's steps and road become the lease's.
@@ -115,7 +139,12 @@ impl<L: Ledger> SharedBook<L> {
             (GiveBack (offered lease same)) (back_reply result) desk.new }
         ensures err { IfErr result (λ e. e.0 ≡ lease) }
     {
-        self.lock.lock(rt).give_back(&self.strands, desk, lease)
+        let mut guard = self.lock.lock(rt);
+        let Locked { kept, keeper } = &mut *guard;
+        let answer = kept.give_back(lease);
+        let reply = reply_to_back(&answer);
+        note_event(keeper, &self.strands, desk, &kept.history, reply);
+        answer
     }
 
     /// Ends the lease of a job.
@@ -126,7 +155,12 @@ impl<L: Ledger> SharedBook<L> {
     pub fn revoke<R: Wait>(&self, rt: &R, desk: &mut Desk<L>, job: u32) -> Result<(), BookFault>
         ensures { Makes desk.old (Revoke job) (done_reply result) desk.new }
     {
-        self.lock.lock(rt).revoke(&self.strands, desk, job)
+        let mut guard = self.lock.lock(rt);
+        let Locked { kept, keeper } = &mut *guard;
+        let answer = kept.revoke(job);
+        let reply = reply_to_done(&answer);
+        note_event(keeper, &self.strands, desk, &kept.history, reply);
+        answer
     }
 
     /// Ends a job, and its lease.
@@ -137,7 +171,12 @@ impl<L: Ledger> SharedBook<L> {
     pub fn cancel<R: Wait>(&self, rt: &R, desk: &mut Desk<L>, job: u32) -> Result<(), BookFault>
         ensures { Makes desk.old (Cancel job) (done_reply result) desk.new }
     {
-        self.lock.lock(rt).cancel(&self.strands, desk, job)
+        let mut guard = self.lock.lock(rt);
+        let Locked { kept, keeper } = &mut *guard;
+        let answer = kept.cancel(job);
+        let reply = reply_to_done(&answer);
+        note_event(keeper, &self.strands, desk, &kept.history, reply);
+        answer
     }
 
     /// A snapshot of a job, also of one that was cancelled.
@@ -154,6 +193,36 @@ impl<L: Ledger> SharedBook<L> {
     ) -> Result<Snapshot, BookFault>
         ensures { MakesOf (IsOfRead job result) desk.old (Read job) (seen_reply result) desk.new }
     {
-        self.lock.lock(rt).read(&self.strands, desk, alloc, job)
+        let mut guard = self.lock.lock(rt);
+        let Locked { kept, keeper } = &mut *guard;
+        let answer = kept.read(alloc, job);
+        let reply = reply_to_read(&answer);
+        note_event(keeper, &self.strands, desk, &kept.history, reply);
+        answer
+    }
+}
+
+/// Puts the last event of the history into the desk's subhistory, where this reply is of an event. What
+/// `Locked` keeps is broken by a call and holds again behind this, so it is handed in by its parts.
+fn note_event<L: Ledger>(
+    keeper: &mut Keeper<L, Event>,
+    strands: &Strands<L, Event>,
+    desk: &mut Desk<L>,
+    history: &Vec<Event>,
+    reply: Reply,
+)
+    ensures { (call : Call)
+        → MatchBool (is_event reply)
+        (history.now.items ≡ list_of keeper.old ++ event call reply ∷ [])
+        (history.now.items ≡ list_of keeper.old)
+        → (history.now.items ≡ list_of keeper.new)
+        × PutsDown desk.old (list_of keeper.old) call reply desk.new }
+{
+    if !is_event(reply) {
+        return;
+    }
+    if let Some(event) = history.last() {
+        keeper.note(strands, &mut desk.strand, event);
+        desk.count = desk.count.saturating_add(1);
     }
 }

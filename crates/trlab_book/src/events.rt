@@ -1,26 +1,31 @@
 //! Calls of a book with its history: each appends one event, or changes nothing.
 
-ghost use Rattle.std.specs.Prelude.{◌≡◌, ◌↔◌, ◌<◌, Bool, true, false, IsTrue, IfOk, IfErr, OnOk, [], vec_len};
+ghost use Rattle.std.specs.Prelude.{◌≡◌, ◌↔◌, ◌<◌, ◌++◌, ◌∷◌, [], Bool, true, false, IsTrue, MatchBool};
+ghost use Rattle.std.specs.Prelude.{IfOk, IfErr, OnOk, vec_len};
 ghost use Rattle.std.specs.Bool.{OnTrue};
 ghost use Rattle.std.specs.Vec.{vec_capacity};
 ghost use Rattle.trlab_sequential_book.specs.Answers.{back_reply, done_reply, is_event, lease_reply};
 ghost use Rattle.trlab_sequential_book.specs.Answers.{number_reply, order_reply, seen_reply};
-ghost use Rattle.trlab_sequential_book.specs.Comparison.{IsLent, IsRuleAt, IsSame, IsSeen, LeaseCall, OrderCall, offered};
+ghost use Rattle.trlab_sequential_book.specs.Comparison.{IsLent, IsRuleAt, IsSame, IsSeen};
+ghost use Rattle.trlab_sequential_book.specs.Comparison.{LeaseCall, OrderCall, offered};
 ghost use Rattle.trlab_sequential_book.specs.Machine.{is_full, start};
 ghost use Rattle.trlab_sequential_book.specs.declared.fault.BookFault.TheVariants.{HistoryFull};
-ghost use Rattle.trlab_sequential_book.specs.declared.event.Call.TheVariants.{Cancel, GiveBack, Read, Replace, Revoke, Submit};
+ghost use Rattle.trlab_sequential_book.specs.Replay.{event};
+ghost use Rattle.trlab_sequential_book.specs.declared.event.Call.TheVariants.{Cancel, GiveBack, Read};
+ghost use Rattle.trlab_sequential_book.specs.declared.event.Call.TheVariants.{Replace, Revoke, Submit};
 ghost use Rattle.trlab_sequential_book.specs.declared.event.Reply.TheVariants.{Refused};
 ghost use Rattle.trlab_book.specs.Events.{IsUnchanged, Makes, TellsFull};
 
 use crate::kept::Kept;
 use crate::replies::{
-    reply_to_back, reply_to_done, reply_to_lease, reply_to_number, reply_to_order, reply_to_read,
+    is_event, reply_to_back, reply_to_done, reply_to_lease, reply_to_number, reply_to_order,
+    reply_to_read,
 };
 use std::alloc::{AllocError, Global};
 use trlab_rules::Rule;
 use trlab_sequential_book::{
-    Book, BookFault, BoxedRule, BoxedSeed, Call, Event, Lease, Offered, Order, Seed, Snapshot,
-    is_for_memory,
+    Book, BookFault, BoxedRule, BoxedSeed, Call, Event, Lease, Offered, Order, Reply, Seed,
+    Snapshot,
 };
 
 impl Kept {
@@ -81,14 +86,14 @@ impl Kept {
         ensures full { TellsFull self.old (number_reply result) }
     {
         let Ok(boxed) = BoxedSeed::new(alloc, seed) else {
-            return Err(self.wanting());
+            return Err(self.fault_without_memory());
         };
         let copied = copied_submit(alloc, &boxed, &rule, steps);
         self.submit_copied(alloc, boxed, rule, steps, copied)
     }
 
-    /// How a call is refused where there was no memory for what it was to be made with.
-    pub(crate) fn wanting(&self) -> BookFault
+    /// How a call is refused where memory ran out before it was made.
+    pub(crate) fn fault_without_memory(&self) -> BookFault
         ensures none { is_event (Refused result) ≡ false }
         ensures full { (Refused result ≡ Refused HistoryFull) ↔ (is_full self.now.book ≡ true) }
     {
@@ -115,11 +120,8 @@ impl Kept {
     {
         let call = self.make_room_for(copied)?;
         let answer = self.book.submit_boxed(alloc, seed, rule, steps);
-        if is_for_memory(&answer) {
-            return answer;
-        }
         let reply = reply_to_number(&answer);
-        self.history.push_reserved(Event { call, reply });
+        put_event(&mut self.history, call, reply);
         answer
     }
 
@@ -149,11 +151,8 @@ impl Kept {
     {
         let call = self.make_room_for(copied)?;
         let answer = self.book.replace(job, rule);
-        if is_for_memory(&answer) {
-            return answer;
-        }
         let reply = reply_to_number(&answer);
-        self.history.push_reserved(Event { call, reply });
+        put_event(&mut self.history, call, reply);
         answer
     }
 
@@ -162,7 +161,6 @@ impl Kept {
     /// # Errors
     ///
     /// As the book's call; `Memory` also where the history can't grow.
-    #[tactic(auto, using(crate::proofs::Replaying::replays_on))]
     pub fn lease(&mut self, alloc: Global) -> Result<Option<Lease>, BookFault>
         ensures made { Makes self.old LeaseCall (lease_reply result) self.new }
         ensures lent { IfOk result (λ o. IsLent self.old.book.jobs self.old.book.next o) }
@@ -170,24 +168,17 @@ impl Kept {
     {
         self.make_room()?;
         let answer = self.book.lease(alloc);
-        if is_for_memory(&answer) {
-            return answer;
-        }
         let reply = reply_to_lease(&answer);
-        self.history.push_reserved(Event {
-            call: Call::Lease,
-            reply,
-        });
+        put_event(&mut self.history, Call::Lease, reply);
         answer
     }
 
-    /// Orders the step at which a lease stands. The order shares its rule with the sheet, so the allocator is not
-    /// used.
+    /// Orders the step at which a lease stands. The order shares its rule with the sheet, so the allocator is
+    /// not used.
     ///
     /// # Errors
     ///
     /// As the book's call; `Memory` also where the history can't grow.
-    #[tactic(auto, using(crate::proofs::Replaying::replays_on))]
     pub fn order(&mut self, _: Global, lease: &Lease) -> Result<Order, BookFault>
         ensures made { (same : Bool) → (IsTrue same ↔ IsSame self.old.book.jobs lease.now)
             → Makes self.old (OrderCall (offered lease.now same)) (order_reply result) self.new }
@@ -201,11 +192,8 @@ impl Kept {
         let same = self.book.is_same(lease);
         let call = Call::Order(parts_of_lease(lease, same));
         let answer = self.book.order_as(lease, same);
-        if is_for_memory(&answer) {
-            return answer;
-        }
         let reply = reply_to_order(&answer);
-        self.history.push_reserved(Event { call, reply });
+        put_event(&mut self.history, call, reply);
         answer
     }
 
@@ -214,7 +202,6 @@ impl Kept {
     /// # Errors
     ///
     /// As the book's call, with the lease; `Memory` where the history can't grow.
-    #[tactic(auto, using(crate::proofs::Replaying::replays_on))]
     pub fn give_back(&mut self, lease: Lease) -> Result<(), (Lease, BookFault)>
         ensures made { (same : Bool) → (IsTrue same ↔ IsSame self.old.book.jobs lease)
             → Makes self.old (GiveBack (offered lease same)) (back_reply result) self.new }
@@ -231,7 +218,7 @@ impl Kept {
         let call = Call::GiveBack(parts_of_lease(&lease, same));
         let answer = self.book.give_back_as(lease, same);
         let reply = reply_to_back(&answer);
-        self.history.push_reserved(Event { call, reply });
+        put_event(&mut self.history, call, reply);
         answer
     }
 
@@ -240,7 +227,6 @@ impl Kept {
     /// # Errors
     ///
     /// As the book's call; `Memory` where the history can't grow.
-    #[tactic(auto, using(crate::proofs::Replaying::replays_on))]
     pub fn revoke(&mut self, job: u32) -> Result<(), BookFault>
         ensures made { Makes self.old (Revoke job) (done_reply result) self.new }
         ensures full { TellsFull self.old (done_reply result) }
@@ -248,10 +234,7 @@ impl Kept {
         self.make_room()?;
         let answer = self.book.revoke(job);
         let reply = reply_to_done(&answer);
-        self.history.push_reserved(Event {
-            call: Call::Revoke(job),
-            reply,
-        });
+        put_event(&mut self.history, Call::Revoke(job), reply);
         answer
     }
 
@@ -260,7 +243,6 @@ impl Kept {
     /// # Errors
     ///
     /// As the book's call; `Memory` where the history can't grow.
-    #[tactic(auto, using(crate::proofs::Replaying::replays_on))]
     pub fn cancel(&mut self, job: u32) -> Result<(), BookFault>
         ensures made { Makes self.old (Cancel job) (done_reply result) self.new }
         ensures full { TellsFull self.old (done_reply result) }
@@ -268,10 +250,7 @@ impl Kept {
         self.make_room()?;
         let answer = self.book.cancel(job);
         let reply = reply_to_done(&answer);
-        self.history.push_reserved(Event {
-            call: Call::Cancel(job),
-            reply,
-        });
+        put_event(&mut self.history, Call::Cancel(job), reply);
         answer
     }
 
@@ -280,7 +259,6 @@ impl Kept {
     /// # Errors
     ///
     /// As the book's call; `Memory` also where the history can't grow.
-    #[tactic(auto, using(crate::proofs::Replaying::replays_on))]
     pub fn read(&mut self, alloc: Global, job: u32) -> Result<Snapshot, BookFault>
         ensures made { Makes self.old (Read job) (seen_reply result) self.new }
         ensures seen { IfOk result (λ s. IsSeen self.old.book.jobs job s) }
@@ -288,16 +266,21 @@ impl Kept {
     {
         self.make_room()?;
         let answer = self.book.read(alloc, job);
-        let wanting = is_for_memory(&answer);
-        if wanting {
-            return answer;
-        }
         let reply = reply_to_read(&answer);
-        self.history.push_reserved(Event {
-            call: Call::Read(job),
-            reply,
-        });
+        put_event(&mut self.history, Call::Read(job), reply);
         answer
+    }
+}
+
+/// Puts a call and its reply behind the history, where they are an event.
+fn put_event(history: &mut Vec<Event>, call: Call, reply: Reply)
+    requires { vec_len history.old < vec_capacity history.old }
+    ensures { MatchBool (is_event reply)
+        (history.new.items ≡ history.old.items ++ event call reply ∷ [])
+        (history.new.items ≡ history.old.items) }
+{
+    if is_event(reply) {
+        history.push_reserved(Event { call, reply });
     }
 }
 

@@ -9,7 +9,6 @@ mod events;
 mod fault;
 mod kept;
 pub mod laws;
-mod locked;
 mod ordered;
 mod replies;
 mod running;

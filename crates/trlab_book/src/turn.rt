@@ -29,121 +29,105 @@ pub fn run_one<L: Ledger, R: Threads + Wait + Sync, G: Gate + Sync>(
     requires { (0 < workers) × (workers ≤ MOST_WORKERS) }
     ensures { GoesOn desk.old desk.new }
 {
-    let team = Team::new(rt, workers, gate);
-    team.pool.run(
+    let runner = Runner {
+        rt,
+        alloc,
+        book,
+        team: Team::new(rt, workers, gate),
+    };
+    runner.team.pool.run(
         alloc,
         &mut || -> Result<(), RunFault>
             ensures { GoesOn desk.entry.now desk.exit.now }
-        { take_leases(rt, alloc, book, desk, &team) },
+        { runner.take_leases(desk) },
     )
 }
 
-/// Takes leases until no job is free.
-fn take_leases<L: Ledger, R: Threads + Wait + Sync, G: Gate + Sync>(
-    rt: &R,
+/// One runner: the book whose jobs it takes, and its workers.
+#[derive(Drop)]
+struct Runner<'a, L: Ledger, R, G> {
+    rt: &'a R,
     alloc: Global,
-    book: &SharedBook<L>,
-    desk: &mut Desk<L>,
-    team: &Team<R, G>,
-) -> Result<(), RunFault>
-    ensures { GoesOn desk.old desk.new }
-{
-    for _ in rt.forever() {
-        if let Some(ended) = take_free(rt, alloc, book, desk, team) {
-            return ended;
+    book: &'a SharedBook<L>,
+    team: Team<'a, R, G>,
+}
+
+impl<'a, L: Ledger, R: Threads + Wait + Sync, G: Gate + Sync> Runner<'a, L, R, G> {
+    /// Takes leases until no job is free.
+    fn take_leases(&self, desk: &mut Desk<L>) -> Result<(), RunFault>
+        ensures { GoesOn desk.old desk.new }
+    {
+        for _ in self.rt.forever() {
+            if let Some(ended) = self.take_free(desk) {
+                return ended;
+            }
+        }
+        Ok(())
+    }
+
+    /// Leases a free job for one turn. Where none is free, or after a fault, it answers how the runner ends.
+    fn take_free(&self, desk: &mut Desk<L>) -> Option<Result<(), RunFault>>
+        ensures { GoesOn desk.old desk.new }
+    {
+        match self.book.lease(self.rt, self.alloc, desk) {
+            Ok(Some(lease)) => match self.take_turn(desk, lease) {
+                Ok(()) => None,
+                Err(fault) => Some(Err(fault)),
+            },
+            Ok(None) => Some(Ok(())),
+            Err(BookFault::HistoryFull) => Some(Err(RunFault::HistoryFull)),
+            Err(_) => Some(Err(RunFault::Memory)),
         }
     }
-    Ok(())
-}
 
-/// Leases a free job for one turn. Where none is free, or after a fault, it answers how the runner ends.
-fn take_free<L: Ledger, R: Threads + Wait + Sync, G: Gate + Sync>(
-    rt: &R,
-    alloc: Global,
-    book: &SharedBook<L>,
-    desk: &mut Desk<L>,
-    team: &Team<R, G>,
-) -> Option<Result<(), RunFault>>
-    ensures { GoesOn desk.old desk.new }
-{
-    match book.lease(rt, alloc, desk) {
-        Ok(Some(lease)) => match take_turn(rt, alloc, book, desk, lease, team) {
-            Ok(()) => None,
-            Err(fault) => Some(Err(fault)),
-        },
-        Ok(None) => Some(Ok(())),
-        Err(BookFault::HistoryFull) => Some(Err(RunFault::HistoryFull)),
-        Err(_) => Some(Err(RunFault::Memory)),
-    }
-}
-
-/// Runs a lease for some steps and gives it back.
-fn take_turn<L: Ledger, R: Threads + Wait + Sync, G: Gate + Sync>(
-    rt: &R,
-    alloc: Global,
-    book: &SharedBook<L>,
-    desk: &mut Desk<L>,
-    lease: Lease,
-    team: &Team<R, G>,
-) -> Result<(), RunFault>
-    ensures { GoesOn desk.old desk.new }
-{
-    let mut lease = lease;
-    match run_steps(rt, alloc, book, desk, &mut lease, team) {
-        Ok(()) => match book.give_back(rt, desk, lease) {
-            Ok(()) => Ok(()),
-            Err((lease, fault)) => end_lease(rt, book, desk, lease, fault),
-        },
-        Err(fault) => end_lease(rt, book, desk, lease, fault),
-    }
-}
-
-/// Orders a step and runs it, over and over. The lock is free while it runs.
-fn run_steps<L: Ledger, R: Threads + Wait + Sync, G: Gate + Sync>(
-    rt: &R,
-    alloc: Global,
-    book: &SharedBook<L>,
-    desk: &mut Desk<L>,
-    lease: &mut Lease,
-    team: &Team<R, G>,
-) -> Result<(), BookFault>
-    ensures { GoesOn desk.old desk.new }
-{
-    for _ in 0..STEPS_A_TURN {
-        if lease.step() >= lease.steps() {
-            return Ok(());
-        }
-        let order = book.order(rt, alloc, desk, lease)?;
-        let ran = team.take_step(alloc, lease, &order);
-        drop(order);
-        match ran {
-            Ok(()) => {}
-            Err(LeaseFault::WrongOrder) => return Err(BookFault::StrangerLease),
-            Err(LeaseFault::Memory) => return Err(BookFault::Memory),
+    /// Runs a lease for some steps and gives it back.
+    fn take_turn(&self, desk: &mut Desk<L>, lease: Lease) -> Result<(), RunFault>
+        ensures { GoesOn desk.old desk.new }
+    {
+        let mut lease = lease;
+        match self.run_steps(desk, &mut lease) {
+            Ok(()) => match self.book.give_back(self.rt, desk, lease) {
+                Ok(()) => Ok(()),
+                Err((lease, fault)) => self.end_lease(desk, lease, fault),
+            },
+            Err(fault) => self.end_lease(desk, lease, fault),
         }
     }
-    Ok(())
-}
 
-/// Drops a lease after a fault. Where memory ran out it is revoked, so that others can take the job; where
-/// the book no longer takes it, the runner goes on.
-fn end_lease<L: Ledger, R: Wait>(
-    rt: &R,
-    book: &SharedBook<L>,
-    desk: &mut Desk<L>,
-    lease: Lease,
-    fault: BookFault,
-) -> Result<(), RunFault>
-    ensures { GoesOn desk.old desk.new }
-{
-    let job = lease.job();
-    drop(lease);
-    match fault {
-        BookFault::HistoryFull => Err(RunFault::HistoryFull),
-        BookFault::Memory => match book.revoke(rt, desk, job) {
-            Err(BookFault::HistoryFull) => Err(RunFault::HistoryFull),
-            _ => Err(RunFault::Memory),
-        },
-        _ => Ok(()),
+    /// Orders a step and runs it, over and over. The lock is free while it runs.
+    fn run_steps(&self, desk: &mut Desk<L>, lease: &mut Lease) -> Result<(), BookFault>
+        ensures { GoesOn desk.old desk.new }
+    {
+        for _ in 0..STEPS_A_TURN {
+            if lease.step() >= lease.steps() {
+                return Ok(());
+            }
+            let order = self.book.order(self.rt, self.alloc, desk, lease)?;
+            let ran = self.team.take_step(self.alloc, lease, &order);
+            drop(order);
+            match ran {
+                Ok(()) => {}
+                Err(LeaseFault::WrongOrder) => return Err(BookFault::StrangerLease),
+                Err(LeaseFault::Memory) => return Err(BookFault::Memory),
+            }
+        }
+        Ok(())
+    }
+
+    /// Drops a lease after a fault. Where memory ran out it is revoked, so that others can take the job;
+    /// where the book no longer takes it, the runner goes on.
+    fn end_lease(&self, desk: &mut Desk<L>, lease: Lease, fault: BookFault) -> Result<(), RunFault>
+        ensures { GoesOn desk.old desk.new }
+    {
+        let job = lease.job();
+        drop(lease);
+        match fault {
+            BookFault::HistoryFull => Err(RunFault::HistoryFull),
+            BookFault::Memory => match self.book.revoke(self.rt, desk, job) {
+                Err(BookFault::HistoryFull) => Err(RunFault::HistoryFull),
+                _ => Err(RunFault::Memory),
+            },
+            _ => Ok(()),
+        }
     }
 }

@@ -10,7 +10,7 @@ use Rattle.trlab_sequential_book.specs.declared.order.Order.{Order}
 use Rattle.trlab_sequential_book.specs.Leases.{LeaseState}
 use Rattle.trlab_sequential_book.specs.Machine.{State, reply_of, after}
 
--- the call was refused for want of memory
+-- the call was refused since memory ran out
 abbrev pub is_memory : {A : Type 0} → Result A BookFault → Bool
 is_memory (Err Memory) = true
 is_memory _ = false
@@ -52,10 +52,10 @@ is_event (Refused Memory) = false
 is_event (Refused HistoryFull) = false
 is_event _ = true
 
--- a call replies as the machine does, unless memory was wanting
+-- a call replies as the machine does, unless memory ran out
 abbrev pub RepliesAs : Bool → Reply → State → Call → Type 0
 RepliesAs wanting told book call = MatchBool wanting (Unit {0}) (told ≡ reply_of book call)
 
--- a call leads to the machine's state; where memory was wanting it changes nothing
+-- a call leads to the machine's state; where memory ran out it changes nothing
 abbrev pub LeadsAs : Bool → State → Call → State → Type 0
 LeadsAs wanting book call new = MatchBool wanting (new ≡ book) (new ≡ after book call)

@@ -44,8 +44,8 @@ SnapshotsAreOfSubmits =
     → IsSeen book.jobs number seen
     → (job : JobState) × IsSubmitted history number job × IsSnapshotOf job seen
 
--- what is read of a job: the road to which one worker drives, in the steps done, from where the job's submit starts
--- and under the job's sheet
+-- what is read of a job: the road to which one worker drives, in the steps done, from where the job's submit
+-- starts and under the job's sheet
 pub record IsReadOf (history : List Event) (number : ℕ) (seen : Progress) : Type 0 where
   pub job : JobState
   pub submitted : IsSubmitted history number job

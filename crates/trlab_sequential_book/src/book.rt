@@ -296,7 +296,7 @@ impl Book {
     }
 }
 
-/// Whether a call was refused for want of memory.
+/// Whether a call was refused since memory ran out.
 pub fn is_for_memory<T>(answer: &Result<T, BookFault>) -> bool
     ensures { result ≡ is_memory answer.now }
 {

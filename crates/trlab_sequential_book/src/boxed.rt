@@ -45,7 +45,7 @@ impl BoxedSeed {
     ///
     /// # Errors
     ///
-    /// Where more would share it than can be counted, which is told as want of memory.
+    /// Where more would share it than can be counted, which is told as if memory had run out.
     pub fn share(&self) -> Result<BoxedSeed, AllocError>
         ensures { IfOk result (λ shared. shared ≡ self.now) }
     {
@@ -90,7 +90,7 @@ impl BoxedRoad {
     ///
     /// # Errors
     ///
-    /// Where more would share it than can be counted, which is told as want of memory.
+    /// Where more would share it than can be counted, which is told as if memory had run out.
     pub(crate) fn share(&self) -> Result<BoxedRoad, AllocError>
         ensures { IfOk result (λ shared. shared ≡ self.now) }
     {
@@ -165,7 +165,7 @@ impl BoxedRule {
     ///
     /// # Errors
     ///
-    /// Where more would share it than can be counted, which is told as want of memory.
+    /// Where more would share it than can be counted, which is told as if memory had run out.
     pub(crate) fn share(&self) -> Result<BoxedRule, AllocError>
         ensures { IfOk result (λ shared. shared ≡ self.now) }
     {

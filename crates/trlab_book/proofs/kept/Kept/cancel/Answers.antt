@@ -1,16 +1,19 @@
-use Rattle.std.proofs.Common.{rules, ◌∙◌}
+use Rattle.std.proofs.Common.{refl, false}
+use Rattle.std.proofs.lemmas.Bool.{false≢true}
+use Rattle.trlab_sequential_book.specs.Answers.{done_reply}
 use Rattle.trlab_sequential_book.specs.declared.event.Call.TheVariants.{Cancel}
-use Rattle.trlab_book.proofs.Replaying.{replays_on}
+use Rattle.trlab_book.proofs.Replaying.{IsPut, makes_put, put, replays_put, tells_put}
 use Rattle.trlab_book.proofs.kept.Kept.cancel.Goals as goal
 
+event : (c : goal.After-put_event)
+    → IsPut c.make_room.new.self.book c.cancel-answer.new.self (Cancel c.args.job) (done_reply c.cancel-answer.result) c.make_room.new.self.history.items c.put_event.new.history.items
+event c = put false c.in_ok-make_room.ensures.free (λ is. absurd (false≢true is)) c.cancel-answer.ensures.reply c.cancel-answer.ensures.state refl c.reply_to_done-reply.ensures c.put_event.ensures
+
 pub invariant_of-self : goal.invariant_of-self
-invariant_of-self c =
-    let ready = c.make_room.new.self in
-    let told = c.reply_to_done-reply.ensures ∙ c.cancel-answer.ensures.reply in
-    record {
-      replays = replays_on ready.history.items c.push_reserved.new.self.items ready.book c.cancel-answer.new.self (Cancel c.args.job)
-          c.reply_to_done-reply.result ready.replays c.in_ok-make_room.ensures.free c.push_reserved.ensures.items told c.cancel-answer.ensures.state;
-    }
+invariant_of-self c = record { replays = replays_put (event c) c.make_room.new.self.replays }
 
 pub returns-clause-made : goal.returns-clause-made
-returns-clause-made c = search rules
+returns-clause-made c = makes_put c.args.self.now c.make_room.new.self _ (Cancel c.args.job) (done_reply c.cancel-answer.result) c.make_room.ensures.same (event c.before)
+
+pub returns-clause-full : goal.returns-clause-full
+returns-clause-full c = tells_put c.args.self.now c.make_room.new.self (done_reply c.cancel-answer.result) c.make_room.ensures.same (event c.before)

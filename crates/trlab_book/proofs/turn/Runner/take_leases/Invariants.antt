@@ -1,5 +1,5 @@
 use Rattle.trlab_book.specs.Desks.{GoesOn}
-use Rattle.trlab_book.proofs.turn.take_leases.Given as goal
+use Rattle.trlab_book.proofs.turn.Runner.take_leases.Given as goal
 
 abbrev pub invariant-loop : goal.invariant-loop
 invariant-loop g l =

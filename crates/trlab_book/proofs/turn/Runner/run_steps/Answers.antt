@@ -1,7 +1,7 @@
 use Rattle.trlab_sequential_book.specs.Answers.{order_reply}
 use Rattle.trlab_book.specs.Desks.{IsOfOrder}
 use Rattle.trlab_book.proofs.GoingOn.{orders_on}
-use Rattle.trlab_book.proofs.turn.run_steps.Goals as goal
+use Rattle.trlab_book.proofs.turn.Runner.run_steps.Goals as goal
 
 pub returns-in_err-order : goal.returns-in_err-order
 returns-in_err-order g c = orders_on (λ same. IsOfOrder c.loop.lease same c.order.result) c.args.desk.now c.loop.desk c.order.new.desk c.loop.lease (order_reply c.order.result) c.loop.invariant c.order.ensures

@@ -4,7 +4,7 @@ use Rattle.trlab_sequential_book.specs.Comparison.{offered}
 use Rattle.trlab_sequential_book.specs.declared.event.Call.TheVariants.{GiveBack}
 use Rattle.trlab_book.specs.Desks.{TellsSame}
 use Rattle.trlab_book.proofs.GoingOn.{goes_on, makes_goes}
-use Rattle.trlab_book.proofs.turn.take_turn.Goals as goal
+use Rattle.trlab_book.proofs.turn.Runner.take_turn.Goals as goal
 
 pub returns-in-Err-give_back : goal.returns-in-Err-give_back
 returns-in-Err-give_back g c =

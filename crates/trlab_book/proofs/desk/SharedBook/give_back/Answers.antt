@@ -1,0 +1,26 @@
+use Rattle.std.proofs.lemmas.Bool.{OnTrue_at}
+use Rattle.trlab_sequential_book.specs.Comparison.{offered}
+use Rattle.trlab_sequential_book.specs.declared.event.Call.TheVariants.{GiveBack}
+use Rattle.trlab_sequential_book.specs.Answers.{back_reply}
+use Rattle.trlab_book.specs.Desks.{TellsSame}
+use Rattle.trlab_book.proofs.Noting.{is_made, next_event}
+use Rattle.trlab_book.proofs.desk.SharedBook.give_back.Goals as goal
+
+pub invariant_of-deref_mut : goal.invariant_of-deref_mut
+invariant_of-deref_mut g c =
+    let kept = c.deref_mut.result.now.kept in
+    let same = c.give_back-answer.ensures.noted.0 in
+    let call = GiveBack (offered c.args.lease same) in
+    let told = back_reply c.give_back-answer.result in
+    record { noted = (c.note_event.ensures call (next_event kept c.give_back-answer.new.self call told c.reply_to_back-reply.result _ c.give_back-answer.ensures.noted.2 c.reply_to_back-reply.ensures c.deref_mut.result.now.noted)).0 }
+
+pub returns-clause-made : goal.returns-clause-made
+returns-clause-made g c =
+    let kept = c.deref_mut.result.now.kept in
+    let same = c.give_back-answer.ensures.noted.0 in
+    let call = GiveBack (offered c.args.lease same) in
+    let told = back_reply c.give_back-answer.result in (
+      same,
+      is_made (TellsSame c.args.lease same) kept c.give_back-answer.new.self call told c.reply_to_back-reply.result _ c.args.desk.now c.note_event.new.desk c.give_back-answer.ensures.noted.2 c.reply_to_back-reply.ensures c.deref_mut.result.now.noted (λ is. OnTrue_at is c.give_back-answer.ensures.noted.1)
+          (c.note_event.ensures call (next_event kept c.give_back-answer.new.self call told c.reply_to_back-reply.result _ c.give_back-answer.ensures.noted.2 c.reply_to_back-reply.ensures c.deref_mut.result.now.noted)).1,
+    )
