@@ -79,7 +79,7 @@ impl Engine for Explainer {
 /// the text that it is wanted to be, or else as what its first word says.
 ///
 /// The whole text is read and judged before a byte is written. Where memory runs out or a call of
-/// the reader or writer fails, what was written is the front of the whole output.
+/// the reader or writer fails, what was written is a prefix of the whole output.
 pub fn explain_text<R: AllocGlobal, S: Source, K: Sink>(
     rt: &R,
     subject: Option<Subject>,
