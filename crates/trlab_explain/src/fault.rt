@@ -14,7 +14,7 @@ use trlab_texts::Cause;
 ///
 /// # Errors
 ///
-/// Want of memory.
+/// Where memory ran out.
 pub fn explain_fault(
     alloc: Global,
     subject: Subject,

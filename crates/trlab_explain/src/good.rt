@@ -9,7 +9,7 @@ use trlab_pages::Page;
 ///
 /// # Errors
 ///
-/// Want of memory, as its page was to be written.
+/// Where memory ran out as its page was to be written.
 pub fn explain_good(page: Result<Page, AllocError>) -> Result<(bool, Page), AllocError>
     ensures { IfOk result (λ told. told.0 ≡ false) }
 {

@@ -15,5 +15,3 @@ mod verdict;
 
 pub use explain::explain_text;
 pub use topics::explain_number;
-pub use trlab_repairs::Subject;
-pub use trlab_sentences::Topic;

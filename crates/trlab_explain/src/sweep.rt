@@ -17,7 +17,7 @@ use trlab_texts::TextFault;
 ///
 /// # Errors
 ///
-/// Want of memory.
+/// Where memory ran out.
 pub fn explain_sweep(alloc: Global, text: &[u8]) -> Result<(bool, Page), AllocError>
     ensures { IfOk result (λ told. TellsAs OfSweep text.now told.0 told.1) }
 {

@@ -1,7 +1,6 @@
 //! The explanation of the verdict on a program.
 
-ghost use Rattle.std.specs.Prelude.{◌≡◌, IfOk, true, false};
-ghost use Rattle.trlab_code.specs.declared.kind.Kind.TheVariants.{Motion as OfMotion, Change as OfChange};
+ghost use Rattle.std.specs.Prelude.{IfOk};
 ghost use Rattle.trlab_verify.specs.Faults.{Tells};
 ghost use Rattle.trlab_jobs.specs.Check.{Check as Request};
 ghost use Rattle.trlab_explain.specs.Explanations.{BeginsWith, TellsProgram};
@@ -48,41 +47,23 @@ fn explain_refusal(
     }
 }
 
-/// Whether a program is refused as a motion program, and the page on it.
-fn explain_motion(alloc: Global, text: &[u8], code: Code) -> Result<(bool, Page), AllocError>
-    requires { code.kind ≡ OfMotion }
-    ensures { (check : Request) → check.program ≡ code
-        → IfOk result (λ told. TellsProgram check told.0 told.1) }
-{
-    match verify_motion(alloc, code) {
-        Ok(motion) => explain_good(accepted_page(alloc, text, motion.code(), motion.budget())),
-        Err((code, fault)) => explain_refusal(alloc, text, &code, fault),
-    }
-}
-
-/// Whether a program is refused as a change program, and the page on it.
-fn explain_change(alloc: Global, text: &[u8], code: Code) -> Result<(bool, Page), AllocError>
-    requires { code.kind ≡ OfChange }
-    ensures { (check : Request) → check.program ≡ code
-        → IfOk result (λ told. TellsProgram check told.0 told.1) }
-{
-    match verify_change(alloc, code) {
-        Ok(change) => explain_good(accepted_page(alloc, text, change.code(), change.budget())),
-        Err((code, fault)) => explain_refusal(alloc, text, &code, fault),
-    }
-}
-
 /// Whether the program of a check text is refused, and the page on it.
 ///
 /// # Errors
 ///
-/// Want of memory.
+/// Where memory ran out.
 pub fn explain_program(alloc: Global, text: &[u8], check: Check) -> Result<(bool, Page), AllocError>
     ensures { IfOk result (λ told. TellsProgram check told.0 told.1) }
 {
     let Check { code, .. } = check;
     match code.kind() {
-        Kind::Motion => explain_motion(alloc, text, code),
-        Kind::Change => explain_change(alloc, text, code),
+        Kind::Motion => match verify_motion(alloc, code) {
+            Ok(motion) => explain_good(accepted_page(alloc, text, motion.code(), motion.budget())),
+            Err((code, fault)) => explain_refusal(alloc, text, &code, fault),
+        },
+        Kind::Change => match verify_change(alloc, code) {
+            Ok(change) => explain_good(accepted_page(alloc, text, change.code(), change.budget())),
+            Err((code, fault)) => explain_refusal(alloc, text, &code, fault),
+        },
     }
 }
