@@ -11,28 +11,17 @@ use Rattle.clap.specs.declared.error.kind.ErrorKind.{ErrorKind}
 use Rattle.clap.proofs.OnLiterals.{clap_on_literals}
 use Rattle.trlab_command_line.specs.CommandLine.{command_line}
 use Rattle.trlab_command_line.specs.Explains.{explained_in}
-use Rattle.trlab_command_line.specs.Numbers.{GivesNumber, flag_text}
+use Rattle.trlab_command_line.specs.Numbers.{GivesFlag, GivesNumber}
 use Rattle.trlab_command_line.specs.Requests.{Asks, name_of}
-use Rattle.trlab_command_line.specs.declared.explain.Explaining.{Explaining}
-use Rattle.trlab_command_line.specs.declared.explain.Explaining.TheVariants.{Text as OfText}
-use Rattle.trlab_command_line.specs.declared.words.Wanted.{Wanted}
-use Rattle.trlab_command_line.specs.declared.words.Wanted.TheVariants.{Check, Explain, Run, Series, Sweep}
-use Rattle.trlab_command_line.proofs.Options.{some_same}
-
--- a command that was entered, and its matches
-abbrev Entered : Type 0
-Entered = Option (Text × List Row)
-
-asks_at : (o : Entered) (wanted : Wanted) → Asks o wanted → (rows : List Row) × (o ≡ Some (name_of wanted, rows))
-asks_at o Check a = (a.0, a.1)
-asks_at o (Run workers progress) a = (a.0, a.1)
-asks_at o (Sweep runners workers progress) a = (a.0, a.1)
-asks_at o (Series workers every from progress) a = (a.0, a.1)
-asks_at o (Explain explained) a = (a.0, a.1)
+use Rattle.trlab_command_line.specs.declared.arguments.explain.Explaining.{Explaining}
+use Rattle.trlab_command_line.specs.declared.arguments.explain.Explaining.TheVariants.{Text as OfText}
+use Rattle.trlab_command_line.specs.declared.arguments.Wanted.{Wanted}
+use Rattle.trlab_command_line.specs.declared.arguments.Wanted.TheVariants.{Check, Explain, Run, Series, Sweep}
+use Rattle.trlab_command_line.proofs.Rows.{some_same}
 
 -- what is asked for has the name of the command that was entered
 pub asks_its_name : (name : Text) (rows : List Row) (wanted : Wanted) → Asks (Some (name, rows)) wanted → name ≡ name_of wanted
-asks_its_name name rows wanted a = ap (λ t. t.0) (some_same _ _ (asks_at (Some (name, rows)) wanted a).1)
+asks_its_name name rows wanted a = ap (λ t. t.0) (some_same _ _ a.1)
 
 -- no command has another name too
 differ : (a b : Text) → bytes_eq a b ≡ false → a ≡ b → ⊥
@@ -46,7 +35,7 @@ number_is option numeral rows n has gives =
     sym gives.2 ∙ ap (λ t. digits_value 10 (without_leading_plus t)) same
 
 -- a flag that is not given is false
-flag_is : (rows : List Row) (given : Bool) → one_of (codes "progress") rows ≡ Some (codes "false") → one_of (codes "progress") rows ≡ flag_text given → given ≡ false
+flag_is : (rows : List Row) (given : Bool) → one_of (codes "progress") rows ≡ Some (codes "false") → GivesFlag (codes "progress") rows given → given ≡ false
 flag_is rows false has is = refl
 flag_is rows true has is = absurd (differ (codes "true") (codes "false") refl (some_same (codes "true") (codes "false") (sym is ∙ has)))
 
@@ -63,7 +52,7 @@ unfolding clap_on_literals
 run_has = refl
 
 pub run_alone : (wanted : Wanted) → Asks (subcommand_of command_line (codes "run" ∷ [])) wanted → wanted ≡ Run 1 false
-run_alone wanted a = go wanted a (ap (λ t. t.0) (some_same _ _ (sym run_has ∙ ap (option_map of_run) (asks_at _ wanted a).1)))
+run_alone wanted a = go wanted a (ap (λ t. t.0) (some_same _ _ (sym run_has ∙ ap (option_map of_run) a.1)))
   where
     go : (wanted : Wanted) → Asks (subcommand_of command_line (codes "run" ∷ [])) wanted → codes "run" ≡ name_of wanted → wanted ≡ Run 1 false
     go Check a is = absurd (differ (codes "run") (codes "check") refl is)
@@ -72,8 +61,8 @@ run_alone wanted a = go wanted a (ap (λ t. t.0) (some_same _ _ (sym run_has ∙
     go (Explain explained) a is = absurd (differ (codes "run") (codes "explain") refl is)
     go (Run workers progress) a is =
         let has = some_same _ _ (sym (ap (option_map of_run) a.1) ∙ run_has) in
-        let one : workers ≡ 1 = number_is (codes "workers") (codes "1") a.0 workers (ap (λ t. t.1) has) a.2 in
-        let off : progress ≡ false = flag_is a.0 progress (ap (λ t. t.2) has) a.3 in
+        let one : workers ≡ 1 = number_is (codes "workers") (codes "1") a.0 workers (ap (λ t. t.1) has) a.2.0 in
+        let off : progress ≡ false = flag_is a.0 progress (ap (λ t. t.2) has) a.2.1 in
         rw (one, off) refl
 
 -- ---- `sweep`
@@ -86,7 +75,7 @@ unfolding clap_on_literals
 sweep_has = refl
 
 pub sweep_alone : (wanted : Wanted) → Asks (subcommand_of command_line (codes "sweep" ∷ [])) wanted → wanted ≡ Sweep 1 1 false
-sweep_alone wanted a = go wanted a (ap (λ t. t.0) (some_same _ _ (sym sweep_has ∙ ap (option_map of_sweep) (asks_at _ wanted a).1)))
+sweep_alone wanted a = go wanted a (ap (λ t. t.0) (some_same _ _ (sym sweep_has ∙ ap (option_map of_sweep) a.1)))
   where
     go : (wanted : Wanted) → Asks (subcommand_of command_line (codes "sweep" ∷ [])) wanted → codes "sweep" ≡ name_of wanted → wanted ≡ Sweep 1 1 false
     go Check a is = absurd (differ (codes "sweep") (codes "check") refl is)
@@ -95,9 +84,9 @@ sweep_alone wanted a = go wanted a (ap (λ t. t.0) (some_same _ _ (sym sweep_has
     go (Explain explained) a is = absurd (differ (codes "sweep") (codes "explain") refl is)
     go (Sweep runners workers progress) a is =
         let has = some_same _ _ (sym (ap (option_map of_sweep) a.1) ∙ sweep_has) in
-        let runner : runners ≡ 1 = number_is (codes "runners") (codes "1") a.0 runners (ap (λ t. t.1) has) a.2 in
-        let one : workers ≡ 1 = number_is (codes "workers") (codes "1") a.0 workers (ap (λ t. t.2) has) a.3 in
-        let off : progress ≡ false = flag_is a.0 progress (ap (λ t. t.3) has) a.4 in
+        let runner : runners ≡ 1 = number_is (codes "runners") (codes "1") a.0 runners (ap (λ t. t.1) has) a.2.0 in
+        let one : workers ≡ 1 = number_is (codes "workers") (codes "1") a.0 workers (ap (λ t. t.2) has) a.2.1 in
+        let off : progress ≡ false = flag_is a.0 progress (ap (λ t. t.3) has) a.2.2 in
         rw (runner, one, off) refl
 
 -- ---- `series`
@@ -117,7 +106,7 @@ unfolding clap_on_literals
 series_has = refl
 
 pub series_alone : (wanted : Wanted) → Asks (subcommand_of command_line (codes "series" ∷ [])) wanted → wanted ≡ Series 1 1 0 false
-series_alone wanted a = go wanted a (ap (λ t. t.0) (some_same _ _ (sym series_has ∙ ap (option_map of_series) (asks_at _ wanted a).1)))
+series_alone wanted a = go wanted a (ap (λ t. t.0) (some_same _ _ (sym series_has ∙ ap (option_map of_series) a.1)))
   where
     go : (wanted : Wanted) → Asks (subcommand_of command_line (codes "series" ∷ [])) wanted → codes "series" ≡ name_of wanted → wanted ≡ Series 1 1 0 false
     go Check a is = absurd (differ (codes "series") (codes "check") refl is)
@@ -126,10 +115,10 @@ series_alone wanted a = go wanted a (ap (λ t. t.0) (some_same _ _ (sym series_h
     go (Explain explained) a is = absurd (differ (codes "series") (codes "explain") refl is)
     go (Series workers every from progress) a is =
         let has = some_same _ _ (sym (ap (option_map of_series) a.1) ∙ series_has) in
-        let one : workers ≡ 1 = number_is (codes "workers") (codes "1") a.0 workers (ap (λ t. t.1) has) a.2 in
-        let each : every ≡ 1 = number_is (codes "every") (codes "1") a.0 every (ap (λ t. t.2) has) a.3 in
-        let first : from ≡ 0 = number_is (codes "from") (codes "0") a.0 from (ap (λ t. t.3) has) a.4 in
-        let off : progress ≡ false = flag_is a.0 progress (ap (λ t. t.4) has) a.5 in
+        let one : workers ≡ 1 = number_is (codes "workers") (codes "1") a.0 workers (ap (λ t. t.1) has) a.2.0 in
+        let each : every ≡ 1 = number_is (codes "every") (codes "1") a.0 every (ap (λ t. t.2) has) a.2.1 in
+        let first : from ≡ 0 = number_is (codes "from") (codes "0") a.0 from (ap (λ t. t.3) has) a.2.2 in
+        let off : progress ≡ false = flag_is a.0 progress (ap (λ t. t.4) has) a.2.3 in
         rw (one, each, first, off) refl
 
 -- ---- `explain`
@@ -142,7 +131,7 @@ unfolding clap_on_literals
 explain_has = refl
 
 pub explain_alone : (wanted : Wanted) → Asks (subcommand_of command_line (codes "explain" ∷ [])) wanted → wanted ≡ Explain (OfText None)
-explain_alone wanted a = go wanted a (ap (λ t. t.0) (some_same _ _ (sym explain_has ∙ ap (option_map of_explain) (asks_at _ wanted a).1)))
+explain_alone wanted a = go wanted a (ap (λ t. t.0) (some_same _ _ (sym explain_has ∙ ap (option_map of_explain) a.1)))
   where
     go : (wanted : Wanted) → Asks (subcommand_of command_line (codes "explain" ∷ [])) wanted → codes "explain" ≡ name_of wanted → wanted ≡ Explain (OfText None)
     go Check a is = absurd (differ (codes "explain") (codes "check") refl is)

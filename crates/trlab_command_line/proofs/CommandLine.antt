@@ -17,7 +17,7 @@ use Rattle.clap.proofs.OnLiterals.{clap_on_literals}
 use Rattle.clap.proofs.WalkLemmas.{find-map, walk_stopped}
 use Rattle.trlab_command_line.specs.CommandLine.{command_line}
 use Rattle.trlab_command_line.specs.Requests.{IsEntered}
-use Rattle.trlab_command_line.proofs.Options.{none_fails, some_same}
+use Rattle.trlab_command_line.proofs.Rows.{Each, found_holds, none_fails, some_same}
 
 -- the command line once it is built, and its commands
 abbrev pub line : App
@@ -133,13 +133,12 @@ passes_behind a name words rest e stops =
     let below : entered_fault a stop ≡ [] = (none_fails (entered_fault a stop) _ steps.1).0 in
     subst (λ o. entered_fault a o ≡ []) stops below
 
--- commands that have one name each
-abbrev HaveOneName : List Shape → Type 0
-HaveOneName [] = Unit {0}
-HaveOneName (x ∷ xs) = (x.aliases ≡ []) × HaveOneName xs
+-- a command has one name alone
+abbrev HasOneName : Shape → Type 0
+HasOneName s = s.aliases ≡ []
 
 -- a command that a word names has it as its name
-own_name : (xs : List Shape) → HaveOneName xs → (word : Text) (s : Shape) → find (λ s. answers_to word (label_of s)) xs ≡ Some s → s.name ≡ word
+own_name : (xs : List Shape) → Each HasOneName xs → (word : Text) (s : Shape) → find (λ s. answers_to word (label_of s)) xs ≡ Some s → s.name ≡ word
 own_name [] one word s e = cc
 own_name (x ∷ xs) one word s e = go (answers_to word (label_of x)) refl e (own_name xs one.1 word s)
   where
@@ -158,8 +157,26 @@ own_name (x ∷ xs) one word s e = go (answers_to word (label_of x)) refl e (own
     go true is f later = ap (λ (s : Shape). s.name) (sym (some_same x s f)) ∙ named is
     go false is f later = later f
 
-one_name : HaveOneName line.subs
-one_name = (refl, (refl, (refl, (refl, (refl, (refl, tt))))))
+pub named_so : (word : Text) (s : Shape) → named_by line word ≡ Some s → s.name ≡ word
+named_so word s e = own_name line.subs (refl, (refl, (refl, (refl, (refl, (refl, tt)))))) word s e
+
+-- the name of one of the commands
+abbrev pub IsCommandName : Text → Type 0
+IsCommandName name =
+    (name ≡ codes "check") ⊎ ((name ≡ codes "run") ⊎ ((name ≡ codes "sweep") ⊎ ((name ≡ codes "series") ⊎ (name ≡ codes "explain"))))
+
+-- the name of a command that was entered
+pub entered_name : (name : Text) (rows : List Row) → IsEntered name rows → IsCommandName name
+entered_name name rows e =
+    let level = e.1.1.0 in
+    let found = e.1.1.1 in
+    let is : (level.name ≡ codes "help") ⊎ IsCommandName level.name =
+    found_holds (λ s. (s.name ≡ codes "help") ⊎ IsCommandName s.name) (λ s. answers_to name (label_of s)) line.subs
+    (inr (inl refl), (inr (inr (inl refl)), (inr (inr (inr (inl refl))), (inr (inr (inr (inr (inl refl)))), (inr (inr (inr (inr (inr refl)))), (inl refl, tt)))))) level found in
+    elim (subst (λ n. (n ≡ codes "help") ⊎ IsCommandName n) (named_so name level found) is) [
+      | inl help ↦ absurd (e.0 help)
+      | inr named ↦ named
+    ]
 
 -- ---- words without a fault
 
@@ -215,7 +232,7 @@ first_word word rest e = by_name (named_by line word) refl
     by_name : (o : Option Shape) → named_by line word ≡ o → Taken (word ∷ rest)
     by_name None none = by_dashes (bytes_eq word (45 ∷ 45 ∷ [])) refl (met_by line word None none)
     by_name (Some level) is =
-        let own : level.name ≡ word = own_name line.subs one_name word level is in
+        let own : level.name ≡ word = named_so word level is in
         let stops = stops_at line word word rest (met_by line word (Some level) is ∙ ap Some own) in
         let below = passes_behind line word (word ∷ rest) rest e stops in
         let passes : level_fault level [] nothing_held rest false [] ≡ [] =

@@ -1,9 +1,7 @@
 -- What the arguments of each command have among its matches, where its words have no fault.
-use Rattle.std.proofs.Common.{◌≡◌, ◌∙◌, ◌⊎◌, ℕ, Bool, true, false, refl, sym, ap, subst, inl, inr, List, [], ◌∷◌, Some, None, codes}
+use Rattle.std.proofs.Common.{◌≡◌, ◌∙◌, ℕ, false, refl, sym, ap, subst, inl, inr, List, [], Some, codes}
 use Rattle.std.specs.Prelude.{pos}
 use Rattle.std.specs.List.{slice_index_or}
-use Rattle.std.specs.Str.{bytes_eq}
-use Rattle.std.proofs.lemmas.Slice.Eq.{bytes_eq-Decides}
 use Rattle.clap.specs.Walk.{Row, Rule, Text, arg_by_id, nothing_held, rows_after}
 use Rattle.clap.specs.Simple.{Shape, filled, with_index}
 use Rattle.clap.specs.Faults.{level_fault}
@@ -13,7 +11,8 @@ use Rattle.trlab_command_line.specs.CommandLine.{number_argument, number_option,
 use Rattle.trlab_command_line.specs.Numbers.{HasFlag, HasValueFrom, MayHaveNumber}
 use Rattle.trlab_command_line.specs.Requests.{IsEntered}
 use Rattle.trlab_command_line.proofs.CommandLine.{line, named_by}
-use Rattle.trlab_command_line.proofs.Options.{AllKnown, own_if_given, own_value, some_same}
+use Rattle.trlab_command_line.proofs.Options.{AllKnown, own_if_given, own_value}
+use Rattle.trlab_command_line.proofs.Rows.{some_same}
 
 -- a command: its name, what a parse reads of it, and of which kind its arguments are
 pub record Command : Type 0 where
@@ -135,44 +134,3 @@ explain = record {
     ),
   );
 }
-
--- the name of a command that was entered
-pub entered_name : (name : Text) (rows : List Row) → IsEntered name rows
-    → (name ≡ codes "check") ⊎ ((name ≡ codes "run") ⊎ ((name ≡ codes "sweep") ⊎ ((name ≡ codes "series") ⊎ (name ≡ codes "explain"))))
-entered_name name rows e = by_check (bytes_eq (codes "check") name) refl
-  where
-    is_word : (a : Text) → bytes_eq a name ≡ true → name ≡ a
-    is_word a same = sym ((bytes_eq-Decides a name).0 same)
-
-    Named : Type 0
-    Named = (name ≡ codes "check") ⊎ ((name ≡ codes "run") ⊎ ((name ≡ codes "sweep") ⊎ ((name ≡ codes "series") ⊎ (name ≡ codes "explain"))))
-
-    by_help : (b : Bool) → bytes_eq (codes "help") name ≡ b → bytes_eq (codes "check") name ≡ false → bytes_eq (codes "run") name ≡ false → bytes_eq (codes "sweep") name ≡ false
-        → bytes_eq (codes "series") name ≡ false → bytes_eq (codes "explain") name ≡ false → Named
-    by_help true is not_check not_run not_sweep not_series not_explain = absurd (e.0 (is_word (codes "help") is))
-    by_help false is not_check not_run not_sweep not_series not_explain =
-        let none : named_by line name ≡ None = rw (not_check, not_run, not_sweep, not_series, not_explain, is) refl in
-        let bad = sym none ∙ e.1.1.1 in
-        absurd cc
-
-    by_explain : (b : Bool) → bytes_eq (codes "explain") name ≡ b → bytes_eq (codes "check") name ≡ false → bytes_eq (codes "run") name ≡ false → bytes_eq (codes "sweep") name ≡ false
-        → bytes_eq (codes "series") name ≡ false → Named
-    by_explain true is not_check not_run not_sweep not_series = inr (inr (inr (inr (is_word (codes "explain") is))))
-    by_explain false is not_check not_run not_sweep not_series = by_help (bytes_eq (codes "help") name) refl not_check not_run not_sweep not_series is
-
-    by_series : (b : Bool) → bytes_eq (codes "series") name ≡ b → bytes_eq (codes "check") name ≡ false → bytes_eq (codes "run") name ≡ false → bytes_eq (codes "sweep") name ≡ false
-        → Named
-    by_series true is not_check not_run not_sweep = inr (inr (inr (inl (is_word (codes "series") is))))
-    by_series false is not_check not_run not_sweep = by_explain (bytes_eq (codes "explain") name) refl not_check not_run not_sweep is
-
-    by_sweep : (b : Bool) → bytes_eq (codes "sweep") name ≡ b → bytes_eq (codes "check") name ≡ false → bytes_eq (codes "run") name ≡ false → Named
-    by_sweep true is not_check not_run = inr (inr (inl (is_word (codes "sweep") is)))
-    by_sweep false is not_check not_run = by_series (bytes_eq (codes "series") name) refl not_check not_run is
-
-    by_run : (b : Bool) → bytes_eq (codes "run") name ≡ b → bytes_eq (codes "check") name ≡ false → Named
-    by_run true is not_check = inr (inl (is_word (codes "run") is))
-    by_run false is not_check = by_sweep (bytes_eq (codes "sweep") name) refl not_check is
-
-    by_check : (b : Bool) → bytes_eq (codes "check") name ≡ b → Named
-    by_check true is = inl (is_word (codes "check") is)
-    by_check false is = by_run (bytes_eq (codes "run") name) refl is

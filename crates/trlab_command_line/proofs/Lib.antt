@@ -3,3 +3,5 @@ mod CommandLine
 mod Levels
 mod Matches
 mod Options
+mod Rows
+mod Uses

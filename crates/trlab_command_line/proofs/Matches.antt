@@ -21,7 +21,7 @@ use Rattle.trlab_command_line.specs.Numbers.{GivesNumber, HasFlag, HasValueFrom,
 use Rattle.trlab_command_line.specs.CommandLine.{command_line}
 use Rattle.trlab_command_line.specs.Requests.{IsEntered}
 use Rattle.trlab_command_line.proofs.CommandLine.{taken}
-use Rattle.trlab_command_line.proofs.Options.{some_same}
+use Rattle.trlab_command_line.proofs.Rows.{some_same}
 
 -- the command that was entered, of a command that is the command line
 entered_of : (app : App) (words : List Text) (m : ArgMatches) → app ≡ command_line → HasMatchesOf app words m → subcommand_rows_of m ≡ subcommand_of command_line words

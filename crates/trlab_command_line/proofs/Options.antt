@@ -1,100 +1,22 @@
 -- The matches of a command whose arguments take one value, or are flags and calls for help: where a
 -- parse meets no fault, each value that an argument has passed that argument's parser.
-use Rattle.std.proofs.Common.{◌≡◌, ◌∙◌, ◌&&◌, ◌||◌, ◌⊎◌, ℕ, zero, suc, Bool, cond, true, false, not, refl, sym, ap, subst, inl, inr, arith, List, [], ◌∷◌, ◌++◌, length, drop, Option, Some, None, append-nil}
+use Rattle.std.proofs.Common.{◌≡◌, ◌∙◌, ◌&&◌, ◌||◌, ◌⊎◌, ℕ, zero, suc, Bool, cond, true, false, not, refl, sym, ap, subst, inl, inr, List, [], ◌∷◌, ◌++◌, length, drop, Option, Some, None, append-nil}
 use Rattle.std.proofs.lemmas.Slice.Eq.{bytes_eq-Decides}
-use Rattle.std.specs.Prelude.{◌==◌, option_and_then, encode_utf8, fold, is_some, find, slice_get, unwrap_or}
+use Rattle.std.specs.Prelude.{option_and_then, encode_utf8, fold, is_some, find, slice_get}
 use Rattle.std.specs.Option.{option_map_or}
 use Rattle.std.specs.Str.{bytes_eq, chars}
-use Rattle.std.proofs.lemmas.Bool.{ne_eqb}
 use Rattle.clap.specs.Lexer.{long_of, short_of}
-use Rattle.clap.specs.Kinds.{Kinds, or_else, range_kinds, request_kinds}
-use Rattle.clap.specs.Values.{read_as, refused_kind}
-use Rattle.clap.specs.declared.error.kind.ErrorKind.TheVariants.{ArgumentConflict, TooManyValues}
-use Rattle.clap.specs.Walk.{Held, Outcome, Row, Rule, Step, Text, Waiting, Walk, flag_met, has_long, has_short, is_empty, is_pending, pushed, subcommand_or_other, takes_several, to_positional, walked_from, short_met, bundle, short_or_plain, action_of, more_values, most_values, values_or_missing, without, after_flag, after_step, default_rows, arg_by_id, arg_by_index, arg_by_long, arg_by_short, at_row, attached_value, bundle_met, bundle_step, done, has_row, idle, long_met, long_or_other, next, nothing_held, one_of, option, option_met, option_word, plain, plain_word, positional, reacted, reading_by, refused, row_text, rows_after, settled, settled_rows, subcommand, subcommand_met, takes_values, trailing, used, used_by_id, value, waits, walk, walk_from, walked, with_default, with_values, word_met}
+use Rattle.clap.specs.Kinds.{or_else, request_kinds}
+use Rattle.clap.specs.Values.{read_as}
+use Rattle.clap.specs.declared.error.kind.ErrorKind.TheVariants.{TooManyValues}
+use Rattle.clap.specs.Walk.{Held, Outcome, Row, Rule, Step, Text, Waiting, Walk, flag_met, has_long, has_short, is_empty, is_pending, pushed, subcommand_or_other, takes_several, to_positional, walked_from, short_met, bundle, short_or_plain, action_of, more_values, without, after_flag, after_step, default_rows, arg_by_id, arg_by_index, arg_by_long, arg_by_short, attached_value, bundle_met, bundle_step, done, has_row, idle, long_met, long_or_other, next, nothing_held, one_of, option, option_met, option_word, plain, plain_word, positional, reacted, reading_by, refused, row_text, rows_after, settled, settled_rows, subcommand, subcommand_met, takes_values, trailing, used, used_by_id, value, waits, walk, walk_from, walked, with_default, with_values, word_met}
 use Rattle.clap.specs.Takes.{value_passes}
 use Rattle.clap.specs.Simple.{Shape}
-use Rattle.clap.specs.Faults.{action_fault, bundle_fault, bundle_step_fault, default_fault, defaults_fault, flag_word_fault, flags_fault, level_fault, long_fault, option_fault, other_fault, positional_fault, react_fault, repeat_fault, set_fault, settle_fault, short_fault, step_fault, stray_fault, turn_fault, use_fault, values_fault, walk_fault, word_fault}
-use Rattle.clap.specs.Facts.{parser_of_value, unwrap_or_range}
-use Rattle.clap.specs.declared.builder.action.ArgAction.TheVariants.{Set, SetTrue, Help}
+use Rattle.clap.specs.Faults.{bundle_fault, bundle_step_fault, default_fault, defaults_fault, flag_word_fault, flags_fault, level_fault, long_fault, option_fault, other_fault, positional_fault, react_fault, settle_fault, short_fault, step_fault, stray_fault, turn_fault, use_fault, values_fault, walk_fault, word_fault}
 use Rattle.clap.specs.declared.parser.matches.ValueSource.{ValueSource}
 use Rattle.clap.specs.declared.parser.matches.ValueSource.TheVariants.{CommandLine, DefaultValue}
-
--- a list of kinds that are those of the first step that fails is empty where no step fails
-pub none_fails : (a b : Kinds) → or_else a b ≡ [] → (a ≡ []) × (b ≡ [])
-none_fails [] b e = (refl, e)
-none_fails (k ∷ ks) b e = cc
-
--- one value, where one is wanted
-one_value : (n : ℕ) → range_kinds 1 1 n ≡ [] → n ≡ 1
-one_value zero e = cc
-one_value (suc zero) e = refl
-one_value (suc (suc k)) e =
-    let some : (suc (suc k) == 0) ≡ false = ne_eqb _ _ (λ h. omega arith) in
-    let more : (1 == suc (suc k)) ≡ false = ne_eqb _ _ (λ h. omega arith) in
-    let bad = rw (some, more) at e in
-    cc
-
--- none, where none is wanted
-no_value : (n : ℕ) → range_kinds 0 0 n ≡ [] → n ≡ 0
-no_value zero e = refl
-no_value (suc k) e =
-    let more : (0 == suc k) ≡ false = ne_eqb _ _ (λ h. omega arith) in
-    let bad = rw more at e in
-    cc
-
--- a list that begins is not empty
-not_empty : {X : Type 0} (x : X) (xs : List X) → is_empty (x ∷ xs) ≡ false
-not_empty x xs = ne_eqb _ _ (λ h. omega arith)
-
--- of two texts of which one is found, the other is the same
-pub some_same : {X : Type 0} (x y : X) → Some x ≡ Some y → x ≡ y
-some_same x y e = ap (λ o. unwrap_or o x) e
-
--- where no row has the id, what is added for it stands at the end
-at_end : (id : Text) (change : Row → List Row) (missing rows : List Row) → has_row id rows ≡ false → at_row id change missing rows ≡ rows ++ missing
-at_end id change missing [] e = refl
-at_end id change missing (r ∷ rs) e = go (bytes_eq r.id id) e (at_end id change missing rs)
-  where
-    go : (b : Bool) → (b || has_row id rs) ≡ false → (has_row id rs ≡ false → at_row id change missing rs ≡ rs ++ missing)
-        → cond b (change r ++ rs) (r ∷ at_row id change missing rs) ≡ (r ∷ rs) ++ missing
-    go true h later = cc
-    go false h later = ap (λ rest. r ∷ rest) (later h)
-
-has_more : (id : Text) (rows more : List Row) → has_row id rows ≡ true → has_row id (rows ++ more) ≡ true
-has_more id [] more e = cc
-has_more id (r ∷ rs) more e = go (bytes_eq r.id id) e (has_more id rs more)
-  where
-    go : (b : Bool) → (b || has_row id rs) ≡ true → (has_row id rs ≡ true → has_row id (rs ++ more) ≡ true) → (b || has_row id (rs ++ more)) ≡ true
-    go true h later = refl
-    go false h later = later h
-
-has_last : (id : Text) (rows : List Row) (r : Row) → bytes_eq r.id id ≡ true → has_row id (rows ++ r ∷ []) ≡ true
-has_last id [] r is = rw is refl
-has_last id (x ∷ xs) r is = go (bytes_eq x.id id) (has_last id xs r is)
-  where
-    go : (b : Bool) → has_row id (xs ++ r ∷ []) ≡ true → (b || has_row id (xs ++ r ∷ [])) ≡ true
-    go true h = refl
-    go false h = h
-
-same_id : (id : Text) → bytes_eq id id ≡ true
-same_id id = (bytes_eq-Decides id id).1 refl
-
--- an argument that takes one value a use, and is used once
-pub record TakesOne (a : Rule) : Type 0 where
-  pub action : a.action ≡ Some Set
-  pub range : a.range ≡ Some (record { start_inclusive = 1; end_inclusive = 1 })
-
--- a flag that is given once, and what stands for its use
-pub record IsFlag (a : Rule) : Type 0 where
-  pub action : a.action ≡ Some SetTrue
-  pub range : a.range ≡ Some (record { start_inclusive = 0; end_inclusive = 0 })
-  pub text : Text
-  pub missing : a.missing ≡ text ∷ []
-
--- an argument that calls for help
-pub record IsHelp (a : Rule) : Type 0 where
-  pub action : a.action ≡ Some Help
-  pub range : a.range ≡ Some (record { start_inclusive = 0; end_inclusive = 0 })
+use Rattle.trlab_command_line.proofs.Rows.{Each, found_holds, none_fails, not_empty, some_same, at_end, has_more, has_last, same_id}
+use Rattle.trlab_command_line.proofs.Uses.{TakesOne, IsFlag, IsHelp, help_fault, UsesOne, values_pass, one_use, flag_use, used_so, one_used, flag_used}
 
 -- an argument of one of these kinds, which no other argument of the command has the id of
 abbrev pub Known : List Rule → Rule → Type 0
@@ -102,89 +24,12 @@ Known c a = (TakesOne a ⊎ (IsFlag a ⊎ IsHelp a)) × (arg_by_id c a.id ≡ So
 
 -- each of some arguments is so
 abbrev pub AllKnown : List Rule → List Rule → Type 0
-AllKnown c [] = Unit {0}
-AllKnown c (a ∷ rest) = Known c a × AllKnown c rest
-
--- one that is found among them is so
-found_known : (c xs : List Rule) → AllKnown c xs → (test : Rule → Bool) (a : Rule) → find test xs ≡ Some a → Known c a
-found_known c [] all test a e = cc
-found_known c (x ∷ xs) all test a e = go (test x) e (found_known c xs all.1 test a)
-  where
-    go : (b : Bool) → cond b (Some x) (find test xs) ≡ Some a → (find test xs ≡ Some a → Known c a) → Known c a
-    go true f later = subst (Known c) (some_same x a f) all.0
-    go false f later = later f
-
--- what is found amiss in one use: the count of its values, or what its action makes of them
-abbrev count_amiss : Rule → List Text → Kinds
-count_amiss a values = range_kinds (unwrap_or_range a.range).start_inclusive (most_values a) (length values)
-
-abbrev action_amiss : Rule → List Text → List Row → Kinds
-action_amiss a values rows = action_fault (action_of a) false a (values_or_missing a values) rows
-
--- a call for help always is a fault
-help_fault : (a : Rule) (values : List Text) (rows : List Row) → IsHelp a → use_fault false a values rows ≡ [] → ⊥
-help_fault a values rows help e =
-    let asked : action_amiss a values rows ≡ [] = (none_fails (count_amiss a values) (action_amiss a values rows) e).1 in
-    let bad = rw help.action at asked in
-    cc
-
--- a use that is the first gives one value, which passes its parser
-abbrev UsesOne : Rule → List Text → List Row → Type 0
-UsesOne a values rows = (v : Text) × (values_or_missing a values ≡ v ∷ []) × (has_row a.id rows ≡ false) × (value_passes a v ≡ true)
-
-values_pass : (a : Rule) (v : Text) (vs : List Text) → values_fault a (v ∷ vs) ≡ [] → value_passes a v ≡ true
-values_pass a v vs e = go (value_passes a v) (none_fails _ _ e).0
-  where
-    go : (b : Bool) → cond b [] (refused_kind (parser_of_value a.parser) ∷ []) ≡ [] → b ≡ true
-    go true h = refl
-    go false h = cc
-
-set_use : (a : Rule) (v : Text) (rows : List Row) → set_fault false a (v ∷ []) rows ≡ [] → (has_row a.id rows ≡ false) × (value_passes a v ≡ true)
-set_use a v rows e =
-    let parts = none_fails (repeat_fault false a.id rows) (values_fault a (v ∷ [])) e in
-    (first (has_row a.id rows) parts.0, values_pass a v [] parts.1)
-  where
-    first : (b : Bool) → cond (b && true) (ArgumentConflict ∷ []) [] ≡ [] → b ≡ false
-    first true h = cc
-    first false h = refl
-
-one_use : (a : Rule) (values : List Text) (rows : List Row) → TakesOne a → use_fault false a values rows ≡ [] → UsesOne a values rows
-one_use a [] rows is e =
-    let count = rw is.range at (none_fails (count_amiss a []) (action_amiss a [] rows) e).0 in
-    cc
-one_use a (v ∷ w ∷ vs) rows is e =
-    let count : range_kinds 1 1 (length (v ∷ w ∷ vs)) ≡ [] = rw is.range at (none_fails (count_amiss a (v ∷ w ∷ vs)) (action_amiss a (v ∷ w ∷ vs) rows) e).0 in
-    let bad = one_value (length (v ∷ w ∷ vs)) count in
-    absurd (omega arith)
-one_use a (v ∷ []) rows is e =
-    let amiss : set_fault false a (v ∷ []) rows ≡ [] = rw is.action at (none_fails (count_amiss a (v ∷ [])) (action_amiss a (v ∷ []) rows) e).1 in
-    let used = set_use a v rows amiss in
-    (v, refl, used.0, used.1)
-
-flag_use : (a : Rule) (values : List Text) (rows : List Row) → IsFlag a → use_fault false a values rows ≡ [] → UsesOne a values rows
-flag_use a (v ∷ vs) rows is e =
-    let count : range_kinds 0 0 (length (v ∷ vs)) ≡ [] = rw is.range at (none_fails (count_amiss a (v ∷ vs)) (action_amiss a (v ∷ vs) rows) e).0 in
-    let bad = no_value (length (v ∷ vs)) count in
-    absurd (omega arith)
-flag_use a [] rows is e =
-    let amiss : set_fault false a (is.text ∷ []) rows ≡ [] = rw (is.action, is.missing) at (none_fails (count_amiss a []) (action_amiss a [] rows) e).1 in
-    let used = set_use a is.text rows amiss in
-    (is.text, is.missing, used.0, used.1)
-
--- what a use does
-abbrev used_so : Rule → List Text → List Row → List Row
-used_so a values rows = with_values a.id (reading_by a) CommandLine (values_or_missing a values) (without a.id rows)
-
-one_used : (a : Rule) (values : List Text) (rows : List Row) → TakesOne a → used a values rows ≡ used_so a values rows
-one_used a values rows is = rw is.action refl
-
-flag_used : (a : Rule) (values : List Text) (rows : List Row) → IsFlag a → used a values rows ≡ used_so a values rows
-flag_used a values rows is = rw is.action refl
+AllKnown c xs = Each (Known c) xs
 
 -- `all` says what arguments the command has
 module _ (c : List Rule) (all : AllKnown c c) where
   known : (test : Rule → Bool) (a : Rule) → find test c ≡ Some a → Known c a
-  known test a e = found_known c c all test a e
+  known test a e = found_holds (Known c) test c all a e
 
   -- the row has a value that passed its argument's parser, and is read as that parser says
   abbrev Passed : Row → Type 0

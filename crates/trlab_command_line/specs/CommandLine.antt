@@ -1,12 +1,12 @@
 -- The command line of `trlab`, as `clap` reads it.
-use Rattle.std.specs.Prelude.{ℕ, [], ◌∷◌, Some, codes, pos, true}
-use Rattle.clap.specs.Words.{App, Rule, Text, new_app, new_rule, with_rule, with_subcommand}
+use Rattle.std.specs.Prelude.{ℕ, List, [], ◌∷◌, Some, codes, fold, pos, true}
+use Rattle.clap.specs.Words.{App, Rule, Shape, Text, new_app, new_rule, with_rule, with_subcommand}
 use Rattle.clap.specs.Simple.{on_top}
 use Rattle.clap.specs.declared.builder.action.ArgAction.TheVariants.{SetTrue}
 use Rattle.clap.specs.declared.builder.value_parser.ValueParser.TheVariants.{Signed}
 use Rattle.trlab_bounds.specs.declared.runs.TheConstants.{MOST_RUNNERS, MOST_STEPS, MOST_WORKERS}
 
--- the option `--name n`: an integer from a least to a greatest one, and what it is where the words give none
+-- the option `--name n`: an integer from a least to a greatest one, and what it is where none is given
 abbrev pub number_option : Text → ℕ → ℕ → Text → Rule
 number_option name least most default = record (new_rule name) {
   long = Some name;
@@ -15,7 +15,7 @@ number_option name least most default = record (new_rule name) {
   defaults = default ∷ [];
 }
 
--- the option `--name n`: an integer from 1 to a greatest one, and 1 where the words give none
+-- the option `--name n`: an integer from 1 to a greatest one, and 1 where none is given
 abbrev pub count_option : Text → ℕ → Rule
 count_option name most = number_option name 1 most (codes "1")
 
@@ -31,7 +31,7 @@ runners_option = count_option (codes "runners") MOST_RUNNERS
 abbrev pub every_option : Rule
 every_option = count_option (codes "every") MOST_STEPS
 
--- the option `--from s`, which is 0 where the words do not say it
+-- the option `--from s`, which is 0 where the arguments do not say it
 abbrev pub from_option : Rule
 from_option = number_option (codes "from") 0 MOST_STEPS (codes "0")
 
@@ -39,7 +39,7 @@ from_option = number_option (codes "from") 0 MOST_STEPS (codes "0")
 abbrev pub progress_flag : Rule
 progress_flag = record (new_rule (codes "progress")) { long = Some (codes "progress"); action = Some SetTrue }
 
--- the first argument of `explain`: a word
+-- the first argument of `explain`: any text
 abbrev pub what_argument : Rule
 what_argument = new_rule (codes "what")
 
@@ -47,29 +47,32 @@ what_argument = new_rule (codes "what")
 abbrev pub number_argument : Rule
 number_argument = record (new_rule (codes "number")) { parser = Some (Signed (pos 0) (pos 4294967295)) }
 
+-- a command of this name, with these arguments
+abbrev pub command : Text → List Rule → App
+command name arguments = fold with_rule (new_app name) arguments
+
 -- the command `check`, which has no options
 abbrev pub check_command : App
-check_command = new_app (codes "check")
+check_command = command (codes "check") []
 
 -- the command `run`, with the options `--workers` and `--progress`
 abbrev pub run_command : App
-run_command = with_rule (with_rule (new_app (codes "run")) workers_option) progress_flag
+run_command = command (codes "run") (workers_option ∷ progress_flag ∷ [])
 
 -- the command `sweep`, with the options `--runners`, `--workers` and `--progress`
 abbrev pub sweep_command : App
-sweep_command = with_rule (with_rule (with_rule (new_app (codes "sweep")) runners_option) workers_option) progress_flag
+sweep_command = command (codes "sweep") (runners_option ∷ workers_option ∷ progress_flag ∷ [])
 
 -- the command `series`, with the options `--every`, `--from`, `--workers` and `--progress`
 abbrev pub series_command : App
 series_command =
-    with_rule (with_rule (with_rule (with_rule (new_app (codes "series")) every_option) from_option) workers_option)
-    progress_flag
+    command (codes "series") (every_option ∷ from_option ∷ workers_option ∷ progress_flag ∷ [])
 
 -- the command `explain`, with its two arguments
 abbrev pub explain_command : App
-explain_command = with_rule (with_rule (new_app (codes "explain")) what_argument) number_argument
+explain_command = command (codes "explain") (what_argument ∷ number_argument ∷ [])
 
--- the program, which has a version, and which no command line may call without a command; its words
+-- the program, which has a version, and which no command line may call without a command; its arguments
 -- begin behind its name
 abbrev pub program : App
 program = on_top (λ s. record s {
@@ -79,8 +82,11 @@ program = on_top (λ s. record s {
   has_version = true;
 }) (new_app (codes "trlab"))
 
+-- the commands of the program
+abbrev pub commands : List Shape
+commands =
+    check_command.top ∷ run_command.top ∷ sweep_command.top ∷ series_command.top ∷ explain_command.top ∷ []
+
 -- the command line: the program with its commands
 abbrev pub command_line : App
-command_line =
-    with_subcommand (with_subcommand (with_subcommand (with_subcommand (with_subcommand program check_command.top)
-    run_command.top) sweep_command.top) series_command.top) explain_command.top
+command_line = fold with_subcommand program commands

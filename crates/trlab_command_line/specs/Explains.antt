@@ -1,4 +1,4 @@
--- What the words of `explain` ask for.
+-- What the arguments of `explain` ask for.
 use Rattle.std.specs.Prelude.{ℕ, List, [], ◌∷◌, Option, None, Some, Result, Ok, Err, codes, if◌then◌else◌}
 use Rattle.std.specs.Str.{bytes_eq}
 use Rattle.clap.specs.Words.{Kinds, Row, Text as Word, first_of}
@@ -9,8 +9,8 @@ use Rattle.trlab_repairs.specs.declared.subject.Subject.TheVariants.{Job, Sweep,
 use Rattle.trlab_sentences.specs.declared.topics.Topic.{Topic}
 use Rattle.trlab_sentences.specs.declared.topics.Topic.TheVariants.{Cause, Reason}
 use Rattle.trlab_command_line.specs.Numbers.{number_in}
-use Rattle.trlab_command_line.specs.declared.explain.Explaining.{Explaining}
-use Rattle.trlab_command_line.specs.declared.explain.Explaining.TheVariants.{Text, Number}
+use Rattle.trlab_command_line.specs.declared.arguments.explain.Explaining.{Explaining}
+use Rattle.trlab_command_line.specs.declared.arguments.explain.Explaining.TheVariants.{Text, Number}
 
 -- what a text is read as by the command of this name
 abbrev pub subject_named : List ℕ → Option Subject
@@ -19,13 +19,14 @@ subject_named name =
     else if bytes_eq name (codes "sweep") then Some Sweep
     else if bytes_eq name (codes "check") then Some Check else None
 
--- what is named by the word before a number
+-- what is named before a number
 abbrev pub topic_named : List ℕ → Option Topic
 topic_named name =
     if bytes_eq name (codes "cause") then Some Cause
     else if bytes_eq name (codes "reason") then Some Reason else None
 
--- what is asked for by what a word names, a command or a topic, and the number behind it, or why that is refused
+-- what is asked for by what the first argument names, a command or a topic, and the second, a number, or why
+-- that is refused
 abbrev pub asked_by : Option Subject → Option Topic → Option ℕ → Result Explaining ErrorKind
 asked_by (Some subject) topic None = Ok (Text (Some subject))
 asked_by (Some subject) topic (Some number) = Err UnknownArgument
@@ -47,7 +48,7 @@ abbrev pub kinds_of : Result Explaining ErrorKind → Kinds
 kinds_of (Ok asked) = []
 kinds_of (Err kind) = kind ∷ []
 
--- the kinds of error of a command that was entered, where its words have no other: its arguments do not go together
+-- the kinds of error of a command that was entered, whose arguments have no other: they do not go together
 abbrev pub pair_fault : Option (Word × List Row) → Kinds
 pair_fault None = []
 pair_fault (Some (name, rows)) = if bytes_eq name (codes "explain") then kinds_of (explained_in rows) else []

@@ -2,6 +2,5 @@ pub mod CommandLine
 pub mod Numbers
 pub mod Requests
 pub mod Explains
+pub mod Outputs
 pub mod Statuses
-pub mod Commands
-pub mod EndStatuses

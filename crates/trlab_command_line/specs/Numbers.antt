@@ -11,7 +11,7 @@ abbrev pub GivesNumber : Text → List Row → ℕ → Type 0
 GivesNumber option rows number = (numeral : Text) × (one_of option rows ≡ Some numeral)
     × (digits_value 10 (without_leading_plus numeral) ≡ number)
 
--- among the matches of a command, the option has a value that its parser took: from a least number to a greatest
+-- among the matches of a command, the option has a value that its parser took: a number in a range
 abbrev pub HasValueFrom : Text → ℕ → ℕ → List Row → Text → Type 0
 HasValueFrom option least most rows v =
     (one_of option rows ≡ Some (without_minus v)) × IsSignedIn (pos least) (pos most) v
@@ -28,7 +28,8 @@ numeral_value numeral = digits_value 10 (without_leading_plus numeral)
 abbrev pub number_in : Text → List Row → Option ℕ
 number_in argument rows = option_map numeral_value (one_of argument rows)
 
--- among the matches of a command, the argument is not given, or has a value that its parser took: a number of 32 bits
+-- among the matches of a command, the argument is not given, or has a value that its parser took: a number
+-- of 32 bits
 abbrev pub MayHaveNumber : Text → List Row → Type 0
 MayHaveNumber argument rows =
     (one_of argument rows ≡ None) ⊎ ((v : Text) × HasValueFrom argument 0 4294967295 rows v)
@@ -36,6 +37,10 @@ MayHaveNumber argument rows =
 -- what a flag has among the matches of a command, by whether it is given
 abbrev pub flag_text : Bool → Option Text
 flag_text given = Some (bool_text given)
+
+-- among the matches of a command, the flag tells whether it is given
+abbrev pub GivesFlag : Text → List Row → Bool → Type 0
+GivesFlag flag rows given = one_of flag rows ≡ flag_text given
 
 -- among the matches of a command, the flag has a value that its parser took
 abbrev pub HasFlag : Text → List Row → Type 0

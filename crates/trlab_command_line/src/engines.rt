@@ -1,4 +1,4 @@
-//! What is done for the words of the command line: an engine runs from a reader to a writer, or a page is written.
+//! What is done for the arguments: an engine runs from a reader to a writer, or a page is written.
 
 ghost use Rattle.std.specs.Prelude.{◌≡◌, ◌+◌, ◌≤◌, ◌||◌, ◌↔◌, true, false, IfSome};
 ghost use Rattle.std.specs.Io.KnownBytes.{Keeps};
@@ -7,7 +7,7 @@ ghost use Rattle.trlab_campaign.specs.Ending.{EndsSo, HandsOn};
 ghost use Rattle.trlab_campaign.specs.declared.end.End.TheVariants.{DeviceFault};
 ghost use Rattle.trlab_bounds.specs.declared.texts.TheConstants.{TEXT_LIMIT};
 ghost use Rattle.trlab_command_line.specs.Requests.{HasCounts};
-ghost use Rattle.trlab_command_line.specs.Commands.{output_of};
+ghost use Rattle.trlab_command_line.specs.Outputs.{output_of};
 
 use crate::{Explaining, Wanted};
 use std::alloc::AllocGlobal;

@@ -1,20 +1,12 @@
-//! The command line of `trlab` as `clap` is told it, with its texts of help; what its words ask for, what is
-//! done for them, and the exit statuses.
+//! The command line of `trlab`: what its arguments ask for, as `clap` reads them; what is done for them; and
+//! the exit status of each end.
 #![tactic(auto)]
 
-mod commands;
-mod counts;
-mod end_status;
+mod arguments;
 mod engines;
-mod explain;
 mod help;
 mod status;
-mod words;
 
-pub use end_status::status_of_end;
+pub use arguments::{Explaining, Wanted, read_words};
 pub use engines::carry_out;
-pub use explain::Explaining;
-pub use status::{REFUSED_WORDS, status_of_print, status_of_words};
-pub use trlab_repairs::Subject;
-pub use trlab_sentences::Topic;
-pub use words::{Wanted, read_words};
+pub use status::{REFUSED_ARGUMENTS, status_of_end, status_of_print};

@@ -1,4 +1,4 @@
-//! The program `trlab`: it does what its words ask for, from standard input to standard output.
+//! The program `trlab`: it does what its arguments ask for, from standard input to standard output.
 #![tactic(auto)]
 
 ghost use Rattle.std.specs.Prelude.{◌≡◌, Bool, false};
@@ -16,35 +16,35 @@ use std::thread::Threads;
 use std::{env, io};
 use trlab_campaign::{End, Mark, Observer, Sink, Source, Watched};
 use trlab_command_line::{
-    REFUSED_WORDS, Wanted, carry_out, read_words, status_of_end, status_of_print,
+    REFUSED_ARGUMENTS, Wanted, carry_out, read_words, status_of_end, status_of_print,
 };
 
 // So many bytes of output are gathered at most before they are written.
 const MOST_GATHERED: usize = 65536;
 
 fn main(rt: HostRuntime) -> ExitCode {
-    let status = match given_words(&rt) {
-        Ok(words) => match gathered(rt.alloc(), rt.stdout(), is_series(&words)) {
+    let status = match given_arguments(&rt) {
+        Ok(arguments) => match gathered(rt.alloc(), rt.stdout(), is_series(&arguments)) {
             Ok(out) => {
                 let mut reader = Watched::new(rt.stdin());
                 let mut writer = Watched::new(out);
-                act(&rt, &words, &mut reader, &mut writer)
+                act(&rt, &arguments, &mut reader, &mut writer)
             }
             Err(_) => status_of_end(End::Memory),
         },
         Err(error) if error.kind() == io::ErrorKind::OutOfMemory => status_of_end(End::Memory),
         Err(_) => {
             let _ = eprintln!(rt; "error: a word of the command line is not UTF-8");
-            REFUSED_WORDS
+            REFUSED_ARGUMENTS
         }
     };
     ExitCode::from(status)
 }
 
-/// Whether the words ask for a series, each line of which is handed on as its window is done.
-fn is_series(words: &[String]) -> bool {
-    match words.first() {
-        Some(word) => word.as_bytes() == b"series".as_slice(),
+/// Whether the arguments ask for a series, each line of which is handed on as its window is done.
+fn is_series(arguments: &[String]) -> bool {
+    match arguments.first() {
+        Some(name) => name.as_bytes() == b"series".as_slice(),
         None => false,
     }
 }
@@ -98,17 +98,17 @@ fn counted(wanted: Wanted) -> Option<&'static str> {
     }
 }
 
-/// Does what the words ask for, and answers the exit status.
+/// Does what the arguments ask for, and answers the exit status.
 fn act<R: AllocGlobal + Threads + Wait + Sync + Print + Eprint, S: Source, K: Sink>(
     rt: &R,
-    words: &[String],
+    arguments: &[String],
     reader: &mut S,
     writer: &mut K,
 ) -> u8
     requires reader_works { S.failed reader.old ≡ false }
     requires writer_works { K.failed writer.old ≡ false }
 {
-    match read_words(rt.alloc(), words) {
+    match read_words(rt.alloc(), arguments) {
         Ok(wanted) => {
             let teller = Teller {
                 rt,
@@ -120,12 +120,12 @@ fn act<R: AllocGlobal + Threads + Wait + Sync + Print + Eprint, S: Source, K: Si
     }
 }
 
-/// The words of the command line after the program's name. A word that is no text is an error.
-fn given_words(rt: &(impl Env + AllocGlobal)) -> io::Result<Vec<String>> {
+/// The arguments after the program's name. One that is no text is an error.
+fn given_arguments(rt: &(impl Env + AllocGlobal)) -> io::Result<Vec<String>> {
     Ok(env::args(rt)?.skip(1).collect::<Vec<String>>(rt.alloc())?)
 }
 
-/// Prints the help that was asked for, or why the words are refused, and answers the exit status.
+/// Prints the help that was asked for, or why the arguments are refused, and answers the exit status.
 /// Where memory ran out nothing is printed; help that can't be written is a failed write.
 fn tell(rt: &(impl Print + Eprint), error: &Error) -> u8
     ensures { (failed : Bool) × (result ≡ status_of_print (kind_of error.now) failed) }

@@ -1,0 +1,49 @@
+use Rattle.std.proofs.Common.{rules, ◌∙◌, ◌∷◌, ap, map, string_bytes, subst, sym, Some}
+use Rattle.std.specs.Prelude.{IfOk}
+use Rattle.std.proofs.lemmas.Result.{IfOk-weaker}
+use Rattle.clap.specs.Kinds.{FailsBy, or_else}
+use Rattle.clap.specs.Words.{fault_of, found_of, rows_of, subcommand_of}
+use Rattle.trlab_command_line.specs.CommandLine.{command_line}
+use Rattle.trlab_command_line.specs.Explains.{pair_fault}
+use Rattle.trlab_command_line.specs.Requests.{Asks}
+use Rattle.trlab_command_line.proofs.Alone.{asks_its_name, explain_alone, run_alone, series_alone, sweep_alone}
+use Rattle.trlab_command_line.proofs.Matches.{fault_some, met, met_some}
+use Rattle.trlab_command_line.proofs.arguments.read_words.Goals as goal
+
+pub wanted_of-requires : goal.wanted_of-requires
+wanted_of-requires c =
+    let words = map string_bytes c.args.arguments.now in
+    let parsed = c.in_ok-matches.ensures in
+    (met _ words c.in_ok-matches.matches c.subcommand.result c.in_ok-command_line.ensures parsed.matches parsed.kinds c.subcommand.ensures.name c.subcommand.ensures.rows _ c.in-Some.is).is_entered
+
+pub unreachable-requires : goal.unreachable-requires
+unreachable-requires c =
+    let words = map string_bytes c.args.arguments.now in
+    let parsed = c.in_ok-matches.ensures in
+    met_some _ words c.in_ok-matches.matches c.subcommand.result c.in_ok-command_line.ensures parsed.matches parsed.kinds c.subcommand.ensures.name c.subcommand.ensures.rows c.in-None.is
+
+pub returns : goal.returns
+returns c =
+    let words = map string_bytes c.args.arguments.now in
+    let parsed = c.in_ok-matches.ensures in
+    let got = met _ words c.in_ok-matches.matches c.subcommand.result c.in_ok-command_line.ensures parsed.matches parsed.kinds c.subcommand.ensures.name c.subcommand.ensures.rows _ c.in-Some.is in
+    let rows = rows_of (found_of c.in-Some.entered.now) in
+    let asked = c.wanted_of.ensures in
+    let answer : IfOk c.wanted_of.result (Asks (subcommand_of command_line words)) = subst (λ o. IfOk c.wanted_of.result (Asks o)) (sym got.at) asked.answer in
+    record {
+      answer = answer;
+      fault = subst (λ o. FailsBy (or_else (fault_of command_line words) (pair_fault o)) c.wanted_of.result) (sym got.at)
+          (subst (λ f. FailsBy (or_else f (pair_fault (Some (c.in-Some.name.now, rows)))) c.wanted_of.result) (sym got.fault) asked.fault);
+      counts = asked.counts;
+      named = IfOk-weaker c.wanted_of.result _ _ (λ wanted a. (got.first.0, got.first.1 ∙ ap (λ n. n ∷ got.first.0) (asks_its_name _ _ wanted a))) asked.answer;
+      one = λ e. IfOk-weaker c.wanted_of.result _ _ (λ wanted a. run_alone wanted (subst (λ ws. Asks (subcommand_of command_line ws) wanted) e a)) answer;
+      ones = λ e. IfOk-weaker c.wanted_of.result _ _ (λ wanted a. sweep_alone wanted (subst (λ ws. Asks (subcommand_of command_line ws) wanted) e a)) answer;
+      every_step = λ e. IfOk-weaker c.wanted_of.result _ _ (λ wanted a. series_alone wanted (subst (λ ws. Asks (subcommand_of command_line ws) wanted) e a)) answer;
+      any_text = λ e. IfOk-weaker c.wanted_of.result _ _ (λ wanted a. explain_alone wanted (subst (λ ws. Asks (subcommand_of command_line ws) wanted) e a)) answer;
+    }
+
+pub returns-in_err-matches-clause-fault : goal.returns-in_err-matches-clause-fault
+returns-in_err-matches-clause-fault c =
+    let words = map string_bytes c.args.arguments.now in
+    let has = fault_some _ words (pair_fault (subcommand_of command_line words)) c.in_err-matches.field-0.0 c.in_ok-command_line.ensures c.in_err-matches.ensures.kinds in
+    search (rules, has)

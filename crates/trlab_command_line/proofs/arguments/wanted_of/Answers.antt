@@ -1,0 +1,95 @@
+use Rattle.std.proofs.Common.{arith, ◌∷◌, [], inl, inr, refl, subst, codes}
+use Rattle.trlab_bounds.specs.declared.runs.TheConstants.{MOST_RUNNERS, MOST_STEPS, MOST_WORKERS}
+use Rattle.clap.specs.Words.{found_of, rows_of}
+use Rattle.trlab_command_line.specs.Requests.{IsEntered}
+use Rattle.trlab_command_line.proofs.CommandLine.{entered_name}
+use Rattle.trlab_command_line.proofs.Levels.{explain, flag_of as flag_has, number_of as number_has, option_of, run, series, sweep}
+use Rattle.trlab_command_line.proofs.arguments.wanted_of.Goals as goal
+
+pub count_of-requires : goal.count_of-requires
+count_of-requires c =
+    let rows = rows_of (found_of c.args.matches.now) in
+    let entered : IsEntered (codes "run") rows = subst (λ n. IsEntered n rows) c.in-run.is c.requires in
+    option_of run (codes "workers") (codes "1") 1 MOST_WORKERS refl rows entered
+
+pub flag_of-requires : goal.flag_of-requires
+flag_of-requires c =
+    let rows = rows_of (found_of c.args.matches.now) in
+    let entered : IsEntered (codes "run") rows = subst (λ n. IsEntered n rows) c.in-run.is c.requires in
+    flag_has run refl rows entered
+
+pub count_of-requires-in-sweep : goal.count_of-requires-in-sweep
+count_of-requires-in-sweep c =
+    let rows = rows_of (found_of c.args.matches.now) in
+    let entered : IsEntered (codes "sweep") rows = subst (λ n. IsEntered n rows) c.in-sweep.is c.requires in
+    option_of sweep (codes "runners") (codes "1") 1 MOST_RUNNERS refl rows entered
+
+pub count_of-requires-in-sweep-2 : goal.count_of-requires-in-sweep-2
+count_of-requires-in-sweep-2 c =
+    let rows = rows_of (found_of c.args.matches.now) in
+    let entered : IsEntered (codes "sweep") rows = subst (λ n. IsEntered n rows) c.in-sweep.is c.requires in
+    option_of sweep (codes "workers") (codes "1") 1 MOST_WORKERS refl rows entered
+
+pub flag_of-requires-in-sweep : goal.flag_of-requires-in-sweep
+flag_of-requires-in-sweep c =
+    let rows = rows_of (found_of c.args.matches.now) in
+    let entered : IsEntered (codes "sweep") rows = subst (λ n. IsEntered n rows) c.in-sweep.is c.requires in
+    flag_has sweep refl rows entered
+
+pub count_of-requires-in-series : goal.count_of-requires-in-series
+count_of-requires-in-series c =
+    let rows = rows_of (found_of c.args.matches.now) in
+    let entered : IsEntered (codes "series") rows = subst (λ n. IsEntered n rows) c.in-series.is c.requires in
+    option_of series (codes "workers") (codes "1") 1 MOST_WORKERS refl rows entered
+
+pub number_of-requires : goal.number_of-requires
+number_of-requires c =
+    let rows = rows_of (found_of c.args.matches.now) in
+    let entered : IsEntered (codes "series") rows = subst (λ n. IsEntered n rows) c.in-series.is c.requires in
+    let given = option_of series (codes "every") (codes "1") 1 MOST_STEPS refl rows entered in
+    (1, MOST_STEPS, given.0, omega arith, given.1)
+
+pub number_of-requires-in-series : goal.number_of-requires-in-series
+number_of-requires-in-series c =
+    let rows = rows_of (found_of c.args.matches.now) in
+    let entered : IsEntered (codes "series") rows = subst (λ n. IsEntered n rows) c.in-series.is c.requires in
+    let given = option_of series (codes "from") (codes "0") 0 MOST_STEPS refl rows entered in
+    (0, MOST_STEPS, given.0, omega arith, given.1)
+
+pub flag_of-requires-in-series : goal.flag_of-requires-in-series
+flag_of-requires-in-series c =
+    let rows = rows_of (found_of c.args.matches.now) in
+    let entered : IsEntered (codes "series") rows = subst (λ n. IsEntered n rows) c.in-series.is c.requires in
+    flag_has series refl rows entered
+
+pub explaining_of-requires : goal.explaining_of-requires
+explaining_of-requires c =
+    let rows = rows_of (found_of c.args.matches.now) in
+    let entered : IsEntered (codes "explain") rows = subst (λ n. IsEntered n rows) c.in-explain.is c.requires in
+    number_has explain refl rows entered
+
+pub returns-in-series-clause-counts : goal.returns-in-series-clause-counts
+returns-in-series-clause-counts c =
+    let rows = rows_of (found_of c.args.matches.now) in
+    let entered : IsEntered (codes "series") rows = subst (λ n. IsEntered n rows) c.in-series.is c.requires in
+    let workers = c.count_of-in-series.ensures in
+    let every = option_of series (codes "every") (codes "1") 1 MOST_STEPS refl rows entered in
+    let from = option_of series (codes "from") (codes "0") 0 MOST_STEPS refl rows entered in
+    let some = c.number_of.ensures.within 1 MOST_STEPS every.0 (omega arith) every.1 in
+    let few = c.number_of-in-series.ensures.within 0 MOST_STEPS from.0 (omega arith) from.1 in
+    ((workers.some, workers.few), some, few.1)
+
+pub unreachable-requires : goal.unreachable-requires
+unreachable-requires c = elim (entered_name c.args.name.now (rows_of (found_of c.args.matches.now)) c.requires) [
+  | inl is ↦ c.in_default.not-check is
+  | inr is ↦ elim is [
+    | inl is ↦ c.in_default.not-run is
+    | inr is ↦ elim is [
+      | inl is ↦ c.in_default.not-sweep is
+      | inr is ↦ elim is [
+        | inl is ↦ c.in_default.not-series is
+        | inr is ↦ c.in_default.not-explain is
+      ]
+    ]
+  ]
+]

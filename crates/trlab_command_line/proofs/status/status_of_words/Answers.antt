@@ -1,5 +1,0 @@
-use Rattle.std.proofs.Common.{rules}
-use Rattle.trlab_command_line.proofs.status.status_of_words.Goals as goal
-
-pub returns-in_default : goal.returns-in_default
-returns-in_default c = search rules

@@ -1,0 +1,103 @@
+//! The commands.
+
+ghost use Rattle.std.specs.Prelude.{◌≡◌, IfOk, false};
+ghost use Rattle.clap.specs.Words.{app_of, new_app};
+ghost use Rattle.clap.specs.declared.builder.command.Command.TheViews.{out-Command as fields_of};
+ghost use Rattle.trlab_command_line.specs.CommandLine.{check_command, command_line, explain_command, program, run_command, series_command, sweep_command};
+
+use crate::arguments::options::{
+    every_option, from_option, number_argument, progress_flag, runners_option, what_argument,
+    workers_option,
+};
+use crate::help::{
+    ABOUT, AFTER, CHECK_ABOUT, CHECK_AFTER, EXPLAIN_ABOUT, EXPLAIN_AFTER, EXPLAIN_USAGE, RUN_ABOUT,
+    RUN_AFTER, SERIES_ABOUT, SERIES_AFTER, SWEEP_ABOUT, SWEEP_AFTER, VERSION,
+};
+use clap::Command;
+use std::alloc::{AllocError, Global};
+
+/// A command without arguments, with its texts of help.
+fn bare_command<'a>(alloc: Global, name: &'a str, about: &'a str, after: &'a str) -> Command<'a>
+    ensures app { app_of result ≡ new_app name.now }
+    ensures local { (fields_of result).has_globals ≡ false }
+{
+    Command::new(alloc, name).about(about).after_help(after)
+}
+
+/// The command `check`.
+fn check_command<'a>(alloc: Global) -> Command<'a>
+    ensures app { app_of result ≡ check_command }
+    ensures local { (fields_of result).has_globals ≡ false }
+{
+    bare_command(alloc, "check", CHECK_ABOUT, CHECK_AFTER)
+}
+
+/// The command `run`.
+fn run_command<'a>(alloc: Global) -> Result<Command<'a>, AllocError>
+    ensures app { IfOk result (λ command. app_of command ≡ run_command) }
+    ensures local { IfOk result (λ command. (fields_of command).has_globals ≡ false) }
+{
+    bare_command(alloc, "run", RUN_ABOUT, RUN_AFTER)
+        .arg(workers_option(alloc))?
+        .arg(progress_flag(alloc))
+}
+
+/// The command `sweep`.
+fn sweep_command<'a>(alloc: Global) -> Result<Command<'a>, AllocError>
+    ensures app { IfOk result (λ command. app_of command ≡ sweep_command) }
+    ensures local { IfOk result (λ command. (fields_of command).has_globals ≡ false) }
+{
+    bare_command(alloc, "sweep", SWEEP_ABOUT, SWEEP_AFTER)
+        .arg(runners_option(alloc))?
+        .arg(workers_option(alloc))?
+        .arg(progress_flag(alloc))
+}
+
+/// The command `series`.
+fn series_command<'a>(alloc: Global) -> Result<Command<'a>, AllocError>
+    ensures app { IfOk result (λ command. app_of command ≡ series_command) }
+    ensures local { IfOk result (λ command. (fields_of command).has_globals ≡ false) }
+{
+    bare_command(alloc, "series", SERIES_ABOUT, SERIES_AFTER)
+        .arg(every_option(alloc))?
+        .arg(from_option(alloc))?
+        .arg(workers_option(alloc))?
+        .arg(progress_flag(alloc))
+}
+
+/// The command `explain`.
+pub fn explain_command<'a>(alloc: Global) -> Result<Command<'a>, AllocError>
+    ensures app { IfOk result (λ command. app_of command ≡ explain_command) }
+    ensures local { IfOk result (λ command. (fields_of command).has_globals ≡ false) }
+{
+    bare_command(alloc, "explain", EXPLAIN_ABOUT, EXPLAIN_AFTER)
+        .override_usage(EXPLAIN_USAGE)
+        .arg(what_argument(alloc))?
+        .arg(number_argument(alloc))
+}
+
+/// The program, of which one command has to be named, without its commands.
+fn program<'a>(alloc: Global) -> Result<Command<'a>, AllocError>
+    ensures { IfOk result (λ command. app_of command ≡ program) }
+{
+    Command::new(alloc, "trlab")
+        .about(ABOUT)
+        .version(VERSION)
+        .after_help(AFTER)
+        .no_binary_name(true)
+        .subcommand_required(true)
+        .arg_required_else_help(true)
+        .bin_name("trlab")
+}
+
+/// The command line of `trlab`: the program with its commands.
+pub fn command_line<'a>(alloc: Global) -> Result<Command<'a>, AllocError>
+    ensures { IfOk result (λ command. app_of command ≡ command_line) }
+{
+    program(alloc)?
+        .subcommand(check_command(alloc))?
+        .subcommand(run_command(alloc)?)?
+        .subcommand(sweep_command(alloc)?)?
+        .subcommand(series_command(alloc)?)?
+        .subcommand(explain_command(alloc)?)
+}

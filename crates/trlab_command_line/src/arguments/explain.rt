@@ -1,0 +1,109 @@
+//! What `explain` is asked for, by its arguments.
+
+ghost use Rattle.std.specs.Prelude.{◌≡◌, IfOk, Ok, codes, option_map};
+ghost use Rattle.clap.specs.Words.{FailsBy, found_of, kind_of, rows_of};
+ghost use Rattle.trlab_command_line.specs.Explains.{explained, explained_in, kinds_of, subject_named, topic_named};
+ghost use Rattle.trlab_command_line.specs.Numbers.{MayHaveNumber};
+
+use crate::arguments::commands::explain_command;
+use crate::arguments::matches::given_number;
+use clap::error::ErrorKind;
+use clap::{ArgMatches, Error};
+use std::alloc::{AllocError, Global};
+use trlab_repairs::Subject;
+use trlab_sentences::Topic;
+
+/// What is explained.
+#[derive(Clone, Copy, Debug, PartialEq, Eq)]
+pub enum Explaining {
+    /// The text on standard input, as what it is wanted to be, or as what its first word says.
+    Text(Option<Subject>),
+    /// What the cause or the reason of a number means.
+    Number(Topic, u32),
+}
+
+/// What a text is read as by the command of this name.
+fn subject_named(name: &[u8]) -> Option<Subject>
+    ensures { result ≡ subject_named name.now }
+{
+    if name == b"run".as_slice() {
+        Some(Subject::Job)
+    } else if name == b"sweep".as_slice() {
+        Some(Subject::Sweep)
+    } else if name == b"check".as_slice() {
+        Some(Subject::Check)
+    } else {
+        None
+    }
+}
+
+/// What is named before a number.
+fn topic_named(name: &[u8]) -> Option<Topic>
+    ensures { result ≡ topic_named name.now }
+{
+    if name == b"cause".as_slice() {
+        Some(Topic::Cause)
+    } else if name == b"reason".as_slice() {
+        Some(Topic::Reason)
+    } else {
+        None
+    }
+}
+
+/// What the two arguments ask for, or the kind of error where they do not go together.
+fn explained(what: Option<&str>, number: Option<u32>) -> Result<Explaining, ErrorKind>
+    ensures { result ≡ explained (option_map (λ s. s.now) what.entry) number }
+{
+    let Some(what) = what else {
+        return Ok(Explaining::Text(None));
+    };
+    let name = what.as_bytes();
+    match (subject_named(name), topic_named(name), number) {
+        (Some(subject), _, None) => Ok(Explaining::Text(Some(subject))),
+        (Some(_), _, Some(_)) => Err(ErrorKind::UnknownArgument),
+        (None, Some(topic), Some(number)) => Ok(Explaining::Number(topic, number)),
+        (None, Some(_), None) => Err(ErrorKind::MissingRequiredArgument),
+        (None, None, _) => Err(ErrorKind::InvalidValue),
+    }
+}
+
+/// Why the first argument, or that with a number behind it or none, is refused.
+fn refusal_text(alloc: Global, kind: ErrorKind, what: &str) -> Result<String, AllocError> {
+    match kind {
+        ErrorKind::UnknownArgument => {
+            format!(in alloc; "`explain {what}` takes no number behind it")
+        }
+        ErrorKind::MissingRequiredArgument => {
+            format!(in alloc; "`explain {what}` wants a number behind it")
+        }
+        _ => format!(in alloc;
+            "`explain` takes no {what:?} here\n  [possible words: run, sweep, check, cause, reason]"
+        ),
+    }
+}
+
+/// The error of a kind, as `clap` prints it of `explain`.
+fn refusal(alloc: Global, kind: ErrorKind, what: Option<&str>) -> Result<Error, AllocError>
+    ensures { IfOk result (λ error. kind_of error ≡ kind) }
+{
+    let text = refusal_text(alloc, kind, what.unwrap_or(""))?;
+    let mut command = explain_command(alloc)?;
+    command.error(kind, &text)
+}
+
+/// What `explain` asks for, by its matches.
+///
+/// # Errors
+///
+/// Where its arguments do not go together, and where memory ran out.
+pub fn explaining_of(alloc: Global, matches: &ArgMatches) -> Result<Explaining, Error>
+    requires { MayHaveNumber (codes "number") (rows_of (found_of matches.now)) }
+    ensures answer { IfOk result (λ asked. explained_in (rows_of (found_of matches.now)) ≡ Ok asked) }
+    ensures fault { FailsBy (kinds_of (explained_in (rows_of (found_of matches.now)))) result }
+{
+    let what = matches.get_str("what");
+    match explained(what, given_number(matches, "number")) {
+        Ok(asked) => Ok(asked),
+        Err(kind) => Err(refusal(alloc, kind, what)?),
+    }
+}

@@ -1,0 +1,49 @@
+//! What the arguments of a command have among its matches.
+
+ghost use Rattle.std.specs.Prelude.{◌≡◌, ℕ, ◌≤◌, ◌<◌, ◌^◌};
+ghost use Rattle.clap.specs.Words.{Text, rows_of};
+ghost use Rattle.clap.specs.Matches.{found_of};
+ghost use Rattle.trlab_command_line.specs.Numbers.{GivesFlag, GivesNumber, HasFlag, HasValue, HasValueFrom, MayHaveNumber, number_in};
+
+use clap::ArgMatches;
+
+/// The number that an option has among the matches of its command.
+pub fn number_of(matches: &ArgMatches, option: &str) -> u32
+    requires { (least : ℕ) × (most : ℕ) × (v : Text) × (most < 2 ^ 32)
+        × HasValueFrom (option.now) least most (rows_of (found_of matches.now)) v }
+    ensures number { GivesNumber (option.now) (rows_of (found_of matches.now)) result }
+    ensures within { (least most : ℕ) (v : Text) → most < 2 ^ 32
+        → HasValueFrom (option.now) least most (rows_of (found_of matches.now)) v
+        → (least ≤ result) × (result ≤ most) }
+{
+    match matches.get_one::<u32>(option) {
+        Some(number) => number,
+        None => unreachable!(),
+    }
+}
+
+/// The number that an option from 1 to 16 has among the matches of its command.
+pub fn count_of(matches: &ArgMatches, option: &str) -> u32
+    requires { (v : Text) × HasValue (option.now) 16 (rows_of (found_of matches.now)) v }
+    ensures number { GivesNumber (option.now) (rows_of (found_of matches.now)) result }
+    ensures some { 1 ≤ result }
+    ensures few { result ≤ 16 }
+{
+    number_of(matches, option)
+}
+
+/// The number that an argument has among the matches of its command, where it is given.
+pub fn given_number(matches: &ArgMatches, argument: &str) -> Option<u32>
+    requires { MayHaveNumber (argument.now) (rows_of (found_of matches.now)) }
+    ensures { result ≡ number_in (argument.now) (rows_of (found_of matches.now)) }
+{
+    matches.get_one::<u32>(argument)
+}
+
+/// Whether a flag is given among the matches of its command.
+pub fn flag_of(matches: &ArgMatches, flag: &str) -> bool
+    requires { HasFlag (flag.now) (rows_of (found_of matches.now)) }
+    ensures { GivesFlag (flag.now) (rows_of (found_of matches.now)) result }
+{
+    matches.get_flag(flag)
+}
