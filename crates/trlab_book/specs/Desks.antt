@@ -37,8 +37,8 @@ least_of d = strand.least_of d.strand
 abbrev pub IsSame : {L : Type 0} {ledger : Ghosts L} → Desk L ledger → Desk L ledger → Type 0
 IsSame old new = (parts_of new ≡ parts_of old) × strand.IsSame old.strand new.strand
 
--- a call is one event: the book, as all events before replay to it, gave this reply, and the desk has noted the
--- event behind them
+-- a call is one event: the book, as all events before replay to it, gave this reply, and the desk has noted
+-- the event behind them
 pub record IsOneEvent {L : Type 0} {ledger : Ghosts L} (old : Desk L ledger) (call : Call) (told : Reply)
     (new : Desk L ledger) (book : State) : Type 0 where
   pub before : List Event
@@ -46,8 +46,8 @@ pub record IsOneEvent {L : Type 0} {ledger : Ghosts L} (old : Desk L ledger) (ca
   pub reply : told ≡ reply_of book call
   pub noted : strand.Adds old.strand before (event call told) new.strand
 
--- what a call does to the desk through which it is made: the same parts, and, where the reply to it is an event,
--- just this event more, of a book of which something holds; else nothing
+-- what a call does to the desk through which it is made: the same parts, and, where the reply to it is an
+-- event, just this event more, of a book of which something holds; else nothing
 abbrev pub MakesOf : {L : Type 0} {ledger : Ghosts L} → (State → Type 0) → Desk L ledger → Call → Reply
     → Desk L ledger → Type 0
 MakesOf Holds old call told new =

@@ -53,7 +53,8 @@ OutputEnds refused out DeviceFault old new = AppendsPrefix old new out
 
 -- a writing that hands nothing on yet left its writer so: it works where all was written, it has failed just
 -- where that is the fault, and it was not flushed
-pub record WritesOn {A K : Type 0} (sink : Sink.Ghosts K) (result : Result A WriteFault) (old new : K) : Type 0 where
+pub record WritesOn {A K : Type 0} (sink : Sink.Ghosts K) (result : Result A WriteFault)
+    (old new : K) : Type 0 where
   pub works : OnOk result (sink.failed new ≡ false)
   pub fails : IfErr result (λ fault. (fault ≡ Device) ↔ (sink.failed new ≡ true))
   pub flushed : sink.flushes new ≡ sink.flushes old

@@ -7,8 +7,8 @@ use Rattle.trlab_road.specs.Motion.{IsOnLane, gaps}
 use Rattle.trlab_road.specs.Standing.{IsStanding}
 use Rattle.trlab_road.specs.Stored.{car_on}
 
--- the k-th car in standing order, as its lane keeps it, and the next car ahead of it, which stands further on that
--- lane
+-- the k-th car in standing order, as its lane keeps it, and the next car ahead of it, which stands further on
+-- that lane
 pub record IsFollowed (road : Cells) (k : ℕ) (car next : LaneCar) : Type 0 where
   pub lane : ℕ
   pub standing : IsStanding road k (car_on lane car)

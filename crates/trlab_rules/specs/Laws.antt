@@ -14,8 +14,8 @@ abbrev pub MovesBy : (View → List ℕ → ℕ) → Program → Type 0
 MovesBy speed program = (view : View) (words : List ℕ) → IsView view
     → (n : ℕ) × EndsWith Motion program.instrs view words (Goes (speed view words)) n
 
--- a change program answers that the car crosses exactly where a rule says so, whatever the car sees and whatever
--- its words are
+-- a change program answers that the car crosses exactly where a rule says so, whatever the car sees and
+-- whatever its words are
 abbrev pub ChangesBy : (View → List ℕ → Bool) → Program → Type 0
 ChangesBy crosses program = (view : View) (words : List ℕ) → IsView view
     → (n : ℕ) × EndsWith Change program.instrs view words (if crosses view words then Crosses else Stays) n

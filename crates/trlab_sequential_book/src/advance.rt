@@ -123,7 +123,8 @@ fn step_alone<A: Asker>(
 ) -> Result<StepTally, AllocError>
     requires ready { A.is_ready asking.now.asker.now }
     requires rule { IsRuleFor (length (arc_value road.old).lanes) rule.now }
-    ensures next { IfOk result (λ tally. IsNext rule.now asking.now.dice.now (arc_value road.old) (arc_value road.new) tally) }
+    ensures next { IfOk result (λ tally.
+        IsNext rule.now asking.now.dice.now (arc_value road.old) (arc_value road.new) tally) }
     ensures same { OnErr result (arc_value road.new ≡ arc_value road.old) }
 {
     match Arc::get_mut(road) {
