@@ -1,6 +1,6 @@
 //! Jobs that several runners take. Each trial fills a new book, has it run, looks at its jobs and closes it.
 //!
-//! A submission or a read that meets want of memory is made once more, and runners who met it are sent
+//! A submission or a read for which memory ran out is made once more, and runners who met it are sent
 //! again: so a trial whose runners don't wait for each other ends as ever where one allocation is refused,
 //! whichever it is. A lease that a runner had dropped without a revoke would stay out, and its job unfinished.
 

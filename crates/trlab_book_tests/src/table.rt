@@ -2,7 +2,7 @@
 //! nothing, so that a test of many calls is proved to be safe in little time: what they answer, and what
 //! they leave in the history, is what the tests are for.
 //!
-//! A call that meets want of memory is made once more, so that a test ends as ever where one allocation is
+//! A call for which memory ran out is made once more, so that a test ends as ever where one allocation is
 //! refused, whichever it is.
 
 ghost use Rattle.std.specs.Prelude.{◌≡◌};
@@ -97,7 +97,7 @@ impl<L: Ledger> Table<L> {
         }
     }
 
-    /// Whether a call answers this. Where it meets want of memory it has changed nothing, and is made again.
+    /// Whether a call answers this. Where memory ran out it has changed nothing, and is made again.
     pub fn answers<R: Wait>(&mut self, rt: &R, alloc: Global, call: Made, wanted: Reply) -> bool {
         match self.make(rt, alloc, call) {
             None | Some(Reply::Refused(BookFault::Memory)) => {
