@@ -184,6 +184,13 @@ def files_of(section):
         yield os.path.join(folder, named)
 
 
+def figure_is_of_the_table():
+    """The figure of speeds is what the script draws of the table."""
+    words = ["awk", "-f", "docs/speed.awk", "docs/SPEED.md"]
+    drawn = subprocess.run(words, cwd=TOP, capture_output=True, text=True).stdout
+    yield drawn == content("docs/speed.svg"), "docs/speed.svg is not the figure of the table in docs/SPEED.md"
+
+
 @functools.cache
 def words_of_sources():
     """Every word of a file that is no document, and of its path."""
