@@ -11,6 +11,7 @@ import subprocess
 from finder import TOP
 
 ARCHITECTURE = "docs/ARCHITECTURE.md"
+MAPS = ARCHITECTURE, "docs/EXTENDING.md"
 DECISIONS = "docs/DECISIONS.md"
 # They tell of crates by the names of their day.
 OF_OLD = "docs/HISTORY.md", "CHANGELOG.md"
@@ -158,23 +159,29 @@ def crates_are_there():
                 yield is_there, f"{name} names {crate}{path}, which is not there"
 
 
-def files_of_map_are_there():
-    """So is each file of the map of crates: `src/run.rt` is of the crate that its section named last, `run.rt` lies beside
+def files_of_maps_are_there():
+    """So is each file of the maps of crates: `src/run.rt` is of the crate that its section named last, `run.rt` lies beside
     the file named last."""
-    for section in re.split(r"^#+ ", content(ARCHITECTURE), flags=re.M):
-        crate, folder = "", ""
-        for named in re.findall(r"`([\w./]+)`", section):
-            if begun := re.match(r"trlab_\w+", named):
-                crate = begun[0]
-            path = FILE.fullmatch(f"`{named}`")
-            if not (path and crate):
-                continue
-            if re.match(r"src/|specs/|proofs/", named):
-                folder, named = os.path.join(crate, os.path.dirname(named)), os.path.basename(named)
-            elif begun:
-                folder, named = os.path.split(named)
-            is_there = os.path.exists(os.path.join(TOP, "crates", folder, named))
-            yield is_there, f"{ARCHITECTURE} names {folder}/{named}, which is not there"
+    for document in MAPS:
+        for section in re.split(r"^#+ ", content(document), flags=re.M):
+            for path in files_of(section):
+                is_there = os.path.exists(os.path.join(TOP, "crates", path))
+                yield is_there, f"{document} names {path}, which is not there"
+
+
+def files_of(section):
+    """The files of crates that a section of a map names."""
+    crate, folder = "", ""
+    for named in re.findall(r"`([\w./]+)`", section):
+        if begun := re.match(r"trlab_\w+", named):
+            crate = begun[0]
+        if not (crate and FILE.fullmatch(f"`{named}`")):
+            continue
+        if re.match(r"src/|specs/|proofs/", named):
+            folder, named = os.path.join(crate, os.path.dirname(named)), os.path.basename(named)
+        elif begun:
+            folder, named = os.path.split(named)
+        yield os.path.join(folder, named)
 
 
 def figure_is_of_the_table():
@@ -219,7 +226,7 @@ def verdicts():
         sources_are_shown_as_they_are,
         layers_agree,
         crates_are_there,
-        files_of_map_are_there,
+        files_of_maps_are_there,
         names_are_there,
         figure_is_of_the_table,
         readme_is_short,
