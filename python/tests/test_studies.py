@@ -69,6 +69,19 @@ class Studies(unittest.TestCase):
                 for file, figure in figures.items():
                     self.assertEqual(figure, (STUDIES / name / file).read_text())
 
+    def test_a_page_has_the_means_of_its_tables(self):
+        script("1992")
+        from study import read_rows
+
+        page = (STUDIES / "1992" / "README.md").read_text()
+        for file in "table.csv", "full_table.csv":
+            tables = {}
+            for name, *numbers in read_rows(STUDIES / "1992" / file):
+                tables.setdefault(name, []).append(Point(*map(int, numbers)))
+            for density, flow in script("1992").means(tables).items():
+                with self.subTest(file=file, density=density):
+                    self.assertIn(f"| {density} | {flow.value:.5f} ± {flow.error:.5f} |", page)
+
     def test_first_points_come_out_again(self):
         # A point is the same whatever points stand behind it.
         for name in "1992", "1996", "triangle":
