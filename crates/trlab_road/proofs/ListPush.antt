@@ -1,4 +1,4 @@
--- AreSorted lists of cars with one more car at their end, and the lanes that they make.
+-- Sorted lists of cars with one more car at their end, and the lanes that they make.
 use Rattle.std.proofs.Common.{◌≡◌, ◌≢◌, ℕ, zero, suc, ◌+◌, ◌<◌, ◌≤◌, Some, None, List, [], ◌∷◌, ◌++◌, length, map, set, replicate, cond, eqb, refl, sym, ◌∙◌, ap, subst, arith}
 use Rattle.std.specs.List.{range_with_len}
 use Rattle.std.proofs.lemmas.List.FromFn.{map-range_with_len_more}

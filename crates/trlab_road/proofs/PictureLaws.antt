@@ -254,7 +254,7 @@ pictures_good road legal =
           rw e (cell_shows road.limit (cell road l x) (λ car here. legal.within_limit (car_in l x car.0 car.1) here));
     }
 
--- good pictures have no fault but that memory may run out
+-- good pictures have no fault, unless memory ran out
 pub no_fault : (limit : ℕ) (ps : List (List ℕ)) (fault : RoadFault) → AreGoodPictures limit ps
     → IsFirstFault limit ps fault → fault ≡ Memory
 no_fault limit ps Lanes good h = absurd (h good.shape.lanes)
@@ -298,7 +298,7 @@ same_byte : (limit : ℕ) (ps : List (List ℕ)) (l x m y : ℕ) → (l ≡ m) �
 same_byte limit ps l x m y e h =
     subst (λ (k : ℕ). ShowsSpeed GREATEST_LIMIT (character_at ps m k)) e.1 (subst (λ (k : ℕ). ShowsSpeed GREATEST_LIMIT (character_at ps k x)) e.0 h)
 
--- a limit and pictures have one first fault, but that memory may run out
+-- a limit and pictures have one first fault, unless memory ran out
 pub one_fault : (limit : ℕ) (ps : List (List ℕ)) (fault other : RoadFault) → IsFirstFault limit ps fault
     → IsFirstFault limit ps other → fault ≢ Memory → other ≢ Memory → fault ≡ other
 one_fault limit ps Lanes Lanes f g p q = refl

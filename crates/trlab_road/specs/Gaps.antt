@@ -28,7 +28,7 @@ clear_cells lane way = greatest (is_clear lane way) (length lane - 1)
 abbrev pub gap : Lane → ℕ → ℕ
 gap lane x = clear_cells lane (ahead (length lane) x)
 
--- the place of the next car ahead, behind the gap: its own where a car is alone on its lane
+-- the place of the next car ahead, after the gap: its own where a car is alone on its lane
 abbrev pub next_place : Lane → ℕ → ℕ
 next_place lane x = ahead (length lane) x (gap lane x + 1)
 

@@ -21,13 +21,13 @@ abbrev pub GoodPicturesShowLegalRoads : Type 0
 GoodPicturesShowLegalRoads = (limit : ℕ) (pictures : List (List ℕ)) (road : Cells)
     → AreGoodPictures limit pictures → Shows limit pictures road → IsLegal road
 
--- a limit and pictures have one first fault, but that memory may run out
+-- a limit and pictures have one first fault, unless memory ran out
 abbrev pub OneFirstFault : Type 0
 OneFirstFault = (limit : ℕ) (pictures : List (List ℕ)) (fault other : RoadFault)
     → IsFirstFault limit pictures fault → IsFirstFault limit pictures other
     → fault ≢ Memory → other ≢ Memory → fault ≡ other
 
--- good pictures have no fault, but that memory may run out
+-- good pictures have no fault, unless memory ran out
 abbrev pub NoFaultInGood : Type 0
 NoFaultInGood = (limit : ℕ) (pictures : List (List ℕ)) (fault : RoadFault)
     → AreGoodPictures limit pictures → IsFirstFault limit pictures fault → fault ≡ Memory
@@ -152,13 +152,13 @@ abbrev pub EvenRoadHasAllCars : Type 0
 EvenRoadHasAllCars = (lanes cells limit n : ℕ) (road : Cells)
     → CanSpread lanes cells limit n → IsEven lanes cells limit n road → cars road ≡ n
 
--- what a road is to be has one first fault, but that memory may run out
+-- what a road is to be has one first fault, unless memory ran out
 abbrev pub OneEvenFault : Type 0
 OneEvenFault = (lanes cells limit n : ℕ) (fault other : RoadFault)
     → IsEvenFault lanes cells limit n fault → IsEvenFault lanes cells limit n other
     → fault ≢ Memory → other ≢ Memory → fault ≡ other
 
--- what fits has no fault, but that memory may run out
+-- what fits has no fault, unless memory ran out
 abbrev pub NoFaultInFitting : Type 0
 NoFaultInFitting = (lanes cells limit n : ℕ) (fault : RoadFault)
     → CanSpread lanes cells limit n → IsEvenFault lanes cells limit n fault → fault ≡ Memory

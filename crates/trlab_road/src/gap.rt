@@ -1,5 +1,5 @@
-//! What is ahead and behind on a lane: gaps in cells, and the speed of the next car. The next car is that of its
-//! list, by rising place, or round the ring the first or the last.
+//! What is ahead and behind on a lane: gaps in cells, and the speed of the next car. Cars follow each other
+//! as in their list, by rising place, and round the ring the first follows the last.
 
 ghost use Rattle.std.specs.Prelude.{◌≡◌, ◌<◌, ◌≤◌, ℕ, length};
 ghost use Rattle.trlab_bounds.specs.declared.roads.TheConstants.{GREATEST_LENGTH};
@@ -9,7 +9,7 @@ ghost use Rattle.trlab_road.specs.Stored.{IsParted, Rises, cells_of, place_of};
 use crate::lane_car::{LaneCar, place_at, speed_at};
 
 /// What is ahead of a car on its own lane.
-#[derive(Clone, Copy, Debug, PartialEq, Eq)]
+#[derive(Clone, Copy)]
 pub struct Ahead {
     /// How many cells ahead of it are empty.
     pub gap: u32,

@@ -56,7 +56,7 @@ fn leaving_cars(
     Ok(())
 }
 
-/// The index behind a run of cars: from one that stays on, those that stay and stand before a place.
+/// The index after a run of cars: from one that stays on, those that stay and stand before a place.
 fn run_end(lane: AnsweredLane, crosses: &[bool], begin: usize, due: u32) -> usize
     requires each { lane.from + length lane.cars.now ≤ length crosses.now }
     requires begin { begin < length lane.cars.now }

@@ -73,7 +73,7 @@ pub fn empty_lanes(alloc: Global, count: usize) -> Result<Vec<Vec<LaneCar>>, All
     Ok(lanes)
 }
 
-/// The same lanes once more.
+/// A copy of the lanes.
 pub fn copy_lanes(alloc: Global, lanes: &[Vec<LaneCar>]) -> Result<Vec<Vec<LaneCar>>, AllocError>
     ensures { IfOk result (λ copies. lists_of copies.items ≡ lists_of lanes.now) }
 {

@@ -56,8 +56,8 @@ pub fn shows_cell(limit: u32, character: u8) -> bool
     character == POINT || shows_speed(limit, character)
 }
 
-/// Adds the picture of a lane: a point for an empty cell, the character of the speed for a car. Where an
-/// allocation was refused, the bytes stay as they were.
+/// Adds the picture of a lane: a point for an empty cell, the character of the speed for a car. Where memory
+/// ran out, the bytes stay as they were.
 pub fn push_picture(out: &mut Vec<u8>, cars: &[LaneCar], cells: u32) -> Result<(), AllocError>
     requires sorted { Rises 0 cells cars.now }
     requires slow { (k : ℕ) → k < length cars.now

@@ -50,14 +50,14 @@ impl Road {
     /// The road that pictures show, one for each lane, with its cars numbered in standing order. The
     /// limit is 1 to 35 cells a step.
     ///
-    /// A picture has one character a cell: a point for an empty cell, and for a car its speed, as a digit from
-    /// 0 to 9 or, for 10 to 35, as a letter from `a` to `z`.
+    /// A picture has one character a cell: a point for an empty cell, and for a car its speed, as a digit
+    /// from 0 to 9 or, for 10 to 35, as a letter from `a` to `z`.
     ///
     /// # Errors
     ///
     /// The first fault of the limit and the pictures: `Lanes`, then `Length`, then `Limit`, then that of
     /// the first character, lane by lane and from left to right, that shows no cell. `Memory` may stand
-    /// in its place where an allocation was refused.
+    /// in its place where memory ran out.
     pub fn parse(alloc: Global, limit: u32, lanes: &[&[u8]]) -> Result<Road, RoadFault>
         ensures shown { MatchResult result
             (λ road. Shows limit (pictures_of lanes.now) road)
@@ -68,7 +68,7 @@ impl Road {
         ensures back { (road : Cells) → IsLegal road → Shows limit (pictures_of lanes.now) road
             → MatchResult result (λ next. next ≡ road) (λ fault. fault ≡ RoadFault.Memory) }
 
-        // each fault is told, but where memory runs out
+        // each fault is told, unless memory ran out
         ensures told { (fault : RoadFault) → IsFirstFault limit (pictures_of lanes.now) fault
             → fault ≢ RoadFault.Memory → (result ≡ Err fault) ⊎ (result ≡ Err RoadFault.Memory) }
     {
@@ -91,7 +91,7 @@ impl Road {
     /// # Errors
     ///
     /// The first fault: `Lanes`, then `Length`, then `Limit`, then `TooManyCars`. `Memory` may stand in
-    /// its place where an allocation was refused.
+    /// its place where memory ran out.
     pub fn even(
         alloc: Global,
         lanes: u32,
@@ -104,7 +104,7 @@ impl Road {
             (λ fault. IsEvenFault lanes cells limit count fault) }
         ensures even { IfOk result (λ road. IsEven lanes cells limit count road) }
 
-        // each fault is told, but where memory runs out
+        // each fault is told, unless memory ran out
         ensures told { (fault : RoadFault) → IsEvenFault lanes cells limit count fault
             → fault ≢ RoadFault.Memory → (result ≡ Err fault) ⊎ (result ≡ Err RoadFault.Memory) }
         ensures counted { IfOk result (λ road. cars road ≡ count) }
@@ -119,11 +119,11 @@ impl Road {
         })
     }
 
-    /// The same road once more.
+    /// A copy of the road.
     ///
     /// # Errors
     ///
-    /// Where an allocation was refused.
+    /// Where memory ran out.
     pub fn copy(&self, alloc: Global) -> Result<Road, AllocError>
         ensures { IfOk result (λ road. road ≡ self.now) }
     {
@@ -158,7 +158,7 @@ impl Road {
     ///
     /// # Errors
     ///
-    /// Where an allocation was refused.
+    /// Where memory ran out.
     pub fn picture(&self, alloc: Global, lane: u32) -> Result<Vec<u8>, AllocError>
         requires { lane < length self.now.lanes }
         ensures { IfOk result (λ bytes. bytes.items ≡ picture (lane_of self.now lane)) }
@@ -172,7 +172,7 @@ impl Road {
     ///
     /// # Errors
     ///
-    /// Where an allocation was refused; then the bytes stay as they were.
+    /// Where memory ran out; then the bytes stay as they were.
     pub fn push_picture(&self, out: &mut Vec<u8>, lane: u32) -> Result<(), AllocError>
         requires { lane < length self.now.lanes }
         ensures added { OnOk result (out.new.items ≡ out.old.items ++ picture (lane_of self.now lane)) }

@@ -1,10 +1,9 @@
-//! What stands beside a car, found in the other lane's list: by halves, or near where the car before it
-//! found its own.
+//! What stands beside a car, found in the other lane's list: by binary search, or near where the car before
+//! it found its own.
 
 ghost use Rattle.std.specs.Prelude.{◌≡◌, ◌<◌, ◌≤◌, ℕ, if◌then◌else◌, length, nat_lt};
 ghost use Rattle.trlab_bounds.specs.declared.roads.TheConstants.{GREATEST_LENGTH};
 ghost use Rattle.trlab_road.specs.Cells.{cars_before};
-ghost use Rattle.trlab_road.specs.Gaps.{side, sideback, sidegap};
 ghost use Rattle.trlab_road.specs.Stored.{Rises, IsRising, IsFirstFrom, StandsBeside, cells_of, place_of};
 
 use crate::gap::{gap_ahead, gap_behind};
@@ -23,7 +22,7 @@ fn first_from(cars: &[LaneCar], place: u32) -> usize
 }
 
 /// What stands beside a car on the other lane.
-#[derive(Clone, Copy, Debug, PartialEq, Eq)]
+#[derive(Clone, Copy)]
 pub struct Beside {
     /// Is the side cell empty?
     pub is_empty: bool,
@@ -38,8 +37,8 @@ pub struct Beside {
 /// How many cars are looked at together, before they are looked at one by one.
 const TOGETHER: usize = 4;
 
-/// Goes past those of the four cars from an index on that stand before a place, where there are four: by a sum, so
-/// that no branch hangs on where they stand.
+/// Goes past those of the four cars from an index on that stand before a place, where there are four: by a
+/// sum, so that no branch depends on where they stand.
 #[inline(always)]
 fn past_four(cars: &[LaneCar], place: u32, near: usize) -> usize
     requires within { near ≤ length cars.now }
@@ -58,7 +57,7 @@ fn past_four(cars: &[LaneCar], place: u32, near: usize) -> usize
 }
 
 /// The index of the first car from a place on, looked for from an index near it: from car to car
-/// where no earlier car is in question, else by halves.
+/// where no earlier car is in question, else by binary search.
 fn first_near(cars: &[LaneCar], place: u32, near: usize) -> usize
     requires sorted { IsRising cars.now }
     ensures { IsFirstFrom cars.now place result }
@@ -83,8 +82,8 @@ fn only_if(test: bool, number: u32) -> u32
     if test { number } else { 0 }
 }
 
-/// What stands beside a place that is past one car and not past the next: by differences, so that no branch hangs on
-/// whether the side cell is taken. Only the proof reads how many cells there are.
+/// What stands beside a place that is past one car and not past the next: by differences, so that no branch
+/// depends on whether the side cell is taken. Only the proof reads how many cells there are.
 #[inline(always)]
 fn look_between(cars: &[LaneCar], cells: usize, place: u32, next: usize) -> Beside
     requires inside { place < cells }
@@ -105,8 +104,8 @@ fn look_between(cars: &[LaneCar], cells: usize, place: u32, next: usize) -> Besi
     }
 }
 
-/// What stands beside a place, where the cars from an index on are those from there on: also past the last car of the
-/// list, and before the first.
+/// What stands beside a place, where the cars from an index on are those from there on: also past the last
+/// car of the list, and before the first.
 fn look_anywhere(cars: &[LaneCar], cells: usize, place: u32, next: usize) -> Beside
     requires small { cells ≤ GREATEST_LENGTH }
     requires inside { place < cells }
@@ -136,12 +135,8 @@ pub fn look_beside(cars: &[LaneCar], cells: usize, place: u32, near: usize) -> B
     requires small { cells ≤ GREATEST_LENGTH }
     requires inside { place < cells }
     requires sorted { Rises 0 cells cars.now }
-    ensures empty { result.is_empty ≡ side (cells_of cells cars.now) place }
-    ensures ahead { result.ahead ≡ sidegap (cells_of cells cars.now) place }
-    ensures behind { result.behind ≡ sideback (cells_of cells cars.now) place }
+    ensures beside { StandsBeside cells cars.now place result }
     ensures next { result.next ≡ cars_before (cells_of cells cars.now) place }
-    ensures ahead_within { result.ahead < cells }
-    ensures behind_within { result.behind < cells }
 {
     let next = first_near(cars, place, near);
     if 0 < next && next < cars.len() {

@@ -1,4 +1,5 @@
-//! What is seen of a road: its lanes and limit, its cars in standing order, and what is ahead of a car and beside it.
+//! What is seen of a road: its lanes and limit, its cars in standing order, and what is ahead of a car and
+//! beside it.
 
 ghost use Rattle.std.specs.Prelude.{◌≡◌, ◌+◌, ◌*◌, ◌<◌, ◌≤◌, ℕ, length, slice_index, slice_index_or, false};
 ghost use Rattle.trlab_bounds.specs.declared.roads.TheConstants.{GREATEST_LENGTH, MOST_LANES};
@@ -99,8 +100,8 @@ impl Road {
         look_ahead(list_of(&self.lanes, lane), self.cells as usize, index)
     }
 
-    /// The line from the k-th car in standing order on to the last one of its lane, as the lane keeps it: each car
-    /// but that last one is followed by the next car ahead of it.
+    /// The line from the k-th car in standing order on to the last one of its lane, as the lane keeps it:
+    /// each car but that last one is followed by the next car ahead of it.
     pub fn line_from(&self, k: u32) -> &[LaneCar]
         requires { k < cars self.now }
         ensures { (j : ℕ) → j + 1 < length result.now → IsFollowed self.now (k + j)
@@ -126,17 +127,15 @@ impl Road {
     /// empty, and the gaps ahead and behind from there in cells, as `side`, `sidegap` and `sideback` tell.
     ///
     /// Asked car by car along a lane, with the `next` of the answer before as `near`, it goes on from
-    /// there; with any other `near`, as 0, it searches by halves.
+    /// there; with any other `near`, as 0, it makes a binary search.
     pub fn beside(&self, k: u32, near: usize) -> Beside
         requires below { k < cars self.now }
         requires two { length self.now.lanes ≡ 2 }
         ensures value { result.is_empty ≡ slice_index_or (sides self.now) k false }
         ensures empty { IsBeside side self.now k result.is_empty }
-        ensures ahead { IsBeside sidegap self.now k result.ahead }
-        ensures behind { IsBeside sideback self.now k result.behind }
+        ensures ahead { IsGapBeside sidegap self.now k result.ahead }
+        ensures behind { IsGapBeside sideback self.now k result.behind }
         ensures next { IsBeside cars_before self.now k result.next }
-        ensures ahead_below { result.ahead < length (lane_of self.now 0) }
-        ensures behind_below { result.behind < length (lane_of self.now 0) }
     {
         let (lane, index) = find(&self.lanes, k);
         let place = place_at(list_of(&self.lanes, lane), index);
@@ -144,8 +143,8 @@ impl Road {
         look_beside(other, self.cells as usize, place, near)
     }
 
-    /// The gap ahead on the other lane in cells, from beside the k-th car in standing order: 0 where the side
-    /// cell is taken, n - 1 on an empty lane of n (Rickert, Nagel, Schreckenberg and Latour 1996).
+    /// The gap ahead on the other lane in cells, from beside the k-th car in standing order: 0 where the
+    /// side cell is taken, n - 1 on an empty lane of n (Rickert, Nagel, Schreckenberg and Latour 1996).
     pub fn sidegap(&self, k: u32) -> u32
         requires below { k < cars self.now }
         requires two { length self.now.lanes ≡ 2 }
@@ -154,8 +153,8 @@ impl Road {
         self.beside(k, 0).ahead
     }
 
-    /// The gap behind on the other lane in cells, from beside the k-th car in standing order: 0 where the side
-    /// cell is taken, n - 1 on an empty lane of n (Rickert, Nagel, Schreckenberg and Latour 1996).
+    /// The gap behind on the other lane in cells, from beside the k-th car in standing order: 0 where the
+    /// side cell is taken, n - 1 on an empty lane of n (Rickert, Nagel, Schreckenberg and Latour 1996).
     pub fn sideback(&self, k: u32) -> u32
         requires below { k < cars self.now }
         requires two { length self.now.lanes ≡ 2 }

@@ -17,7 +17,7 @@ impl Road {
     ///
     /// # Errors
     ///
-    /// Where an allocation was refused.
+    /// Where memory ran out.
     pub fn after_motion(&self, alloc: Global, speeds: &[u32]) -> Result<Road, AllocError>
         requires { MayMove self.now speeds.now }
         ensures moves { IfOk result (λ next. (answer : ℕ → ℕ → ℕ)
@@ -47,7 +47,7 @@ impl Road {
     ///
     /// # Errors
     ///
-    /// Where an allocation was refused.
+    /// Where memory ran out.
     pub fn after_lane_change(&self, alloc: Global, crosses: &[bool]) -> Result<Road, AllocError>
         requires { MayCross self.now crosses.now }
         ensures crosses { IfOk result (λ next. (answer : ℕ → ℕ → Bool)
@@ -62,8 +62,8 @@ impl Road {
     ///
     /// # Errors
     ///
-    /// Where an allocation was refused; the room may have lost its lists then. Any room serves for any lane
-    /// change, this one too: nothing that stands in a room is asked for or told.
+    /// Where memory ran out; the room may have lost its lists then. Any room serves for any lane change, this
+    /// one too: no contract speaks of what stands in a room.
     pub fn after_lane_change_in(
         &self,
         alloc: Global,

@@ -40,7 +40,7 @@ returns-clause-value c =
     let two = rw (← c.self.view_is) at c.requires.two in
     let count = lanes_count n lists c.self.inside.limit c.self.invariant in
     rw (← c.self.view_is) (found_in_order (λ l x. side (get_or (lanes_from n lists) (1 - l) []) x) n lists c.self.inside.limit _ _ _ c.self.invariant.sorted f c.look_beside.result.is_empty
-    (here side n _ _ _ c.look_beside.result.is_empty lists _ _ _ _ (omega (arith, two, count)) c.deref-2.ensures.value c.list_of.ensures c.deref-3.ensures.value c.list_of-other.ensures (told_at side (cells_of n c.list_of-other.result.now) _ _ _ c.place_at-place.ensures c.look_beside.ensures.empty)) false)
+    (here side n _ _ _ c.look_beside.result.is_empty lists _ _ _ _ (omega (arith, two, count)) c.deref-2.ensures.value c.list_of.ensures c.deref-3.ensures.value c.list_of-other.ensures (told_at side (cells_of n c.list_of-other.result.now) _ _ _ c.place_at-place.ensures c.look_beside.ensures.beside.empty)) false)
 
 pub returns-clause-empty : goal.returns-clause-empty
 returns-clause-empty c =
@@ -50,7 +50,7 @@ returns-clause-empty c =
     let two = rw (← c.self.view_is) at c.requires.two in
     let count = lanes_count n lists c.self.inside.limit c.self.invariant in
     rw (← c.self.view_is) (found_by (λ l x. side (get_or (lanes_from n lists) (1 - l) []) x) n lists c.self.inside.limit _ _ _ c.self.invariant.sorted f c.look_beside.result.is_empty
-    (here side n _ _ _ c.look_beside.result.is_empty lists _ _ _ _ (omega (arith, two, count)) c.deref-2.ensures.value c.list_of.ensures c.deref-3.ensures.value c.list_of-other.ensures (told_at side (cells_of n c.list_of-other.result.now) _ _ _ c.place_at-place.ensures c.look_beside.ensures.empty)))
+    (here side n _ _ _ c.look_beside.result.is_empty lists _ _ _ _ (omega (arith, two, count)) c.deref-2.ensures.value c.list_of.ensures c.deref-3.ensures.value c.list_of-other.ensures (told_at side (cells_of n c.list_of-other.result.now) _ _ _ c.place_at-place.ensures c.look_beside.ensures.beside.empty)))
 
 pub returns-clause-ahead : goal.returns-clause-ahead
 returns-clause-ahead c =
@@ -59,8 +59,11 @@ returns-clause-ahead c =
     let f = subst (λ (ls : List (Vec LaneCar Global)). IsFoundAt ls c.args.k c.find-lane.result.0 c.find-lane.result.1) c.deref.ensures.value c.find-lane.ensures in
     let two = rw (← c.self.view_is) at c.requires.two in
     let count = lanes_count n lists c.self.inside.limit c.self.invariant in
-    rw (← c.self.view_is) (found_by (λ l x. sidegap (get_or (lanes_from n lists) (1 - l) []) x) n lists c.self.inside.limit _ _ _ c.self.invariant.sorted f c.look_beside.result.ahead
-    (here sidegap n _ _ _ c.look_beside.result.ahead lists _ _ _ _ (omega (arith, two, count)) c.deref-2.ensures.value c.list_of.ensures c.deref-3.ensures.value c.list_of-other.ensures (told_at sidegap (cells_of n c.list_of-other.result.now) _ _ _ c.place_at-place.ensures c.look_beside.ensures.ahead)))
+    record {
+      of_car = rw (← c.self.view_is) (found_by (λ l x. sidegap (get_or (lanes_from n lists) (1 - l) []) x) n lists c.self.inside.limit _ _ _ c.self.invariant.sorted f c.look_beside.result.ahead
+          (here sidegap n _ _ _ c.look_beside.result.ahead lists _ _ _ _ (omega (arith, two, count)) c.deref-2.ensures.value c.list_of.ensures c.deref-3.ensures.value c.list_of-other.ensures (told_at sidegap (cells_of n c.list_of-other.result.now) _ _ _ c.place_at-place.ensures c.look_beside.ensures.beside.ahead)));
+      below = rw (← c.self.view_is, length_first n lists c.self.inside.limit c.self.invariant) c.look_beside.ensures.beside.ahead_within;
+    }
 
 pub returns-clause-behind : goal.returns-clause-behind
 returns-clause-behind c =
@@ -69,8 +72,11 @@ returns-clause-behind c =
     let f = subst (λ (ls : List (Vec LaneCar Global)). IsFoundAt ls c.args.k c.find-lane.result.0 c.find-lane.result.1) c.deref.ensures.value c.find-lane.ensures in
     let two = rw (← c.self.view_is) at c.requires.two in
     let count = lanes_count n lists c.self.inside.limit c.self.invariant in
-    rw (← c.self.view_is) (found_by (λ l x. sideback (get_or (lanes_from n lists) (1 - l) []) x) n lists c.self.inside.limit _ _ _ c.self.invariant.sorted f c.look_beside.result.behind
-    (here sideback n _ _ _ c.look_beside.result.behind lists _ _ _ _ (omega (arith, two, count)) c.deref-2.ensures.value c.list_of.ensures c.deref-3.ensures.value c.list_of-other.ensures (told_at sideback (cells_of n c.list_of-other.result.now) _ _ _ c.place_at-place.ensures c.look_beside.ensures.behind)))
+    record {
+      of_car = rw (← c.self.view_is) (found_by (λ l x. sideback (get_or (lanes_from n lists) (1 - l) []) x) n lists c.self.inside.limit _ _ _ c.self.invariant.sorted f c.look_beside.result.behind
+          (here sideback n _ _ _ c.look_beside.result.behind lists _ _ _ _ (omega (arith, two, count)) c.deref-2.ensures.value c.list_of.ensures c.deref-3.ensures.value c.list_of-other.ensures (told_at sideback (cells_of n c.list_of-other.result.now) _ _ _ c.place_at-place.ensures c.look_beside.ensures.beside.behind)));
+      below = rw (← c.self.view_is, length_first n lists c.self.inside.limit c.self.invariant) c.look_beside.ensures.beside.behind_within;
+    }
 
 pub returns-clause-next : goal.returns-clause-next
 returns-clause-next c =
@@ -81,12 +87,6 @@ returns-clause-next c =
     let count = lanes_count n lists c.self.inside.limit c.self.invariant in
     rw (← c.self.view_is) (found_by (λ l x. cars_before (get_or (lanes_from n lists) (1 - l) []) x) n lists c.self.inside.limit _ _ _ c.self.invariant.sorted f c.look_beside.result.next
     (here cars_before n _ _ _ c.look_beside.result.next lists _ _ _ _ (omega (arith, two, count)) c.deref-2.ensures.value c.list_of.ensures c.deref-3.ensures.value c.list_of-other.ensures (told_at cars_before (cells_of n c.list_of-other.result.now) _ _ _ c.place_at-place.ensures c.look_beside.ensures.next)))
-
-pub returns-clause-ahead_below : goal.returns-clause-ahead_below
-returns-clause-ahead_below c = rw (← c.self.view_is, length_first c.self.inside.cells c.self.inside.lanes.items c.self.inside.limit c.self.invariant) c.look_beside.ensures.ahead_within
-
-pub returns-clause-behind_below : goal.returns-clause-behind_below
-returns-clause-behind_below c = rw (← c.self.view_is, length_first c.self.inside.cells c.self.inside.lanes.items c.self.inside.limit c.self.invariant) c.look_beside.ensures.behind_within
 
 -- the list of the car's lane, and that of the other lane
 pub find-lane-requires-clause-few : goal.find-lane-requires-clause-few
