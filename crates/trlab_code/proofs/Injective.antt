@@ -66,7 +66,7 @@ instr_of opcode a b c n =
     ∷ Min r s t ∷ Max r s t ∷ Not r s ∷ And r s t ∷ Or r s t ∷ Jump n ∷ JumpLess r s n ∷ JumpAtMost r s n ∷ JumpTrue r n
     ∷ JumpFalse r n ∷ Go r ∷ Cross ∷ []) opcode Stay
 
--- the instruction at the front of bytes
+-- the instruction that bytes begin with
 abbrev first_of : List ℕ → Instr
 first_of bytes =
     let at : ℕ → ℕ = λ (k : ℕ). get_or bytes k 0 in

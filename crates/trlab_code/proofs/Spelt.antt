@@ -85,7 +85,7 @@ needs_version program second =
 pub opcode_of_row : (version : ℕ) (row : List ℕ) → SpellsInstr version row → HasOpcode row
 opcode_of_row version row h = (h.0, ap (λ bytes. get_or bytes 0 0) h.1.0)
 
--- bytes that spell a program have no fault but that memory runs out
+-- bytes that spell a program have no fault, unless memory ran out
 pub no_fault : (program : Program) (f : CodeFault) → IsProgram program → IsFirstFault (spelling program) f → f ≡ fault.Memory
 no_fault program fault.Short is h = elim h [ inl short ↦ absurd (short (good program is).header.whole) | inr short ↦ absurd (short.1 (good program is).room) ]
 no_fault program fault.Magic is h = absurd (h.1 (good program is).header.magic)

@@ -93,7 +93,7 @@ HasHeadspeed bytes = (pc : ℕ) × (i : Instr)
 abbrev pub NeedsVersion : List ℕ → Type 0
 NeedsVersion bytes = stated_version bytes ≡ HEADSPEED_VERSION → HasHeadspeed bytes
 
--- the bytes go on behind the stated instructions
+-- the bytes go on after the stated instructions
 abbrev pub HasMore : List ℕ → Type 0
 HasMore bytes = HEADER_BYTES + INSTR_BYTES * stated_count bytes < length bytes
 
@@ -101,15 +101,15 @@ HasMore bytes = HEADER_BYTES + INSTR_BYTES * stated_count bytes < length bytes
 abbrev pub PassesInstrs : List ℕ → Type 0 → Type 0
 PassesInstrs bytes rest = IsGoodBefore bytes (stated_count bytes) × rest
 
--- the first fault of bytes with a good header lies in the instructions or behind them, or memory ran out
-abbrev pub IsFaultBehindHeader : List ℕ → CodeFault → Type 0
-IsFaultBehindHeader bytes (fault.Opcode pc) = ComesToInstr bytes pc (λ row. ¬ (HasOpcode row))
-IsFaultBehindHeader bytes (fault.Field pc) =
+-- the first fault of bytes with a good header lies in the instructions or after them, or memory ran out
+abbrev pub IsFaultAfterHeader : List ℕ → CodeFault → Type 0
+IsFaultAfterHeader bytes (fault.Opcode pc) = ComesToInstr bytes pc (λ row. ¬ (HasOpcode row))
+IsFaultAfterHeader bytes (fault.Field pc) =
     ComesToInstr bytes pc (λ row. HasOpcode row × ¬ (SpellsInstr (stated_version bytes) row))
-IsFaultBehindHeader bytes fault.NeedlessVersion = PassesInstrs bytes (¬ (NeedsVersion bytes))
-IsFaultBehindHeader bytes fault.Trailing = PassesInstrs bytes (NeedsVersion bytes × HasMore bytes)
-IsFaultBehindHeader bytes fault.Memory = Unit {0}
-IsFaultBehindHeader bytes _ = ⊥
+IsFaultAfterHeader bytes fault.NeedlessVersion = PassesInstrs bytes (¬ (NeedsVersion bytes))
+IsFaultAfterHeader bytes fault.Trailing = PassesInstrs bytes (NeedsVersion bytes × HasMore bytes)
+IsFaultAfterHeader bytes fault.Memory = Unit {0}
+IsFaultAfterHeader bytes _ = ⊥
 
 -- the first fault of bytes; memory may run out at any time
 abbrev pub IsFirstFault : List ℕ → CodeFault → Type 0
@@ -118,4 +118,4 @@ IsFirstFault bytes fault.Magic = HasHeader bytes × ¬ (HasMagic bytes)
 IsFirstFault bytes fault.Version = PassesMagic bytes (¬ (HasVersion bytes))
 IsFirstFault bytes fault.Kind = PassesMagic bytes (HasVersion bytes × ¬ (HasKind bytes))
 IsFirstFault bytes fault.Count = PassesKind bytes (¬ (HasCount bytes))
-IsFirstFault bytes fault = IsFaultBehindHeader bytes fault
+IsFirstFault bytes fault = IsFaultAfterHeader bytes fault

@@ -65,16 +65,16 @@ fn instrs(alloc: Global, bytes: &[u8], header: Header) -> Result<Vec<Instr>, Cod
 ///
 /// # Errors
 ///
-/// The first fault of the bytes, or that memory runs out.
+/// The first fault of the bytes, or that memory ran out.
 pub fn decode(alloc: Global, bytes: &[u8]) -> Result<Code, CodeFault>
     ensures exact { MatchResult result (λ code. bytes.now ≡ spelling code) (IsFirstFault bytes.now) }
     ensures program { IfOk result IsProgram }
 
-    // Each program is found, but where memory runs out.
+    // Each program is found, unless memory ran out.
     ensures found { (program : Program) → IsProgram program → bytes.now ≡ spelling program
         → (result ≡ Ok program) ⊎ (result ≡ Err CodeFault.Memory) }
 
-    // Each fault is told, but where memory runs out.
+    // Each fault is told, unless memory ran out.
     ensures told { (fault : CodeFault) → IsFirstFault bytes.now fault → fault ≢ CodeFault.Memory
         → (result ≡ Err fault) ⊎ (result ≡ Err CodeFault.Memory) }
 {

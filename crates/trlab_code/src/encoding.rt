@@ -13,7 +13,7 @@ use trlab_bounds::programs::{HEADER_BYTES, INSTR_BYTES};
 ///
 /// # Errors
 ///
-/// Where memory runs out.
+/// Where memory ran out.
 pub fn encode(alloc: Global, code: &Code) -> Result<Vec<u8>, AllocError>
     ensures { IfOk result (λ bytes. bytes.items ≡ spelling code.now) }
 {

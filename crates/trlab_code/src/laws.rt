@@ -15,14 +15,14 @@ pub fn one_spelling()
     ensures { (first second : Program) → spelling first ≡ spelling second → first ≡ second }
 {}
 
-/// The spelling of a program has no fault, but that memory may run out.
+/// The spelling of a program has no fault, unless memory ran out.
 #[tactic(auto, using(crate::proofs::Spelt::no_fault))]
 pub fn no_fault()
     ensures { (program : Program) (fault : CodeFault) → IsProgram program
         → IsFirstFault (spelling program) fault → fault ≡ CodeFault.Memory }
 {}
 
-/// Bytes have one first fault, but that memory may run out.
+/// Bytes have one first fault, unless memory ran out.
 #[tactic(auto, using(crate::proofs::Apart::one_fault))]
 pub fn one_fault()
     ensures { (bytes : List ℕ) (first second : CodeFault) → IsFirstFault bytes first → IsFirstFault bytes second

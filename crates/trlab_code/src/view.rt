@@ -41,7 +41,7 @@ impl Model for MotionView {
 }
 
 impl MotionView {
-    /// The view of a car, and `None` where a number is out of range. What is seen of the other lane is nothing.
+    /// The view of a car, and `None` where a number is out of range. Nothing is seen of the other lane.
     pub fn new(speed: u32, limit: u32, gap: u32, headspeed: u32) -> Option<MotionView>
         ensures none { IsNone result → ¬ (IsView (motion_view speed limit gap headspeed)) }
         ensures some { IfSome result (λ seen. seen ≡ motion_view speed limit gap headspeed) }
@@ -76,7 +76,8 @@ impl MotionView {
     }
 }
 
-/// What a change program sees: a `MotionView`, and of the other lane gaps of at most 99999 and the lane, 0 or 1.
+/// What a change program sees: what a `MotionView` has, gaps on the other lane of at most 99999, and the
+/// number of the car's lane, 0 or 1.
 #[derive(Clone, Copy, Debug, PartialEq, Eq)]
 pub struct ChangeView {
     view: View,
