@@ -5,7 +5,8 @@ ghost use Rattle.trlab_road.specs.LaneChange.{CleanLaneChange};
 ghost use Rattle.trlab_road.specs.Legal.{IsLegal};
 ghost use Rattle.trlab_road.specs.Motion.{CleanMotion};
 ghost use Rattle.trlab_step.specs.Answers.{dice_of};
-ghost use Rattle.trlab_step.specs.Next.{IsCleanNext, IsNext, IsLaneChangePhase, IsMotionPhase, TellsNext, stopped_cars, total_speed};
+ghost use Rattle.trlab_step.specs.Next.{IsCleanNext, IsNext, IsLaneChangePhase, IsMotionPhase, TellsNext};
+ghost use Rattle.trlab_step.specs.Next.{stopped_cars, total_speed};
 
 use crate::asker::{Asker, Caller};
 use crate::fault::StepFault;

@@ -6,12 +6,13 @@ ghost use Rattle.trlab_traffic.specs.Apart.{RunKeepsLanesApart, StepKeepsLanesAp
 ghost use Rattle.trlab_traffic.specs.Capacity.{CellsAreTakenOrEmpty, RunKeepsToCapacity, StepKeepsToCapacity};
 ghost use Rattle.trlab_traffic.specs.Certainty.{NaschWithoutRandomization, RunIsDeterministic, StepIsDeterministic};
 ghost use Rattle.trlab_traffic.specs.Detector.{DetectorCountsOne, DetectorsCountDistance, StepIsContinuous};
-ghost use Rattle.trlab_traffic.specs.DetectorRuns.{CountExists, DetectorMeasuresFlow, DetectorsAgree, DetectorsCountRun, RunIsContinuous};
+ghost use Rattle.trlab_traffic.specs.DetectorRuns.{CountExists, DetectorMeasuresFlow, DetectorsAgree};
+ghost use Rattle.trlab_traffic.specs.DetectorRuns.{DetectorsCountRun, RunIsContinuous};
 ghost use Rattle.trlab_traffic.specs.Diagram.{EvenCarsFlowAtCapacity, NaschComesToCapacity, Rule184ComesToCapacity};
 ghost use Rattle.trlab_traffic.specs.Following.{GapsFollow};
 ghost use Rattle.trlab_traffic.specs.FreeFlow.{FreeFlowGoesOn, FreeFlowStaysFree};
 ghost use Rattle.trlab_traffic.specs.Homogeneity.{RunIsHomogeneous, StepIsHomogeneous};
-ghost use Rattle.trlab_traffic.specs.Jams.{CarWithoutGapStands};
+ghost use Rattle.trlab_traffic.specs.Jams.{CarWithoutGapStops};
 ghost use Rattle.trlab_traffic.specs.Metastable.{SlowStartsKeepFreeFlow, SlowStartsKeepJams};
 ghost use Rattle.trlab_traffic.specs.Overtaking.{EachCarHasNext, NextCarIsOne, RunKeepsNextCar, StepKeepsNextCar};
 ghost use Rattle.trlab_traffic.specs.Randomization.{RandomizationSlows, SlowStartsSlow};
@@ -59,9 +60,9 @@ pub fn gaps_follow()
     ensures { GapsFollow }
 {}
 
-/// A car that has no gap stands, under any rule without lane changes.
-pub fn car_without_gap_stands()
-    ensures { CarWithoutGapStands }
+/// A car that has no gap stops, under any rule without lane changes.
+pub fn car_without_gap_stops()
+    ensures { CarWithoutGapStops }
 {}
 
 /// Nobody overtakes on a lane: each car has one next car ahead, and keeps it in each step and run without lane
