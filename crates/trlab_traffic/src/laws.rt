@@ -74,14 +74,14 @@ pub fn nobody_overtakes()
     ensures run { RunKeepsNextCar }
 {}
 
-/// No place of a ring is another than the others: under any rule a legal road that is turned goes on to its next road,
+/// No place of a ring differs from the others: under any rule a legal road that is turned goes on to its next road,
 /// turned as far, with the same tally; and so does a run.
 pub fn ring_is_homogeneous()
     ensures step { StepIsHomogeneous }
     ensures run { RunIsHomogeneous }
 {}
 
-/// Of two lanes none is another than the other: under rules whose programs do not read the lane, as that of 1996, a
+/// Neither of two lanes differs from the other: under rules whose programs do not read the lane, as that of 1996, a
 /// road whose lanes are exchanged goes on to its next road, exchanged, with the same tally; and so does a run.
 pub fn lanes_are_symmetric()
     ensures rickert { RickertIgnoresLane }
