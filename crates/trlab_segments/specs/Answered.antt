@@ -9,7 +9,7 @@ use Rattle.trlab_segments.specs.declared.tickets.drawer.Drawer.{Drawer}
 use Rattle.trlab_segments.specs.declared.tickets.drawer.Tickets.{Tickets}
 use Rattle.trlab_segments.specs.Drawers.{IsFrom, is_ended, passes_of, tickets_of}
 use Rattle.trlab_segments.specs.Segments.{first_car}
-use Rattle.trlab_step.specs.Answers.{AnswersSpeedsPart, AnswersCrossingsPart, FitsPart, CrossesFreePart}
+use Rattle.trlab_step.specs.Answers.{IsCrossesPart, IsSpeedsPart}
 use Rattle.trlab_verify.specs.CheckedProgram.{CheckedProgram}
 use Rattle.std.specs.Borrow.{Bor}
 use Rattle.trlab_road.specs.declared.road.Road.{Road}
@@ -21,16 +21,6 @@ HasLanes road = Unit {0}
 -- lane changes are asked on a road of two lanes
 abbrev pub HasTwoLanes : Cells → Type 0
 HasTwoLanes road = length road.lanes ≡ 2
-
--- a motion program answers these speeds to a part of the cars, within their gaps and the limit
-abbrev pub IsSpeedsPart : CheckedProgram → Dice → Cells → ℕ → ℕ → List ℕ → Type 0
-IsSpeedsPart motion dice road from to speeds =
-    AnswersSpeedsPart motion dice road from to speeds × FitsPart road from speeds
-
--- a change program answers so whether a part of the cars cross, and they do so to empty cells only
-abbrev pub IsCrossesPart : CheckedProgram → Dice → Cells → ℕ → ℕ → List Bool → Type 0
-IsCrossesPart change dice road from to crosses =
-    AnswersCrossingsPart change dice road from to crosses × CrossesFreePart road from crosses
 
 -- the number of the segment of a part
 abbrev pub number_of : {A : Type 0} → Part A → ℕ

@@ -7,8 +7,7 @@ use Rattle.trlab_machine.specs.declared.dice.Dice.{Dice}
 use Rattle.trlab_road.specs.Cells.{Cells}
 use Rattle.trlab_road.specs.LaneChange.{sides}
 use Rattle.trlab_road.specs.Motion.{gaps}
-use Rattle.trlab_segments.specs.Answered.{IsSpeedsPart, IsCrossesPart}
-use Rattle.trlab_step.specs.Answers.{FitsPart, CrossesFreePart}
+use Rattle.trlab_step.specs.Answers.{CrossesFreePart, FitsPart, IsCrossesPart, IsSpeedsPart}
 use Rattle.trlab_step.proofs.PartLaws.{speeds_join as join_speeds, crossings_join as join_crossings}
 use Rattle.trlab_verify.specs.CheckedProgram.{CheckedProgram}
 

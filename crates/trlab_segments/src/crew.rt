@@ -7,7 +7,8 @@ mod step;
 ghost use Rattle.std.specs.Prelude.{◌≡◌, ◌<◌, ◌≤◌, IfOk};
 ghost use Rattle.trlab_bounds.specs.declared.runs.TheConstants.{MOST_WORKERS};
 ghost use Rattle.trlab_road.specs.Cells.{cars};
-ghost use Rattle.trlab_segments.specs.Answered.{IsCrossesPart, HasTwoLanes, IsSpeedsPart};
+ghost use Rattle.trlab_segments.specs.Answered.{HasTwoLanes};
+ghost use Rattle.trlab_step.specs.Answers.{IsCrossesPart, IsSpeedsPart};
 
 use crate::crew::sharing::share;
 use crate::gate::Gate;

@@ -59,8 +59,8 @@ few_on_lanes limit (a ∷ b ∷ c ∷ lanes) legal =
 pub few_cars : (road : Cells) → IsLegal road → cars road ≤ 200000
 few_cars road legal = few_on_lanes road.limit road.lanes legal
 
-stand : (road : Cells) → length (standing road) ≡ cars road
-stand road = length-standing_lanes 0 road.lanes
+all_in_order : (road : Cells) → length (standing road) ≡ cars road
+all_in_order road = length-standing_lanes 0 road.lanes
 
 -- a tally that is that of one step at most
 pub record IsSmall (tally : StepTally) : Type 0 where
@@ -73,17 +73,17 @@ few_changes None dice road middle changes legal phase = let none = phase.1 in om
 few_changes (Some change) dice road middle changes legal phase =
     let counted : changes ≡ crossing_cars phase.1 road = phase.4 in
     let few = few_counted (λ (car : Car). phase.1 car.lane car.place) (standing road) in
-    let all = stand road in
+    let all = all_in_order road in
     let most = few_cars road legal in
     omega arith
 
 -- the tally of a step between legal roads is small
 pub small_tally : (rule : Programs) (dice : Dice) (road next : Cells) (tally : StepTally) → IsLegal road → IsLegal next → IsNext rule dice road next tally → IsSmall tally
 small_tally rule dice road next tally legal after is =
-    let all = stand next in
+    let all = all_in_order next in
     let most = few_cars next after in
     let gone = is.1.distance in
-    let stood = is.1.stopped in
+    let stopped = is.1.stopped in
     let slow = small_sum (λ (car : Car). car.speed) (standing next) (λ k d below.
     let car = get_or (standing next) k d in
     let low : car.speed ≤ next.limit = after.within_limit car (standing_cell next k d (omega arith)) in

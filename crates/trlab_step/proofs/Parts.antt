@@ -12,7 +12,7 @@ use Rattle.trlab_road.specs.Gaps.{side, sidegap, sideback}
 use Rattle.trlab_road.specs.Motion.{MayMove, gaps}
 use Rattle.trlab_machine.specs.declared.dice.Dice.{Dice}
 use Rattle.trlab_machine.specs.Blocks.{with_beside}
-use Rattle.trlab_step.specs.Answers.{change_view_of, motion_view_of, AnswersCrossingsPart, AnswersSpeedsPart, FitsPart, CrossesFreePart}
+use Rattle.trlab_step.specs.Answers.{change_view_of, motion_view_of, CrossesFreePart, FitsPart, IsCrossesPart, IsSpeedsPart}
 
 pub same_view : (a b c d x y z w : ℕ) → a ≡ x → b ≡ y → c ≡ z → d ≡ w → motion_view a b c d ≡ motion_view x y z w
 same_view a b c d x y z w e f g h = ap (λ k. motion_view k b c d) e ∙ ap (λ k. motion_view x k c d) f ∙ ap (λ k. motion_view x y k d) g ∙ ap (motion_view x y z) h
@@ -58,22 +58,22 @@ more_free road from middle crosses block whole part empty =
     }
 
 -- the answers of all cars are allowed
-pub whole_allowed : (motion : CheckedProgram) (dice : Dice) (road : Cells) (speeds : List ℕ) → AnswersSpeedsPart motion dice road 0 (cars road) speeds → FitsPart road 0 speeds → MayMove road speeds
-whole_allowed motion dice road speeds part fits =
-    let size = part.one_each in
+pub whole_allowed : (motion : CheckedProgram) (dice : Dice) (road : Cells) (speeds : List ℕ) → IsSpeedsPart motion dice road 0 (cars road) speeds → MayMove road speeds
+whole_allowed motion dice road speeds told =
+    let size = told.0.one_each in
     let first : (k : ℕ) → 0 + k ≡ k = λ k. omega arith in
     record {
       one_each = omega arith;
-      within_gaps = λ k below. subst (λ i. get_or speeds k 0 ≤ get_or (gaps road) i 0) (first k) (fits.within_gaps k (omega arith));
-      within_limit = λ k below. fits.within_limit k (omega arith);
+      within_gaps = λ k below. subst (λ i. get_or speeds k 0 ≤ get_or (gaps road) i 0) (first k) (told.1.within_gaps k (omega arith));
+      within_limit = λ k below. told.1.within_limit k (omega arith);
     }
 
-pub whole_free : (change : CheckedProgram) (dice : Dice) (road : Cells) (crosses : List Bool) → length road.lanes ≡ 2 → AnswersCrossingsPart change dice road 0 (cars road) crosses → CrossesFreePart road 0 crosses → MayCross road crosses
-whole_free change dice road crosses two part free =
-    let size = part.one_each in
+pub whole_free : (change : CheckedProgram) (dice : Dice) (road : Cells) (crosses : List Bool) → length road.lanes ≡ 2 → IsCrossesPart change dice road 0 (cars road) crosses → MayCross road crosses
+whole_free change dice road crosses two told =
+    let size = told.0.one_each in
     let first : (k : ℕ) → 0 + k ≡ k = λ k. omega arith in
     record {
       two_lanes = two;
       one_each = omega arith;
-      side_empty = λ k below goes. subst (λ i. get_or (sides road) i false ≡ true) (first k) (free.side_empty k (omega arith) goes);
+      side_empty = λ k below goes. subst (λ i. get_or (sides road) i false ≡ true) (first k) (told.1.side_empty k (omega arith) goes);
     }

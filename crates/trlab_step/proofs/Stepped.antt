@@ -6,7 +6,7 @@ use Rattle.trlab_road.specs.Cells.{Cells, cars}
 use Rattle.trlab_road.specs.LaneChange.{Crosses, crosses_at}
 use Rattle.trlab_road.specs.Motion.{Moves, in_order}
 use Rattle.trlab_machine.specs.declared.dice.Dice.{Dice}
-use Rattle.trlab_step.specs.Answers.{AnswersSpeedsPart, FitsPart, AnswersCrossingsPart, AnswersSpeed, AnswersCrossing}
+use Rattle.trlab_step.specs.Answers.{AnswersSpeedsPart, AnswersCrossingsPart, AnswersSpeed, AnswersCrossing, IsSpeedsPart}
 use Rattle.trlab_step.specs.Next.{total_speed, stopped_cars, IsLaneChangePhase, IsMotionPhase}
 use Rattle.trlab_step.specs.Laws.{CrossByAnswers, AnswersLeadOn}
 use Rattle.trlab_road.proofs.MotionInOrder.{answer_at}
@@ -37,14 +37,14 @@ module _ (motion : CheckedProgram) (dice : Dice) (road next : Cells) (speeds : L
   motion_is_done part moves = (answer_at road speeds, by_place 0 (AnswersSpeed motion dice road) road speeds part, moves)
 
   -- the sum of the answers is that of the new speeds
-  pub all_gone : (distance : ℕ) → AnswersSpeedsPart motion dice road 0 (cars road) speeds → FitsPart road 0 speeds → Moves (answer_at road speeds) road next
+  pub all_gone : (distance : ℕ) → IsSpeedsPart motion dice road 0 (cars road) speeds → Moves (answer_at road speeds) road next
       → distance ≡ sum speeds → distance ≡ total_speed next
-  all_gone distance part fits moves gone = gone ∙ sym (total_speed-moved road next speeds (whole_allowed motion dice road speeds part fits) moves)
+  all_gone distance told moves gone = gone ∙ sym (total_speed-moved road next speeds (whole_allowed motion dice road speeds told) moves)
 
-  -- the answers that are 0 are as many as the cars that stand
-  pub all_stood : (stopped : ℕ) → AnswersSpeedsPart motion dice road 0 (cars road) speeds → FitsPart road 0 speeds → Moves (answer_at road speeds) road next
+  -- the answers that are 0 are as many as the cars that are stopped
+  pub all_stopped : (stopped : ℕ) → IsSpeedsPart motion dice road 0 (cars road) speeds → Moves (answer_at road speeds) road next
       → stopped ≡ count_by (λ speed. nat_eq speed 0) speeds → stopped ≡ stopped_cars next
-  all_stood stopped part fits moves stood = stood ∙ sym (stopped_cars-moved road next speeds (whole_allowed motion dice road speeds part fits) moves)
+  all_stopped stopped told moves counted = counted ∙ sym (stopped_cars-moved road next speeds (whole_allowed motion dice road speeds told) moves)
 
 -- whoever asks the cars, who cross by their answers or do not cross
 crossed_by_answers : (change : Option CheckedProgram) (dice : Dice) (road middle : Cells) (crosses : List Bool) → CrossByAnswers change dice road middle crosses
@@ -56,12 +56,12 @@ crossed_by_answers (Some change) dice road middle crosses by =
 -- and who then go ahead by theirs, the next road is come to
 pub answers_lead_on : AnswersLeadOn
 answers_lead_on rule dice road middle next crosses speeds cross go =
-    let moves = moved_by_place rule.motion dice middle next speeds go.answers go.moves in (
+    let moves = moved_by_place rule.motion dice middle next speeds go.answers.0 go.moves in (
       middle,
       record {
         lane_change = crossed_by_answers rule.change dice road middle crosses cross;
-        motion = motion_is_done rule.motion dice middle next speeds go.answers moves;
-        distance = all_gone rule.motion dice middle next speeds (sum speeds) go.answers go.fits moves refl;
-        stopped = all_stood rule.motion dice middle next speeds (count_by (λ speed. nat_eq speed 0) speeds) go.answers go.fits moves refl;
+        motion = motion_is_done rule.motion dice middle next speeds go.answers.0 moves;
+        distance = all_gone rule.motion dice middle next speeds (sum speeds) go.answers moves refl;
+        stopped = all_stopped rule.motion dice middle next speeds (count_by (λ speed. nat_eq speed 0) speeds) go.answers moves refl;
       },
     )

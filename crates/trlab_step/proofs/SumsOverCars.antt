@@ -140,7 +140,7 @@ moved_total g road next speeds allowed moves =
 pub total_speed-moved : (road next : Cells) (speeds : List ℕ) → MayMove road speeds → Moves (answer_at road speeds) road next → total_speed next ≡ sum speeds
 total_speed-moved road next speeds allowed moves = moved_total (λ s. s) road next speeds allowed moves
 
--- the answers that are 0 are as many as the cars that stand after the motion
+-- the answers that are 0 are as many as the cars that are stopped after the motion
 pub stopped_cars-moved : (road next : Cells) (speeds : List ℕ) → MayMove road speeds → Moves (answer_at road speeds) road next → stopped_cars next ≡ count_by (λ s. nat_eq s 0) speeds
 stopped_cars-moved road next speeds allowed moves = moved_total (λ s. cond (nat_eq s 0) 1 0) road next speeds allowed moves
 

@@ -83,3 +83,13 @@ pub record FitsPart (road : Cells) (from : ℕ) (speeds : List ℕ) : Type 0 whe
 pub record CrossesFreePart (road : Cells) (from : ℕ) (crosses : List Bool) : Type 0 where
   pub side_empty : (k : ℕ) → k < length crosses → slice_index_or crosses k false ≡ true
       → slice_index_or (sides road) (from + k) false ≡ true
+
+-- a motion program answers these speeds to a part of the cars, within their gaps and the limit
+abbrev pub IsSpeedsPart : CheckedProgram → Dice → Cells → ℕ → ℕ → List ℕ → Type 0
+IsSpeedsPart motion dice road from to speeds =
+    AnswersSpeedsPart motion dice road from to speeds × FitsPart road from speeds
+
+-- a change program answers so whether a part of the cars cross, and they do so to empty cells only
+abbrev pub IsCrossesPart : CheckedProgram → Dice → Cells → ℕ → ℕ → List Bool → Type 0
+IsCrossesPart change dice road from to crosses =
+    AnswersCrossingsPart change dice road from to crosses × CrossesFreePart road from crosses

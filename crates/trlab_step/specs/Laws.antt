@@ -12,13 +12,13 @@ use Rattle.trlab_road.specs.Motion.{Moves, in_order}
 use Rattle.trlab_rules.specs.Rules.{Programs}
 use Rattle.trlab_step.specs.declared.tally.StepTally.{StepTally}
 use Rattle.trlab_machine.specs.declared.dice.Dice.{Dice}
-use Rattle.trlab_step.specs.Answers.{AnswersCrossing, AnswersSpeed, AnswersSpeedsPart, FitsPart, AnswersCrossingsPart}
+use Rattle.trlab_step.specs.Answers.{AnswersCrossing, AnswersSpeed, AnswersSpeedsPart, AnswersCrossingsPart, IsSpeedsPart}
 use Rattle.trlab_step.specs.Block.{view_by}
 use Rattle.trlab_step.specs.Calls.{StepCallsAreSafe}
 use Rattle.trlab_step.specs.Next.{IsNext, IsCleanNext, IsStep}
 use Rattle.trlab_step.specs.Run.{Seed, Sheet, IsSheet, in_force, tally_sum, dice_at, ComesTo}
 
--- a rule for roads of so many lanes: programs that are safe within their budgets; a change program wants two
+-- a rule for roads of so many lanes: programs that are safe within their budgets; a change program needs two
 -- lanes
 pub record IsRuleFor (lanes : ℕ) (rule : Programs) : Type 0 where
   pub motion : IsChecked Motion rule.motion
@@ -78,8 +78,7 @@ CrossByAnswers (Some change) dice road middle crosses =
 -- all cars of a road answer their speeds in standing order, and go ahead at once
 pub record GoByAnswers (motion : CheckedProgram) (dice : Dice) (road next : Cells) (speeds : List ℕ)
     : Type 0 where
-  pub answers : AnswersSpeedsPart motion dice road 0 (cars road) speeds
-  pub fits : FitsPart road 0 speeds
+  pub answers : IsSpeedsPart motion dice road 0 (cars road) speeds
   pub moves : (answer : ℕ → ℕ → ℕ) → speeds ≡ in_order answer road → Moves answer road next
 
 -- what is counted of answers: the cells that the cars go, how many cars stop, and how many cross
@@ -98,7 +97,7 @@ AnswersLeadOn =
     → GoByAnswers rule.motion dice middle next speeds
     → IsNext rule dice road next (tally_of_answers crosses speeds)
 
--- what a program of either kind sees of a car of a legal road is in range; a change program wants two lanes
+-- what a program of either kind sees of a car of a legal road is in range; a change program needs two lanes
 abbrev pub ViewsAreInRange : Type 0
 ViewsAreInRange =
     (kind : Kind) (road : Cells) (car : Car) → IsLegal road → (kind ≡ Change → length road.lanes ≡ 2)

@@ -40,6 +40,17 @@ abbrev pub IsMotionPhase : CheckedProgram → Dice → Cells → Cells → Type 
 IsMotionPhase motion dice road next =
     (speeds : ℕ → ℕ → ℕ) × AnswersSpeeds motion dice road speeds × Moves speeds road next
 
+-- the motion with what is counted of it, where no car crossed before; no car went onto or through another,
+-- none was lost or made, and the next road is legal
+pub record IsCountedMotion (motion : CheckedProgram) (dice : Dice) (road next : Cells)
+    (tally : StepTally) : Type 0 where
+  pub phase : IsMotionPhase motion dice road next
+  pub distance : tally.distance ≡ total_speed next
+  pub stopped : tally.stopped ≡ stopped_cars next
+  pub changes : tally.changes ≡ 0
+  pub clean : CleanMotion road next
+  pub legal : IsLegal next
+
 -- a step of a road under a rule, over the middle road between the two phases (Nagel and Schreckenberg 1992
 -- for the parallel motion, Rickert and others 1996 for the lane change before it)
 pub record IsStep (rule : Programs) (dice : Dice) (road middle next : Cells)

@@ -1,4 +1,4 @@
--- The published rules on the cells of a road: where each car stands after a step.
+-- The published rules on the cells of a road: where each car is after a step.
 use Rattle.std.specs.Prelude.{ℕ, ◌+◌, ◌&&◌, Bool, length, nat_lt, if◌then◌else◌}
 use Rattle.trlab_words.specs.Words.{random_word}
 use Rattle.trlab_words.specs.Chances.{happens_on}
@@ -48,11 +48,11 @@ car_ahead road car speed = record {
   speed = speed;
 }
 
--- each car stands as many cells ahead as its new speed
+-- each car is as many cells ahead as its new speed
 abbrev pub AllGo : (Car → ℕ) → Cells → Cells → Type 0
 AllGo goes old new = (car : Car) → IsAt old car → IsAt new (car_ahead old car (goes car))
 
--- each car that crosses stands beside where it stood, each other one where it stood
+-- each car that crosses is beside where it was, each other one where it was
 abbrev pub AllCross : (Car → Bool) → Cells → Cells → Type 0
 AllCross crosses old new =
     (car : Car) → IsAt old car → IsAt new (if crosses car then car_beside car else car)

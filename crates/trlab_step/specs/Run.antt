@@ -29,7 +29,7 @@ IsSheet [] = ⊥
 IsSheet (first ∷ later) = (first.0 ≡ 0) × Rises 1 later
 
 -- the sheet of a rule from step 0 on and of rules of later steps, whose steps rise; where the first of
--- these begins at step 0 itself, it stands in place of the other
+-- these begins at step 0 itself, it takes the place of the other
 abbrev pub sheet_with : Programs → Sheet → Sheet
 sheet_with first [] = (0, first) ∷ []
 sheet_with first (entry ∷ later) = if entry.0 == 0 then entry ∷ later else (0, first) ∷ entry ∷ later

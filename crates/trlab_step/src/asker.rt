@@ -1,9 +1,8 @@
 //! Who asks the cars of a road. A step takes their answers in standing order, and they are the same whoever asks.
 
-ghost use Rattle.std.specs.Prelude.{◌≡◌, ◌*◌, ◌≤◌, OnOk, length};
-ghost use Rattle.trlab_bounds.specs.declared.roads.TheConstants.{GREATEST_LENGTH, MOST_LANES};
+ghost use Rattle.std.specs.Prelude.{◌≡◌, OnOk, length};
 ghost use Rattle.trlab_road.specs.Cells.{cars};
-ghost use Rattle.trlab_step.specs.Answers.{AnswersCrossingsPart, AnswersSpeedsPart, CrossesFreePart, FitsPart};
+ghost use Rattle.trlab_step.specs.Answers.{IsCrossesPart, IsSpeedsPart};
 
 use crate::crossings::ask_crossings;
 use crate::onlooker::Onlooker;
@@ -14,7 +13,7 @@ use trlab_road::Road;
 use trlab_verify::{Change, Motion};
 
 /// Who asks all cars of a road in a step, and puts their answers in standing order into a list, in
-/// place of what stands there.
+/// place of what was there.
 ///
 /// The road is lent to change, so that it may be handed to threads by value; it comes back as it was. An
 /// onlooker is shown it once, whether or not an allocation is refused.
@@ -38,9 +37,7 @@ pub trait Asker {
     ) -> Result<(), AllocError>
         requires ready { is_ready self.now }
         ensures speeds { OnOk result (
-            AnswersSpeedsPart motion.now dice.now road.old 0 (cars road.old) answers.new.items) }
-        ensures fits { OnOk result (FitsPart road.old 0 answers.new.items) }
-        ensures few { OnOk result (length answers.new.items ≤ MOST_LANES * GREATEST_LENGTH) }
+            IsSpeedsPart motion.now dice.now road.old 0 (cars road.old) answers.new.items) }
         ensures seen { O.sees onlooker.old road.old onlooker.new }
         ensures same { road.new ≡ road.old };
 
@@ -61,15 +58,13 @@ pub trait Asker {
         requires ready { is_ready self.now }
         requires two_lanes { length road.old.lanes ≡ 2 }
         ensures crossings { OnOk result (
-            AnswersCrossingsPart change.now dice.now road.old 0 (cars road.old) answers.new.items) }
-        ensures free { OnOk result (CrossesFreePart road.old 0 answers.new.items) }
-        ensures few { OnOk result (length answers.new.items ≤ MOST_LANES * GREATEST_LENGTH) }
+            IsCrossesPart change.now dice.now road.old 0 (cars road.old) answers.new.items) }
         ensures seen { O.sees onlooker.old road.old onlooker.new }
         ensures same { road.new ≡ road.old };
 }
 
 /// The calling thread, which asks the cars block by block.
-#[derive(Clone, Copy, PartialEq, Eq)]
+#[derive(Clone, Copy)]
 pub struct Caller;
 
 impl Asker for Caller {

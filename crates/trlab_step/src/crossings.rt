@@ -3,7 +3,7 @@
 
 ghost use Rattle.std.specs.Prelude.{◌≡◌, ◌≤◌, IfOk, OnOk, length};
 ghost use Rattle.trlab_road.specs.Cells.{cars};
-ghost use Rattle.trlab_step.specs.Answers.{AnswersCrossingsPart, CrossesFreePart, dice_of};
+ghost use Rattle.trlab_step.specs.Answers.{IsCrossesPart, dice_of};
 
 use crate::block::{BLOCK, ask_changes};
 use std::alloc::{AllocError, Global};
@@ -34,9 +34,8 @@ pub fn choose_part(
     requires rising { from ≤ to }
     requires within { to ≤ cars road.now }
     requires two_lanes { length road.now.lanes ≡ 2 }
-    ensures crossings { IfOk result (λ crosses.
-        AnswersCrossingsPart change.now (dice_of key.now.0 number step) road.now from to crosses.items) }
-    ensures free { IfOk result (λ crosses. CrossesFreePart road.now from crosses.items) }
+    ensures { IfOk result (λ crosses.
+        IsCrossesPart change.now (dice_of key.now.0 number step) road.now from to crosses.items) }
 {
     let mut crosses = Vec::new(alloc);
     ask_crossings(
@@ -50,7 +49,7 @@ pub fn choose_part(
     Ok(crosses)
 }
 
-/// Puts the answers that `choose_part` tells into a list, in place of what stands there.
+/// Puts the answers that `choose_part` tells into a list, in place of what was there.
 ///
 /// # Errors
 ///
@@ -66,9 +65,7 @@ pub fn ask_crossings(
     requires rising { from ≤ to }
     requires within { to ≤ cars road.now }
     requires two_lanes { length road.now.lanes ≡ 2 }
-    ensures crossings { OnOk result (
-        AnswersCrossingsPart change.now dice.now road.now from to crosses.new.items) }
-    ensures free { OnOk result (CrossesFreePart road.now from crosses.new.items) }
+    ensures { OnOk result (IsCrossesPart change.now dice.now road.now from to crosses.new.items) }
 {
     let mut near = 0;
     crosses.clear();

@@ -10,7 +10,7 @@ ghost use Rattle.trlab_step.specs.Laws.{StepsCallSafely, ViewsAreInRange};
 ghost use Rattle.trlab_step.specs.Driven.{RunsAreDriven};
 
 /// The cars of a part of the standing order have one list of speeds, and the lists of parts make up
-/// that of the whole: it is all one who asks the cars, and in which order.
+/// that of the whole: it does not matter who asks the cars, or in which order.
 pub fn parts_make_the_whole()
     ensures one { SpeedsAreOne }
     ensures join { SpeedsJoin }
@@ -29,7 +29,7 @@ pub fn answers_lead_on()
 {}
 
 /// What a program of either kind sees of a car of a legal road is what the verifier took into account: speeds,
-/// gaps and the limit are in range. A change program wants two lanes.
+/// gaps and the limit are in range. A change program needs two lanes.
 pub fn views_are_in_range()
     ensures { ViewsAreInRange }
 {}
@@ -47,7 +47,7 @@ pub fn calls_are_safe()
     ensures run { RunsCallSafely }
 {}
 
-/// Under a rule of accepted programs each legal road has a next road; a change program wants two
+/// Under a rule of accepted programs each legal road has a next road; a change program needs two
 /// lanes. The next road is legal, with as many lanes and cars and the same limit, and in both phases
 /// no car went onto or through another.
 pub fn next_road_exists()

@@ -16,7 +16,7 @@ pub trait Onlooker {
 }
 
 /// Nobody looks.
-#[derive(Clone, Copy, PartialEq, Eq)]
+#[derive(Clone, Copy)]
 pub struct Nobody;
 
 impl Onlooker for Nobody {

@@ -8,7 +8,7 @@ ghost use Rattle.trlab_road.specs.Motion.{MayMove, CleanMotion, Moves, in_order}
 use std::alloc::{AllocError, Global};
 use trlab_road::Road;
 
-/// The road after all cars that cross did so at once; the answers stand in standing order, and a car
+/// The road after all cars that cross did so at once; the answers are in standing order, and a car
 /// crosses only where the cell beside it on the other lane is empty.
 ///
 /// Nothing collides: each car stays, or goes to an empty cell, none is lost, and no two meet.
@@ -26,7 +26,7 @@ pub fn commit_change(alloc: Global, road: &Road, crosses: &[bool]) -> Result<Roa
     road.after_lane_change(alloc, crosses)
 }
 
-/// The road after all cars went ahead at once, each by its new speed, in cells a step; the speeds stand in
+/// The road after all cars went ahead at once, each by its new speed, in cells a step; the speeds are in
 /// standing order, and each is at most its car's gap and the limit.
 ///
 /// Nothing collides: each car goes over empty cells only, none is lost, and no two meet.

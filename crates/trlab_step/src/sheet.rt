@@ -27,7 +27,7 @@ impl Model for Sheet {
 
 impl Sheet {
     /// The sheet of a first rule and of later ones, whose steps rise; a later one from step 0 on
-    /// stands in place of the first.
+    /// takes the place of the first.
     pub fn new(first: Rule, mut later: Vec<(u32, Rule)>) -> Sheet
         requires { Rises 0 later.items }
         ensures { result ≡ sheet_with first later.items }

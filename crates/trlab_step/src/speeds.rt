@@ -2,7 +2,7 @@
 
 ghost use Rattle.std.specs.Prelude.{◌≡◌, ◌<◌, ◌≤◌, ◌%◌, ℕ, IfOk, OnOk, slice_index};
 ghost use Rattle.trlab_road.specs.Cells.{cars};
-ghost use Rattle.trlab_step.specs.Answers.{AnswersSpeedsPart, FitsPart, dice_of};
+ghost use Rattle.trlab_step.specs.Answers.{IsSpeedsPart, dice_of};
 
 use crate::block::{BLOCK, ask_motions};
 use std::alloc::{AllocError, Global};
@@ -32,9 +32,8 @@ pub fn move_part(
 ) -> Result<Vec<u32>, AllocError>
     requires rising { from ≤ to }
     requires within { to ≤ cars road.now }
-    ensures speeds { IfOk result (λ speeds.
-        AnswersSpeedsPart motion.now (dice_of key.now.0 number step) road.now from to speeds.items) }
-    ensures fits { IfOk result (λ speeds. FitsPart road.now from speeds.items) }
+    ensures { IfOk result (λ speeds.
+        IsSpeedsPart motion.now (dice_of key.now.0 number step) road.now from to speeds.items) }
 {
     let mut answers = Vec::new(alloc);
     ask_speeds(
@@ -72,7 +71,7 @@ fn low_bytes(numbers: &Column) -> [u8; LANES]
     bytes
 }
 
-/// Puts the speeds that `move_part` tells into a list, each in a byte, in place of what stands there.
+/// Puts the speeds that `move_part` tells into a list, each in a byte, in place of what was there.
 ///
 /// # Errors
 ///
@@ -87,9 +86,7 @@ pub fn ask_speeds(
 ) -> Result<(), AllocError>
     requires rising { from ≤ to }
     requires within { to ≤ cars road.now }
-    ensures speeds { OnOk result (
-        AnswersSpeedsPart motion.now dice.now road.now from to speeds.new.items) }
-    ensures fits { OnOk result (FitsPart road.now from speeds.new.items) }
+    ensures { OnOk result (IsSpeedsPart motion.now dice.now road.now from to speeds.new.items) }
 {
     speeds.clear();
     speeds.reserve((to - from) as usize)?;

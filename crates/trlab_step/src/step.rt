@@ -3,9 +3,8 @@
 ghost use Rattle.std.specs.Prelude.{◌≡◌, ◌↔◌, Some, IfOk, OnOk, OnErr, IsSome, IsTrue, length};
 ghost use Rattle.trlab_road.specs.LaneChange.{CleanLaneChange};
 ghost use Rattle.trlab_road.specs.Legal.{IsLegal};
-ghost use Rattle.trlab_road.specs.Motion.{CleanMotion};
 ghost use Rattle.trlab_step.specs.Answers.{dice_of};
-ghost use Rattle.trlab_step.specs.Next.{IsCleanNext, IsNext, IsLaneChangePhase, IsMotionPhase, TellsNext, stopped_cars, total_speed};
+ghost use Rattle.trlab_step.specs.Next.{IsCleanNext, IsCountedMotion, IsLaneChangePhase, IsNext, TellsNext};
 
 use crate::asker::{Asker, Caller};
 use crate::fault::StepFault;
@@ -87,7 +86,7 @@ pub fn step_road(
 /// Takes the step that `step_road_by` tells: the road becomes the next road, and the memory of the step
 /// is that of the room. An onlooker is shown the road as it was, whether or not the step is taken.
 ///
-/// It is the caller's part that the rule is one for the lanes of the road.
+/// The caller sees to it that the rule is one for the lanes of the road.
 ///
 /// # Errors
 ///
@@ -131,11 +130,8 @@ fn move_on<A: Asker>(
     motion: &Motion,
 ) -> Result<StepTally, AllocError>
     requires { A.is_ready asking.now.asker.now }
-    ensures phase { OnOk result (IsMotionPhase motion.now asking.now.dice.now middle road.new) }
-    ensures distance { IfOk result (λ tally. tally.distance ≡ total_speed road.new) }
-    ensures stopped { IfOk result (λ tally. tally.stopped ≡ stopped_cars road.new) }
-    ensures clean { OnOk result (CleanMotion middle road.new) }
-    ensures legal { OnOk result (IsLegal road.new) }
+    ensures moved { IfOk result (λ tally.
+        IsCountedMotion motion.now asking.now.dice.now middle road.new tally) }
     ensures same { OnErr result (road.new ≡ road.old) }
 {
     let mut middle = middle;
@@ -184,15 +180,13 @@ fn move_cars<A: Asker, O: Onlooker>(
     onlooker: &mut O,
 ) -> Result<StepTally, AllocError>
     requires { A.is_ready asking.now.asker.now }
-    ensures phase { OnOk result (IsMotionPhase motion.now asking.now.dice.now road.old road.new) }
-    ensures distance { IfOk result (λ tally. tally.distance ≡ total_speed road.new) }
-    ensures stopped { IfOk result (λ tally. tally.stopped ≡ stopped_cars road.new) }
-    ensures changes { IfOk result (λ tally. tally.changes ≡ 0) }
-    ensures clean { OnOk result (CleanMotion road.old road.new) }
-    ensures legal { OnOk result (IsLegal road.new) }
+    ensures moved { IfOk result (λ tally.
+        IsCountedMotion motion.now asking.now.dice.now road.old road.new tally) }
     ensures seen { O.sees onlooker.old road.old onlooker.new }
     ensures same { OnErr result (road.new ≡ road.old) }
 {
+    // only the proof reads it: the road is legal, so its cars are few enough to be counted
+    let _start = road.snapshot();
     asking
         .asker
         .speeds(asking.alloc, speeds, road, motion, asking.dice, onlooker)?;

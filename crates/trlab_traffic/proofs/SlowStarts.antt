@@ -63,10 +63,10 @@ stays_stopped : (limit gap : ℕ) → min (min (0 + 1) limit) gap - 1 ≡ 0
 stays_stopped limit gap = omega arith
 
 -- a motion in which no car moves
-abbrev stand : ℕ → ℕ → ℕ
-stand l x = 0
+abbrev none_moves : ℕ → ℕ → ℕ
+none_moves l x = 0
 
-nobody_moves : (road : Cells) → IsStopped road → Moves stand road road
+nobody_moves : (road : Cells) → IsStopped road → Moves none_moves road road
 nobody_moves road still = record {
   same_limit = refl;
   same_lanes = refl;
@@ -91,8 +91,8 @@ nobody_moves road still = record {
 }
 
 -- a road of stopped cars is its own next road
-stands : (p : ℕ) (rule : Programs) (dice : Dice) (old new : Cells) (tally : StepTally) → IsVdr p CERTAIN rule → IsLegal old → IsStopped old → IsNext rule dice old new tally → new ≡ old
-stands p rule dice old new tally is legal still next =
+step_stays_stopped : (p : ℕ) (rule : Programs) (dice : Dice) (old new : Cells) (tally : StepTally) → IsVdr p CERTAIN rule → IsLegal old → IsStopped old → IsNext rule dice old new tally → new ≡ old
+step_stays_stopped p rule dice old new tally is legal still next =
     let phase = motion_alone rule dice old new tally is.change next in
     let slow : (car : Car) → IsAt old car → phase.0 car.lane car.place ≡ 0 = λ car here.
     let word = slice_index (words_of dice car.number) 0 in
@@ -101,7 +101,7 @@ stands p rule dice old new tally is legal still next =
     ∙ ap (λ (speed : ℕ). brake (happens_on (vdr_chance p CERTAIN speed) word) (safe_speed speed old.limit g)) (still.stopped car here)
     ∙ ap (λ (b : Bool). brake b (safe_speed 0 old.limit g)) (always word (random_words_small dice.key dice.road car.number dice.step 0))
     ∙ stays_stopped old.limit g in
-    one_road_only stand old new old (moves_by phase.0 stand old new slow phase.2) (nobody_moves old still)
+    one_road_only none_moves old new old (moves_by phase.0 none_moves old new slow phase.2) (nobody_moves old still)
 
 no_speed : (road : Cells) → IsStopped road → total_speed road ≡ 0
 no_speed road still =
@@ -109,27 +109,27 @@ no_speed road still =
     sum_by-same (λ (car : Car). car.speed) 0 (standing road) (λ k d below. still.stopped (get_or (standing road) k d) (standing_cell road k d (omega (arith, below, count))))
     ∙ mul-zero (length (standing road))
 
--- a run that stands
-record Stands (seed : Seed) (road : Cells) (sum : StepTally) : Type 0 where
+-- a run whose cars stay stopped
+record StaysStopped (seed : Seed) (road : Cells) (sum : StepTally) : Type 0 where
   same : road ≡ seed.road
   none : sum.distance ≡ 0
 
-run_stands : (p : ℕ) (rule : Programs) (seed : Seed) (step : ℕ) (road : Cells) (sum : StepTally) → IsVdr p CERTAIN rule → IsLegal seed.road → IsStopped seed.road → ComesTo seed ((0, rule) ∷ []) step road sum → Stands seed road sum
-run_stands p rule seed zero road sum is legal still comes = record { same = comes.1; none = ap (λ (t : StepTally). t.distance) comes.2 }
-run_stands p rule seed (suc step) road sum is legal still comes =
+run_stays_stopped : (p : ℕ) (rule : Programs) (seed : Seed) (step : ℕ) (road : Cells) (sum : StepTally) → IsVdr p CERTAIN rule → IsLegal seed.road → IsStopped seed.road → ComesTo seed ((0, rule) ∷ []) step road sum → StaysStopped seed road sum
+run_stays_stopped p rule seed zero road sum is legal still comes = record { same = comes.1; none = ap (λ (t : StepTally). t.distance) comes.2 }
+run_stays_stopped p rule seed (suc step) road sum is legal still comes =
     let before = comes.0 in
     let so_far = comes.1 in
     let tally = comes.3 in
     let on = comes.5 in
-    let way = run_stands p rule seed step before so_far is legal still comes.4 in
+    let way = run_stays_stopped p rule seed step before so_far is legal still comes.4 in
     let same = one_rule rule comes.2 step on.under in
     let ruled = subst (λ (r : Programs). IsNext r (dice_at seed step) before road tally) (sym same) on.next in
     let next = subst (λ (now : Cells). IsNext rule (dice_at seed step) now road tally) way.same ruled in
-    let stood = stands p rule (dice_at seed step) seed.road road tally is legal still next in
-    let gone : tally.distance ≡ 0 = next.1.distance ∙ ap total_speed stood ∙ no_speed seed.road still in
+    let same_road = step_stays_stopped p rule (dice_at seed step) seed.road road tally is legal still next in
+    let gone : tally.distance ≡ 0 = next.1.distance ∙ ap total_speed same_road ∙ no_speed seed.road still in
     let so_far_none = way.none in
     record {
-      same = stood;
+      same = same_road;
       none = elim (cases_Bool (nat_le seed.warm step)) [
         | inl yes_counted ↦ distance_counted (nat_le seed.warm step) sum so_far tally on.counted yes_counted ∙ (let e : so_far.distance + tally.distance ≡ 0 = omega (arith, gone, so_far_none) in e)
         | inr uncounted ↦ distance_uncounted (nat_le seed.warm step) sum so_far tally on.counted uncounted ∙ so_far_none
@@ -138,5 +138,5 @@ run_stands p rule seed (suc step) road sum is legal still comes =
 
 pub slow_starts_keep_jams : SlowStartsKeepJams
 slow_starts_keep_jams p rule seed step road sum is legal still comes =
-    let way = run_stands p rule seed step road sum is legal still comes in
+    let way = run_stays_stopped p rule seed step road sum is legal still comes in
     (way.same, way.none)

@@ -43,20 +43,20 @@ gap_some lane x car here free =
 
 module _ (answer : ℕ → ℕ) (old new : Lane) (m : LaneMoves answer old new)
     (goes : (x number speed : ℕ) → at old x ≡ Some (number, speed) → answer x ≡ min 1 (gap old x)) where
-  -- a car goes by one cell, or stands
+  -- a car goes by one cell, or stops
   goes_one : (x number speed : ℕ) → at old x ≡ Some (number, speed) → 1 ≤ gap old x → answer x ≡ 1
   goes_one x number speed here some = goes x number speed here ∙ (let e : min 1 (gap old x) ≡ 1 = omega (arith, some) in e)
 
-  stands : (x number speed : ℕ) → at old x ≡ Some (number, speed) → gap old x ≡ 0 → answer x ≡ 0
-  stands x number speed here none = goes x number speed here ∙ (let e : min 1 (gap old x) ≡ 0 = omega (arith, none) in e)
+  stops : (x number speed : ℕ) → at old x ≡ Some (number, speed) → gap old x ≡ 0 → answer x ≡ 0
+  stops x number speed here none = goes x number speed here ∙ (let e : min 1 (gap old x) ≡ 0 = omega (arith, none) in e)
 
   taken : (y number speed : ℕ) → at new y ≡ Some (number, speed) → is_some (at new y) ≡ true
   taken y number speed there = ap is_some there
 
-  -- a car in front of a taken cell stands
+  -- a car behind a taken cell stops
   stays : (y : ℕ) (car next : ℕ × ℕ) → at old y ≡ Some car → at old (ahead (length old) y 1) ≡ Some next → is_some (at new y) ≡ true
   stays y car next here there =
-      let none = stands y car.0 car.1 here (gap_none old y next there) in
+      let none = stops y car.0 car.1 here (gap_none old y next there) in
       let to : ahead (length old) y (answer y) ≡ y = ap (ahead (length old) y) none ∙ ahead_none (length old) y (inside old y car here) in
       taken y car.0 (answer y) (subst (λ k. at new k ≡ Some (car.0, answer y)) to (m.arrives y car.0 car.1 here))
 
@@ -91,8 +91,8 @@ module _ (answer : ℕ → ℕ) (old new : Lane) (m : LaneMoves answer old new)
             absurd cc
         | inr none ↦
             let zeroth : gap old x ≡ 0 = omega (arith, none) in
-            let at_rest = stands x number speed there zeroth in
-            let to : x ≡ y = sym (ap (ahead (length old) x) at_rest ∙ ahead_none (length old) x (inside old x (number, speed) there)) ∙ reach in
+            let stopped = stops x number speed there zeroth in
+            let to : x ≡ y = sym (ap (ahead (length old) x) stopped ∙ ahead_none (length old) x (inside old x (number, speed) there)) ∙ reach in
             let some = gap_some old y car here free in
             let same = ap (gap old) to in
             omega (arith, some, same, zeroth)
@@ -111,8 +111,8 @@ module _ (answer : ℕ → ℕ) (old new : Lane) (m : LaneMoves answer old new)
             absurd cc
         | inr none ↦
             let zeroth : gap old x ≡ 0 = omega (arith, none) in
-            let at_rest = stands x number speed there zeroth in
-            let to : x ≡ y = sym (ap (ahead (length old) x) at_rest ∙ ahead_none (length old) x low) ∙ reach in
+            let stopped = stops x number speed there zeroth in
+            let to : x ≡ y = sym (ap (ahead (length old) x) stopped ∙ ahead_none (length old) x low) ∙ reach in
             let e = sym there ∙ ap (at old) to ∙ free in
             absurd cc
       ])

@@ -1,4 +1,4 @@
--- Homogeneity: no place of a ring is another than the others. A road goes on the same, seen from whichever
+-- Homogeneity: no place of a ring differs from the others. A road goes on the same, seen from whichever
 -- place.
 use Rattle.std.specs.Prelude.{ℕ, length, map}
 use Rattle.std.specs.List.{range_with_len}

@@ -1,4 +1,4 @@
--- What keeps a jam: a car that has no gap stands.
+-- What keeps a jam: a car that has no gap stops.
 use Rattle.std.specs.Prelude.{◌≡◌}
 use Rattle.trlab_road.specs.declared.car.Car.{Car}
 use Rattle.trlab_road.specs.Cells.{Cells, IsAt, lane_of}
@@ -13,9 +13,9 @@ use Rattle.trlab_traffic.specs.Runs.{StaysInLane}
 abbrev pub stopped_car : Car → Car
 stopped_car car = record car { speed = 0 }
 
--- under any rule without lane changes a car that has no gap stands
-abbrev pub CarWithoutGapStands : Type 0
-CarWithoutGapStands =
+-- under any rule without lane changes a car that has no gap stops
+abbrev pub CarWithoutGapStops : Type 0
+CarWithoutGapStops =
     (rule : Programs) (dice : Dice) (old new : Cells) (tally : StepTally) (car : Car)
     → StaysInLane rule → IsNext rule dice old new tally
     → IsAt old car → gap (lane_of old car.lane) car.place ≡ 0 → IsAt new (stopped_car car)

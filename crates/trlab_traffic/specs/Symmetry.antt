@@ -1,5 +1,5 @@
--- Symmetry of lanes: of two lanes none is another than the other, under rules that do not ask on which a
--- car is.
+-- Symmetry of lanes: neither of two lanes differs from the other, under rules that do not ask on which a car
+-- is.
 use Rattle.std.specs.Prelude.{◌≡◌, ℕ, Bool, true, false, All, IfSome, [], ◌∷◌, length}
 use Rattle.trlab_code.specs.declared.instruction.Input.TheVariants.{Lane}
 use Rattle.trlab_code.specs.declared.instruction.Instr.{Instr}

@@ -6,12 +6,13 @@ ghost use Rattle.trlab_traffic.specs.Apart.{RunKeepsLanesApart, StepKeepsLanesAp
 ghost use Rattle.trlab_traffic.specs.Capacity.{CellsAreTakenOrEmpty, RunKeepsToCapacity, StepKeepsToCapacity};
 ghost use Rattle.trlab_traffic.specs.Certainty.{NaschWithoutRandomization, RunIsDeterministic, StepIsDeterministic};
 ghost use Rattle.trlab_traffic.specs.Detector.{DetectorCountsOne, DetectorsCountDistance, StepIsContinuous};
-ghost use Rattle.trlab_traffic.specs.DetectorRuns.{CountExists, DetectorMeasuresFlow, DetectorsAgree, DetectorsCountRun, RunIsContinuous};
+ghost use Rattle.trlab_traffic.specs.DetectorRuns.{CountExists, DetectorMeasuresFlow, DetectorsAgree};
+ghost use Rattle.trlab_traffic.specs.DetectorRuns.{DetectorsCountRun, RunIsContinuous};
 ghost use Rattle.trlab_traffic.specs.Diagram.{EvenCarsFlowAtCapacity, NaschComesToCapacity, Rule184ComesToCapacity};
 ghost use Rattle.trlab_traffic.specs.Following.{GapsFollow};
 ghost use Rattle.trlab_traffic.specs.FreeFlow.{FreeFlowGoesOn, FreeFlowStaysFree};
 ghost use Rattle.trlab_traffic.specs.Homogeneity.{RunIsHomogeneous, StepIsHomogeneous};
-ghost use Rattle.trlab_traffic.specs.Jams.{CarWithoutGapStands};
+ghost use Rattle.trlab_traffic.specs.Jams.{CarWithoutGapStops};
 ghost use Rattle.trlab_traffic.specs.Metastable.{SlowStartsKeepFreeFlow, SlowStartsKeepJams};
 ghost use Rattle.trlab_traffic.specs.Overtaking.{EachCarHasNext, NextCarIsOne, RunKeepsNextCar, StepKeepsNextCar};
 ghost use Rattle.trlab_traffic.specs.Randomization.{RandomizationSlows, SlowStartsSlow};
@@ -59,9 +60,9 @@ pub fn gaps_follow()
     ensures { GapsFollow }
 {}
 
-/// A car that has no gap stands, under any rule without lane changes.
-pub fn car_without_gap_stands()
-    ensures { CarWithoutGapStands }
+/// A car that has no gap stops, under any rule without lane changes.
+pub fn car_without_gap_stops()
+    ensures { CarWithoutGapStops }
 {}
 
 /// Nobody overtakes on a lane: each car has one next car ahead, and keeps it in each step and run without lane
@@ -73,14 +74,14 @@ pub fn nobody_overtakes()
     ensures run { RunKeepsNextCar }
 {}
 
-/// No place of a ring is another than the others: under any rule a legal road that is turned goes on to its next road,
+/// No place of a ring differs from the others: under any rule a legal road that is turned goes on to its next road,
 /// turned as far, with the same tally; and so does a run.
 pub fn ring_is_homogeneous()
     ensures step { StepIsHomogeneous }
     ensures run { RunIsHomogeneous }
 {}
 
-/// Of two lanes none is another than the other: under rules whose programs do not read the lane, as that of 1996, a
+/// Neither of two lanes differs from the other: under rules whose programs do not read the lane, as that of 1996, a
 /// road whose lanes are exchanged goes on to its next road, exchanged, with the same tally; and so does a run.
 pub fn lanes_are_symmetric()
     ensures rickert { RickertIgnoresLane }

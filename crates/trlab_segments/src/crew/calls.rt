@@ -44,9 +44,7 @@ impl<
         onlooker: &mut O,
     ) -> Result<(), AllocError> {
         onlooker.see(road);
-        let cars = road.cars();
         *answers = (self.speeds)(alloc, &*road, motion, dice)?;
-        prove!(answers.len() == cars as usize);
         Ok(())
     }
 
@@ -60,9 +58,7 @@ impl<
         onlooker: &mut O,
     ) -> Result<(), AllocError> {
         onlooker.see(road);
-        let cars = road.cars();
         *answers = (self.crossings)(alloc, &*road, change, dice)?;
-        prove!(answers.len() == cars as usize);
         Ok(())
     }
 }

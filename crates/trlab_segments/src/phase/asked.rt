@@ -4,8 +4,9 @@
 ghost use Rattle.std.specs.Prelude.{◌≡◌, ◌≤◌, ◌++◌, [], ℕ, IfOk, List, length};
 ghost use Rattle.trlab_machine.specs.declared.dice.Dice.{Dice as TheDice};
 ghost use Rattle.trlab_road.specs.Cells.{Cells, cars};
-ghost use Rattle.trlab_segments.specs.Answered.{IsCrossesPart, IsSpeedsPart, HasTwoLanes, HasLanes};
+ghost use Rattle.trlab_segments.specs.Answered.{HasTwoLanes, HasLanes};
 ghost use Rattle.trlab_segments.specs.Joined.{crosses_begin, crosses_join, speeds_begin, speeds_join};
+ghost use Rattle.trlab_step.specs.Answers.{IsCrossesPart, IsSpeedsPart};
 
 use crate::phase::Phase;
 use crate::segment::Segment;

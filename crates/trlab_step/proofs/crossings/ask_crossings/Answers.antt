@@ -36,17 +36,11 @@ overflow_sub-to c = c.requires.rising
 pub overflow_sub-to-2 : goal.overflow_sub-to-2
 overflow_sub-to-2 c = c.requires.rising
 
-pub returns-in_err-reserve-clause-crossings : goal.returns-in_err-reserve-clause-crossings
-returns-in_err-reserve-clause-crossings c = let p = err_from_is_err_and c.from_residual.result c.from_residual.ensures.1 in rw p.1 tt
+pub returns-in_err-reserve : goal.returns-in_err-reserve
+returns-in_err-reserve c = let p = err_from_is_err_and c.from_residual.result c.from_residual.ensures.1 in rw p.1 tt
 
-pub returns-in_err-extend_from_slice-clause-crossings : goal.returns-in_err-extend_from_slice-clause-crossings
-returns-in_err-extend_from_slice-clause-crossings c = let p = err_from_is_err_and c.from_residual-in_err-extend_from_slice.result c.from_residual-in_err-extend_from_slice.ensures.1 in rw p.1 tt
-
-pub returns-in_err-reserve-clause-free : goal.returns-in_err-reserve-clause-free
-returns-in_err-reserve-clause-free c = let p = err_from_is_err_and c.from_residual.result c.from_residual.ensures.1 in rw p.1 tt
-
-pub returns-in_err-extend_from_slice-clause-free : goal.returns-in_err-extend_from_slice-clause-free
-returns-in_err-extend_from_slice-clause-free c = let p = err_from_is_err_and c.from_residual-in_err-extend_from_slice.result c.from_residual-in_err-extend_from_slice.ensures.1 in rw p.1 tt
+pub returns-in_err-extend_from_slice : goal.returns-in_err-extend_from_slice
+returns-in_err-extend_from_slice c = let p = err_from_is_err_and c.from_residual-in_err-extend_from_slice.result c.from_residual-in_err-extend_from_slice.ensures.1 in rw p.1 tt
 
 pub loop-block-init : goal.loop-block-init
 loop-block-init c =
@@ -80,10 +74,8 @@ ask_changes-requires-clause-two_lanes c = c.requires.two_lanes
 pub run_changes-answers-requires : goal.run_changes-answers-requires
 run_changes-answers-requires c = λ k near low. (c.ask_changes.ensures.each k (rw c.ask_changes.ensures.cars at low)).is_view
 
-pub returns-clause-crossings : goal.returns-clause-crossings
-returns-clause-crossings c =
+pub returns : goal.returns
+returns c =
     let end = last_end c.args.from c.args.to c.loop-block.block c.requires.rising c.div_ceil-block-end.ensures c.loop-block-test.false in
-    subst (λ m. AnswersCrossingsPart c.args.change.now c.args.dice.now c.args.road.now c.args.from m c.loop-block.crosses.items) end c.loop-block.invariant.answers
-
-pub returns-clause-free : goal.returns-clause-free
-returns-clause-free c = c.loop-block.invariant.free
+    let answers = subst (λ m. AnswersCrossingsPart c.args.change.now c.args.dice.now c.args.road.now c.args.from m c.loop-block.crosses.items) end c.loop-block.invariant.answers in
+    (answers, c.loop-block.invariant.free)

@@ -37,17 +37,11 @@ overflow_sub-to c = c.requires.rising
 pub overflow_sub-to-2 : goal.overflow_sub-to-2
 overflow_sub-to-2 c = c.requires.rising
 
-pub returns-in_err-reserve-clause-speeds : goal.returns-in_err-reserve-clause-speeds
-returns-in_err-reserve-clause-speeds c = let p = err_from_is_err_and c.from_residual.result c.from_residual.ensures.1 in rw p.1 tt
+pub returns-in_err-reserve : goal.returns-in_err-reserve
+returns-in_err-reserve c = let p = err_from_is_err_and c.from_residual.result c.from_residual.ensures.1 in rw p.1 tt
 
-pub returns-in_err-extend_from_slice-clause-speeds : goal.returns-in_err-extend_from_slice-clause-speeds
-returns-in_err-extend_from_slice-clause-speeds c = let p = err_from_is_err_and c.from_residual-in_err-extend_from_slice.result c.from_residual-in_err-extend_from_slice.ensures.1 in rw p.1 tt
-
-pub returns-in_err-reserve-clause-fits : goal.returns-in_err-reserve-clause-fits
-returns-in_err-reserve-clause-fits c = let p = err_from_is_err_and c.from_residual.result c.from_residual.ensures.1 in rw p.1 tt
-
-pub returns-in_err-extend_from_slice-clause-fits : goal.returns-in_err-extend_from_slice-clause-fits
-returns-in_err-extend_from_slice-clause-fits c = let p = err_from_is_err_and c.from_residual-in_err-extend_from_slice.result c.from_residual-in_err-extend_from_slice.ensures.1 in rw p.1 tt
+pub returns-in_err-extend_from_slice : goal.returns-in_err-extend_from_slice
+returns-in_err-extend_from_slice c = let p = err_from_is_err_and c.from_residual-in_err-extend_from_slice.result c.from_residual-in_err-extend_from_slice.ensures.1 in rw p.1 tt
 
 pub loop-block-init : goal.loop-block-init
 loop-block-init c =
@@ -78,10 +72,8 @@ ask_motions-requires-clause-within c = let low = end_low c.args.from c.args.to c
 pub run_motions-requires : goal.run_motions-requires
 run_motions-requires c = λ k near low. (c.ask_motions.ensures.each k (rw c.ask_motions.ensures.cars at low)).is_view
 
-pub returns-clause-speeds : goal.returns-clause-speeds
-returns-clause-speeds c =
+pub returns : goal.returns
+returns c =
     let end = last_end c.args.from c.args.to c.loop-block.block c.requires.rising c.div_ceil-block-end.ensures c.loop-block-test.false in
-    subst (λ m. AnswersSpeedsPart c.args.motion.now c.args.dice.now c.args.road.now c.args.from m c.loop-block.speeds.items) end c.loop-block.invariant.answers
-
-pub returns-clause-fits : goal.returns-clause-fits
-returns-clause-fits c = c.loop-block.invariant.fits
+    let answers = subst (λ m. AnswersSpeedsPart c.args.motion.now c.args.dice.now c.args.road.now c.args.from m c.loop-block.speeds.items) end c.loop-block.invariant.answers in
+    (answers, c.loop-block.invariant.fits)

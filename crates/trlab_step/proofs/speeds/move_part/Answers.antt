@@ -1,6 +1,6 @@
 use Rattle.std.proofs.lemmas.Result.{err_from_is_err_and}
 use Rattle.std.proofs.Common.{subst}
-use Rattle.trlab_step.specs.Answers.{AnswersSpeedsPart}
+use Rattle.trlab_step.specs.Answers.{IsSpeedsPart}
 use Rattle.trlab_step.proofs.AskedCars.{same_dice}
 use Rattle.trlab_step.proofs.speeds.move_part.Goals as goal
 
@@ -10,22 +10,13 @@ ask_speeds-requires-clause-rising c = c.requires.rising
 pub ask_speeds-requires-clause-within : goal.ask_speeds-requires-clause-within
 ask_speeds-requires-clause-within c = c.requires.within
 
-pub returns-in_err-ask_speeds-clause-speeds : goal.returns-in_err-ask_speeds-clause-speeds
-returns-in_err-ask_speeds-clause-speeds c = let p = err_from_is_err_and c.from_residual.result c.from_residual.ensures.1 in rw p.1 tt
+pub returns-in_err-ask_speeds : goal.returns-in_err-ask_speeds
+returns-in_err-ask_speeds c = let p = err_from_is_err_and c.from_residual.result c.from_residual.ensures.1 in rw p.1 tt
 
-pub returns-in_err-ask_speeds-clause-fits : goal.returns-in_err-ask_speeds-clause-fits
-returns-in_err-ask_speeds-clause-fits c = let p = err_from_is_err_and c.from_residual.result c.from_residual.ensures.1 in rw p.1 tt
+pub returns-in_err-speeds : goal.returns-in_err-speeds
+returns-in_err-speeds c = let p = err_from_is_err_and c.from_residual-in_err-speeds.result c.from_residual-in_err-speeds.ensures.1 in rw p.1 tt
 
-pub returns-in_err-speeds-clause-speeds : goal.returns-in_err-speeds-clause-speeds
-returns-in_err-speeds-clause-speeds c = let p = err_from_is_err_and c.from_residual-in_err-speeds.result c.from_residual-in_err-speeds.ensures.1 in rw p.1 tt
-
-pub returns-in_err-speeds-clause-fits : goal.returns-in_err-speeds-clause-fits
-returns-in_err-speeds-clause-fits c = let p = err_from_is_err_and c.from_residual-in_err-speeds.result c.from_residual-in_err-speeds.ensures.1 in rw p.1 tt
-
-pub returns-clause-speeds : goal.returns-clause-speeds
-returns-clause-speeds c =
+pub returns : goal.returns
+returns c =
     let dice = same_dice c.new.result _ _ _ c.new.ensures.key c.new.ensures.road c.new.ensures.step in
-    rw (c.in_ok-speeds.ensures, c.deref.ensures.value) (subst (λ d. AnswersSpeedsPart c.args.motion.now d c.args.road.now c.args.from c.args.to c.ask_speeds.new.speeds.items) dice c.in_ok-ask_speeds.ensures.speeds)
-
-pub returns-clause-fits : goal.returns-clause-fits
-returns-clause-fits c = rw (c.in_ok-speeds.ensures, c.deref.ensures.value) c.in_ok-ask_speeds.ensures.fits
+    rw (c.in_ok-speeds.ensures, c.deref.ensures.value) (subst (λ d. IsSpeedsPart c.args.motion.now d c.args.road.now c.args.from c.args.to c.ask_speeds.new.speeds.items) dice c.in_ok-ask_speeds.ensures)

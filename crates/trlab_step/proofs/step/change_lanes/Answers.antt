@@ -1,5 +1,6 @@
-use Rattle.std.proofs.Common.{◌∙◌, ap}
+use Rattle.std.proofs.Common.{◌≤◌, ◌∙◌, ap, arith, length}
 use Rattle.std.specs.Prelude.{count_by}
+use Rattle.trlab_step.proofs.Counts.{few_cars}
 use Rattle.trlab_step.proofs.Stepped.{lane_change_is_done}
 use Rattle.std.proofs.lemmas.Result.{err_from_is_err_and}
 use Rattle.trlab_step.proofs.Parts.{whole_free}
@@ -7,10 +8,10 @@ use Rattle.trlab_step.proofs.step.change_lanes.Goals as goal
 
 pub returns-clause-phase : goal.returns-clause-phase
 returns-clause-phase g c =
-    let part = c.in_ok-crossings.ensures.crossings in
+    let told = c.in_ok-crossings.ensures.crossings in
     let crossed = rw (c.deref.ensures.value, c.crossings.ensures.same) at c.in_ok-middle.ensures.crosses in
     let counted = c.count_crossing.ensures ∙ ap (count_by (λ crosses. crosses)) c.deref-2.ensures.value in
-    lane_change_is_done c.args.change.now _ c.args.road.now c.in_ok-middle.middle c.crossings.new.answers.items c.count_crossing.result c.requires.two_lanes part crossed counted
+    lane_change_is_done c.args.change.now _ c.args.road.now c.in_ok-middle.middle c.crossings.new.answers.items c.count_crossing.result c.requires.two_lanes told.0 crossed counted
 
 pub crossings-requires-clause-ready : goal.crossings-requires-clause-ready
 crossings-requires-clause-ready g c = c.requires.ready
@@ -19,7 +20,15 @@ pub crossings-requires-clause-two_lanes : goal.crossings-requires-clause-two_lan
 crossings-requires-clause-two_lanes g c = c.requires.two_lanes
 
 pub after_lane_change_in-requires : goal.after_lane_change_in-requires
-after_lane_change_in-requires g c = rw (c.deref.ensures.value, c.crossings.ensures.same) (whole_free c.args.change.now _ c.args.road.now c.crossings.new.answers.items c.requires.two_lanes c.in_ok-crossings.ensures.crossings c.in_ok-crossings.ensures.free)
+after_lane_change_in-requires g c = rw (c.deref.ensures.value, c.crossings.ensures.same) (whole_free c.args.change.now _ c.args.road.now c.crossings.new.answers.items c.requires.two_lanes c.in_ok-crossings.ensures.crossings)
+
+pub count_crossing-requires : goal.count_crossing-requires
+count_crossing-requires g c =
+    let told = c.in_ok-crossings.ensures.crossings.0.one_each in
+    let most = few_cars c.in_ok-middle.middle c.in_ok-middle.ensures.legal in
+    let kept = rw c.crossings.ensures.same at c.in_ok-middle.ensures.clean.same_count in
+    let few : length c.crossings.new.answers.items ≤ 200000 = omega (arith, told, most, kept) in
+    record { few = rw c.deref-2.ensures.value few }
 
 pub returns-in_err-crossings-clause-phase : goal.returns-in_err-crossings-clause-phase
 returns-in_err-crossings-clause-phase g c = let p = err_from_is_err_and c.from_residual.result c.from_residual.ensures.1 in rw p.1 tt

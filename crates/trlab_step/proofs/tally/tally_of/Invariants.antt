@@ -6,6 +6,6 @@ abbrev pub invariant-loop-speed : goal.invariant-loop-speed
 invariant-loop-speed l = record {
   gone : l.distance ≡ sum (take l.speed-index l.speeds);
   at_most : l.distance ≤ l.speed-index * 255;
-  stood : l.stopped ≡ count_by (λ speed. nat_eq speed 0) (take l.speed-index l.speeds);
+  stopped : l.stopped ≡ count_by (λ speed. nat_eq speed 0) (take l.speed-index l.speeds);
   few : l.stopped ≤ l.speed-index;
 }

@@ -18,7 +18,7 @@ begins_told None (entry ∷ later) told Told e h by = absurd cc
 begins_told (Some first) [] told Told e h by = absurd cc
 begins_told (Some first) (entry ∷ later) told Told e h by = let same : first.now ≡ entry = cc in by first h ∙ ap (λ (one : ℕ × Programs). nat_eq one.0 0) same
 
--- where it does, it stands in place of the first rule
+-- where it does, it takes the place of the first rule
 some_begun : (later : Vec (ℕ × Programs) Global) → begins later.items ≡ true → 0 < vec_len later
 some_begun later h = let size = later.ok.0 in let some = some_item later.items h in omega (arith, size, some) where
   some_item : (later : Sheet) → begins later ≡ true → 0 < length later

@@ -1,4 +1,4 @@
 use Rattle.trlab_segments.proofs.phase.asked.MotionAskedU8.ask.Goals as goal
 
 pub returns : goal.returns
-returns c = (c.in_ok-ask_speeds.ensures.speeds, c.in_ok-ask_speeds.ensures.fits)
+returns c = c.in_ok-ask_speeds.ensures
