@@ -209,7 +209,7 @@ full_stays s call full =
     let next : State = record { count = s.count + 1; next = next_after s.next (served s call).reply; jobs = (served s call).jobs } in
     sym (cond-true (is_full s) s next full)
 
--- the same of one that is not full, for a call that may have wanted memory and that lends nothing
+-- the same of one that is not full, for a call for which memory may have run out and that lends nothing
 pub told_made : (s now : State) (m : Bool) (call : Call) (told : Reply) → s ≡ now → is_full now ≡ false
     → MatchBool m (Unit {0}) (told ≡ (served s call).reply) → MatchBool m (Unit {0}) (told ≡ reply_of now call)
 told_made s now true call told view room made = tt
@@ -226,11 +226,17 @@ leads_made s now false call told jobs view room kept next made put =
     ∙ sym (cond-false (is_full s) s (by (next_after s.next (served s call).reply) (served s call).jobs) (ap is_full view ∙ room))
     ∙ ap (λ (t : State). after t call) view
 
-pub stays_made : (s now : State) (m : Bool) (call : Call) (jobs : List JobState) → s ≡ now → m ≡ true → MatchBool m (jobs ≡ s.jobs) (jobs ≡ (served s call).jobs)
-    → MatchBool m (record { count = s.count; next = s.next; jobs = jobs } ≡ now) (record { count = s.count; next = s.next; jobs = jobs } ≡ after now call)
-stays_made s now true call jobs view wanting put =
-    ap (λ (xs : List JobState). record { count = s.count; next = s.next; jobs = xs }) put ∙ view
-stays_made s now false call jobs view wanting put = absurd (false≢true wanting)
+-- a call that lends nothing is counted, unless memory ran out
+pub counted : (s now : State) (m : Bool) (call : Call) (told : Reply) (jobs : List JobState) (count : ℕ) → s ≡ now → is_full now ≡ false → next_after s.next told ≡ s.next
+    → MatchBool m (count ≡ s.count) (count ≡ s.count + 1)
+    → MatchBool m (Unit {0}) (told ≡ (served s call).reply) → MatchBool m (jobs ≡ s.jobs) (jobs ≡ (served s call).jobs)
+    → MatchBool m (record { count = count; next = s.next; jobs = jobs } ≡ now) (record { count = count; next = s.next; jobs = jobs } ≡ after now call)
+counted s now true call told jobs count view room next more made put =
+    let by : ℕ → List JobState → State = λ n xs. record { count = n; next = s.next; jobs = xs } in
+    ap (λ (n : ℕ). by n jobs) more ∙ ap (by s.count) put ∙ view
+counted s now false call told jobs count view room next more made put =
+    let by : ℕ → State = λ n. record { count = n; next = s.next; jobs = jobs } in
+    ap by more ∙ leads_made s now false call told jobs view room refl next made put
 
 -- replies that lend nothing
 pub next_number : (next : ℕ) (answer : Result ℕ BookFault) → next_after next (number_reply answer) ≡ next
@@ -253,7 +259,7 @@ pub next_back : (next : ℕ) (answer : Result (Unit {0}) (LeaseState × BookFaul
 next_back next (Ok done) = refl
 next_back next (Err handed) = refl
 
--- a call that changes no job, whether memory was wanting or not
+-- a call that changes no job, whether memory ran out or not
 pub same_jobs : (m : Bool) (jobs others : List JobState) → others ≡ jobs → MatchBool m (jobs ≡ jobs) (jobs ≡ others)
 same_jobs true jobs others same = refl
 same_jobs false jobs others same = sym same
@@ -272,8 +278,3 @@ pub none_leads : (s now : State) → s ≡ now → is_full now ≡ false → pos
 none_leads s now view room none =
     leads_made s now false LeaseCall NoLease s.jobs view room refl refl (sym (ap (λ (o : Option ℕ). (on_free s.jobs s.next o).reply) none))
     (sym (ap (λ (o : Option ℕ). (on_free s.jobs s.next o).jobs) none))
-
--- a call that changed nothing, since memory was wanting
-pub unchanged : (now next : State) (m : Bool) → m ≡ true → MatchBool m (now ≡ now) (now ≡ next)
-unchanged now next true wanting = refl
-unchanged now next false wanting = absurd (false≢true wanting)

@@ -54,8 +54,8 @@ is_event _ = true
 
 -- a call replies as the machine does, unless memory ran out
 abbrev pub RepliesAs : Bool → Reply → State → Call → Type 0
-RepliesAs wanting told book call = MatchBool wanting (Unit {0}) (told ≡ reply_of book call)
+RepliesAs ran_out told book call = MatchBool ran_out (Unit {0}) (told ≡ reply_of book call)
 
 -- a call leads to the machine's state; where memory ran out it changes nothing
 abbrev pub LeadsAs : Bool → State → Call → State → Type 0
-LeadsAs wanting book call new = MatchBool wanting (new ≡ book) (new ≡ after book call)
+LeadsAs ran_out book call new = MatchBool ran_out (new ≡ book) (new ≡ after book call)

@@ -34,6 +34,20 @@ pub record LeaseState : Type 0 where
   pub road : Cells
   pub applied : List Ran
 
+-- a lease by its parts
+abbrev pub lease_state : ℕ → ℕ → ℕ → Key → ℕ → Base → ℕ → Cells → List Ran → LeaseState
+lease_state job number steps key road_number base step road applied = record {
+  job = job;
+  number = number;
+  steps = steps;
+  key = key;
+  road_number = road_number;
+  base = base;
+  step = step;
+  road = road;
+  applied = applied;
+}
+
 -- the road of a lease is what its applied rules give from its base
 pub record IsLease (lease : LeaseState) : Type 0 where
   pub steps_run : lease.step ≡ lease.base.step + length lease.applied

@@ -1,5 +1,5 @@
--- The job book as a machine: what each call replies, and the state after it. No road but those of the seeds
--- stands in it.
+-- The job book as a machine: what each call replies, and the state after it. It has no road but those of the
+-- seeds.
 use Rattle.std.specs.Prelude.{ℕ, ◌+◌, ◌==◌, max, Bool, true, false, ◌&&◌, ◌||◌, not, ltb, List, [], ◌∷◌, ◌++◌, length, slice_get, slice_set, Option, Some, None, is_some, if◌then◌else◌}
 use Rattle.std.specs.List.{position}
 use Rattle.trlab_rules.specs.Rules.{Programs}

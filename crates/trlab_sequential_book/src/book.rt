@@ -1,6 +1,6 @@
 //! The book of jobs.
 
-ghost use Rattle.std.specs.Prelude.{◌≡◌, ◌↔◌, Bool, true, IsTrue, IfOk, IfErr};
+ghost use Rattle.std.specs.Prelude.{◌≡◌, ◌↔◌, ◌+◌, ◌<◌, ◌≤◌, Bool, true, IsTrue, IfOk, IfErr, MatchBool};
 ghost use Rattle.trlab_sequential_book.specs.Answers.{LeadsAs, RepliesAs, back_reply, done_reply, is_memory, lease_reply, number_reply, order_reply, seen_reply};
 ghost use Rattle.trlab_sequential_book.specs.Comparison.{IsLent, IsRuleAt, IsSame, IsSeen, LeaseCall, OrderCall, offered};
 ghost use Rattle.trlab_sequential_book.specs.Machine.{after, is_full, reply_of, start};
@@ -25,7 +25,7 @@ use trlab_rules::Rule;
 
 /// A book of up to 256 jobs, which are numbered from 0.
 ///
-/// Each call is an event, one that is refused too, but where it is refused as `HistoryFull` or `Memory`.
+/// Each call is an event, also one that is refused, unless it is refused as `HistoryFull` or `Memory`.
 #[derive(Drop)]
 pub struct Book {
     count: u32,
@@ -87,7 +87,7 @@ impl Book {
         self.submit_boxed(alloc, boxed, rule, steps)
     }
 
-    /// The same, where the seed stands in memory of its own, which others may share.
+    /// The same, where the seed is in memory of its own, which others may share.
     ///
     /// # Errors
     ///
@@ -107,9 +107,7 @@ impl Book {
             return Err(BookFault::HistoryFull);
         }
         let answer = submit_in(&mut self.jobs, alloc, seed, rule, steps);
-        if !is_for_memory(&answer) {
-            self.count += 1;
-        }
+        self.count = count_after(self.count, &answer);
         answer
     }
 
@@ -128,9 +126,7 @@ impl Book {
             return Err(BookFault::HistoryFull);
         }
         let answer = replace_in(&mut self.jobs, job, rule);
-        if !is_for_memory(&answer) {
-            self.count += 1;
-        }
+        self.count = count_after(self.count, &answer);
         answer
     }
 
@@ -167,8 +163,8 @@ impl Book {
         is_same_in(&self.jobs, lease)
     }
 
-    /// Orders the step at which a lease stands: the answer has the rule in force there, which it shares with the
-    /// job's sheet, so the allocator is not used.
+    /// Orders the step at which a lease stands: the answer has the rule in force there, which it shares with
+    /// the job's sheet, so the allocator is not used.
     ///
     /// # Errors
     ///
@@ -202,9 +198,7 @@ impl Book {
             return Err(BookFault::HistoryFull);
         }
         let answer = order_in(&mut self.jobs, lease, same);
-        if !is_for_memory(&answer) {
-            self.count += 1;
-        }
+        self.count = count_after(self.count, &answer);
         answer
     }
 
@@ -289,16 +283,19 @@ impl Book {
             return Err(BookFault::HistoryFull);
         }
         let answer = read_in(&self.jobs, alloc, job);
-        if !is_for_memory(&answer) {
-            self.count += 1;
-        }
+        self.count = count_after(self.count, &answer);
         answer
     }
 }
 
-/// Whether a call was refused since memory ran out.
-pub fn is_for_memory<T>(answer: &Result<T, BookFault>) -> bool
-    ensures { result ≡ is_memory answer.now }
+/// How many events a book has had once it gave this answer: one more, unless memory ran out.
+fn count_after<T>(count: u32, answer: &Result<T, BookFault>) -> u32
+    requires { count < 1000000 }
+    ensures value { MatchBool (is_memory answer.now) (result ≡ count) (result ≡ count + 1) }
+    ensures within { (count ≤ result) × (result ≤ 1000000) }
 {
-    matches!(answer, Err(BookFault::Memory))
+    match answer {
+        Err(BookFault::Memory) => count,
+        _ => count + 1,
+    }
 }

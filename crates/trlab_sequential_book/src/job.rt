@@ -169,6 +169,7 @@ impl Job {
     pub fn runs(&self, lease: &Lease) -> bool
         ensures { IsTrue result ↔ IsOwnRun self.now lease.now }
     {
+        // This is a `u32`, so no step up to it overflows.
         let _end = lease.step();
         let seed = self.seed.get();
         if lease.road_number() != seed.number || !same_key(lease.key(), &seed.key) {
@@ -231,6 +232,7 @@ impl Job {
         requires own { IsOwnRun self.now lease.now }
         ensures { IsUnderway (run_of self.now.seed self.now.sheet lease.now.step lease.now.road result) }
     {
+        // This is a `u32`, so no step up to it overflows.
         let _end = lease.step();
         let mut step = self.done;
         let mut sum = self.tally;

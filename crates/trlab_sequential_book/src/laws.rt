@@ -15,17 +15,17 @@ pub fn limits()
     ensures events { MOST_EVENTS ≡ 1000000 }
 {}
 
-/// Each job of a book was submitted by one event of its history, the submit that was replied the job's number;
-/// a snapshot of the job starts where that submit says.
+/// Each job of a book was submitted by one event of its history, the submit that was replied the job's
+/// number; a snapshot of the job starts where that submit says.
 pub fn jobs_are_of_submits()
     ensures submitted { JobsAreSubmitted }
     ensures one { SubmitsHaveTheirNumbers }
     ensures seen { SnapshotsAreOfSubmits }
 {}
 
-/// What is read of a job, whichever calls were made before and in whatever order, is the road to which one worker
-/// drives from where the job's submit starts, under the job's sheet: each step is clean, its programs ending within
-/// their budgets, and no car is lost.
+/// What is read of a job, whichever calls were made before and in whatever order, is the road to which one
+/// worker drives from where the job's submit starts, under the job's sheet: each step is clean, its programs
+/// ending within their budgets, and no car is lost.
 pub fn reads_are_driven()
     ensures { ReadsAreDriven }
 {}

@@ -37,33 +37,19 @@ pub struct Lease {
 impl Model for Lease {
     ghost use Rattle.std.specs.Prelude.{IsTrue};
     ghost use Rattle.std.specs.Arc.{arc_value};
-    ghost use Rattle.trlab_sequential_book.specs.Leases.{IsLease, IsSteady, LeaseState};
+    ghost use Rattle.trlab_sequential_book.specs.Leases.{IsLease, IsSteady, LeaseState, lease_state};
 
     ghost Value = { LeaseState };
 
-    ghost view = { λ lease. record {
-      job = lease.job;
-      number = lease.number;
-      steps = lease.steps;
-      key = lease.key;
-      road_number = lease.road_number;
-      base = record { step = lease.base_step; road = lease.base_road };
-      step = lease.step;
-      road = arc_value lease.road;
-      applied = lease.applied.items;
-    } };
+    ghost view = { λ lease. lease_state lease.job lease.number lease.steps lease.key lease.road_number
+        (record { step = lease.base_step; road = lease.base_road })
+        lease.step (arc_value lease.road) lease.applied.items };
 
-    ghost invariant = { λ lease. IsLease (record {
-      job = lease.job;
-      number = lease.number;
-      steps = lease.steps;
-      key = lease.key;
-      road_number = lease.road_number;
-      base = record { step = lease.base_step; road = lease.base_road };
-      step = lease.step;
-      road = arc_value lease.road;
-      applied = lease.applied.items;
-    }) × (IsTrue lease.is_steady → IsSteady lease.applied.items) };
+    ghost invariant = { λ lease. IsLease
+        (lease_state lease.job lease.number lease.steps lease.key lease.road_number
+        (record { step = lease.base_step; road = lease.base_road })
+        lease.step (arc_value lease.road) lease.applied.items)
+        × (IsTrue lease.is_steady → IsSteady lease.applied.items) };
 }
 
 impl Lease {

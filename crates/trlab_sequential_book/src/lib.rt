@@ -21,7 +21,7 @@ mod spelt;
 mod suits;
 
 pub use advance::LeaseFault;
-pub use book::{Book, is_for_memory};
+pub use book::Book;
 pub use boxed::{BoxedRule, BoxedSeed};
 pub use event::{Call, Event, Offered, Reply};
 pub use fault::BookFault;

@@ -42,7 +42,8 @@ impl Sheet {
         Ok(Sheet { entries })
     }
 
-    /// How many entries there are, from 1 to 1024: the first is in force from step 0 on, and their steps rise.
+    /// How many entries there are, from 1 to 1024: the first is in force from step 0 on, and their steps
+    /// rise.
     pub fn len(&self) -> usize
         ensures value { result ≡ length self.now }
         ensures few { result ≤ 1024 }
@@ -145,7 +146,7 @@ impl Sheet {
     }
 }
 
-/// Has room for an entry from a step on: the last one goes where it begins there.
+/// Makes room for an entry from a step on. The last entry is dropped where it begins at this very step.
 fn make_way(entries: &mut Vec<(u32, BoxedRule)>, from: u32) -> Result<(), BookFault>
     requires sheet { IsBookSheet entries.old.items }
     requires begin { BeginBy from entries.old.items }

@@ -1,5 +1,5 @@
-//! Rules beside the bytes that spell their programs. By these two rules are compared, many bytes at once, where
-//! instructions are compared one by one.
+//! Rules beside the bytes that spell their programs. Two rules are compared by these bytes, many at once;
+//! instructions would be compared one by one.
 
 ghost use Rattle.std.specs.Prelude.{◌≡◌, ◌↔◌, IsTrue, IfOk};
 ghost use Rattle.trlab_sequential_book.specs.Spelt.{change_bytes};

@@ -63,8 +63,8 @@ fn ask_whole<A, P: Asked<A>>(alloc: Global, phase: &Phase<P>) -> Result<Vec<A>, 
     P::ask(alloc, phase, Segment { from: 0, to })
 }
 
-/// The answers of all cars of a phase, in standing order, by the parts of the tickets that a drawer has. The cars
-/// are asked here where it has not all.
+/// The answers of all cars of a phase, in standing order, by the parts of the tickets that a drawer has. The
+/// cars are asked here where it has not all.
 ///
 /// # Errors
 ///

@@ -2,7 +2,7 @@ use Rattle.std.proofs.Common.{sym, ◌∙◌}
 use Rattle.trlab_sequential_book.specs.declared.event.Call.TheVariants.{Replace}
 use Rattle.trlab_sequential_book.specs.Answers.{is_memory, number_reply}
 use Rattle.trlab_sequential_book.specs.Machine.{State}
-use Rattle.trlab_sequential_book.proofs.Booking.{full_stays, full_told, leads_made, next_number, stays_made, told_made}
+use Rattle.trlab_sequential_book.proofs.Booking.{counted, full_stays, full_told, next_number, told_made}
 use Rattle.trlab_sequential_book.proofs.book.Book.replace.Goals as goal
 
 pub returns-then-is_full-clause-reply : goal.returns-then-is_full-clause-reply
@@ -11,31 +11,16 @@ returns-then-is_full-clause-reply c = full_told c.args.self.now (Replace c.args.
 pub returns-then-is_full-clause-state : goal.returns-then-is_full-clause-state
 returns-then-is_full-clause-state c = full_stays c.args.self.now (Replace c.args.job c.args.rule) (sym c.is_full.ensures ∙ c.if-is_full.true)
 
-pub returns-then-not-is_for_memory-clause-reply : goal.returns-then-not-is_for_memory-clause-reply
-returns-then-not-is_for_memory-clause-reply c =
+pub returns-clause-reply : goal.returns-clause-reply
+returns-clause-reply c =
     let book = c.self.inside in
     let state : State = record { count = book.count; next = book.next; jobs = book.jobs.items } in
     let answer = c.replace_in-answer.result in
     told_made state c.args.self.now (is_memory answer) (Replace c.args.job c.args.rule) (number_reply answer) c.self.view_is (sym c.is_full.ensures ∙ c.if-is_full.false) c.replace_in-answer.ensures.reply
 
-pub returns-then-not-is_for_memory-clause-state : goal.returns-then-not-is_for_memory-clause-state
-returns-then-not-is_for_memory-clause-state c =
+pub returns-clause-state : goal.returns-clause-state
+returns-clause-state c =
     let book = c.self.inside in
     let state : State = record { count = book.count; next = book.next; jobs = book.jobs.items } in
     let answer = c.replace_in-answer.result in
-    let kept = sym c.is_for_memory.ensures ∙ c.if-not-is_for_memory.true in
-    leads_made state c.args.self.now (is_memory answer) (Replace c.args.job c.args.rule) (number_reply answer) c.replace_in-answer.new.jobs.items c.self.view_is (sym c.is_full.ensures ∙ c.if-is_full.false) kept (next_number book.next answer) c.replace_in-answer.ensures.reply c.replace_in-answer.ensures.jobs
-
-pub returns-else-not-is_for_memory-clause-reply : goal.returns-else-not-is_for_memory-clause-reply
-returns-else-not-is_for_memory-clause-reply c =
-    let book = c.self.inside in
-    let state : State = record { count = book.count; next = book.next; jobs = book.jobs.items } in
-    let answer = c.replace_in-answer.result in
-    told_made state c.args.self.now (is_memory answer) (Replace c.args.job c.args.rule) (number_reply answer) c.self.view_is (sym c.is_full.ensures ∙ c.if-is_full.false) c.replace_in-answer.ensures.reply
-
-pub returns-else-not-is_for_memory-clause-state : goal.returns-else-not-is_for_memory-clause-state
-returns-else-not-is_for_memory-clause-state c =
-    let book = c.self.inside in
-    let state : State = record { count = book.count; next = book.next; jobs = book.jobs.items } in
-    let wanting = sym c.is_for_memory.ensures ∙ c.if-not-is_for_memory.false in
-    stays_made state c.args.self.now (is_memory c.replace_in-answer.result) (Replace c.args.job c.args.rule) c.replace_in-answer.new.jobs.items c.self.view_is wanting c.replace_in-answer.ensures.jobs
+    counted state c.args.self.now (is_memory answer) (Replace c.args.job c.args.rule) (number_reply answer) c.replace_in-answer.new.jobs.items c.count_after-self-inside.result c.self.view_is (sym c.is_full.ensures ∙ c.if-is_full.false) (next_number book.next answer) c.count_after-self-inside.ensures.value c.replace_in-answer.ensures.reply c.replace_in-answer.ensures.jobs

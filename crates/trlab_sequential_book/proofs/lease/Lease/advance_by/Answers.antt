@@ -6,7 +6,7 @@ use Rattle.trlab_sequential_book.specs.declared.advance.LeaseFault.{LeaseFault}
 use Rattle.trlab_sequential_book.specs.declared.advance.LeaseFault.TheVariants.{Memory, WrongOrder}
 use Rattle.trlab_sequential_book.proofs.lease.Lease.advance_by.Goals as goal
 
--- the answer where memory was wanting
+-- the answer where memory ran out
 no_step : (told : Result (Unit {0}) LeaseFault) (fault : LeaseFault) (P : Type 0) → told ≡ Err fault → OnOk told P
 no_step (Ok done) fault P is = absurd cc
 no_step (Err other) fault P is = tt
