@@ -19,7 +19,7 @@ to_the_end [] reading = say []
 to_the_end (text ∷ left) reading = reading
 
 -- the later rules up to the end of a text, by the room for them; each step is above the one before,
--- and the first is not before `least`
+-- and the first is from `least` on
 unfoldable pub later_from : ℕ → ℕ → ℕ → ℕ → Reading Sheet
 later_from zero lanes steps least = λ rest out.
     to_the_end rest.left (later_rule 0 lanes steps least >>= λ entry. say (entry ∷ [])) rest out

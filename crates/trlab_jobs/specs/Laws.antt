@@ -8,4 +8,5 @@ SaysSomething Says = (text : List ℕ) → (says : _) × Says text says
 
 -- a text says one thing only
 abbrev pub SaysOneThing : {A : Type 0} → (List ℕ → Result A Fault → Type 0) → Type 0
-SaysOneThing Says = (text : List ℕ) (says other : _) → Says text says → Says text other → says ≡ other
+SaysOneThing Says =
+    (text : List ℕ) (says other : _) → Says text says → Says text other → says ≡ other

@@ -66,7 +66,8 @@ later_words text = option_and_then step_and_rule (option_and_then (cut 32) (behi
 abbrev pub step_of : List ℕ → Result ℕ Cause
 step_of word = within 0 LONGEST_NUMBER (number_of word)
 
--- a step where there is room for one more, and which is not before `least` and is below `steps`
+-- the step of a later rule, where there is room for the rule, and the step is from `least` on and below
+-- `steps`
 abbrev pub admit : ℕ → ℕ → ℕ → ℕ → Result ℕ Cause
 admit room steps least step =
     if room == 0 then Err TooMany

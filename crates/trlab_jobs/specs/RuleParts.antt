@@ -30,14 +30,15 @@ abbrev pub MotionSays : Program → Result Programs Cause → Type 0
 MotionSays motion (Ok rule) = Accepts Motion motion rule.motion × (rule.change ≡ None)
 MotionSays motion (Err cause) = Refuses Motion motion × (cause ≡ StandardRefused)
 
--- what one of a motion program and a change program says: the rule, or that one of them is refused
+-- what a standard rule of a motion program and a change program says: the rule, or that one of them is
+-- refused
 abbrev pub BothSay : Program → Program → Result Programs Cause → Type 0
 BothSay motion change (Ok rule) =
     Accepts Motion motion rule.motion × MatchOption rule.change ⊥ (Accepts Change change)
 BothSay motion change (Err cause) =
     (Refuses Motion motion ⊎ Refuses Change change) × (cause ≡ StandardRefused)
 
--- what it says on a road that has one lane alone, or that has two
+-- the same on a road that has one lane, where it is refused, or that has two
 abbrev pub ExchangeSays : Bool → Program → Program → Result Programs Cause → Type 0
 ExchangeSays true motion change says = says ≡ Err OneLane
 ExchangeSays false motion change says = BothSay motion change says
@@ -69,7 +70,7 @@ abbrev pub misplacement : ℕ → List (List ℕ) → Fault
 misplacement first [] = record { line = first; cause = Line }
 misplacement first (text ∷ left) = part_misplacement (bytes_eq text (heading Change)) first text left
 
--- a change part on a road that has one lane alone, where it is at fault, or that has two
+-- a change part, which is a fault on a road of one lane
 abbrev pub change_by : Bool → Reading CheckedProgram
 change_by true rest out = out ≡ Err (misplacement rest.number rest.left)
 change_by false rest out = part Change rest out

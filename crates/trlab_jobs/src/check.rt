@@ -40,8 +40,8 @@ impl Model for Check {
     ghost view = { λ check. check_of check.question check.code };
 }
 
-/// What the first line of a check text asks, and the line without it: behind `notes ` notes are
-/// asked for.
+/// What the first line of a check text asks, and what is left of it: notes, where it begins with `notes `,
+/// and else the verdict alone.
 fn question_of(line: &[u8]) -> (Question, &[u8])
     ensures { (result.0, result.1.now) ≡ question_of line.now }
 {
@@ -83,7 +83,7 @@ fn code_alone(alloc: Global, line: &[u8], rest: &[u8]) -> Result<Code, TextFault
     }
 }
 
-/// The program that a line begins, and that the lines behind it go on with, which are not too long.
+/// The program that begins on a line and goes on in the lines behind it, which are not too long.
 fn read_program(alloc: Global, line: &[u8], rest: &[u8]) -> Result<Code, TextFault>
     requires { length rest.now ≤ TEXT_LIMIT }
     ensures { Reports (ProgramSays line.now (lines_of rest.now)) result }
@@ -94,7 +94,7 @@ fn read_program(alloc: Global, line: &[u8], rest: &[u8]) -> Result<Code, TextFau
     }
 }
 
-/// What the lines of a text ask for, which is not too long.
+/// What the lines of a text that is not too long ask for.
 fn read_lines(alloc: Global, text: &[u8]) -> Result<Check, TextFault>
     requires { length text.now ≤ TEXT_LIMIT }
     ensures { Reports (CheckLinesSay (lines_of text.now)) result }
@@ -117,8 +117,8 @@ fn read_lines(alloc: Global, text: &[u8]) -> Result<Check, TextFault>
 ///
 /// # Errors
 ///
-/// The first fault of the text, at its line, which is 0 where the text is too long; or want of
-/// memory.
+/// The first fault of the text, at its line, which is 0 where the text is too long; or that memory
+/// ran out.
 pub fn read_check(alloc: Global, text: &[u8]) -> Result<Check, TextFault>
     ensures { Reports (CheckText text.now) result }
 {

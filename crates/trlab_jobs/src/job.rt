@@ -16,7 +16,7 @@ use trlab_rules::Rule;
 use trlab_texts::{Cause, Rest, TextFault};
 use trlab_words::Key;
 
-/// What a job text says, which can be run: the road is legal, and the rules are for its lanes.
+/// What a job text says. It can be run: the road is legal, and the rules are for its lanes.
 #[derive(Drop)]
 pub struct Job {
     /// The key of the random words.
@@ -91,8 +91,8 @@ fn read_lines(alloc: Global, text: &[u8]) -> Result<Job, TextFault>
 ///
 /// # Errors
 ///
-/// The first fault of the text, at its line, which is 0 where the text is too long; or want of
-/// memory.
+/// The first fault of the text, at its line, which is 0 where the text is too long; or that memory
+/// ran out.
 pub fn read_job(alloc: Global, text: &[u8]) -> Result<Job, TextFault>
     ensures told { Reports (JobText text.now) result }
     ensures stored { IfOk result IsStored }

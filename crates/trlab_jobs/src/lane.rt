@@ -30,7 +30,8 @@ fn lane(rest: Rest<'_>) -> Result<(&[u8], Rest<'_>), TextFault>
 /// The picture of a second lane, where the next line states a lane.
 fn second_lane(rest: Rest<'_>) -> Result<(Option<&[u8]>, Rest<'_>), TextFault>
     ensures { Reports (second_lane rest.entry)
-        (result_map_both (λ found. (option_map (λ picture. picture.now) found.0, found.1)) (λ fault. fault) result) }
+        (result_map_both (λ found. (option_map (λ picture. picture.now) found.0, found.1))
+        (λ fault. fault) result) }
 {
     if rest.next_word_is(b"lane") {
         let (picture, rest) = lane(rest)?;

@@ -16,7 +16,7 @@ pub const MOST_POINTS: u32 = 200;
 pub const MOST_WORK: u32 = 500_000;
 
 /// What the numbers are, in figures: definitions name the constants, so a changed constant would
-/// change its meaning along with it, and is refused here.
+/// change the definitions along with it, and is refused here.
 pub fn sweeps()
     ensures cars { MOST_CARS ≡ 200000 }
     ensures largest { MOST_CARS ≡ MOST_LANES * GREATEST_LENGTH }

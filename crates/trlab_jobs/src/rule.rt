@@ -17,7 +17,7 @@ use trlab_code::Kind;
 use trlab_rules::{Rule, StandardFault, nasch, rickert, vdr};
 use trlab_texts::word::word_behind;
 use trlab_texts::{Cause, LineFault, Rest, TextFault, program};
-use trlab_verify::Change;
+use trlab_verify::{Change, ChangeKind, MotionKind};
 use trlab_words::Chance;
 
 /// The rule of a line `rule nasch t`.
@@ -44,7 +44,7 @@ fn vdr_rule(alloc: Global, moving: Chance, stopped: Chance) -> Result<Rule, Line
     }
 }
 
-/// The rule of a line `rule rickert t c`, which one lane alone refuses.
+/// The rule of a line `rule rickert t c`, which is refused on a road of one lane.
 fn rickert_rule(
     alloc: Global,
     lanes: u32,
@@ -104,14 +104,14 @@ fn misplacement(alloc: Global, rest: Rest<'_>) -> TextFault
     }
 }
 
-/// A change part on a road that has one lane alone, where it is at fault, or that has two.
+/// A change part, which is a fault on a road of one lane.
 fn change_by(alloc: Global, one_lane: bool, rest: Rest<'_>) -> Result<(Change, Rest<'_>), TextFault>
     ensures { Reports (change_by one_lane rest.entry) result }
 {
     if one_lane {
         Err(misplacement(alloc, rest))
     } else {
-        program::change(alloc, rest)
+        program::accepted_part::<ChangeKind>(alloc, rest)
     }
 }
 
@@ -145,12 +145,12 @@ fn own_rule(alloc: Global, lanes: u32, rest: Rest<'_>) -> Result<(Rule, Rest<'_>
     ensures told { Reports (own_rule lanes rest.entry) result }
     ensures suits { IfOk result (λ found. IsRuleFor lanes found.0) }
 {
-    let (motion, rest) = program::motion(alloc, rest)?;
+    let (motion, rest) = program::accepted_part::<MotionKind>(alloc, rest)?;
     let (change, rest) = change_part(alloc, lanes, rest)?;
     Ok((Rule::new(motion, change), rest))
 }
 
-/// What the line before a rest says.
+/// What a line says, and the rest behind it.
 fn of_line(
     number: u32,
     say: Result<Rule, LineFault>,

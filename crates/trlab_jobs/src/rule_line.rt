@@ -13,7 +13,7 @@ use trlab_words::{CERTAIN, Chance};
 pub enum RuleLine<T> {
     /// `rule nasch t`.
     Nasch { brake: T },
-    /// `rule vdr t t0`, the first for cars that move, the second for cars that have stopped.
+    /// `rule vdr t t0`, the first for cars that move, the second for cars that are stopped.
     Vdr { moving: T, stopped: T },
     /// `rule rickert t c`, the second for crossing.
     Rickert { brake: T, crossing: T },
@@ -103,7 +103,8 @@ fn later_words(line: &[u8]) -> Option<(&[u8], RuleLine<&[u8]>)>
     Some((step, rule_words(rule)?))
 }
 
-/// A step where there is room for one more, and which is not before `least` and below `steps`.
+/// The step of a later rule, where there is room for the rule, and the step is from `least` on and below
+/// `steps`.
 fn admit(room: u32, steps: u32, least: u32, step: u64) -> Result<u32, Cause>
     ensures value { result ≡ admit room steps least step }
     ensures room { OnOk result (0 < room) }

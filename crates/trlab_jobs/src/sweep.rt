@@ -19,8 +19,8 @@ use trlab_rules::Rule;
 use trlab_texts::{Cause, Rest, TextFault};
 use trlab_words::Key;
 
-/// What a sweep text says, which can be run: the rule is for the lanes, and there is room for the
-/// cars of each point.
+/// What a sweep text says. It can be run: the rule is for the lanes, and there is room for the cars of
+/// each point.
 #[derive(Drop)]
 pub struct Sweep {
     /// The key of the random words.
@@ -149,8 +149,8 @@ fn read_lines(alloc: Global, text: &[u8]) -> Result<Sweep, TextFault>
 ///
 /// # Errors
 ///
-/// The first fault of the text, at its line, which is 0 where the text is too long; or want of
-/// memory.
+/// The first fault of the text, at its line, which is 0 where the text is too long; or that memory
+/// ran out.
 pub fn read_sweep(alloc: Global, text: &[u8]) -> Result<Sweep, TextFault>
     ensures told { Reports (SweepText text.now) result }
     ensures stored { IfOk result IsStoredSweep }

@@ -130,7 +130,8 @@ VerdictSays kind first program (Err fault) = (at reason : ℕ)
 -- the verdict, once the lines of a program were read
 abbrev pub verdict : Kind → ℕ → Program → Reading CheckedProgram
 verdict kind first program rest out =
-    (says : Result CheckedProgram Fault) × (VerdictSays kind first program says × (out ≡ before rest says))
+    (says : Result CheckedProgram Fault)
+    × (VerdictSays kind first program says × (out ≡ before rest says))
 
 -- a program part of a kind: a program that the verifier accepts
 abbrev pub part : Kind → Reading CheckedProgram

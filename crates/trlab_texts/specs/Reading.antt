@@ -50,7 +50,8 @@ in_line number left (Ok x) = Ok (x, record { number = number + 1; left = left })
 in_line number left (Err cause) = Err (record { line = number; cause = cause })
 
 -- what the next line says by a rule; where no line is left, the text has ended too early
-abbrev pub LineSays : {A : Type 0} → Rule A → ℕ → List (List ℕ) → Result (A × Rest) Fault → Type 0
+abbrev pub LineSays : {A : Type 0} → Rule A → ℕ → List (List ℕ)
+    → Result (A × Rest) Fault → Type 0
 LineSays rule number [] out = out ≡ Err (record { line = number; cause = Line })
 LineSays {A} rule number (text ∷ left) out =
     (says : Result A Cause) × (rule text says × (out ≡ in_line number left says))
@@ -70,7 +71,8 @@ SizedTextSays Says true text says = says ≡ Err (record { line = 0; cause = Too
 SizedTextSays Says false text says = Says text says
 
 -- what a text says by what its lines say; a text that is too long has that fault alone
-abbrev pub TextSays : {A : Type 0} → (List ℕ → Result A Fault → Type 0) → List ℕ → Result A Fault → Type 0
+abbrev pub TextSays : {A : Type 0} → (List ℕ → Result A Fault → Type 0) → List ℕ
+    → Result A Fault → Type 0
 TextSays Says text says = SizedTextSays Says (nat_lt TEXT_LIMIT (length text)) text says
 
 -- a function reports what is so, unless memory ran out

@@ -140,7 +140,7 @@ pub enum LineFault {
 }
 
 impl LineFault {
-    /// The same of the text, whose line this is.
+    /// The fault of the text, where this is that of the line with this number.
     pub fn at(self, line: u32) -> TextFault
         ensures { result ≡ fault_at line self }
     {

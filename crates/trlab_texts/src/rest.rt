@@ -101,7 +101,7 @@ impl<'a> Rest<'a> {
     ///
     /// # Errors
     ///
-    /// What `next_line` answers, and else the cause that the rule finds, at the number of the line.
+    /// That of `next_line`, or the cause that the rule finds, at the number of the line.
     pub fn read_line<T, F: FnOnce(&'a [u8]) -> Result<T, Cause>>(
         self,
         rule: F,

@@ -10,11 +10,11 @@ use crate::fault::Cause;
 use trlab_bounds::programs::MOST_DIGITS;
 use trlab_lines::{cut, digits_value, is_numeral};
 
-/// What stands behind a front of a line.
-pub fn behind<'a>(front: &[u8], line: &'a [u8]) -> Option<&'a [u8]>
-    ensures { option_map (λ rest. rest.now) result ≡ behind front.now line.now }
+/// What stands behind a prefix of a line.
+pub fn behind<'a>(prefix: &[u8], line: &'a [u8]) -> Option<&'a [u8]>
+    ensures { option_map (λ rest. rest.now) result ≡ behind prefix.now line.now }
 {
-    line.strip_prefix(front)
+    line.strip_prefix(prefix)
 }
 
 /// Is a text one word?
@@ -38,7 +38,7 @@ pub fn word_behind<'a>(name: &[u8], line: &'a [u8]) -> Result<&'a [u8], Cause>
     }
 }
 
-/// The text where it is one word.
+/// The text, where it is one word.
 pub fn as_word(text: &[u8]) -> Option<&[u8]>
     ensures { option_map (λ word. word.now) result ≡ as_word text.now }
 {
@@ -51,11 +51,11 @@ pub fn head_word(line: &[u8]) -> &[u8]
 {
     match cut(line, b' ') {
         None => line,
-        Some((front, _)) => front,
+        Some((word, _)) => word,
     }
 }
 
-/// The two words that a text is, with one space between them.
+/// The two words of which a text consists, with one space between them.
 pub fn two_words(text: &[u8]) -> Option<(&[u8], &[u8])>
     ensures { option_map (λ words. (words.0.now, words.1.now)) result ≡ two_words text.now }
 {
@@ -65,8 +65,7 @@ pub fn two_words(text: &[u8]) -> Option<(&[u8], &[u8])>
     }
 }
 
-/// The number of at most ten digits that a word is the decimal digits of: no sign, and no needless
-/// 0 in front.
+/// The number that a word writes in at most ten decimal digits, without a sign or a leading 0.
 fn number(word: &[u8]) -> Option<u64>
     ensures { MatchOption result
         ((n : ℕ) → n ≤ LONGEST_NUMBER → word.now ≢ decimal n)
@@ -84,7 +83,7 @@ fn number(word: &[u8]) -> Option<u64>
     Some(digits_value(word))
 }
 
-/// The number that a word is the digits of, where it is from `low` to `high`.
+/// The number from `low` to `high` that a word writes.
 ///
 /// # Errors
 ///
@@ -99,7 +98,7 @@ pub fn number_from(low: u32, high: u32, word: &[u8]) -> Result<u32, Cause>
     }
 }
 
-/// The number that a word is the digits of, where it has no more digits than a number may have.
+/// The number that a word writes, where it has no more digits than a number may have.
 ///
 /// # Errors
 ///

@@ -1,4 +1,4 @@
-//! Programs on one line `code X`: X is their bytes in hexadecimal digits of either case.
+//! Programs on one line `code X`, where X is their bytes in hexadecimal digits of either case.
 
 ghost use Rattle.std.specs.Prelude.{◌≡◌};
 ghost use Rattle.trlab_texts.specs.Reading.{ReportsLine};

@@ -4,7 +4,6 @@
 ghost use Rattle.std.specs.Prelude.{◌≡◌, ◌+◌, ◌<◌, ◌^◌, length, Err};
 ghost use Rattle.std.specs.Str.{bytes_eq};
 ghost use Rattle.trlab_code.specs.declared.kind.Kind.{Kind};
-ghost use Rattle.trlab_code.specs.declared.kind.Kind.TheVariants.{Motion as OfMotion, Change as OfChange};
 ghost use Rattle.trlab_code.specs.Program.{Program};
 ghost use Rattle.trlab_verify.specs.CheckedProgram.{CheckedProgram};
 ghost use Rattle.trlab_verify.specs.Faults.{Tells};
@@ -18,7 +17,7 @@ use crate::rest::Rest;
 use std::alloc::Global;
 use trlab_asm::{Why, assemble};
 use trlab_code::{Code, Kind};
-use trlab_verify::{Change, Motion, VerifyFault, verify_change, verify_motion};
+use trlab_verify::{AcceptedProgram, ProgramKind, VerifyFault, verify_as};
 
 /// Is a line the heading of a block of this kind?
 pub fn heads(kind: Kind, line: &[u8]) -> bool
@@ -68,7 +67,8 @@ fn program_part(alloc: Global, kind: Kind, rest: Rest<'_>) -> Result<(Code, Rest
     }
 }
 
-/// Why the verifier accepts no program of a part whose first line is `first`.
+/// The fault of a text by that of the verifier, which accepts no program of the part whose first line is
+/// `first`.
 fn verdict_fault(first: u32, fault: VerifyFault) -> TextFault
     ensures { (kind : Kind) (program : Program) → Tells kind program fault
         → Reports {A = CheckedProgram} (VerdictSays kind first program) (Err result) }
@@ -82,54 +82,35 @@ fn verdict_fault(first: u32, fault: VerifyFault) -> TextFault
     }
 }
 
-/// A motion program whose first line is `first`, where the verifier accepts it.
-fn accepted_motion(alloc: Global, first: u32, code: Code) -> Result<Motion, TextFault>
-    ensures { Reports (VerdictSays OfMotion first code) result }
+/// The program of the kind `K` whose first line is `first`, where the verifier accepts it.
+fn accepted<K: ProgramKind>(
+    alloc: Global,
+    first: u32,
+    code: Code,
+) -> Result<AcceptedProgram<K>, TextFault>
+    ensures { Reports (VerdictSays K.KIND first code) result }
 {
-    match verify_motion(alloc, code) {
-        Ok(motion) => Ok(motion),
+    match verify_as(alloc, code) {
+        Ok(program) => Ok(program),
         Err((_, fault)) => Err(verdict_fault(first, fault)),
     }
 }
 
-/// A change program whose first line is `first`, where the verifier accepts it.
-fn accepted_change(alloc: Global, first: u32, code: Code) -> Result<Change, TextFault>
-    ensures { Reports (VerdictSays OfChange first code) result }
-{
-    match verify_change(alloc, code) {
-        Ok(change) => Ok(change),
-        Err((_, fault)) => Err(verdict_fault(first, fault)),
-    }
-}
-
-/// The part of a motion program, which the verifier accepts, and the rest behind it.
+/// The part of a program of the kind `K`, which the verifier accepts, and the rest behind it.
 ///
 /// # Errors
 ///
 /// The first fault of the part, or the verifier's refusal at its first line; or that memory ran out.
-pub fn motion(alloc: Global, rest: Rest<'_>) -> Result<(Motion, Rest<'_>), TextFault>
-    ensures { Reports (part OfMotion rest.entry) result }
+pub fn accepted_part<K: ProgramKind>(
+    alloc: Global,
+    rest: Rest<'_>,
+) -> Result<(AcceptedProgram<K>, Rest<'_>), TextFault>
+    ensures { Reports (part K.KIND rest.entry) result }
 {
     let first = rest.number();
-    let (code, after) = program_part(alloc, Kind::Motion, rest)?;
-    match accepted_motion(alloc, first, code) {
-        Ok(motion) => Ok((motion, after)),
-        Err(fault) => Err(fault),
-    }
-}
-
-/// The part of a change program, which the verifier accepts, and the rest behind it.
-///
-/// # Errors
-///
-/// Those of `motion`.
-pub fn change(alloc: Global, rest: Rest<'_>) -> Result<(Change, Rest<'_>), TextFault>
-    ensures { Reports (part OfChange rest.entry) result }
-{
-    let first = rest.number();
-    let (code, after) = program_part(alloc, Kind::Change, rest)?;
-    match accepted_change(alloc, first, code) {
-        Ok(change) => Ok((change, after)),
+    let (code, after) = program_part(alloc, K::KIND, rest)?;
+    match accepted(alloc, first, code) {
+        Ok(program) => Ok((program, after)),
         Err(fault) => Err(fault),
     }
 }

@@ -1,4 +1,4 @@
-use Rattle.std.proofs.Common.{rules, sym, arith}
+use Rattle.std.proofs.Common.{sym, arith}
 use Rattle.trlab_texts.proofs.Parts.{searched_none, searched_more, part_found, part_missing}
 use Rattle.trlab_texts.proofs.rest.Rest.part.Goals as goal
 
