@@ -47,7 +47,7 @@ class Sweeps(unittest.TestCase):
 
     def test_what_a_point_tells(self):
         point = Point(cars=4, cells=20, steps=10, distance=60, stopped=8, changes=0, flow=300000)
-        self.assertEqual((point.density, point.passing, point.speed, point.standing), (0.2, 0.3, 1.5, 0.2))
+        self.assertEqual((point.density, point.passing, point.speed, point.stopped_share), (0.2, 0.3, 1.5, 0.2))
         self.assertEqual(Point(0, 20, 10, 0, 0, 0, 0).speed, 0)
 
     def test_no_other_table_is_read(self):

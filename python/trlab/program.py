@@ -1,4 +1,4 @@
-"""The program: where it lies, and what it answers to a text."""
+"""The program: where it is, and what it answers to a text."""
 from __future__ import annotations
 
 import functools

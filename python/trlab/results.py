@@ -37,7 +37,7 @@ class _Counted:
         return self.distance / (self.cars * self.steps) if self.cars else 0.0
 
     @property
-    def standing(self) -> float:
+    def stopped_share(self) -> float:
         """The share of stopped cars, 0 to 1; 0 where there is no car."""
         return self.stopped / (self.cars * self.steps) if self.cars else 0.0
 

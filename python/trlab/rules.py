@@ -21,13 +21,13 @@ class Nasch:
 class SlowToStart:
     """The rule of Barlovic, Santen, Schadschneider and Schreckenberg (1998).
 
-    `brake` is the chance to brake of a car that moves, `standing` that of a stopped car, 0 to 1."""
+    `brake` is the chance to brake of a car that moves, `stopped` that of a stopped car, 0 to 1."""
 
     brake: Chance
-    standing: Chance
+    stopped: Chance
 
     def lines(self) -> List[str]:
-        return [f"rule vdr {parts(self.brake)} {parts(self.standing)}"]
+        return [f"rule vdr {parts(self.brake)} {parts(self.stopped)}"]
 
 
 @dataclass(frozen=True)

@@ -18,7 +18,7 @@ Lane = Sequence[Optional[int]]
 
 @dataclass(frozen=True)
 class Start:
-    """So many cars on so many cells: which cells they stand on, and the speed of all, None for that of the limit."""
+    """So many cars on so many cells: which cells they take, and the speed of all, None for that of the limit."""
 
     taken: Callable[[int, int], Sequence[int]]
     speed: Optional[int] = 0
@@ -26,7 +26,7 @@ class Start:
     def on_lanes(self, cars: int, length: int, lanes: int, limit: int) -> List[Lane]:
         """The lanes of the road, with so many cars in all."""
         if not 0 <= cars <= length * lanes:
-            raise ValueError(f"{cars} cars do not stand on {length * lanes} cells")
+            raise ValueError(f"{cars} cars do not fit on {length * lanes} cells")
         road: List[List[Optional[int]]] = [[None] * length for _ in range(lanes)]
         for cell in self.taken(cars, length * lanes):
             road[cell % lanes][cell // lanes] = limit if self.speed is None else self.speed

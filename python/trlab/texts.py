@@ -18,7 +18,7 @@ class Job:
     """A road, a rule and so many steps.
 
     The road has `lanes` lanes of `length` cells and `cars` cars in all, or as many as come nearest to `density`, in
-    cars a cell, and they stand as `start` says. Or `start` is the road itself: a list with the speed of the car in
+    cars a cell, placed as `start` says. Or `start` is the road itself: a list with the speed of the car in
     each cell, in cells a step, and None, or -1 as in arrays, where the cell is empty; for two lanes two such lists.
 
     `limit` is the greatest speed in cells a step, 1 to 35. `at` has the rules that take over later, each by its step. A
@@ -76,7 +76,7 @@ class Job:
 class Sweep:
     """Roads of one shape under one rule, one for each of the `cars`, or for each of the `densities` in cars a cell.
 
-    All cars stand evenly spread at first. `warm` steps are not counted, and then `measure` steps are. `limit` is the
+    At first all cars are evenly spread and stopped. `warm` steps are not counted, and then `measure` steps are. `limit` is the
     greatest speed in cells a step, `length` the cells of a lane. Equal counts of cars are repetitions: each point has
     random words of its own. All points together take 500000 steps at most."""
 

@@ -16,8 +16,8 @@ from study import Mean, Study, read_rows, write_rows  # noqa: E402
 import trlab  # noqa: E402
 from trlab import Job, SlowToStart, Window, jam, moving  # noqa: E402
 
-LIMIT, LENGTH, BRAKE, STANDING = 5, 10000, 1 / 64, 3 / 4
-RULE = SlowToStart(BRAKE, STANDING)
+LIMIT, LENGTH, BRAKE, STOPPED_BRAKE = 5, 10000, 1 / 64, 3 / 4
+RULE = SlowToStart(BRAKE, STOPPED_BRAKE)
 DENSITIES = [0.03, 0.04, 0.045, 0.05, 0.055, 0.06, 0.08, 0.1, 0.12, 0.14, 0.15, 0.16, 0.2, 0.3]
 STARTS = {"jam": jam, "moving": moving}
 # All gaps are 5 at first, so that each car just has room for the limit.
@@ -65,7 +65,7 @@ def free(density):
 
 def jammed(density):
     """The published line of a road with a jam."""
-    return (1 - STANDING) * (1 - density)
+    return (1 - STOPPED_BRAKE) * (1 - density)
 
 
 def branch(tables, name):
@@ -108,7 +108,7 @@ def main():
         mean = Mean.of(steps)
         ended = len(steps) - steps.count(LIFE_STEPS)
         print(f"{length} cells: life {mean.value:.0f} +- {mean.error:.0f} steps; {ended} of {len(steps)} ended")
-    meet = (1 - STANDING) / (LIMIT - BRAKE + 1 - STANDING)
+    meet = (1 - STOPPED_BRAKE) / (LIMIT - BRAKE + 1 - STOPPED_BRAKE)
     study.draw(
         Figure(
             Axis("density, cars a cell", 0.3),

@@ -111,16 +111,16 @@ def commands_of(programs, road):
 
 def measure(programs, road, times, folder):
     """The row of a road."""
-    path, standing = os.path.join(folder, "job"), os.path.join(folder, "standing")
+    path, at_start = os.path.join(folder, "job"), os.path.join(folder, "no steps")
     commands = commands_of(programs, road)
     steps = fitting_steps(road, path, lambda text: tools.timed(commands["trlab"], text).cpu)
     road.write(path, min(steps, max(1, BYTES // (road.lanes * road.cells))))
     tools.compare(list(commands.values()), path, folder)
     if road.draws():
         commands["floor"] = [programs.wide_plain, "floor"]
-    road.write(standing, 0)
+    road.write(at_start, 0)
     road.write(path, steps)
-    idle = tools.best_of({name: (command, standing) for name, command in commands.items()}, times)
+    idle = tools.best_of({name: (command, at_start) for name, command in commands.items()}, times)
     whole = tools.best_of({name: (command, path) for name, command in commands.items()}, times)
     took = {name: a_move(whole[name], idle[name], road.cars() * steps) for name in commands}
     if programs.numpy and road.rule.startswith("nasch"):

@@ -125,8 +125,8 @@ def sweep_over_run(programs, cells, cars, bound, times, folder):
         path = tools.write(os.path.join(folder, f"sweep {count}"), tools.sweep(BRAKING, cells, [cars], count))
         runs[f"sweep {count}"] = [programs.trlab, "sweep"], path
         tools.compare([[programs.plain, "sweep"], [programs.trlab, "sweep"]], path, folder)
-    ran, stood, swept, stepped = tools.best_of(runs, times).values()
-    one, other = a_move(swept, stepped, cars * steps), a_move(ran, stood, cars * steps)
+    ran, started, swept, stepped = tools.best_of(runs, times).values()
+    one, other = a_move(swept, stepped, cars * steps), a_move(ran, started, cars * steps)
     row = Row(f"sweep of one point, `{BRAKING}`", 1, cells, cars, {"trlab": one})
     ratio = one.cpu / other.cpu
     wanted = (wish(f"a run at most {bound}", ratio <= bound),)

@@ -55,7 +55,7 @@ def machine():
 
 
 def spread(length, cars, seed=1):
-    """A lane of so many standing cars at random places."""
+    """A lane of so many stopped cars at random places."""
     cells = ["."] * length
     for place in random.Random(seed).sample(range(length), cars):
         cells[place] = "0"
@@ -63,7 +63,7 @@ def spread(length, cars, seed=1):
 
 
 def even(length, cars):
-    """A lane of so many standing cars as a sweep spreads them."""
+    """A lane of so many stopped cars as a sweep spreads them."""
     cells = ["."] * length
     for number in range(cars):
         cells[number * length // cars] = "0"

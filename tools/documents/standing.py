@@ -1,5 +1,5 @@
 """What documents say of each other and of the sources: numbers of decisions, links, versions, crates, files, names,
-sources that are shown, a figure.
+sources that are shown, a figure; and how they are written: short lines, in the English of today.
 
 Each function yields a verdict and what is wrong where it is no."""
 import contextlib
@@ -17,6 +17,15 @@ DECISIONS = "docs/DECISIONS.md"
 OF_OLD = "docs/HISTORY.md", "CHANGELOG.md"
 MOST_LINES_OF_A_DECISION = 10
 MOST_LINES_OF_README = 200
+MOST_CHARACTERS = 110
+# A paragraph is indented by a list in a list at most.
+MOST_INDENTED = 5
+# Tables, figures and comments stand on one line each.
+ONE_LINE = re.compile(r" *(?:\||!\[|<!--)")
+OLD_FORMS = re.compile(
+    r"\b(?:want of|front of a|in vain|dearer|dearest|(?<!there )(?:is|are|was|were) none(?! of)|but for|so it is with|"
+    r"upon|whence|hence|thereof|hereby|shall)\b"
+)
 # In DECISIONS.md and HISTORY.md a decision is cited as (12) or (12, 14); elsewhere behind the name of the file.
 CITED_AT_HOME = re.compile(r"\((\d{1,3}(?:,\s+\d{1,3})*)\)")
 CITED_ELSEWHERE = re.compile(r"DECISIONS\.md\)?,?\s+((?:\d{1,3}(?:,\s+|\s+and\s+|\s+to\s+)?)+)")
@@ -217,6 +226,32 @@ def readme_is_short():
     yield lines <= MOST_LINES_OF_README, f"README.md has {lines} lines, and is to have {MOST_LINES_OF_README} at most"
 
 
+def prose(name):
+    """The lines of text of a document, no block and no table, by their numbers."""
+    is_fenced = False
+    for number, line in enumerate(content(name).split("\n"), 1):
+        is_fence = line.lstrip().startswith("```")
+        if not (is_fenced or is_fence or ONE_LINE.match(line)):
+            yield number, line
+        is_fenced ^= is_fence
+
+
+def is_wide(line):
+    return len(line) > MOST_CHARACTERS or len(line) - len(line.lstrip()) > MOST_INDENTED
+
+
+def lines_are_short():
+    for name in documents():
+        wide = [number for number, line in prose(name) if is_wide(line)]
+        yield not wide, f"{name}, lines {wide}: over {MOST_CHARACTERS} characters, or indented by over {MOST_INDENTED}"
+
+
+def english_is_of_today():
+    for name in documents():
+        old = {number: found[0] for number, line in prose(name) if (found := OLD_FORMS.search(line))}
+        yield not old, f"{name} has old English, by lines: {old}"
+
+
 def verdicts():
     for tried in (
         decisions_are_told_once,
@@ -230,5 +265,7 @@ def verdicts():
         names_are_there,
         figure_is_of_the_table,
         readme_is_short,
+        lines_are_short,
+        english_is_of_today,
     ):
         yield from tried()

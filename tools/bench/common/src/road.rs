@@ -66,7 +66,7 @@ impl Road {
         &self.lanes
     }
 
-    /// The road of evenly spread cars, which stand.
+    /// The road of evenly spread cars, all stopped.
     pub fn even(lanes: u32, length: u32, limit: u32, cars: u32) -> Self {
         let mut spread = vec![Vec::new(); lanes as usize];
         for number in 0..cars {
@@ -180,7 +180,7 @@ impl Road {
         }
     }
 
-    /// What a car sees of the other lane, whose first car that is not behind it stands at `at`.
+    /// What a car sees of the other lane, whose first car that is not behind it is at `at`.
     #[inline(always)]
     fn beside(&self, place: u32, other: &[Car], at: usize) -> View {
         let (Some(first), Some(last)) = (other.first(), other.last()) else {
