@@ -51,7 +51,8 @@ pub fn change_answers()
         × (IsTrue crosses → IsTrue view.side) }
 {}
 
-/// An accepted change program answers whether a car crosses, whatever the car sees and whatever the words are.
+/// An accepted change program answers whether a car crosses, whatever the car sees and whatever the words
+/// are.
 pub fn checked_changes_answer()
     ensures { (change : CheckedProgram) (view : View) (words : List ℕ) →
         IsChecked Change change → IsView view → length words ≡ WORDS →

@@ -12,8 +12,8 @@ pub const REGISTERS: usize = 8;
 /// The number in each register; any number where a program has set none.
 pub type Registers = [u32; REGISTERS];
 
-/// The registers of all cars of a block, a column for each. A program reads none that it has not written, so any
-/// numbers may stand there before a run: they are kept from block to block, and nothing clears them.
+/// The registers of all cars of a block, a column for each. A program reads none that it has not written, so
+/// any numbers may stand there before a run: they are kept from block to block, and nothing clears them.
 pub type RegisterColumns = [Column; REGISTERS];
 
 /// The number in a register.

@@ -1,4 +1,5 @@
--- The order of notes is reflexive and transitive, and a join is the strongest note that is no stronger than two.
+-- The order of notes is reflexive and transitive, and a join is the strongest note that is no stronger than
+-- two.
 use Rattle.std.proofs.Common.{rules, ℕ, ◌≤◌, ◌&&◌, ◌||◌, refl, arith, Bool, true, false, IsTrue}
 use Rattle.trlab_code.specs.declared.instruction.Register.{Register}
 use Rattle.trlab_code.specs.declared.instruction.Input.TheVariants.{Limit, Gap}

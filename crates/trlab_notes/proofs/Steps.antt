@@ -1,4 +1,5 @@
--- An instruction without a fault, on values that fit its note, is not stuck, and what it makes fits the note on its way.
+-- An instruction without a fault, on values that fit its note, is not stuck, and what it makes fits the note
+-- on its way.
 use Rattle.std.proofs.Common.{◌≡◌, ◌≢◌, ℕ, zero, suc, ◌+◌, ◌-◌, ◌*◌, ◌/◌, ◌<◌, ◌≤◌, ◌&&◌, ◌||◌, not, min, max, refl, sym, ap, subst, arith, List, [], ◌∷◌, Bool, true, false, IsTrue, Option, Some, None, nat_eq, nat_lt, nat_le, cond, ◌∙◌}
 use Rattle.std.proofs.lemmas.Bool.{or_parts, le-leb, ltb-true, ltb-false, leb-true, leb-false}
 use Rattle.std.proofs.Math.Nat.{mul-le-mul_right, div-le_self}
@@ -19,7 +20,7 @@ use Rattle.trlab_code.specs.Flow.{target, is_end}
 use Rattle.trlab_bounds.specs.declared.programs.TheConstants.{GREATEST_NUMBER}
 use Rattle.trlab_notes.specs.Notes.{Note, said_with_side, low, high, implies, known_level}
 use Rattle.trlab_notes.specs.Transfer.{assign, sharpen, slacken, least_difference, next_note, jump_note}
-use Rattle.trlab_notes.specs.Reasons.{on_target, may_stand, reason_against, among, is_nothing, is_range, is_flag, some_unset, some_of_other_kind, falls_out, may_be_too_large, may_be_below_zero, may_be_above, may_be_occupied}
+use Rattle.trlab_notes.specs.Reasons.{on_target, is_of_kind, reason_against, among, is_nothing, is_range, is_flag, some_unset, some_of_other_kind, falls_out, may_be_too_large, may_be_below_zero, may_be_above, may_be_occupied}
 use Rattle.trlab_notes.specs.declared.reason.Reason.{Reason}
 use Rattle.trlab_notes.proofs.Fits.{number_is, Ahead, FitsSaid, Fits, sharper_right, sharper_less, just_right, ahead_max, written_fits, told_fits, learnt_fits, trusted_fits, and_left, and_right, either_true}
 use Rattle.trlab_notes.proofs.Growth.{div_mono}
@@ -37,7 +38,7 @@ Leads side m i s Sticks = ⊥
 
 -- the tests of an instruction that has no fault
 pub record IsClear (kind own : Kind) (len pc : ℕ) (m : Note) (i : Instr) : Type 0 where
-  pub allowed : not (may_stand kind own i) ≡ false
+  pub allowed : not (is_of_kind kind own i) ≡ false
   pub set : some_unset m i ≡ false
   pub kinds : some_of_other_kind m i ≡ false
   pub forward : on_target (λ t. nat_le t pc) (target i) ≡ false
@@ -145,7 +146,7 @@ start_limit Motion view = refl
 start_limit Change view = refl
 
 -- what may stand in a program is allowed by the kind
-pub kind_allows : (kind own : Kind) (i : Instr) → may_stand kind own i ≡ true → allows kind i ≡ true
+pub kind_allows : (kind own : Kind) (i : Instr) → is_of_kind kind own i ≡ true → allows kind i ≡ true
 kind_allows kind own i h = and_first (allows kind i) _ h
   where
     and_first : (p q : Bool) → (p && q) ≡ true → p ≡ true

@@ -41,8 +41,8 @@ reason_number why.FallsOut = 7
 reason_number reason = range_reason_number reason
 
 -- an instruction that both the called kind and the program's own kind allow
-abbrev pub may_stand : Kind → Kind → Instr → Bool
-may_stand kind own i = allows kind i && allows own i
+abbrev pub is_of_kind : Kind → Kind → Instr → Bool
+is_of_kind kind own i = allows kind i && allows own i
 
 -- the registers that an instruction reads, by what each has to hold
 abbrev pub operands_of : Instr → Operands
@@ -115,7 +115,7 @@ abbrev pub on_target : (ℕ → Bool) → Option ℕ → Bool
 on_target test None = false
 on_target test (Some t) = test t
 
--- whether an instruction may go on behind the last of len instructions
+-- whether an instruction may go on past the last of len instructions
 abbrev pub falls_out : ℕ → ℕ → Instr → Bool
 falls_out len pc i = falls i && nat_le len (suc pc)
 
@@ -148,7 +148,7 @@ pub record Check : Type 0 where
 -- reasons 2 to 7: what the instruction at pc of len ones is, reads and leads to
 abbrev pub form_checks : Kind → Kind → ℕ → ℕ → Note → Instr → List Check
 form_checks kind own len pc m i =
-    record { reason = why.WrongProgram; holds = not (may_stand kind own i) }
+    record { reason = why.WrongProgram; holds = not (is_of_kind kind own i) }
     ∷ record { reason = why.MaybeUnset; holds = some_unset m i }
     ∷ record { reason = why.WrongValue; holds = some_of_other_kind m i }
     ∷ record { reason = why.JumpsBack; holds = on_target (λ t. nat_le t pc) (target i) }

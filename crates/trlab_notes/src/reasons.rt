@@ -3,7 +3,7 @@
 ghost use Rattle.std.specs.Prelude.{◌≡◌, ◌<◌, nat_le};
 ghost use Rattle.trlab_code.specs.Machine.{allows, allows_input};
 ghost use Rattle.trlab_code.specs.Flow.{target};
-ghost use Rattle.trlab_notes.specs.Reasons.{is_nothing, is_range, is_flag, may_stand, some_unset, some_of_other_kind, may_be_too_large, may_be_below_zero, may_be_above, may_be_occupied, on_target, falls_out, first_reason, range_checks, reason_against};
+ghost use Rattle.trlab_notes.specs.Reasons.{is_nothing, is_range, is_flag, is_of_kind, some_unset, some_of_other_kind, may_be_too_large, may_be_below_zero, may_be_above, may_be_occupied, on_target, falls_out, first_reason, range_checks, reason_against};
 ghost use Rattle.trlab_notes.specs.Stored.{note_of};
 ghost use Rattle.trlab_notes.specs.Transfer.{register_said};
 
@@ -20,7 +20,7 @@ fn is_allowed_input(kind: Kind, input: Input) -> bool
 {
     match input {
         Input::Speed | Input::Limit | Input::Gap | Input::Headspeed => true,
-        _ => matches!(kind, Kind::Change),
+        Input::SideGap | Input::SideBack | Input::Lane => matches!(kind, Kind::Change),
     }
 }
 
@@ -38,7 +38,7 @@ fn is_allowed(kind: Kind, instr: Instr) -> bool
 
 /// Whether the called kind and the program's own kind allow the instruction.
 fn is_of_kind(kind: Kind, own: Kind, instr: Instr) -> bool
-    ensures { result ≡ may_stand kind own instr }
+    ensures { result ≡ is_of_kind kind own instr }
 {
     is_allowed(kind, instr) && is_allowed(own, instr)
 }
@@ -141,7 +141,7 @@ fn jumps_back(pc: usize, instr: Instr) -> bool
     }
 }
 
-/// Whether a jump leads behind the last of `len` instructions.
+/// Whether a jump leads past the last of `len` instructions.
 fn jumps_out(len: usize, instr: Instr) -> bool
     ensures { result ≡ on_target (λ t. nat_le len t) (target instr) }
 {
@@ -151,7 +151,7 @@ fn jumps_out(len: usize, instr: Instr) -> bool
     }
 }
 
-/// Whether the instruction at `pc` may go on behind the last of `len` instructions.
+/// Whether the instruction at `pc` may go on past the last of `len` instructions.
 fn falls_out(len: usize, pc: usize, instr: Instr) -> bool
     requires { pc < len }
     ensures { result ≡ falls_out len pc instr }

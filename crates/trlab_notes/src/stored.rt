@@ -1,4 +1,5 @@
-//! Notes as the code stores them: in the order of the variables' numbers, and with all that they know of the order.
+//! Notes as the code stores them: in the order of the variables' numbers, and with all that they know of how
+//! the variables are ordered.
 
 ghost use Rattle.trlab_notes.specs.Rows.{IsTransposed, TellsRanges};
 

@@ -1,4 +1,4 @@
--- CheckedProgram programs that are the standard ones.
+-- Accepted programs that are the standard ones.
 use Rattle.std.proofs.Common.{◌≡◌, ℕ, List, Bool, sym, ap, subst, ◌∙◌}
 use Rattle.std.specs.Prelude.{Result, IfOk, IfErr}
 use Rattle.std.proofs.lemmas.Result.{IfOk-weaker}
@@ -18,7 +18,8 @@ abbrev pub program_of : Kind → List Instr → Program
 program_of kind instrs = record { kind = kind; instrs = instrs }
 
 module _ (result : Result CheckedProgram StandardFault) (instrs list : List Instr) (same : instrs ≡ list) where
-  -- what is checked of the program_of instructions is a motion that answers a rule's speed, where the program_of program does
+  -- what is accepted of such instructions is a motion that answers a rule's speed, where the program of the
+  -- list does
   pub motion_given : (speed : View → List ℕ → ℕ) → MovesBy speed (program_of Motion list) →
       IfOk result (λ motion. (motion.program ≡ program_of Motion instrs) × IsAccepted Motion (program_of Motion instrs)) → IfOk result (IsMotion speed (program_of Motion list))
   motion_given speed moves =
@@ -34,6 +35,6 @@ module _ (result : Result CheckedProgram StandardFault) (instrs list : List Inst
       (λ change is. let program : change.program ≡ program_of Change list = is.0 ∙ ap (program_of Change) same in
       record { same = program; accepted = subst (λ z. IsAccepted Change (program_of Change z)) same is.1; changes = subst (ChangesBy crosses) (sym program) changes })
 
-  -- what is refused of the program_of instructions is refused of the program_of program
+  -- what is refused of such instructions is refused of the program of the list
   pub refusal_given : (kind : Kind) → IfErr result (Tells (Refuses kind (program_of kind instrs))) → IfErr result (Tells (Refuses kind (program_of kind list)))
   refusal_given kind = subst (λ z. IfErr result (Tells (Refuses kind (program_of kind z)))) same

@@ -22,7 +22,7 @@ module _ (p p0 : ℕ) (view : View) (words : List ℕ) (seen : IsView view) wher
   abbrev drawn : Bool → Store
   drawn h = update (update (update (start Motion view) (variable.Register R0) (Number view.speed)) (variable.Register R1) (Number 1)) (variable.Register R3) (Flag h)
 
-  -- behind the draw it moves as the one of 1992
+  -- after the draw it moves as the one of 1992
   behind : (h : Bool) → Run Motion (vdr_program p p0).instrs view words (At 6 (drawn h)) (Goes (brake h safe))
   unfolding start update
   behind true =

@@ -19,7 +19,7 @@ use trlab_words::Chance;
 ///
 /// # Errors
 ///
-/// `Refused` where the verifier refuses it, and `Memory` where memory runs out.
+/// `Refused` where the verifier refuses it, and `Memory` where memory ran out.
 fn checked<K: ProgramKind>(
     alloc: Global,
     instrs: Vec<Instr>,
@@ -44,7 +44,7 @@ fn checked<K: ProgramKind>(
 ///
 /// # Errors
 ///
-/// `Refused` where the verifier refuses it, and `Memory` where memory runs out.
+/// `Refused` where the verifier refuses it, and `Memory` where memory ran out.
 pub fn nasch_motion(alloc: Global, p: Chance) -> Result<Motion, StandardFault>
     ensures motion { IfOk result (IsMotion (nasch_speed p) (nasch_program p)) }
     ensures refused { IfErr result (Tells (Refuses OfMotion (nasch_program p))) }
@@ -57,7 +57,7 @@ pub fn nasch_motion(alloc: Global, p: Chance) -> Result<Motion, StandardFault>
 ///
 /// # Errors
 ///
-/// `Refused` where the verifier refuses it, and `Memory` where memory runs out.
+/// `Refused` where the verifier refuses it, and `Memory` where memory ran out.
 pub fn vdr_motion(alloc: Global, p: Chance, p0: Chance) -> Result<Motion, StandardFault>
     ensures motion { IfOk result (IsMotion (vdr_speed p p0) (vdr_program p p0)) }
     ensures refused { IfErr result (Tells (Refuses OfMotion (vdr_program p p0))) }
@@ -69,7 +69,7 @@ pub fn vdr_motion(alloc: Global, p: Chance, p0: Chance) -> Result<Motion, Standa
 ///
 /// # Errors
 ///
-/// `Refused` where the verifier refuses it, and `Memory` where memory runs out.
+/// `Refused` where the verifier refuses it, and `Memory` where memory ran out.
 pub fn rickert_change(alloc: Global, c: Chance) -> Result<Change, StandardFault>
     ensures change { IfOk result (IsChange (rickert_crosses c) (rickert_program c)) }
     ensures refused { IfErr result (Tells (Refuses OfChange (rickert_program c))) }

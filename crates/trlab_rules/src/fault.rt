@@ -1,4 +1,4 @@
-//! A standard rule is not given out where memory runs out, or where the verifier refuses a program of it.
+//! There is no standard rule where memory ran out, or where the verifier refuses a program of it.
 
 ghost use Rattle.std.specs.Prelude.{◌≡◌};
 ghost use Rattle.trlab_rules.specs.declared.fault.StandardFault.TheVariants.{Memory};

@@ -19,7 +19,7 @@ use trlab_words::Chance;
 ///
 /// # Errors
 ///
-/// `Refused` exactly where the verifier refuses the program, and `Memory` where memory runs out.
+/// `Refused` exactly where the verifier refuses the program, and `Memory` where memory ran out.
 pub fn nasch(alloc: Global, p: Chance) -> Result<Rule, StandardFault>
     ensures published { IfOk result (IsNasch p) }
     ensures rule { IfOk result IsRule }
@@ -35,7 +35,7 @@ pub fn nasch(alloc: Global, p: Chance) -> Result<Rule, StandardFault>
 ///
 /// # Errors
 ///
-/// `Refused` exactly where the verifier refuses the program, and `Memory` where memory runs out.
+/// `Refused` exactly where the verifier refuses the program, and `Memory` where memory ran out.
 pub fn vdr(alloc: Global, p: Chance, p0: Chance) -> Result<Rule, StandardFault>
     ensures published { IfOk result (IsVdr p p0) }
     ensures rule { IfOk result IsRule }
@@ -53,7 +53,7 @@ pub fn vdr(alloc: Global, p: Chance, p0: Chance) -> Result<Rule, StandardFault>
 ///
 /// # Errors
 ///
-/// `Refused` exactly where the verifier refuses one of the two programs, and `Memory` where memory runs
+/// `Refused` exactly where the verifier refuses one of the two programs, and `Memory` where memory ran
 /// out.
 pub fn rickert(alloc: Global, p: Chance, c: Chance) -> Result<Rule, StandardFault>
     ensures published { IfOk result (IsRickert p c) }

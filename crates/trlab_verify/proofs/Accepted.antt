@@ -9,7 +9,7 @@ use Rattle.trlab_code.specs.declared.instruction.Instr.{Instr}
 use Rattle.trlab_code.specs.declared.instruction.Instr.TheVariants.{Go, Cross, Stay}
 use Rattle.trlab_code.specs.Program.{Program, IsProgram}
 use Rattle.trlab_code.specs.Flow.{target, falls, is_end}
-use Rattle.trlab_notes.specs.Reasons.{on_target, may_stand}
+use Rattle.trlab_notes.specs.Reasons.{on_target, is_of_kind}
 use Rattle.trlab_notes.specs.Notes.{Note}
 use Rattle.trlab_verify.specs.CheckedProgram.{IsChecked}
 use Rattle.trlab_verify.specs.Longest.{HasWay, IsLongest, IsForward}
@@ -27,7 +27,7 @@ all_clear kind program accepted pc i e =
     (m, clear kind program.kind (length program.instrs) pc m i h)
 
 -- an end is allowed in programs of one kind alone
-end_kind : (kind own : Kind) (i : Instr) → is_end i ≡ true → may_stand kind own i ≡ true → own ≡ kind
+end_kind : (kind own : Kind) (i : Instr) → is_end i ≡ true → is_of_kind kind own i ≡ true → own ≡ kind
 end_kind Motion Motion i e h = refl
 end_kind Change Change i e h = refl
 end_kind Motion Change (Go a) e h = absurd (cc h)

@@ -41,7 +41,7 @@ module _ (kind : Kind) (program : Program) where
 none_within : (code : List Instr) (pc : ℕ) → pc < length code → slice_get code pc ≡ None → ⊥
 none_within code pc within e = let stands = slice_get-get_or code pc Stay within in cc
 
--- the longest way from pc, where an instruction stands there, by those from the instructions behind it
+-- the longest way from pc, where an instruction stands there, by those from the instructions after it
 longest_here : (code : List Instr) (pc : ℕ) (longest : ℕ → ℕ) (o : Option Instr) → slice_get code pc ≡ o
     → (n : ℕ) × (pc < length code → ((q : ℕ) → Follows code pc q → IsLongest code q (longest q)) → IsLongest code pc n)
 longest_here code pc longest None e = (0, λ within later. absurd (none_within code pc within e))

@@ -11,7 +11,7 @@ use Rattle.trlab_code.specs.Program.{Program}
 use Rattle.trlab_notes.specs.declared.note.Said.{Said}
 use Rattle.trlab_notes.specs.Notes.{Note, with_side, said_with_side, level_between, known_level, same_variable, entry, entry_said, entry_level}
 use Rattle.trlab_notes.specs.Transfer.{next_note}
-use Rattle.trlab_notes.specs.Reasons.{reason_against, reason_number, may_stand}
+use Rattle.trlab_notes.specs.Reasons.{reason_against, reason_number, is_of_kind}
 use Rattle.trlab_notes.specs.declared.reason.Reason.{Reason}
 use Rattle.trlab_notes.specs.declared.reason.Reason.TheVariants.{WrongProgram}
 use Rattle.std.specs.Option.{option_map}
@@ -38,7 +38,7 @@ both_closed : Closed Both
 both_closed = record { regs = λ r. tt; limit = refl; gap = refl }
 
 -- what may stand in programs of both kinds reads what both see
-reaches : (kind own : Kind) (i : Instr) → (kind ≡ own → ⊥) → may_stand kind own i ≡ true → Reaches Both both_closed i
+reaches : (kind own : Kind) (i : Instr) → (kind ≡ own → ⊥) → is_of_kind kind own i ≡ true → Reaches Both both_closed i
 reaches Motion own (Get d Speed) ne h = refl
 reaches Motion own (Get d Limit) ne h = refl
 reaches Motion own (Get d Gap) ne h = refl
@@ -106,7 +106,7 @@ module _ (kind : Kind) (program : Program) (note : ℕ → Note) (checks : Check
   abbrev code : List Instr
   code = program.instrs
 
-  stands : (pc : ℕ) (i : Instr) → pc < at → slice_get code pc ≡ Some i → may_stand kind program.kind i ≡ true
+  stands : (pc : ℕ) (i : Instr) → pc < at → slice_get code pc ≡ Some i → is_of_kind kind program.kind i ≡ true
   stands pc i lt e =
       let (m, em, h) = noted kind program pc i e (refused.first pc lt) in
       not_false _ (clear kind program.kind (length code) pc m i h).allowed

@@ -1,5 +1,5 @@
-//! The budget of a program: its longest way, in instructions, the end counted. Control goes forward, so the longest
-//! ways from later instructions are known first (docs/PROGRAMS.md).
+//! The budget of a program: its longest way, in instructions, the end counted. Control goes forward, so the
+//! longest ways from later instructions are known first (docs/PROGRAMS.md).
 
 ghost use Rattle.std.specs.Prelude.{◌≡◌, ℕ, ◌+◌, ◌<◌, ◌≤◌, IsTrue, length, slice_index, IfSome, if◌then◌else◌};
 ghost use Rattle.std.specs.Option.{option_map_or};

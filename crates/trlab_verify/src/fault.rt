@@ -9,7 +9,7 @@ pub enum VerifyFault {
     /// 1 to 12, as `trlab_notes::Reason` and docs/PROGRAMS.md list them.
     #[error("refused at {at} reason {reason}")]
     Why { at: u32, reason: u32 },
-    /// There was no memory for the notes.
+    /// Memory ran out.
     #[error("out of memory")]
     Memory,
 }

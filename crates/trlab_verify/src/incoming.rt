@@ -1,5 +1,5 @@
-//! Incoming notes: each way that leads on from an instruction brings a note to where it leads, where it is joined
-//! with those that came before (docs/PROGRAMS.md).
+//! Incoming notes: each way that leads on from an instruction brings a note to where it leads, where it is
+//! joined with those that came before (docs/PROGRAMS.md).
 
 ghost use Rattle.std.specs.Prelude.{◌≡◌, ℕ, ◌<◌, false, length, Some, nat_eq, if◌then◌else◌};
 ghost use Rattle.trlab_code.specs.Program.{IsInRange};

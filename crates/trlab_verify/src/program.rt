@@ -1,5 +1,5 @@
-//! Programs that the verifier has accepted, with their budgets. A type stands for each kind, so that no motion
-//! program is run as a change program, and all else stands once.
+//! Programs that the verifier has accepted, with their budgets. A type stands for each kind, so that no
+//! motion program is run as a change program, and all else stands once.
 
 ghost use Rattle.std.specs.Prelude.{◌≡◌, ◌↔◌, IsTrue, IfOk};
 ghost use Rattle.trlab_code.specs.declared.kind.Kind.{Kind as AKind};
@@ -101,7 +101,7 @@ impl<K: ProgramKind> AcceptedProgram<K> {
     ///
     /// # Errors
     ///
-    /// Where there is no memory for the instructions.
+    /// Where memory ran out.
     pub fn copy(&self, alloc: Global) -> Result<AcceptedProgram<K>, AllocError>
         ensures { IfOk result (λ copy. copy ≡ self.now) }
     {

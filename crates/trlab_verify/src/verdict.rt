@@ -1,5 +1,5 @@
-//! The verdict on a program: which instruction is refused first, and why. The instructions are judged in turn, each
-//! by the join of its incoming notes (docs/PROGRAMS.md).
+//! The verdict on a program: which instruction is refused first, and why. The instructions are judged in
+//! turn, each by the join of its incoming notes (docs/PROGRAMS.md).
 
 ghost use Rattle.std.specs.Prelude.{◌≡◌, ℕ, ◌<◌, ◌≤◌, length, All, IfOk, IfSome, MatchOption, None};
 ghost use Rattle.trlab_code.specs.Program.{Program, IsInRange};

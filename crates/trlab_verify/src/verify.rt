@@ -1,5 +1,5 @@
-//! The verifier's calls: the accepted program of a code with its budget, or the code again and why it is refused
-//! (docs/PROGRAMS.md).
+//! The verifier's calls: the accepted program of a code with its budget, or the code again and why it is
+//! refused (docs/PROGRAMS.md).
 
 ghost use Rattle.std.specs.Prelude.{◌≡◌, IfOk, IfErr};
 ghost use Rattle.trlab_code.specs.declared.kind.Kind.TheVariants.{Motion as OfMotion, Change as OfChange};
@@ -25,7 +25,7 @@ use trlab_code::Code;
 /// # Errors
 ///
 /// `Why` where the program is refused as one of the kind: its first instruction that is refused, and
-/// the least reason there. `Memory` where there is no memory for the notes.
+/// the least reason there. `Memory` where memory ran out.
 pub fn verify_as<K: ProgramKind>(
     alloc: Global,
     code: Code,

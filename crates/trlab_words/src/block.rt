@@ -111,7 +111,7 @@ fn diagonal_round(x: [u32x8; 16]) -> [u32x8; 16]
 }
 
 // Word k after the quarter round on each diagonal of the states. The words that the standard rules
-// draw on, 0 and 1, want one diagonal only.
+// draw on, 0 and 1, need one diagonal only.
 #[inline(always)]
 fn diagonal_word(x: [u32x8; 16], k: usize) -> u32x8
     requires { k < 16 }

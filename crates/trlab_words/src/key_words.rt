@@ -24,7 +24,7 @@ impl Model for KeyWords {
 }
 
 impl KeyWords {
-    /// The same words once more.
+    /// A copy of the words.
     pub fn copy(&self) -> KeyWords
         ensures { result ≡ self.now }
     {

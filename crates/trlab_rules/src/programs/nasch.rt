@@ -14,7 +14,7 @@ use trlab_words::Chance;
 ///
 /// # Errors
 ///
-/// Where memory runs out.
+/// Where memory ran out.
 pub fn nasch_instrs(alloc: Global, p: Chance) -> Result<Vec<Instr>, AllocError>
     ensures value { IfOk result (λ instrs. instrs.items ≡ (nasch_program p).instrs) }
     ensures program { IsProgram (nasch_program p) }

@@ -1,4 +1,5 @@
-//! The change program of Rickert, Nagel, Schreckenberg and Latour (1996), with distances of this project's own.
+//! The change program of Rickert, Nagel, Schreckenberg and Latour (1996), with distances of this project's
+//! own.
 
 ghost use Rattle.std.specs.Prelude.{◌≡◌, IfOk};
 ghost use Rattle.trlab_code.specs.Program.{IsProgram};
@@ -14,7 +15,7 @@ use trlab_words::Chance;
 ///
 /// # Errors
 ///
-/// Where memory runs out.
+/// Where memory ran out.
 pub fn rickert_instrs(alloc: Global, c: Chance) -> Result<Vec<Instr>, AllocError>
     ensures value { IfOk result (λ instrs. instrs.items ≡ (rickert_program c).instrs) }
     ensures program { IsProgram (rickert_program c) }

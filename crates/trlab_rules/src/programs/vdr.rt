@@ -15,7 +15,7 @@ use trlab_words::Chance;
 ///
 /// # Errors
 ///
-/// Where memory runs out.
+/// Where memory ran out.
 pub fn vdr_instrs(alloc: Global, p: Chance, p0: Chance) -> Result<Vec<Instr>, AllocError>
     ensures value { IfOk result (λ instrs. instrs.items ≡ (vdr_program p p0).instrs) }
     ensures program { IsProgram (vdr_program p p0) }

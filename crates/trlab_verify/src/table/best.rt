@@ -19,12 +19,12 @@ use trlab_code::{Code, Instr, Kind, MOST_INSTRUCTIONS};
 use trlab_notes::Stored;
 
 /// Why a program has no notes.
-#[derive(Debug, Drop, PartialEq, Eq, Error)]
+#[derive(Debug, Drop, Error)]
 pub enum NotesFault {
     /// The program is refused as one of its own kind.
     #[error("the program is refused")]
     Refused,
-    /// There is no memory.
+    /// Memory ran out.
     #[error("out of memory")]
     Memory,
 }
@@ -105,7 +105,7 @@ fn judge_notes(
 /// # Errors
 ///
 /// `Refused` where the program is refused as one of its own kind: then it has no notes. `Memory` where
-/// there is no memory for them.
+/// memory ran out.
 pub fn notes(alloc: Global, code: &Code) -> Result<Vec<Note>, NotesFault>
     ensures accepted { IfOk result (λ notes. IsAccepted code.now.kind code.now) }
     ensures best { IfOk result (λ notes.

@@ -1,5 +1,5 @@
-//! Checks a table of notes that is handed in, one instruction at a time and with no memory: what the notes say is
-//! tested, and nothing is found out (docs/PROGRAMS.md).
+//! Checks a table of notes that is handed in, one instruction at a time and with no memory: what the notes
+//! say is tested, and nothing is found out (docs/PROGRAMS.md).
 
 ghost use Rattle.std.specs.Prelude.{◌≡◌, ◌↔◌, ℕ, suc, ◌<◌, ◌≤◌, ◌||◌, ◌&&◌, All, IfSome, IsTrue, Some, false, length, nat_eq, slice_get};
 ghost use Rattle.trlab_code.specs.declared.instruction.Instr.{Instr as AnInstr};

@@ -1,5 +1,5 @@
-//! The form in which callers write and read notes: marks of the registers, and levels by the numbers of variables. Of
-//! the inputs a form says nothing, since their ranges are known (docs/PROGRAMS.md).
+//! The form in which callers write and read notes: marks of the registers, and levels by the numbers of
+//! variables. Of the inputs a form says nothing, since their ranges are known (docs/PROGRAMS.md).
 
 ghost use Rattle.std.specs.Prelude.{◌≡◌, ◌↔◌, ℕ, ◌<◌, ◌≤◌, IfSome, IsTrue, None, slice_index};
 ghost use Rattle.trlab_code.specs.declared.instruction.Variable.{Variable as AVariable};

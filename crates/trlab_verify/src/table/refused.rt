@@ -58,7 +58,7 @@ fn judge_refused(
 ///
 /// # Errors
 ///
-/// Where there is no memory for them.
+/// Where memory ran out.
 pub fn notes_of_refused(alloc: Global, code: &Code) -> Result<Option<Vec<Note>>, AllocError>
     ensures { IfOk result (λ notes. MatchOption notes (IsAccepted code.now.kind code.now)
         (λ notes. AreNotesOfRefused code.now.kind code.now (table_of code.now.kind notes.items))) }
