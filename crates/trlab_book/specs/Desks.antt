@@ -48,8 +48,8 @@ pub record IsOneEvent {L : Type 0} {ledger : Ghosts L} (old : Desk L ledger) (ca
 
 -- what a call does to the desk through which it is made: the same parts, and, where the reply to it is an
 -- event, just this event more, of a book of which something holds; else nothing
-abbrev pub MakesOf : {L : Type 0} {ledger : Ghosts L} → (State → Type 0) → Desk L ledger → Call → Reply
-    → Desk L ledger → Type 0
+abbrev pub MakesOf : {L : Type 0} {ledger : Ghosts L} → (State → Type 0)
+    → Desk L ledger → Call → Reply → Desk L ledger → Type 0
 MakesOf Holds old call told new =
     (parts_of new ≡ parts_of old)
     × MatchBool (is_event told)
@@ -57,7 +57,8 @@ MakesOf Holds old call told new =
     (strand.IsSame old.strand new.strand)
 
 -- the same, of whatever book
-abbrev pub Makes : {L : Type 0} {ledger : Ghosts L} → Desk L ledger → Call → Reply → Desk L ledger → Type 0
+abbrev pub Makes : {L : Type 0} {ledger : Ghosts L}
+    → Desk L ledger → Call → Reply → Desk L ledger → Type 0
 Makes old call told new = MakesOf (λ book. Unit {0}) old call told new
 
 -- what is put down at a desk behind these events: the call, where its reply is an event, else nothing
@@ -79,7 +80,8 @@ IsOfLease answer book = IfOk answer (λ lent. IsLent book.jobs book.next lent)
 
 -- the order that is answered has the rule that is in force at its step
 abbrev pub IsOfOrder : LeaseState → Bool → Result Order BookFault → State → Type 0
-IsOfOrder lease same answer book = TellsSame lease same book × IfOk answer (λ order. IsRuleAt book.jobs order)
+IsOfOrder lease same answer book =
+    TellsSame lease same book × IfOk answer (λ order. IsRuleAt book.jobs order)
 
 -- the snapshot that is answered is one of this job of the book
 abbrev pub IsOfRead : ℕ → Result Progress BookFault → State → Type 0

@@ -202,8 +202,8 @@ impl<L: Ledger> SharedBook<L> {
     }
 }
 
-/// Puts the last event of the history into the desk's subhistory, where this reply is of an event. What
-/// `Locked` keeps is broken by a call and holds again behind this, so it is handed in by its parts.
+/// Puts the last event of the history into the desk's subhistory, where this reply is of an event. A call
+/// breaks the invariant of `Locked`, and this restores it, so its parts are handed in one by one.
 fn note_event<L: Ledger>(
     keeper: &mut Keeper<L, Event>,
     strands: &Strands<L, Event>,

@@ -40,7 +40,7 @@ impl Kept {
         }
     }
 
-    /// Has room for one event more.
+    /// Makes room for one event more.
     fn make_room(&mut self) -> Result<(), BookFault>
         ensures same { IsUnchanged self.old self.new }
         ensures room { OnOk result (vec_len self.new.history < vec_capacity self.new.history) }
@@ -57,7 +57,7 @@ impl Kept {
         Ok(())
     }
 
-    /// The same, and the copied call comes back.
+    /// Makes room for one event more, and hands on the copy of its call, if there was memory for it.
     fn make_room_for(&mut self, copied: Result<Call, AllocError>) -> Result<Call, BookFault>
         ensures same { IsUnchanged self.old self.new }
         ensures room { OnOk result (vec_len self.new.history < vec_capacity self.new.history) }
@@ -284,7 +284,7 @@ fn put_event(history: &mut Vec<Event>, call: Call, reply: Reply)
     }
 }
 
-/// The call `submit` for the history, which shares the seed with the job, and has a copy of the rule.
+/// The call `submit` for the history, which shares the seed with the job and has a copy of the rule.
 pub(crate) fn copied_submit(
     alloc: Global,
     seed: &BoxedSeed,

@@ -31,8 +31,8 @@ impl<'a, R: Threads + Wait + Sync, G: Gate + Sync> Team<'a, R, G> {
         }
     }
 
-    /// Runs the ordered step of a lease. One worker passes the gate as several do, which the pool would
-    /// spare it.
+    /// Runs the ordered step of a lease. One worker passes the gate as several do; by the pool it would pass
+    /// none.
     ///
     /// # Errors
     ///

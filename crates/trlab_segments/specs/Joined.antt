@@ -79,7 +79,7 @@ free_join road from middle first second behind a b =
           (λ k below. subst (λ i. IsFree i (get_or second k false)) (place k) (b.side_empty k below));
     }
 
--- who crosses in two parts, one behind the other, are those who cross in both
+-- whoever crosses in one of two parts, one behind the other, crosses in both together
 pub crosses_join : (change : CheckedProgram) (dice : Dice) (road : Cells) (from middle to : ℕ)
     → (first second : List Bool)
     → IsCrossesPart change dice road from middle first → IsCrossesPart change dice road middle to second

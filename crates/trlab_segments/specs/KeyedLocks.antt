@@ -13,10 +13,10 @@ module _ {T K : Type 0} where
   abbrev pub Guarded : (T → Type 0) → State (Option T) K → Type 0
   Guarded Fits s = (length s.words ≡ 1) × (slice_index s.words 0 ≡ 0 → HasAtHome Fits s)
 
-  -- who finds 0 has the slot, with a value that fits
+  -- whoever finds 0 has the slot, with a value that fits
   abbrev pub Seized : (T → Type 0) → Me (Option T) K → Type 0
   Seized Fits m = (value : T) × (m.1 ≡ (0, Some value) ∷ []) × Fits value
 
-  -- who has the slot, and nothing else
+  -- has the slot, and nothing else
   abbrev pub HasOnly : Me (Option T) K → Type 0
   HasOnly m = (held : Option T) × (m.1 ≡ (0, held) ∷ [])

@@ -12,7 +12,7 @@ ghost use Rattle.trlab_step.specs.Answers.{IsCrossesPart, IsSpeedsPart};
 
 use crate::crew::sharing::share;
 use crate::gate::Gate;
-use crate::phase::lineup::collect;
+use crate::phase::lineup::line_up;
 use crate::phase::{Asked, Phase};
 use crate::segment::segment_count;
 use crate::tickets::Tickets;
@@ -62,7 +62,11 @@ impl<'a, R: Threads + Sync, G: Gate + Sync> Crew<'a, R, G> {
         let (tickets, drawer) = Tickets::start(alloc, count, self.workers)?;
         let (drawer, parts) = share(self.rt, alloc, phase, &tickets, drawer, self.gate);
         let parts = parts?;
-        collect(alloc, phase, tickets, drawer, &parts)
+        // Each worker has come back with its pass, and had found no ticket left.
+        match tickets.finish(drawer) {
+            Ok(()) => line_up(alloc, phase, count, &parts),
+            Err(_) => unreachable!(),
+        }
     }
 
     /// The speeds that a motion program answers to all cars of a road, in standing order, each in a byte.

@@ -4,8 +4,7 @@
 //! Each law is the contract of a function with nothing to do.
 
 ghost use Rattle.std.specs.Prelude.{ℕ, Bool};
-ghost use Rattle.trlab_segments.specs.Laws.{AllPassesHaveAllTickets, CounterIsBounded};
-ghost use Rattle.trlab_segments.specs.Laws.{AnswersJoin};
+ghost use Rattle.trlab_segments.specs.Laws.{AllPassesHaveAllTickets, AnswersJoin, CounterIsBounded};
 ghost use Rattle.trlab_segments.specs.Laws.{SegmentsAreAllCars, SegmentsBeginAndEnd, SegmentsHaveCars};
 
 /// What the rule says of the shared counter: it stays near the count, so it never overflows, and a drawer

@@ -6,7 +6,7 @@ ghost use Rattle.trlab_bounds.specs.declared.runs.TheConstants.{MOST_WORKERS};
 ghost use Rattle.trlab_segments.specs.Segments.{first_car, segment_count};
 
 /// Cars in standing order, from one up to but not another.
-#[derive(Clone, Copy, Debug, PartialEq, Eq)]
+#[derive(Clone, Copy)]
 pub struct Segment {
     pub from: u32,
     pub to: u32,

@@ -30,7 +30,7 @@ fn place_of<A>(parts: &[Part<A>], number: u32) -> usize
 /// # Errors
 ///
 /// Where an allocation was refused.
-fn line_up<A: Copy, P: Asked<A>>(
+pub fn line_up<A: Copy, P: Asked<A>>(
     alloc: Global,
     phase: &Phase<P>,
     count: u32,
@@ -63,8 +63,8 @@ fn ask_whole<A, P: Asked<A>>(alloc: Global, phase: &Phase<P>) -> Result<Vec<A>, 
     P::ask(alloc, phase, Segment { from: 0, to })
 }
 
-/// The answers of all cars of a phase, in standing order, by the parts of the tickets that a drawer has. The
-/// cars are asked here where it has not all.
+/// The answers of all cars of a phase, in standing order, by the parts of the tickets that a drawer has.
+/// Where a ticket is missing, all cars are asked here.
 ///
 /// # Errors
 ///

@@ -51,7 +51,7 @@ pub struct KeyedLock<T: Keyed<K>, K> {
     ghost one_slot: { table.shared.table_id.slots ≡ 1 },
 }
 
-/// What somebody has who took the value, and gives up to put it back.
+/// What whoever took the value has, and gives up to put it back.
 #[derive(Drop)]
 pub struct Guard<T, K> {
     pub seat: Seat<Option<T>, K>,

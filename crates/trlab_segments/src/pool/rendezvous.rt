@@ -19,7 +19,7 @@ const NAP: u64 = 1000;
 /// thread is alone between two phases of a road of some ten thousand cars.
 const LOOKS: u32 = 30000;
 
-/// How many phases a helper that looked in vain awaits asleep, before it looks again.
+/// How many phases a helper that looked in vain sleeps for without a look, before it looks again.
 const NAPS: u32 = 32;
 
 /// The phases that are open, of which there is one at a time, and a number that grows with each.
@@ -102,8 +102,8 @@ impl Rendezvous {
         false
     }
 
-    /// Looks for the next phase, but where a helper did so in vain not long ago, and answers for how many
-    /// phases it sleeps at once from then on.
+    /// Looks for the next phase, unless the helper did so in vain not long ago, and answers for how many
+    /// phases it goes to sleep without a look from then on.
     fn watch(&self, seen: u64, naps: u32) -> u32 {
         if naps > 0 {
             naps - 1
@@ -134,7 +134,7 @@ impl Rendezvous {
     }
 }
 
-/// Has so many helpers serve at a rendezvous, each in a thread of its own; each starts the next one, unless
+/// Lets so many helpers serve at a rendezvous, each in a thread of its own; each starts the next one, unless
 /// the run has ended by then.
 pub fn help_all<R: Threads + Wait + Sync, G: Gate + Sync>(
     rt: &R,

@@ -1,17 +1,13 @@
-use Rattle.std.proofs.Common.{◌≡◌, subst, sym, ◌∙◌, ap}
+use Rattle.std.proofs.Common.{IfOk, subst, ◌∙◌, ap}
 use Rattle.trlab_road.specs.Cells.{cars}
 use Rattle.trlab_segments.proofs.Borders.{last_behind}
-use Rattle.trlab_segments.specs.Segments.{first_car, segment_count}
+use Rattle.trlab_segments.specs.Segments.{segment_count}
 use Rattle.trlab_segments.proofs.crew.Crew.ask.Goals as goal
 
-pub collect-requires : goal.collect-requires
-collect-requires g c =
-    let all = cars c.args.phase.now.road.now in
+pub returns : goal.returns
+returns g c =
+    let phase = c.args.phase.now in
+    let all = cars phase.road.now in
     let counted = c.segment_count-count.ensures ∙ ap (λ n. segment_count n c.args.self.now.workers) c.cars.ensures.value in
-    let shared = c.share-drawer.ensures in record {
-      lanes = c.requires;
-      from = shared.0;
-      parts = rw c.deref.ensures.value (rw c.in_ok-parts.was at shared.2);
-      cut = subst (λ n. first_car all n n ≡ all) (sym c.in_ok-tickets.ensures.count)
-          (last_behind all c.segment_count-count.result c.args.self.now.workers c.args.self.now.some counted);
-    }
+    subst (λ last. IfOk c.line_up.result (λ answers. g.P.Asked.answers phase.program.now phase.dice.now phase.road.now 0 last answers.items))
+    (last_behind all c.segment_count-count.result c.args.self.now.workers c.args.self.now.some counted) c.line_up.ensures
