@@ -15,13 +15,13 @@ use Rattle.trlab_command_line.specs.Numbers.{GivesFlag, GivesNumber}
 use Rattle.trlab_command_line.specs.Requests.{Asks, name_of}
 use Rattle.trlab_command_line.specs.declared.arguments.explain.Explaining.{Explaining}
 use Rattle.trlab_command_line.specs.declared.arguments.explain.Explaining.TheVariants.{Text as OfText}
-use Rattle.trlab_command_line.specs.declared.arguments.Wanted.{Wanted}
-use Rattle.trlab_command_line.specs.declared.arguments.Wanted.TheVariants.{Check, Explain, Run, Series, Sweep}
+use Rattle.trlab_command_line.specs.declared.arguments.Request.{Request}
+use Rattle.trlab_command_line.specs.declared.arguments.Request.TheVariants.{Check, Explain, Run, Series, Sweep}
 use Rattle.trlab_command_line.proofs.Rows.{some_same}
 
 -- what is asked for has the name of the command that was entered
-pub asks_its_name : (name : Text) (rows : List Row) (wanted : Wanted) → Asks (Some (name, rows)) wanted → name ≡ name_of wanted
-asks_its_name name rows wanted a = ap (λ t. t.0) (some_same _ _ a.1)
+pub asks_its_name : (name : Text) (rows : List Row) (request : Request) → Asks (Some (name, rows)) request → name ≡ name_of request
+asks_its_name name rows request a = ap (λ t. t.0) (some_same _ _ a.1)
 
 -- no command has another name too
 differ : (a b : Text) → bytes_eq a b ≡ false → a ≡ b → ⊥
@@ -51,10 +51,10 @@ run_has : option_map of_run (subcommand_of command_line (codes "run" ∷ [])) �
 unfolding clap_on_literals
 run_has = refl
 
-pub run_alone : (wanted : Wanted) → Asks (subcommand_of command_line (codes "run" ∷ [])) wanted → wanted ≡ Run 1 false
-run_alone wanted a = go wanted a (ap (λ t. t.0) (some_same _ _ (sym run_has ∙ ap (option_map of_run) a.1)))
+pub run_alone : (request : Request) → Asks (subcommand_of command_line (codes "run" ∷ [])) request → request ≡ Run 1 false
+run_alone request a = go request a (ap (λ t. t.0) (some_same _ _ (sym run_has ∙ ap (option_map of_run) a.1)))
   where
-    go : (wanted : Wanted) → Asks (subcommand_of command_line (codes "run" ∷ [])) wanted → codes "run" ≡ name_of wanted → wanted ≡ Run 1 false
+    go : (request : Request) → Asks (subcommand_of command_line (codes "run" ∷ [])) request → codes "run" ≡ name_of request → request ≡ Run 1 false
     go Check a is = absurd (differ (codes "run") (codes "check") refl is)
     go (Sweep runners workers progress) a is = absurd (differ (codes "run") (codes "sweep") refl is)
     go (Series workers every from progress) a is = absurd (differ (codes "run") (codes "series") refl is)
@@ -74,10 +74,10 @@ sweep_has : option_map of_sweep (subcommand_of command_line (codes "sweep" ∷ [
 unfolding clap_on_literals
 sweep_has = refl
 
-pub sweep_alone : (wanted : Wanted) → Asks (subcommand_of command_line (codes "sweep" ∷ [])) wanted → wanted ≡ Sweep 1 1 false
-sweep_alone wanted a = go wanted a (ap (λ t. t.0) (some_same _ _ (sym sweep_has ∙ ap (option_map of_sweep) a.1)))
+pub sweep_alone : (request : Request) → Asks (subcommand_of command_line (codes "sweep" ∷ [])) request → request ≡ Sweep 1 1 false
+sweep_alone request a = go request a (ap (λ t. t.0) (some_same _ _ (sym sweep_has ∙ ap (option_map of_sweep) a.1)))
   where
-    go : (wanted : Wanted) → Asks (subcommand_of command_line (codes "sweep" ∷ [])) wanted → codes "sweep" ≡ name_of wanted → wanted ≡ Sweep 1 1 false
+    go : (request : Request) → Asks (subcommand_of command_line (codes "sweep" ∷ [])) request → codes "sweep" ≡ name_of request → request ≡ Sweep 1 1 false
     go Check a is = absurd (differ (codes "sweep") (codes "check") refl is)
     go (Run workers progress) a is = absurd (differ (codes "sweep") (codes "run") refl is)
     go (Series workers every from progress) a is = absurd (differ (codes "sweep") (codes "series") refl is)
@@ -105,10 +105,10 @@ series_has : option_map of_series (subcommand_of command_line (codes "series" �
 unfolding clap_on_literals
 series_has = refl
 
-pub series_alone : (wanted : Wanted) → Asks (subcommand_of command_line (codes "series" ∷ [])) wanted → wanted ≡ Series 1 1 0 false
-series_alone wanted a = go wanted a (ap (λ t. t.0) (some_same _ _ (sym series_has ∙ ap (option_map of_series) a.1)))
+pub series_alone : (request : Request) → Asks (subcommand_of command_line (codes "series" ∷ [])) request → request ≡ Series 1 1 0 false
+series_alone request a = go request a (ap (λ t. t.0) (some_same _ _ (sym series_has ∙ ap (option_map of_series) a.1)))
   where
-    go : (wanted : Wanted) → Asks (subcommand_of command_line (codes "series" ∷ [])) wanted → codes "series" ≡ name_of wanted → wanted ≡ Series 1 1 0 false
+    go : (request : Request) → Asks (subcommand_of command_line (codes "series" ∷ [])) request → codes "series" ≡ name_of request → request ≡ Series 1 1 0 false
     go Check a is = absurd (differ (codes "series") (codes "check") refl is)
     go (Run workers progress) a is = absurd (differ (codes "series") (codes "run") refl is)
     go (Sweep runners workers progress) a is = absurd (differ (codes "series") (codes "sweep") refl is)
@@ -130,10 +130,10 @@ explain_has : option_map of_explain (subcommand_of command_line (codes "explain"
 unfolding clap_on_literals
 explain_has = refl
 
-pub explain_alone : (wanted : Wanted) → Asks (subcommand_of command_line (codes "explain" ∷ [])) wanted → wanted ≡ Explain (OfText None)
-explain_alone wanted a = go wanted a (ap (λ t. t.0) (some_same _ _ (sym explain_has ∙ ap (option_map of_explain) a.1)))
+pub explain_alone : (request : Request) → Asks (subcommand_of command_line (codes "explain" ∷ [])) request → request ≡ Explain (OfText None)
+explain_alone request a = go request a (ap (λ t. t.0) (some_same _ _ (sym explain_has ∙ ap (option_map of_explain) a.1)))
   where
-    go : (wanted : Wanted) → Asks (subcommand_of command_line (codes "explain" ∷ [])) wanted → codes "explain" ≡ name_of wanted → wanted ≡ Explain (OfText None)
+    go : (request : Request) → Asks (subcommand_of command_line (codes "explain" ∷ [])) request → codes "explain" ≡ name_of request → request ≡ Explain (OfText None)
     go Check a is = absurd (differ (codes "explain") (codes "check") refl is)
     go (Run workers progress) a is = absurd (differ (codes "explain") (codes "run") refl is)
     go (Sweep runners workers progress) a is = absurd (differ (codes "explain") (codes "sweep") refl is)

@@ -85,7 +85,8 @@ program = on_top (λ s. record s {
 -- the commands of the program
 abbrev pub commands : List Shape
 commands =
-    check_command.top ∷ run_command.top ∷ sweep_command.top ∷ series_command.top ∷ explain_command.top ∷ []
+    check_command.top ∷ run_command.top ∷ sweep_command.top ∷ series_command.top
+    ∷ explain_command.top ∷ []
 
 -- the command line: the program with its commands
 abbrev pub command_line : App

@@ -6,23 +6,19 @@ use Rattle.clap.specs.Lexer.{without_minus}
 use Rattle.clap.specs.Values.{Accepts, IsSignedIn, bool_text}
 use Rattle.clap.specs.declared.builder.value_parser.ValueParser.TheVariants.{Bool as OfBool}
 
+-- the number of a decimal numeral
+abbrev pub numeral_value : Text → ℕ
+numeral_value numeral = digits_value 10 (without_leading_plus numeral)
+
 -- among the matches of a command, the value of the option is the decimal numeral of this number
 abbrev pub GivesNumber : Text → List Row → ℕ → Type 0
-GivesNumber option rows number = (numeral : Text) × (one_of option rows ≡ Some numeral)
-    × (digits_value 10 (without_leading_plus numeral) ≡ number)
+GivesNumber option rows number =
+    (numeral : Text) × (one_of option rows ≡ Some numeral) × (numeral_value numeral ≡ number)
 
 -- among the matches of a command, the option has a value that its parser took: a number in a range
 abbrev pub HasValueFrom : Text → ℕ → ℕ → List Row → Text → Type 0
 HasValueFrom option least most rows v =
     (one_of option rows ≡ Some (without_minus v)) × IsSignedIn (pos least) (pos most) v
-
--- the same, from 1 on
-abbrev pub HasValue : Text → ℕ → List Row → Text → Type 0
-HasValue option most rows v = HasValueFrom option 1 most rows v
-
--- the number of a decimal numeral
-abbrev pub numeral_value : Text → ℕ
-numeral_value numeral = digits_value 10 (without_leading_plus numeral)
 
 -- the number that an argument has among the matches of a command, where it is given
 abbrev pub number_in : Text → List Row → Option ℕ

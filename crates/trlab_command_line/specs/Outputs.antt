@@ -7,13 +7,13 @@ use Rattle.trlab_campaign.specs.SeriesOutput.{IsSeriesOutput}
 use Rattle.trlab_campaign.specs.SweepOutput.{IsSweepOutput}
 use Rattle.trlab_explain.specs.Explanations.{Explains, TellsNumber}
 use Rattle.trlab_command_line.specs.declared.arguments.explain.Explaining.TheVariants.{Number, Text}
-use Rattle.trlab_command_line.specs.declared.arguments.Wanted.{Wanted}
-use Rattle.trlab_command_line.specs.declared.arguments.Wanted.TheVariants.{Check, Explain, Run, Series, Sweep}
+use Rattle.trlab_command_line.specs.declared.arguments.Request.{Request}
+use Rattle.trlab_command_line.specs.declared.arguments.Request.TheVariants.{Check, Explain, Run, Series, Sweep}
 
 -- the whole output of a command for a text, and whether it is a refusal: `check` writes a verdict on a
 -- program, `run` the pictures of a job, `sweep` the table of a sweep and `series` that of a job's windows,
 -- whatever the number of workers and of runners, and `explain` what is told of the text, or of a number
-abbrev pub output_of : Wanted → List ℕ → Outputs
+abbrev pub output_of : Request → List ℕ → Outputs
 output_of Check text = IsCheckOutput text
 output_of (Run workers progress) text = IsOutput text
 output_of (Sweep runners workers progress) text = IsSweepOutput text

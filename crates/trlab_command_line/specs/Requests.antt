@@ -8,12 +8,12 @@ use Rattle.clap.specs.Faults.{level_fault}
 use Rattle.trlab_command_line.specs.CommandLine.{command_line}
 use Rattle.trlab_command_line.specs.Numbers.{GivesFlag, GivesNumber}
 use Rattle.trlab_command_line.specs.Explains.{explained_in, pair_fault}
-use Rattle.trlab_command_line.specs.declared.arguments.Wanted.{Wanted}
-use Rattle.trlab_command_line.specs.declared.arguments.Wanted.TheVariants.{Check, Explain, Run, Series, Sweep}
+use Rattle.trlab_command_line.specs.declared.arguments.Request.{Request}
+use Rattle.trlab_command_line.specs.declared.arguments.Request.TheVariants.{Check, Explain, Run, Series, Sweep}
 use Rattle.trlab_bounds.specs.declared.runs.TheConstants.{MOST_RUNNERS, MOST_STEPS, MOST_WORKERS}
 
 -- the name of the command that is asked for
-abbrev pub name_of : Wanted → Text
+abbrev pub name_of : Request → Text
 name_of Check = codes "check"
 name_of (Run workers progress) = codes "run"
 name_of (Sweep runners workers progress) = codes "sweep"
@@ -21,7 +21,7 @@ name_of (Series workers every from progress) = codes "series"
 name_of (Explain explained) = codes "explain"
 
 -- the matches of a command give what is asked for: the numbers of its options, and whether to tell progress
-abbrev pub Give : List Row → Wanted → Type 0
+abbrev pub Give : List Row → Request → Type 0
 Give rows Check = ⊤
 Give rows (Run workers progress) =
     GivesNumber (codes "workers") rows workers × GivesFlag (codes "progress") rows progress
@@ -34,22 +34,23 @@ Give rows (Series workers every from progress) =
 Give rows (Explain explained) = explained_in rows ≡ Ok explained
 
 -- what is asked for where a command was entered: the command of that name, with what its matches give
-abbrev pub Asks : Option (Text × List Row) → Wanted → Type 0
-Asks entered wanted = (rows : List Row) × (entered ≡ Some (name_of wanted, rows)) × Give rows wanted
+abbrev pub Asks : Option (Text × List Row) → Request → Type 0
+Asks entered request = (rows : List Row) × (entered ≡ Some (name_of request, rows)) × Give rows request
 
 -- numbers of runners, of workers and of steps are those that an engine takes
-abbrev pub HasCounts : Wanted → Type 0
+abbrev pub HasCounts : Request → Type 0
 HasCounts Check = ⊤
 HasCounts (Run workers progress) = (1 ≤ workers) × (workers ≤ MOST_WORKERS)
 HasCounts (Sweep runners workers progress) =
     ((1 ≤ runners) × (runners ≤ MOST_RUNNERS)) × ((1 ≤ workers) × (workers ≤ MOST_WORKERS))
 HasCounts (Series workers every from progress) =
-    ((1 ≤ workers) × (workers ≤ MOST_WORKERS)) × ((1 ≤ every) × (every ≤ MOST_STEPS)) × (from ≤ MOST_STEPS)
+    ((1 ≤ workers) × (workers ≤ MOST_WORKERS))
+    × ((1 ≤ every) × (every ≤ MOST_STEPS)) × (from ≤ MOST_STEPS)
 HasCounts (Explain explained) = ⊤
 
 -- the first of the arguments is the name of what is asked for
-abbrev pub IsNamedFirst : List Text → Wanted → Type 0
-IsNamedFirst arguments wanted = (rest : List Text) × (arguments ≡ name_of wanted ∷ rest)
+abbrev pub IsNamedFirst : List Text → Request → Type 0
+IsNamedFirst arguments request = (rest : List Text) × (arguments ≡ name_of request ∷ rest)
 
 -- the kinds of error that the arguments have: those of `clap`, or that those of `explain` do not go together
 abbrev pub arguments_fault : List Text → Kinds

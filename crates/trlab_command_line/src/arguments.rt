@@ -20,8 +20,8 @@ use clap::{ArgMatches, Error};
 use std::alloc::Global;
 
 /// What the arguments ask for.
-#[derive(Clone, Copy, Debug, PartialEq, Eq)]
-pub enum Wanted {
+#[derive(Clone, Copy)]
+pub enum Request {
     /// To check the program text on standard input.
     Check,
     /// To run the job text on standard input.
@@ -56,30 +56,30 @@ pub enum Wanted {
 }
 
 /// What the command of a name asks for, by its matches.
-fn wanted_of(alloc: Global, name: &str, matches: &ArgMatches) -> Result<Wanted, Error>
+fn request_of(alloc: Global, name: &str, matches: &ArgMatches) -> Result<Request, Error>
     requires { IsEntered name.now (rows_of (found_of matches.now)) }
     ensures answer { IfOk result (Asks (Some (name.now, rows_of (found_of matches.now)))) }
     ensures fault { FailsBy (pair_fault (Some (name.now, rows_of (found_of matches.now)))) result }
     ensures counts { IfOk result HasCounts }
 {
     match name {
-        "check" => Ok(Wanted::Check),
-        "run" => Ok(Wanted::Run {
+        "check" => Ok(Request::Check),
+        "run" => Ok(Request::Run {
             workers: count_of(matches, "workers"),
             progress: flag_of(matches, "progress"),
         }),
-        "sweep" => Ok(Wanted::Sweep {
+        "sweep" => Ok(Request::Sweep {
             runners: count_of(matches, "runners"),
             workers: count_of(matches, "workers"),
             progress: flag_of(matches, "progress"),
         }),
-        "series" => Ok(Wanted::Series {
+        "series" => Ok(Request::Series {
             workers: count_of(matches, "workers"),
             every: number_of(matches, "every"),
             from: number_of(matches, "from"),
             progress: flag_of(matches, "progress"),
         }),
-        "explain" => Ok(Wanted::Explain(explaining_of(alloc, matches)?)),
+        "explain" => Ok(Request::Explain(explaining_of(alloc, matches)?)),
         _ => unreachable!(),
     }
 }
@@ -94,23 +94,23 @@ fn wanted_of(alloc: Global, name: &str, matches: &ArgMatches) -> Result<Wanted, 
 ///
 /// What `clap` answers where the arguments ask for help or are refused, an error of `clap` where those of
 /// `explain` do not go together, and where memory ran out.
-pub fn read_words(alloc: Global, arguments: &[String]) -> Result<Wanted, Error>
+pub fn read_words(alloc: Global, arguments: &[String]) -> Result<Request, Error>
     ensures answer { IfOk result (Asks (subcommand_of command_line (map string_bytes arguments.now))) }
     ensures fault { FailsBy (arguments_fault (map string_bytes arguments.now)) result }
     ensures counts { IfOk result HasCounts }
     ensures named { IfOk result (IsNamedFirst (map string_bytes arguments.now)) }
-    ensures one { map string_bytes arguments.now ≡ codes "run" ∷ []
-        → IfOk result (λ wanted. wanted ≡ Wanted.Run 1 false) }
-    ensures ones { map string_bytes arguments.now ≡ codes "sweep" ∷ []
-        → IfOk result (λ wanted. wanted ≡ Wanted.Sweep 1 1 false) }
-    ensures every_step { map string_bytes arguments.now ≡ codes "series" ∷ []
-        → IfOk result (λ wanted. wanted ≡ Wanted.Series 1 1 0 false) }
-    ensures any_text { map string_bytes arguments.now ≡ codes "explain" ∷ []
-        → IfOk result (λ wanted. wanted ≡ Wanted.Explain (Text None)) }
+    ensures run_alone { map string_bytes arguments.now ≡ codes "run" ∷ []
+        → IfOk result (λ request. request ≡ Request.Run 1 false) }
+    ensures sweep_alone { map string_bytes arguments.now ≡ codes "sweep" ∷ []
+        → IfOk result (λ request. request ≡ Request.Sweep 1 1 false) }
+    ensures series_alone { map string_bytes arguments.now ≡ codes "series" ∷ []
+        → IfOk result (λ request. request ≡ Request.Series 1 1 0 false) }
+    ensures explain_alone { map string_bytes arguments.now ≡ codes "explain" ∷ []
+        → IfOk result (λ request. request ≡ Request.Explain (Text None)) }
 {
     let matches = command_line(alloc)?.try_get_matches_from(arguments)?;
     match matches.subcommand() {
-        Some((name, entered)) => wanted_of(alloc, name, entered),
+        Some((name, entered)) => request_of(alloc, name, entered),
         None => unreachable!(),
     }
 }

@@ -9,7 +9,7 @@ ghost use Rattle.trlab_bounds.specs.declared.texts.TheConstants.{TEXT_LIMIT};
 ghost use Rattle.trlab_command_line.specs.Requests.{HasCounts};
 ghost use Rattle.trlab_command_line.specs.Outputs.{output_of};
 
-use crate::{Explaining, Wanted};
+use crate::{Explaining, Request};
 use std::alloc::AllocGlobal;
 use std::sync::Wait;
 use std::thread::Threads;
@@ -19,21 +19,21 @@ use trlab_campaign::{
 };
 use trlab_explain::{explain_number, explain_text};
 
-/// Does what is wanted, from a reader to a writer. Where a number is explained, nothing is read. The observer
+/// Does what is asked for, from a reader to a writer. Where a number is explained, nothing is read. The observer
 /// is told how far a run, a sweep or a series is, where it watches.
 pub fn carry_out<R: AllocGlobal + Threads + Wait + Sync, S: Source, K: Sink, O: Observer + Sync>(
     rt: &R,
-    wanted: Wanted,
+    request: Request,
     reader: &mut S,
     writer: &mut K,
     observer: &O,
 ) -> End
-    requires counts { HasCounts wanted }
+    requires counts { HasCounts request }
     requires reader_works { S.failed reader.old ≡ false }
     requires writer_works { K.failed writer.old ≡ false }
     // Where the reader tells its bytes, and the writer those that it has.
     ensures answer { IfSome (S.left reader.old)
-        (λ text. EndsSo (output_of wanted text) result (K.written writer.old) (K.written writer.new)) }
+        (λ text. EndsSo (output_of request text) result (K.written writer.old) (K.written writer.new)) }
     ensures silent { S.failed reader.new ≡ true → Keeps (K.written writer.old) (K.written writer.new) }
     ensures handed { HandsOn result
         (K.handed_on writer.new) (K.flushes writer.old) (K.flushes writer.new) }
@@ -42,15 +42,17 @@ pub fn carry_out<R: AllocGlobal + Threads + Wait + Sync, S: Source, K: Sink, O: 
     // A reader that tells no bytes gives no more either.
     ensures stops { S.taken reader.new ≤ S.taken reader.old + (TEXT_LIMIT + 1) }
 {
-    match wanted {
-        Wanted::Check => check_text(rt, reader, writer),
-        Wanted::Run { workers, .. } => run_job_text_observed(rt, reader, writer, workers, observer),
-        Wanted::Sweep {
+    match request {
+        Request::Check => check_text(rt, reader, writer),
+        Request::Run { workers, .. } => run_job_text_observed(
+            rt, reader, writer, workers, observer,
+        ),
+        Request::Sweep {
             runners,
             workers,
             ..
         } => run_sweep_text_observed(rt, reader, writer, runners, workers, observer),
-        Wanted::Series {
+        Request::Series {
             workers,
             every,
             from,
@@ -59,8 +61,8 @@ pub fn carry_out<R: AllocGlobal + Threads + Wait + Sync, S: Source, K: Sink, O: 
             let windows = Windows::new(every, from);
             run_series_text_observed(rt, reader, writer, workers, &windows, observer)
         }
-        Wanted::Explain(Explaining::Text(subject)) => explain_text(rt, subject, reader, writer),
-        Wanted::Explain(Explaining::Number(topic, number)) => {
+        Request::Explain(Explaining::Text(subject)) => explain_text(rt, subject, reader, writer),
+        Request::Explain(Explaining::Number(topic, number)) => {
             explain_number(rt, topic, number, writer)
         }
     }

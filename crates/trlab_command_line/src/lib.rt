@@ -7,6 +7,6 @@ mod engines;
 mod help;
 mod status;
 
-pub use arguments::{Explaining, Wanted, read_words};
+pub use arguments::{Explaining, Request, read_words};
 pub use engines::carry_out;
 pub use status::{REFUSED_ARGUMENTS, status_of_end, status_of_print};

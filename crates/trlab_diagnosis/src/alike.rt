@@ -1,7 +1,7 @@
 //! Names that are spelled nearly alike.
 
+use crate::line_name::LineName;
 use crate::rules::RuleForm;
-use crate::wanted::Wanted;
 use std::alloc::{AllocError, Global};
 use strsim::generic_damerau_levenshtein;
 use trlab_asm::{Mnemonic, input_text, mnemonic_text, register_text};
@@ -11,10 +11,10 @@ use trlab_repairs::is_named;
 /// The longest word whose nearest name is looked for: names are shorter.
 const LONGEST_WORD: usize = 32;
 
-/// How many edits lead from a word to a name that was meant, at most.
+/// The most edits that lead from a word to the name that it was meant to be.
 const MOST_EDITS: usize = 2;
 
-/// How many names are looked at, at most.
+/// The most names that are looked at.
 const MOST_NAMES: u32 = 4096;
 
 /// What is named by how it is spelled.
@@ -29,9 +29,9 @@ impl Spelled for &'static [u8] {
     }
 }
 
-impl Spelled for Wanted {
+impl Spelled for LineName {
     fn spelling(self) -> &'static [u8] {
-        self.name()
+        self.word()
     }
 }
 
@@ -84,7 +84,7 @@ pub fn is_named_among<T: Spelled>(all: &[T], word: &[u8]) -> bool {
 ///
 /// # Errors
 ///
-/// Want of memory.
+/// Where memory ran out.
 pub fn edits_within(
     alloc: Global,
     word: &[u8],
@@ -110,12 +110,12 @@ pub struct Choice {
     most: usize,
     /// How many names are still looked at.
     left: u32,
-    /// Where the name stands, and its length, where there is one that no other is as near as.
+    /// Where the nearest name stands, and its length, if no other is as near.
     pub found: Option<(usize, usize)>,
 }
 
 impl Choice {
-    /// Where no name was looked at: a short word is not made anew.
+    /// Before any name is looked at: of a short word not every letter may be wrong.
     pub fn to(word: &[u8]) -> Choice {
         let most = MOST_EDITS.min(word.len().saturating_sub(1));
         Choice {
@@ -126,7 +126,7 @@ impl Choice {
         }
     }
 
-    /// Where the names that were looked at are none that may be meant.
+    /// Begins again, where no name that was looked at may be meant.
     pub fn anew(self) -> Choice {
         Choice {
             edits: self.most.saturating_add(1),
@@ -135,11 +135,11 @@ impl Choice {
         }
     }
 
-    /// Once one more name was looked at, which stands there.
+    /// After a look at one more name, which stands at this place.
     ///
     /// # Errors
     ///
-    /// Want of memory.
+    /// Where memory ran out.
     pub fn or(
         self,
         alloc: Global,
@@ -168,12 +168,12 @@ impl Choice {
     }
 }
 
-/// The name of one of these that a word was meant to be: the one to which the fewest edits lead, where it is
-/// one alone and is not the word itself.
+/// The name of one of these that a word was meant to be: the one to which the fewest edits lead, if no other is
+/// as near. A word that is one of the names is not meant to be another.
 ///
 /// # Errors
 ///
-/// Want of memory.
+/// Where memory ran out.
 pub fn nearest<T: Spelled>(
     alloc: Global,
     word: &[u8],

@@ -17,15 +17,15 @@ use crate::candidates::line::line_candidates;
 use crate::candidates::number::number_candidates;
 use crate::candidates::operand::operand_candidates;
 use crate::candidates::program::word_candidates;
-pub use crate::candidates::road::LANE_LINE;
+pub use crate::candidates::road::{FRONT, LANE_LINE};
 use crate::candidates::road::{cell_candidate, lanes_candidate};
 use crate::draft::{Draft, Put};
+use crate::line_name::{LineName, put_behind};
 use crate::tried::{MOST_TRIED, first_that_helps};
-use crate::wanted::{Wanted, put_behind};
 use std::alloc::{AllocError, Global};
-use trlab_asm::Why as Wrong;
+use trlab_asm::Why;
 use trlab_code::CodeFault;
-use trlab_repairs::{Place, Repair, Subject, Why};
+use trlab_repairs::{Place, Repair, Slip, Subject};
 use trlab_road::RoadFault;
 use trlab_texts::Cause;
 
@@ -56,42 +56,57 @@ impl<'a> Candidates<'a> {
         }
     }
 
-    /// Adds a change of the text: behind its first bytes some make room for others.
-    pub fn edit(&mut self, why: Why, at: usize, gone: usize, put: Put) {
+    /// Adds a change of the text: some bytes at a place are replaced by others.
+    pub fn edit(&mut self, slip: Slip, at: usize, gone: usize, put: Put) {
         if self.count < MOST_TRIED {
-            self.drafts[self.count] = Some(Draft { why, at, gone, put });
+            self.drafts[self.count] = Some(Draft {
+                slip,
+                at,
+                gone,
+                put,
+            });
             self.count += 1;
         }
     }
 
-    /// Adds a change of the line at fault: behind its first bytes some make room for others.
-    pub fn in_line(&mut self, why: Why, at: usize, gone: usize, put: Put) {
-        self.edit(why, self.place.start.saturating_add(at), gone, put);
+    /// Adds a change of the line at fault: some bytes at a place are replaced by others.
+    pub fn in_line(&mut self, slip: Slip, at: usize, gone: usize, put: Put) {
+        self.edit(slip, self.place.start.saturating_add(at), gone, put);
     }
 
     /// Adds a change of the whole line at fault.
-    pub fn whole_line(&mut self, why: Why, put: Put) {
-        self.in_line(why, 0, self.line.len(), put);
+    pub fn whole_line(&mut self, slip: Slip, put: Put) {
+        self.in_line(slip, 0, self.line.len(), put);
     }
 
     /// Adds a line above the one at fault, or behind the last line of the text.
-    pub fn above(&mut self, why: Why, line: Wanted) {
+    pub fn above(&mut self, slip: Slip, line: LineName) {
         let put = put_behind(self.place.above(), line);
-        self.edit(why, self.place.start, 0, Put::Bytes(put));
+        self.edit(slip, self.place.start, 0, Put::Bytes(put));
     }
 
     /// Drops the line at fault.
-    pub fn without_line(&mut self, why: Why) {
+    pub fn without_line(&mut self, slip: Slip) {
         let gone = self.line.len().saturating_add(1);
         let left = self.place.text.len().saturating_sub(self.place.start);
-        self.edit(why, self.place.start, gone.min(left), Put::Bytes(b""));
+        self.edit(slip, self.place.start, gone.min(left), Put::Bytes(b""));
     }
 
     /// Drops the carriage return at the end of the line.
     fn without_return(&mut self) {
         if let Some(front) = self.line.strip_suffix(b"\r") {
-            self.in_line(Why::CarriageReturn, front.len(), 1, Put::Bytes(b""));
+            self.in_line(Slip::CarriageReturn, front.len(), 1, Put::Bytes(b""));
         }
+    }
+}
+
+/// Adds the candidates for a fault of a program's lines.
+fn program_candidates(list: &mut Candidates<'_>, why: Why) -> Result<(), AllocError> {
+    match why {
+        Why::Word => word_candidates(list),
+        Why::Operand | Why::Number => operand_candidates(list, why),
+        Why::NoLabel => label_candidate(list),
+        Why::LabelTwice | Why::TooLong | Why::Empty | Why::Memory => Ok(()),
     }
 }
 
@@ -99,21 +114,20 @@ impl<'a> Candidates<'a> {
 fn add_candidates(
     list: &mut Candidates<'_>,
     cause: Cause,
-    wanted: &[Wanted],
+    wanted: &[LineName],
 ) -> Result<(), AllocError> {
     list.without_return();
     match cause {
         Cause::Line => return line_candidates(list, wanted),
-        Cause::Program(Wrong::Word) => return word_candidates(list),
-        Cause::Program(Wrong::Operand) => return operand_candidates(list, Wrong::Operand),
-        Cause::Program(Wrong::Number) => return operand_candidates(list, Wrong::Number),
-        Cause::Program(Wrong::NoLabel) => return label_candidate(list),
+        Cause::Program(why) => return program_candidates(list, why),
         Cause::Number => number_candidates(list),
         Cause::Key | Cause::Hex => hex_candidates(list),
         Cause::OneLane => lanes_candidate(list),
         Cause::Code(CodeFault::NeedlessVersion) => version_candidate(list),
         Cause::Road(RoadFault::Character { place, .. }) => cell_candidate(list, place),
-        _ => {}
+        Cause::Code(_) | Cause::Road(_) => {}
+        Cause::Order | Cause::TooMany | Cause::Work | Cause::TooBig => {}
+        Cause::StandardRefused | Cause::Verdict(_) => {}
     }
     Ok(())
 }
@@ -123,13 +137,13 @@ fn add_candidates(
 ///
 /// # Errors
 ///
-/// Want of memory.
+/// Where memory ran out.
 pub fn likely_repair(
     alloc: Global,
     subject: Subject,
     place: Place<'_>,
     cause: Cause,
-    wanted: &[Wanted],
+    wanted: &[LineName],
 ) -> Result<Option<Repair>, AllocError>
     ensures { IfOk result (λ found. IfSome found
         (λ repair. Helps subject place.entry.text.now place.entry.number repair.change)) }

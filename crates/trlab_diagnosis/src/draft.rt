@@ -1,9 +1,9 @@
 //! Drafts: repairs that may be tried, of which nothing is written yet.
 
 use std::alloc::{AllocError, Global};
-use trlab_repairs::{Change, Edit, Repair, Why};
+use trlab_repairs::{Change, Edit, Repair, Slip};
 
-/// What stands in the place of other bytes.
+/// What replaces the bytes that go.
 #[derive(Clone, Copy)]
 pub enum Put {
     /// These bytes.
@@ -16,20 +16,20 @@ pub enum Put {
     Spaced,
     /// The operands that go, with a comma between two.
     Listed,
-    /// Behind so many bytes of the text, so many.
+    /// Bytes of the text: how many stand before them, and how many they are.
     Copied(usize, usize),
     /// The line of a lane of so many empty cells.
     Lane(usize),
 }
 
-/// A repair that may be tried: behind the first bytes of a text some make room for others. Where the text is
-/// for another command nothing changes.
+/// A repair that may be tried: some bytes at a place of a text are replaced by others. Where the text is for
+/// another command nothing changes.
 #[derive(Clone, Copy)]
 pub struct Draft {
-    pub why: Why,
+    pub slip: Slip,
     /// How many bytes stand before the change.
     pub at: usize,
-    /// How many bytes go.
+    /// How many bytes are replaced.
     pub gone: usize,
     pub put: Put,
 }
@@ -80,14 +80,14 @@ fn put_lane(bytes: &mut Vec<u8>, cells: usize) -> Result<(), AllocError> {
     bytes.extend_from_slice(b"\n")
 }
 
-/// Behind so many bytes of a text, so many.
+/// Bytes of a text, by how many stand before them and how many they are, as far as it has them.
 fn bytes_at(text: &[u8], at: usize, count: usize) -> &[u8] {
     let (_, behind) = text.split_at(at.min(text.len()));
     let (bytes, _) = behind.split_at(count.min(behind.len()));
     bytes
 }
 
-/// Adds what stands in the place of these bytes of a text.
+/// Adds what replaces these bytes of a text.
 fn put_all(
     alloc: Global,
     bytes: &mut Vec<u8>,
@@ -114,19 +114,24 @@ impl Draft {
     ///
     /// # Errors
     ///
-    /// Want of memory.
+    /// Where memory ran out.
     pub fn repair(self, alloc: Global, text: &[u8]) -> Result<Repair, AllocError> {
-        let Draft { why, at, gone, put } = self;
-        if let Why::Other(other) = why {
+        let Draft {
+            slip,
+            at,
+            gone,
+            put,
+        } = self;
+        if let Slip::OtherCommand(other) = slip {
             return Ok(Repair {
-                why,
+                slip,
                 change: Change::ReadAs(other),
             });
         }
         let mut bytes = Vec::new(alloc);
         put_all(alloc, &mut bytes, put, text, bytes_at(text, at, gone))?;
         Ok(Repair {
-            why,
+            slip,
             change: Change::Edited(Edit {
                 at,
                 gone,

@@ -5,12 +5,11 @@ mod road;
 mod text;
 
 use crate::digits::{digits_at, first_no_digit};
-use crate::finding::program::{label_finding, operand_finding, operand_number_finding};
+use crate::finding::program::program_finding;
 use crate::finding::road::{lane_finding, speed_finding};
 use crate::finding::text::{line_finding, order_finding, work_finding, wrong_number};
+use crate::line_name::LineName;
 use crate::operands::Operand;
-use crate::wanted::Wanted;
-use trlab_asm::Why;
 use trlab_repairs::{Oddity, Place};
 use trlab_road::RoadFault;
 use trlab_texts::Cause;
@@ -26,7 +25,7 @@ pub enum Finding<'a> {
     Ended,
     /// The text has ended within a program, which has no line `end`.
     Endless,
-    /// The rule has so many chances, and wants so many.
+    /// How many chances the rule has, and how many it needs.
     Chances { found: u64, wanted: u64 },
     /// The word is no number.
     NoNumber(&'a [u8]),
@@ -34,27 +33,27 @@ pub enum Finding<'a> {
     Below(&'a [u8], u64),
     /// The number is above the greatest.
     Above(&'a [u8], u64),
-    /// The key has so many characters.
+    /// How many characters the key has.
     KeyLength(u64),
-    /// There are so many digits, an odd number.
+    /// How many digits there are: an odd number.
     OddDigits(u64),
     /// The character at this place, counted from 1, is no digit.
     NoDigit(u64),
     /// The step of an `at` line is not from the least one on, or not below the count of steps.
     Order { least: u64, steps: u64 },
-    /// So many points, each of so many steps.
+    /// How many points there are, and how many steps each has.
     Work { points: u64, steps: u64 },
     /// The word before `:` is no label.
     NoLabel(&'a [u8]),
-    /// The instruction has so many operands, and wants so many.
+    /// How many operands the instruction has, and how many it needs.
     Operands { found: u64, wanted: u64 },
     /// The word is not what this operand has to be.
     NoOperand(Operand, &'a [u8]),
-    /// The lane has so many cells.
+    /// How many cells the lane has.
     Cells(u64),
-    /// The lanes have so many cells.
+    /// How many cells each lane has.
     BothCells(u64, u64),
-    /// The car is so fast, and the limit is this.
+    /// How fast the car is, and the limit.
     Speed { speed: u64, limit: u64 },
 }
 
@@ -72,7 +71,7 @@ fn digit_finding(line: &[u8], is_key: bool) -> Option<Finding<'_>> {
 
 /// What is wrong at the fault of a text at a place, where these lines may stand there, if it is more than the
 /// cause tells.
-pub fn finding_of<'a>(place: &Place<'a>, cause: Cause, wanted: &[Wanted]) -> Option<Finding<'a>> {
+pub fn finding_of<'a>(place: &Place<'a>, cause: Cause, wanted: &[LineName]) -> Option<Finding<'a>> {
     let line = place.line.unwrap_or(b"");
     match cause {
         Cause::Line => line_finding(place, wanted),
@@ -81,11 +80,11 @@ pub fn finding_of<'a>(place: &Place<'a>, cause: Cause, wanted: &[Wanted]) -> Opt
         Cause::Hex => digit_finding(line, false),
         Cause::Order => order_finding(place),
         Cause::Work => work_finding(place),
-        Cause::Program(Why::Word) => label_finding(line),
-        Cause::Program(Why::Operand) => operand_finding(line),
-        Cause::Program(Why::Number) => operand_number_finding(line),
+        Cause::Program(why) => program_finding(line, why),
         Cause::Road(RoadFault::Length) => lane_finding(place),
         Cause::Road(RoadFault::SpeedAboveLimit { place: cell, .. }) => speed_finding(place, cell),
-        _ => None,
+        Cause::Code(_) | Cause::Road(_) => None,
+        Cause::OneLane | Cause::TooMany | Cause::TooBig => None,
+        Cause::StandardRefused | Cause::Verdict(_) => None,
     }
 }

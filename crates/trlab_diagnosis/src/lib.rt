@@ -7,6 +7,7 @@ mod candidates;
 mod digits;
 mod draft;
 mod finding;
+mod line_name;
 mod numbers;
 mod operands;
 mod rules;
@@ -15,6 +16,7 @@ mod wanted;
 
 pub use candidates::likely_repair;
 pub use finding::{Finding, finding_of};
+pub use line_name::LineName;
 pub use operands::Operand;
 pub use rules::behind_rule;
-pub use wanted::{Wanted, wanted_at};
+pub use wanted::wanted_at;

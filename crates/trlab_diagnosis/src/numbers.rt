@@ -29,7 +29,7 @@ impl Fraction {
     }
 }
 
-/// The number that some digits write, which are not too many; none write 0.
+/// The number that some digits write, unless they are too many; it is 0 where there are none.
 fn value_of(digits: &[u8]) -> Option<u128> {
     if digits.is_empty() {
         return Some(0);
@@ -40,10 +40,10 @@ fn value_of(digits: &[u8]) -> Option<u128> {
     Some(u128::from(digits_value(digits)))
 }
 
-/// So many tens, multiplied.
-fn power_of_ten(tens: u128) -> u128 {
+/// Ten to this power.
+fn power_of_ten(exponent: u128) -> u128 {
     let mut power = 1u128;
-    for _ in 0..tens.min(18) as u32 {
+    for _ in 0..exponent.min(18) as u32 {
         power = power.saturating_mul(10);
     }
     power
@@ -100,7 +100,7 @@ pub fn fraction_of(word: &[u8]) -> Option<Fraction> {
     power_form_of(word).or(decimal_of(word))
 }
 
-/// Such a fraction of a whole number, where it is one of at most 1: the nearest whole number.
+/// A fraction of at most 1 of a whole number, to the nearest number.
 pub fn nearest_part(fraction: Fraction, whole: u32) -> Option<u32> {
     let Fraction { over, under } = fraction;
     if under == 0 || over > under {

@@ -45,7 +45,7 @@ impl Operand {
             Operand::Divisor => number(1, GREATEST_NUMBER as u64),
             Operand::Word => number(0, (WORDS as u64).saturating_sub(1)),
             Operand::Chance => Some(CHANCE),
-            _ => None,
+            Operand::Register | Operand::Result | Operand::Input | Operand::Target => None,
         }
     }
 
@@ -58,7 +58,9 @@ impl Operand {
                 Some(digits) => is_numeral(digits),
                 None => is_label(word),
             },
-            _ => is_numeral(word),
+            Operand::Number | Operand::Divisor | Operand::Word | Operand::Chance => {
+                is_numeral(word)
+            }
         }
     }
 

@@ -26,7 +26,7 @@ fn most_tried(text: &[u8]) -> usize {
 ///
 /// # Errors
 ///
-/// Want of memory.
+/// Where memory ran out.
 pub fn first_that_helps(
     alloc: Global,
     subject: Subject,

@@ -2,7 +2,7 @@
 
 ghost use Rattle.std.specs.Prelude.{IfOk};
 ghost use Rattle.trlab_verify.specs.Faults.{Tells};
-ghost use Rattle.trlab_jobs.specs.Check.{Check as Request};
+ghost use Rattle.trlab_jobs.specs.Check.{Check as CheckSaid};
 ghost use Rattle.trlab_explain.specs.Explanations.{BeginsWith, TellsProgram};
 ghost use Rattle.trlab_campaign.specs.CheckOutput.{refused_line};
 
@@ -38,7 +38,7 @@ fn explain_refusal(
     code: &Code,
     fault: VerifyFault,
 ) -> Result<(bool, Page), AllocError>
-    ensures { (check : Request) → Tells check.program.kind check.program fault
+    ensures { (check : CheckSaid) → Tells check.program.kind check.program fault
         → IfOk result (λ told. TellsProgram check told.0 told.1) }
 {
     match fault {

@@ -16,10 +16,10 @@ use std::thread::Threads;
 use std::{env, io};
 use trlab_campaign::{End, Mark, Observer, Sink, Source, Watched};
 use trlab_command_line::{
-    REFUSED_ARGUMENTS, Wanted, carry_out, read_words, status_of_end, status_of_print,
+    REFUSED_ARGUMENTS, Request, carry_out, read_words, status_of_end, status_of_print,
 };
 
-// So many bytes of output are gathered at most before they are written.
+/// The most bytes of output that are gathered before they are written.
 const MOST_GATHERED: usize = 65536;
 
 fn main(rt: HostRuntime) -> ExitCode {
@@ -49,8 +49,8 @@ fn is_series(arguments: &[String]) -> bool {
     }
 }
 
-/// A writer that gathers its output before it is written; at a terminal, where each step may be watched, and where
-/// each line is to be handed on, it gathers nothing. It fails only where memory runs out.
+/// A writer that gathers its output before it is written; at a terminal, where each step may be watched, and
+/// where each line is to be handed on, it gathers nothing. It fails only where memory runs out.
 fn gathered<W: Write + IsTerminal + Drop>(
     alloc: Global,
     out: W,
@@ -64,7 +64,7 @@ fn gathered<W: Write + IsTerminal + Drop>(
     BufWriter::with_capacity(alloc, most, out)
 }
 
-/// Tells on standard error how far a command's work is, where its progress is to be told. A line that can't be
+/// Tells on standard error how far a command's work is, where its progress is to be told. A line that cannot be
 /// written changes nothing.
 #[derive(Drop)]
 struct Teller<'a, R> {
@@ -90,10 +90,12 @@ impl<R: Eprint> Observer for Teller<'_, R> {
 }
 
 /// What is counted while a command works, where its progress is to be told.
-fn counted(wanted: Wanted) -> Option<&'static str> {
-    match wanted {
-        Wanted::Run { progress: true, .. } | Wanted::Series { progress: true, .. } => Some("step"),
-        Wanted::Sweep { progress: true, .. } => Some("point"),
+fn counted(request: Request) -> Option<&'static str> {
+    match request {
+        Request::Run { progress: true, .. } | Request::Series { progress: true, .. } => Some(
+            "step",
+        ),
+        Request::Sweep { progress: true, .. } => Some("point"),
         _ => None,
     }
 }
@@ -109,12 +111,12 @@ fn act<R: AllocGlobal + Threads + Wait + Sync + Print + Eprint, S: Source, K: Si
     requires writer_works { K.failed writer.old ≡ false }
 {
     match read_words(rt.alloc(), arguments) {
-        Ok(wanted) => {
+        Ok(request) => {
             let teller = Teller {
                 rt,
-                counted: counted(wanted),
+                counted: counted(request),
             };
-            status_of_end(carry_out(rt, wanted, reader, writer, &teller))
+            status_of_end(carry_out(rt, request, reader, writer, &teller))
         }
         Err(error) => tell(rt, &error),
     }
@@ -126,7 +128,7 @@ fn given_arguments(rt: &(impl Env + AllocGlobal)) -> io::Result<Vec<String>> {
 }
 
 /// Prints the help that was asked for, or why the arguments are refused, and answers the exit status.
-/// Where memory ran out nothing is printed; help that can't be written is a failed write.
+/// Where memory ran out nothing is printed; help that cannot be written is a failed write.
 fn tell(rt: &(impl Print + Eprint), error: &Error) -> u8
     ensures { (failed : Bool) × (result ≡ status_of_print (kind_of error.now) failed) }
 {

@@ -10,7 +10,7 @@ use Rattle.trlab_jobs.specs.Check.{Check as CheckSaid, CheckText}
 use Rattle.trlab_repairs.specs.declared.subject.Subject.{Subject}
 use Rattle.trlab_repairs.specs.declared.subject.Subject.TheVariants.{Job, Sweep, Check}
 
--- a text in which behind its first bytes some bytes make room for others
+-- a text in which some bytes at a place are replaced by others
 abbrev pub edited : ℕ → ℕ → List ℕ → List ℕ → List ℕ
 edited at gone put text = take at text ++ (put ++ drop (at + gone) text)
 
@@ -37,7 +37,7 @@ abbrev pub GetsFurther : List ℕ → ℕ → Subject → List ℕ → Type 0
 GetsFurther text number subject mended = (fault : Option (ℕ × Cause))
     × HasFirst subject mended fault × IsBehind (lines_of text) number (lines_of mended) fault
 
--- no fault is that a line up to the one of a number is not the one that must stand there
+-- the first fault, if there is one, is not that a line up to the one of a number is the wrong line
 abbrev pub IsPast : ℕ → Option (ℕ × Cause) → Type 0
 IsPast number None = Unit {0}
 IsPast number (Some fault) = fault.1 ≡ Line → number < fault.0

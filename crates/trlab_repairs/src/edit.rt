@@ -5,14 +5,14 @@ ghost use Rattle.trlab_repairs.specs.Edits.{edited};
 
 use std::alloc::{AllocError, Global};
 
-/// A change of a text: behind its first bytes some bytes make room for others.
+/// A change of a text: some bytes at a place are replaced by others.
 #[derive(Drop)]
 pub struct Edit {
     /// How many bytes stand before the change.
     pub at: usize,
-    /// How many bytes go.
+    /// How many bytes are replaced.
     pub gone: usize,
-    /// The bytes that stand in their place.
+    /// The bytes that replace them.
     pub put: Vec<u8>,
 }
 

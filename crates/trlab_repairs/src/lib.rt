@@ -14,6 +14,6 @@ pub use edit::Edit;
 pub use instruction::{name_and_operands, start_of_name};
 pub use line::Place;
 pub use odd::{Oddity, oddity_of};
-pub use repair::{Change, Repair, Why, where_it_helps};
+pub use repair::{Change, Repair, Slip, where_it_helps};
 pub use subject::{Subject, is_named, subject_of};
 pub use trial::may_follow;

@@ -20,7 +20,7 @@ pub enum Oddity {
     FirstSpace,
     /// It ends with a space.
     FinalSpace,
-    /// It has a character by which comments begin.
+    /// It has a character that begins a comment.
     Comment,
 }
 

@@ -13,28 +13,28 @@ use std::alloc::{AllocError, Global};
 pub enum Change {
     /// The text.
     Edited(Edit),
-    /// As what it is read.
+    /// What it is read as.
     ReadAs(Subject),
 }
 
-/// Why a change may be what is meant.
+/// What the writer of a text most likely got wrong.
 #[derive(Clone, Copy)]
-pub enum Why {
+pub enum Slip {
     /// The text begins with a byte order mark.
     ByteOrderMark,
     /// The line has a carriage return.
     CarriageReturn,
-    /// There is a blank too much, or a tab.
+    /// There is a blank too many, or a tab.
     Blanks,
-    /// There are comments in programs only.
+    /// A comment stands outside a program.
     Comment,
-    /// Comments begin with `;`.
+    /// A comment begins as in other languages, and not with `;`.
     OtherComment,
     /// The line is empty.
     Empty,
     /// The text is for another command.
-    Other(Subject),
-    /// A name is meant that is spelled nearly alike, or means the same elsewhere.
+    OtherCommand(Subject),
+    /// A name is misspelled, or is what other laboratories say.
     Name,
     /// The first line of a program is missing.
     Heading,
@@ -48,32 +48,32 @@ pub enum Why {
     Endless,
     /// The line `end` has something beside it, or is misspelled.
     End,
-    /// In a check text no line `end` is wanted.
-    NoEnd,
-    /// A chance is written in parts of 2^31.
+    /// A check text has a line `end`, where none belongs.
+    NeedlessEnd,
+    /// A chance is not written in parts of 2^31.
     Parts,
-    /// Cars are counted.
+    /// A share of the cells stands for a count of cars.
     Count,
-    /// A number is written in decimal digits alone.
+    /// A number is not written in digits alone.
     Digits,
-    /// A label is meant that is spelled nearly alike.
+    /// A label is misspelled.
     Label,
-    /// Operands want commas between them.
+    /// There are no commas between operands.
     Comma,
-    /// The number of an instruction has `@` in front.
+    /// The number of an instruction has no `@` in front.
     Target,
-    /// The rule wants two lanes.
+    /// The rule needs two lanes.
     Lanes,
-    /// A car is a small letter.
+    /// A car is a capital letter.
     Letter,
-    /// The version is 1 where no instruction reads `headspeed`.
+    /// The version is 2, and no instruction reads `headspeed`.
     Version,
 }
 
 /// What most likely mends a fault.
 #[derive(Drop)]
 pub struct Repair {
-    pub why: Why,
+    pub slip: Slip,
     pub change: Change,
 }
 

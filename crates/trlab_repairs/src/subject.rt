@@ -8,7 +8,7 @@ use trlab_lines::next_line;
 use trlab_texts::word::head_word;
 
 /// What a text is read as.
-#[derive(Clone, Copy, Debug, PartialEq, Eq)]
+#[derive(Clone, Copy, PartialEq, Eq)]
 pub enum Subject {
     /// A job text, which `run` reads.
     Job,
@@ -25,8 +25,8 @@ pub fn is_named(word: &[u8], name: &[u8]) -> bool
     word.eq_ignore_ascii_case(name)
 }
 
-/// What a text is meant as, by its first word: a job where that is `road`, a sweep where it
-/// is `sweep`, and else a check.
+/// What a text is meant to be, by its first word: a job where that is `road`, a sweep where it is `sweep`, and
+/// else a check.
 pub fn subject_of(text: &[u8]) -> Subject
     ensures { result ≡ subject_of (lines_of text.now) }
 {

@@ -73,8 +73,8 @@ pub fn gets_further(
     Ok(is_behind(text, number, mended, fault))
 }
 
-/// Whether the first fault of a text, if it has one, is no line up to that of a number which is not the one
-/// that must stand there.
+/// Whether the first fault of a text, if it has one, is not that a line up to the one of a number is the
+/// wrong line.
 fn is_past(number: u32, fault: Option<(u32, Cause)>) -> bool
     ensures { result ≡ true → IsPast number fault }
 {

@@ -1,6 +1,5 @@
 //! Chances as decimals.
 
-use crate::lines::push_both;
 use std::alloc::AllocError;
 use trlab_bounds::programs::CERTAIN;
 use trlab_diagnosis::behind_rule;
@@ -43,12 +42,11 @@ fn push_chance(page: &mut Page, parts: u32) -> Result<(), AllocError> {
     page.number(u64::from(parts))?;
     page.say(" is ")?;
     push_decimal(page, parts)?;
-    let words = if parts != 0 && parts <= SMALL {
+    page.line(if parts != 0 && parts <= SMALL {
         ", which is below one in a million: chances are parts of 2147483648."
     } else {
         "."
-    };
-    push_both(page, "", words)
+    })
 }
 
 /// Adds the chances of a rule, each as a decimal.

@@ -4,23 +4,23 @@ pub mod causes;
 mod findings;
 mod forms;
 mod hints;
-mod mends;
+mod line_forms;
 mod part;
-mod spots;
+mod repairs;
 
 use crate::fault::causes::meaning_of_cause;
 use crate::fault::findings::push_finding;
 use crate::fault::forms::{INSTRUCTIONS, form_of};
 use crate::fault::hints::look_at;
-use crate::fault::mends::push_mend;
+use crate::fault::line_forms::{EXPECTED_OF_CHECK, push_wanted};
 use crate::fault::part::push_part_refusal;
-use crate::fault::spots::{EXPECTED_OF_CHECK, push_wanted};
+use crate::fault::repairs::push_repair;
 use crate::lines::{push_both, push_count, push_meaning};
 use crate::numbered::reason_of;
 use std::alloc::{AllocError, Global};
 use trlab_asm::{Why, mnemonic_named};
 use trlab_code::CodeFault;
-use trlab_diagnosis::{Wanted, finding_of, likely_repair, wanted_at};
+use trlab_diagnosis::{LineName, finding_of, likely_repair, wanted_at};
 use trlab_pages::Page;
 use trlab_repairs::{Place, Subject, name_and_operands};
 use trlab_road::RoadFault;
@@ -36,7 +36,7 @@ struct Fault<'a> {
     place: Place<'a>,
     cause: Cause,
     /// The lines that may stand there, where they are asked for.
-    wanted: &'a [Wanted],
+    wanted: &'a [LineName],
 }
 
 impl<'a> Fault<'a> {
@@ -72,7 +72,7 @@ fn push_expected(page: &mut Page, fault: &Fault<'_>) -> Result<(), AllocError> {
     if fault.subject == Subject::Check {
         return page.line(EXPECTED_OF_CHECK);
     }
-    match Wanted::named(head_word(fault.line())) {
+    match LineName::named(head_word(fault.line())) {
         Some(line) if fault.cause != Cause::Line => push_wanted(page, &[line]),
         _ => push_wanted(page, fault.wanted),
     }
@@ -90,6 +90,15 @@ fn push_form(page: &mut Page, line: &[u8]) -> Result<(), AllocError> {
     }
 }
 
+/// Adds what had to stand in a line of a program, where it is more than the cause tells.
+fn push_program_form(page: &mut Page, line: &[u8], why: Why) -> Result<(), AllocError> {
+    match why {
+        Why::Word => page.line(INSTRUCTIONS),
+        Why::Operand | Why::Number => push_form(page, line),
+        Why::LabelTwice | Why::NoLabel | Why::TooLong | Why::Empty | Why::Memory => Ok(()),
+    }
+}
+
 /// Adds why the program at a fault is refused, where the verifier refuses it.
 fn push_refusal_of(alloc: Global, page: &mut Page, fault: &Fault<'_>) -> Result<(), AllocError> {
     match reason_of(fault.cause) {
@@ -102,10 +111,11 @@ fn push_refusal_of(alloc: Global, page: &mut Page, fault: &Fault<'_>) -> Result<
 fn push_expectation(alloc: Global, page: &mut Page, fault: &Fault<'_>) -> Result<(), AllocError> {
     match fault.cause {
         Cause::Line | Cause::Number | Cause::Key | Cause::Order => push_expected(page, fault),
-        Cause::Program(Why::Operand | Why::Number) => push_form(page, fault.line()),
-        Cause::Program(Why::Word) => page.line(INSTRUCTIONS),
+        Cause::Program(why) => push_program_form(page, fault.line(), why),
+        Cause::Code(_) | Cause::Road(_) => push_place(page, fault.cause),
         Cause::Verdict(_) => push_refusal_of(alloc, page, fault),
-        cause => push_place(page, cause),
+        Cause::OneLane | Cause::TooMany | Cause::Work => Ok(()),
+        Cause::Hex | Cause::TooBig | Cause::StandardRefused => Ok(()),
     }
 }
 
@@ -129,14 +139,14 @@ const NO_HEADING: &str =
 fn lacks_heading(fault: &Fault<'_>) -> bool {
     let may_begin = match fault.subject {
         Subject::Check => fault.place.number == 1,
-        _ => fault.wanted.contains(&Wanted::Motion) || fault.wanted.contains(&Wanted::Change),
+        _ => fault.wanted.contains(&LineName::Motion) || fault.wanted.contains(&LineName::Change),
     };
     let (name, _) = name_and_operands(fault.line());
     fault.cause == Cause::Line && may_begin && mnemonic_named(name).is_some()
 }
 
 /// Adds a repair that is likely, or else what to look at where nothing was found.
-fn push_repair(
+fn push_repair_or_hint(
     alloc: Global,
     page: &mut Page,
     fault: &Fault<'_>,
@@ -149,7 +159,7 @@ fn push_repair(
         wanted,
     } = *fault;
     match likely_repair(alloc, subject, place, cause, wanted)? {
-        Some(repair) => push_mend(page, &place, &repair),
+        Some(repair) => push_repair(page, &place, &repair),
         None if is_found => Ok(()),
         None if lacks_heading(fault) => page.line(NO_HEADING),
         None => push_hint(page, cause),
@@ -168,7 +178,7 @@ fn push_fault(alloc: Global, page: &mut Page, fault: &Fault<'_>) -> Result<(), A
     if let Some(finding) = finding {
         push_finding(page, finding)?;
     }
-    push_repair(alloc, page, fault, finding.is_some())
+    push_repair_or_hint(alloc, page, fault, finding.is_some())
 }
 
 /// The lines that may stand at a fault, where they are asked for.
@@ -177,7 +187,7 @@ fn wanted_lines(
     subject: Subject,
     place: &Place<'_>,
     cause: Cause,
-) -> Result<Vec<Wanted>, AllocError> {
+) -> Result<Vec<LineName>, AllocError> {
     if cause == Cause::Line && subject != Subject::Check {
         wanted_at(alloc, subject, place)
     } else {
@@ -185,7 +195,7 @@ fn wanted_lines(
     }
 }
 
-/// What is told of the first fault of a text, at a place, which its head stands above.
+/// What is told of the first fault of a text, at a place, below the head of its page.
 ///
 /// # Errors
 ///

@@ -1,7 +1,6 @@
-//! The causes and reasons of numbers.
+//! The causes of numbers, and the reasons of causes.
 
-ghost use Rattle.std.specs.Prelude.{◌≡◌, ◌<◌, ◌⊎◌, IfSome, None};
-ghost use Rattle.trlab_notes.specs.Reasons.{reason_number};
+ghost use Rattle.std.specs.Prelude.{◌≡◌, IfSome};
 ghost use Rattle.trlab_texts.specs.Causes.{cause_number};
 
 use trlab_asm::Why;
@@ -10,8 +9,8 @@ use trlab_notes::Reason;
 use trlab_road::RoadFault;
 use trlab_texts::Cause;
 
-/// The greatest number of a reason.
-const MOST_REASON: u32 = 12;
+/// By how much the number of a cause is above that of its reason.
+const BEFORE_REASONS: u32 = 40;
 
 /// The causes that a text may be refused for; of those that name a place in it, one for any place.
 const CAUSES: [Cause; 30] = [
@@ -47,32 +46,10 @@ const CAUSES: [Cause; 30] = [
     Cause::StandardRefused,
 ];
 
-/// The reason of a number, where the verifier may have it.
-pub fn reason_numbered(number: u32) -> Option<Reason>
-    ensures number { IfSome result (λ reason. reason_number reason ≡ number) }
-    ensures none { result ≡ None → (number ≡ 0) ⊎ (12 < number) }
-{
-    match number {
-        1 => Some(Reason::Unreachable),
-        2 => Some(Reason::WrongProgram),
-        3 => Some(Reason::MaybeUnset),
-        4 => Some(Reason::WrongValue),
-        5 => Some(Reason::JumpsBack),
-        6 => Some(Reason::JumpsOut),
-        7 => Some(Reason::FallsOut),
-        8 => Some(Reason::MaybeTooLarge),
-        9 => Some(Reason::MaybeBelowZero),
-        10 => Some(Reason::MaybeAboveGap),
-        11 => Some(Reason::MaybeAboveLimit),
-        12 => Some(Reason::MaybeOccupied),
-        _ => None,
-    }
-}
-
 /// The reason of a cause, where the verifier refuses a program.
 pub fn reason_of(cause: Cause) -> Option<Reason> {
     match cause {
-        Cause::Verdict(number) => reason_numbered(number),
+        Cause::Verdict(number) => Reason::from_number(number),
         _ => None,
     }
 }
@@ -86,10 +63,6 @@ pub fn cause_numbered(number: u32) -> Option<Cause>
             return Some(cause);
         }
     }
-    for reason in 1..=MOST_REASON {
-        if Cause::Verdict(reason).number() == u64::from(number) {
-            return Some(Cause::Verdict(reason));
-        }
-    }
-    None
+    let reason = Reason::from_number(number.checked_sub(BEFORE_REASONS)?)?;
+    Some(Cause::Verdict(reason.number()))
 }

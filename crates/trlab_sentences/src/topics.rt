@@ -3,8 +3,8 @@
 use crate::fault::causes::meaning_of_cause;
 use crate::fault::push_hint;
 use crate::lines::push_both;
-use crate::numbered::{cause_numbered, reason_numbered, reason_of};
-use crate::verdict::reasons::{meaning_of_reason, repair_of_reason};
+use crate::numbered::{cause_numbered, reason_of};
+use crate::verdict::reasons::{advice_on_reason, meaning_of_reason};
 use std::alloc::{AllocError, Global};
 use trlab_code::Kind;
 use trlab_notes::Reason;
@@ -12,7 +12,7 @@ use trlab_pages::Page;
 use trlab_texts::Cause;
 
 /// What has a number that a refusal tells.
-#[derive(Clone, Copy, Debug, PartialEq, Eq)]
+#[derive(Clone, Copy)]
 pub enum Topic {
     /// The cause of a line `fault line N cause K`.
     Cause,
@@ -21,9 +21,9 @@ pub enum Topic {
 }
 
 /// Adds what is advised for a reason.
-fn push_repairs(page: &mut Page, reason: Reason) -> Result<(), AllocError> {
-    let motion = repair_of_reason(reason, Kind::Motion);
-    let change = repair_of_reason(reason, Kind::Change);
+fn push_advice(page: &mut Page, reason: Reason) -> Result<(), AllocError> {
+    let motion = advice_on_reason(reason, Kind::Motion);
+    let change = advice_on_reason(reason, Kind::Change);
     if motion == change {
         return push_both(page, "Advice: ", motion);
     }
@@ -41,7 +41,7 @@ fn push_reason_of(page: &mut Page, cause: Cause) -> Result<(), AllocError> {
         "It is refused for this reason: ",
         meaning_of_reason(reason),
     )?;
-    push_repairs(page, reason)
+    push_advice(page, reason)
 }
 
 /// Adds what is told of a cause behind its number.
@@ -57,7 +57,7 @@ fn push_cause(page: &mut Page, cause: Cause) -> Result<(), AllocError> {
 /// Adds what is told of a reason behind its number.
 fn push_reason(page: &mut Page, reason: Reason) -> Result<(), AllocError> {
     page.line(meaning_of_reason(reason))?;
-    push_repairs(page, reason)?;
+    push_advice(page, reason)?;
     page.line(
         "`trlab explain < FILE` tells it of a program that has it; docs/PROGRAMS.md has all reasons.",
     )
@@ -65,7 +65,7 @@ fn push_reason(page: &mut Page, reason: Reason) -> Result<(), AllocError> {
 
 /// Adds what is told of a number behind it, and answers whether there is no such number.
 fn push_number(page: &mut Page, topic: Topic, number: u32) -> Result<bool, AllocError> {
-    match (topic, cause_numbered(number), reason_numbered(number)) {
+    match (topic, cause_numbered(number), Reason::from_number(number)) {
         (Topic::Cause, Some(cause), _) => push_cause(page, cause)?,
         (Topic::Reason, _, Some(reason)) => push_reason(page, reason)?,
         _ => {
@@ -76,7 +76,7 @@ fn push_number(page: &mut Page, topic: Topic, number: u32) -> Result<bool, Alloc
     Ok(false)
 }
 
-/// Whether there is no such number, and what is told of it, which its head stands above.
+/// Whether there is no such number, and what is told of it below the head of its page.
 ///
 /// # Errors
 ///

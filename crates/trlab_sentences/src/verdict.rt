@@ -3,12 +3,10 @@
 mod accepted;
 pub mod instr_lines;
 mod marks;
-mod operands;
 pub mod placed;
 pub mod reasons;
 pub mod refusal;
 
-use crate::numbered::reason_numbered;
 use crate::verdict::accepted::push_accepted;
 use crate::verdict::instr_lines::instr_lines;
 use crate::verdict::placed::Placed;
@@ -77,7 +75,7 @@ pub fn accepted_page(
     verdict_page(alloc, text, code, Verdict::Accepted(budget))
 }
 
-/// What is told of a program that is refused for the reason of a number, which its head stands above.
+/// What is told, below the head of its page, of a program that is refused for the reason of a number.
 ///
 /// # Errors
 ///
@@ -88,7 +86,7 @@ pub fn refused_words(
     code: &Code,
     reason: u32,
 ) -> Result<Page, AllocError> {
-    match reason_numbered(reason) {
+    match Reason::from_number(reason) {
         Some(reason) => verdict_page(alloc, text, code, Verdict::Refused(reason)),
         None => Ok(Page::new(alloc)),
     }

@@ -14,9 +14,9 @@ use trlab_repairs::Subject;
 use trlab_sentences::Topic;
 
 /// What is explained.
-#[derive(Clone, Copy, Debug, PartialEq, Eq)]
+#[derive(Clone, Copy)]
 pub enum Explaining {
-    /// The text on standard input, as what it is wanted to be, or as what its first word says.
+    /// The text on standard input, read as this, or else as what its first word says.
     Text(Option<Subject>),
     /// What the cause or the reason of a number means.
     Number(Topic, u32),

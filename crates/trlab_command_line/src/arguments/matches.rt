@@ -3,7 +3,7 @@
 ghost use Rattle.std.specs.Prelude.{◌≡◌, ℕ, ◌≤◌, ◌<◌, ◌^◌};
 ghost use Rattle.clap.specs.Words.{Text, rows_of};
 ghost use Rattle.clap.specs.Matches.{found_of};
-ghost use Rattle.trlab_command_line.specs.Numbers.{GivesFlag, GivesNumber, HasFlag, HasValue, HasValueFrom, MayHaveNumber, number_in};
+ghost use Rattle.trlab_command_line.specs.Numbers.{GivesFlag, GivesNumber, HasFlag, HasValueFrom, MayHaveNumber, number_in};
 
 use clap::ArgMatches;
 
@@ -24,7 +24,7 @@ pub fn number_of(matches: &ArgMatches, option: &str) -> u32
 
 /// The number that an option from 1 to 16 has among the matches of its command.
 pub fn count_of(matches: &ArgMatches, option: &str) -> u32
-    requires { (v : Text) × HasValue (option.now) 16 (rows_of (found_of matches.now)) v }
+    requires { (v : Text) × HasValueFrom (option.now) 1 16 (rows_of (found_of matches.now)) v }
     ensures number { GivesNumber (option.now) (rows_of (found_of matches.now)) result }
     ensures some { 1 ≤ result }
     ensures few { result ≤ 16 }

@@ -3,7 +3,7 @@
 use crate::candidates::Candidates;
 use crate::digits::{digits_at, first_no_digit};
 use crate::draft::Put;
-use trlab_repairs::Why;
+use trlab_repairs::Slip;
 
 /// The digit that a letter was meant to be.
 fn digit_of(letter: u8) -> Option<u8> {
@@ -20,19 +20,19 @@ pub fn hex_candidates(list: &mut Candidates<'_>) {
         return;
     };
     if word.starts_with(b"0x") {
-        list.in_line(Why::Digits, at, 2, Put::Bytes(b""));
+        list.in_line(Slip::Digits, at, 2, Put::Bytes(b""));
     }
     let Some((place, letter)) = first_no_digit(word) else {
         return;
     };
     if let Some(digit) = digit_of(letter) {
-        list.in_line(Why::Digits, at.saturating_add(place), 1, Put::Byte(digit));
+        list.in_line(Slip::Digits, at.saturating_add(place), 1, Put::Byte(digit));
     }
 }
 
 /// Adds version 1 in place of version 2, which no instruction of the program wants.
 pub fn version_candidate(list: &mut Candidates<'_>) {
     if let Some((at, _)) = digits_at(list.line) {
-        list.in_line(Why::Version, at.saturating_add(8), 2, Put::Bytes(b"01"));
+        list.in_line(Slip::Version, at.saturating_add(8), 2, Put::Bytes(b"01"));
     }
 }

@@ -1,4 +1,4 @@
-//! Candidates for jumps to labels that there are not.
+//! Candidates for jumps to labels that are missing.
 
 use crate::alike::Choice;
 use crate::candidates::Candidates;
@@ -6,11 +6,11 @@ use crate::candidates::program::is_program_head;
 use crate::draft::Put;
 use crate::operands::{OperandWord, operand_at_fault};
 use std::alloc::{AllocError, Global};
-use trlab_asm::Why as Wrong;
+use trlab_asm::Why;
 use trlab_lines::{label_and_rest, next_line, without_comment};
-use trlab_repairs::{Place, Why};
+use trlab_repairs::{Place, Slip};
 
-/// A choice of labels once one more line was looked at, before which so many bytes stand.
+/// A choice of labels once one more line was looked at, before which `at` bytes stand.
 fn choice_behind(
     alloc: Global,
     word: &[u8],
@@ -24,7 +24,7 @@ fn choice_behind(
     }
 }
 
-/// The label of the same program as the line of a place that is spelled nearly as a word, where it is one alone.
+/// The label that is spelled most nearly as a word, where it is one alone, in the program of a place.
 fn nearest_label(alloc: Global, place: &Place<'_>, word: &[u8]) -> Result<Choice, AllocError> {
     let text = place.text;
     let mut best = Choice::to(word);
@@ -46,14 +46,14 @@ fn nearest_label(alloc: Global, place: &Place<'_>, word: &[u8]) -> Result<Choice
     Ok(best)
 }
 
-/// Adds the label that is spelled nearly as the one to which a line jumps and which its program has not.
+/// Adds the label that is spelled nearly as the one to which a line jumps and which its program lacks.
 pub fn label_candidate(list: &mut Candidates<'_>) -> Result<(), AllocError> {
-    let Some(OperandWord { at, word, .. }) = operand_at_fault(list.line, Wrong::NoLabel) else {
+    let Some(OperandWord { at, word, .. }) = operand_at_fault(list.line, Why::NoLabel) else {
         return Ok(());
     };
     let label = nearest_label(list.alloc, &list.place, word)?;
     if let Some((start, length)) = label.found {
-        list.in_line(Why::Label, at, word.len(), Put::Copied(start, length));
+        list.in_line(Slip::Label, at, word.len(), Put::Copied(start, length));
     }
     Ok(())
 }

@@ -5,39 +5,39 @@ use crate::candidates::Candidates;
 use crate::candidates::number::density_candidate;
 use crate::candidates::program::end_candidates;
 use crate::draft::{Put, has_odd_blanks};
+use crate::line_name::{CHECK_NAMES, LineName, is_name_of_line};
 use crate::rules::{RULES, behind_rule};
-use crate::wanted::{CHECK_NAMES, Wanted, is_name_of_line};
 use std::alloc::AllocError;
 use trlab_asm::mnemonic_named;
 use trlab_lines::cut;
-use trlab_repairs::{Subject, Why, is_named, name_and_operands, subject_of};
+use trlab_repairs::{Slip, Subject, is_named, name_and_operands, subject_of};
 use trlab_texts::word::{behind, head_word};
 
-/// The longest line that is written anew.
+/// The longest line that is rewritten.
 const LONGEST_LINE: usize = 120;
 
 /// Words of other laboratories, and the names that lines have here.
-const OTHER_WORDS: [(&[u8], Wanted); 14] = [
-    (b"density", Wanted::Cars),
-    (b"count", Wanted::Cars),
-    (b"seed", Wanted::Key),
-    (b"vmax", Wanted::Limit),
-    (b"speed", Wanted::Limit),
-    (b"maxspeed", Wanted::Limit),
-    (b"cells", Wanted::Length),
-    (b"size", Wanted::Length),
-    (b"model", Wanted::Rule),
-    (b"time", Wanted::Steps),
-    (b"iterations", Wanted::Steps),
-    (b"warmup", Wanted::Warm),
-    (b"transient", Wanted::Warm),
-    (b"sample", Wanted::Measure),
+const OTHER_WORDS: [(&[u8], LineName); 14] = [
+    (b"density", LineName::Cars),
+    (b"count", LineName::Cars),
+    (b"seed", LineName::Key),
+    (b"vmax", LineName::Limit),
+    (b"speed", LineName::Limit),
+    (b"maxspeed", LineName::Limit),
+    (b"cells", LineName::Length),
+    (b"size", LineName::Length),
+    (b"model", LineName::Rule),
+    (b"time", LineName::Steps),
+    (b"iterations", LineName::Steps),
+    (b"warmup", LineName::Warm),
+    (b"transient", LineName::Warm),
+    (b"sample", LineName::Measure),
 ];
 
 /// Adds a line with the blanks that it should have: none at an end, and one space between two words.
 fn blanks_candidate(list: &mut Candidates<'_>) {
     if list.line.len() <= LONGEST_LINE && has_odd_blanks(list.line) {
-        list.whole_line(Why::Blanks, Put::Spaced);
+        list.whole_line(Slip::Blanks, Put::Spaced);
     }
 }
 
@@ -62,19 +62,19 @@ fn comment_candidate(list: &mut Candidates<'_>, byte: u8) {
     let kept = end_of_words(front);
     let gone = list.line.len().saturating_sub(kept);
     if kept == 0 {
-        list.without_line(Why::Comment);
+        list.without_line(Slip::Comment);
     } else {
-        list.in_line(Why::Comment, kept, gone, Put::Bytes(b""));
+        list.in_line(Slip::Comment, kept, gone, Put::Bytes(b""));
     }
 }
 
 /// Adds what is odd about a line, whatever has to stand there.
 fn odd_candidates(list: &mut Candidates<'_>) {
     if behind(b"\xef\xbb\xbf", list.line).is_some() {
-        list.in_line(Why::ByteOrderMark, 0, 3, Put::Bytes(b""));
+        list.in_line(Slip::ByteOrderMark, 0, 3, Put::Bytes(b""));
     }
     if list.line.is_empty() {
-        list.without_line(Why::Empty);
+        list.without_line(Slip::Empty);
     }
     blanks_candidate(list);
     comment_candidate(list, b';');
@@ -85,15 +85,15 @@ fn odd_candidates(list: &mut Candidates<'_>) {
 fn first_word_candidate(list: &mut Candidates<'_>, name: Option<&'static [u8]>) {
     if let Some(name) = name {
         let word = head_word(list.line);
-        list.in_line(Why::Name, 0, word.len(), Put::Bytes(name));
+        list.in_line(Slip::Name, 0, word.len(), Put::Bytes(name));
     }
 }
 
 /// The name of a line that may stand there, for a word of other laboratories.
-fn name_of_other(word: &[u8], wanted: &[Wanted]) -> Option<&'static [u8]> {
+fn name_of_other(word: &[u8], wanted: &[LineName]) -> Option<&'static [u8]> {
     for pair in &OTHER_WORDS {
         if is_named(word, pair.0) && wanted.contains(&pair.1) {
-            return Some(pair.1.name());
+            return Some(pair.1.word());
         }
     }
     None
@@ -101,11 +101,11 @@ fn name_of_other(word: &[u8], wanted: &[Wanted]) -> Option<&'static [u8]> {
 
 /// Adds the names of lines that may stand there and that the first word is spelled nearly as, or means
 /// elsewhere.
-fn name_candidates(list: &mut Candidates<'_>, wanted: &[Wanted]) -> Result<(), AllocError> {
+fn name_candidates(list: &mut Candidates<'_>, wanted: &[LineName]) -> Result<(), AllocError> {
     let word = head_word(list.line);
     let name = nearest(list.alloc, word, wanted)?;
     first_word_candidate(list, name);
-    if is_named(word, b"density") && wanted.contains(&Wanted::Cars) {
+    if is_named(word, b"density") && wanted.contains(&LineName::Cars) {
         density_candidate(list);
     }
     first_word_candidate(list, name_of_other(word, wanted));
@@ -120,25 +120,25 @@ fn rule_candidate(list: &mut Candidates<'_>) -> Result<(), AllocError> {
     let name = head_word(rest);
     if let Some(meant) = nearest(list.alloc, name, &RULES)? {
         let at = list.line.len().saturating_sub(rest.len());
-        list.in_line(Why::Name, at, name.len(), Put::Bytes(meant));
+        list.in_line(Slip::Name, at, name.len(), Put::Bytes(meant));
     }
     Ok(())
 }
 
 /// Adds the first line of a program above an instruction.
-fn heading_candidates(list: &mut Candidates<'_>, wanted: &[Wanted]) {
-    for line in &[Wanted::Motion, Wanted::Change] {
+fn heading_candidates(list: &mut Candidates<'_>, wanted: &[LineName]) {
+    for line in &[LineName::Motion, LineName::Change] {
         if list.subject == Subject::Check || wanted.contains(line) {
-            list.above(Why::Heading, *line);
+            list.above(Slip::Heading, *line);
         }
     }
 }
 
 /// Adds above the place each line that may stand there and needs no program behind it.
-fn lone_candidates(list: &mut Candidates<'_>, why: Why, wanted: &[Wanted]) {
+fn lone_candidates(list: &mut Candidates<'_>, slip: Slip, wanted: &[LineName]) {
     for line in wanted {
         if line.stands_alone() {
-            list.above(why, *line);
+            list.above(slip, *line);
         }
     }
 }
@@ -147,7 +147,7 @@ fn lone_candidates(list: &mut Candidates<'_>, why: Why, wanted: &[Wanted]) {
 fn command_candidate(list: &mut Candidates<'_>) {
     let other = subject_of(list.line);
     if list.place.number == 1 && other != list.subject {
-        list.edit(Why::Other(other), 0, 0, Put::Bytes(b""));
+        list.edit(Slip::OtherCommand(other), 0, 0, Put::Bytes(b""));
     }
 }
 
@@ -156,21 +156,21 @@ fn check_candidates(list: &mut Candidates<'_>) -> Result<(), AllocError> {
     let word = head_word(list.line);
     let name = nearest(list.alloc, word, &CHECK_NAMES)?;
     first_word_candidate(list, name);
-    list.without_line(Why::Late);
+    list.without_line(Slip::Late);
     Ok(())
 }
 
-/// Adds the lines that a text wants which has ended too early.
-fn ended_candidates(list: &mut Candidates<'_>, wanted: &[Wanted]) -> Result<(), AllocError> {
-    if wanted.contains(&Wanted::End) {
+/// Adds the lines that are missing at the end of a text.
+fn ended_candidates(list: &mut Candidates<'_>, wanted: &[LineName]) -> Result<(), AllocError> {
+    if wanted.contains(&LineName::End) {
         return end_candidates(list);
     }
-    lone_candidates(list, Why::Ended, wanted);
+    lone_candidates(list, Slip::Ended, wanted);
     Ok(())
 }
 
 /// Adds candidates for a line that is not the one that must stand there, where these may.
-pub fn line_candidates(list: &mut Candidates<'_>, wanted: &[Wanted]) -> Result<(), AllocError> {
+pub fn line_candidates(list: &mut Candidates<'_>, wanted: &[LineName]) -> Result<(), AllocError> {
     if list.place.line.is_none() {
         return ended_candidates(list, wanted);
     }
@@ -186,8 +186,8 @@ pub fn line_candidates(list: &mut Candidates<'_>, wanted: &[Wanted]) -> Result<(
     name_candidates(list, wanted)?;
     rule_candidate(list)?;
     if is_name_of_line(head_word(list.line)) {
-        lone_candidates(list, Why::Missing, wanted);
-        list.without_line(Why::Late);
+        lone_candidates(list, Slip::Missing, wanted);
+        list.without_line(Slip::Late);
     }
     Ok(())
 }

@@ -7,7 +7,7 @@ use crate::numbers::{NumberWord, first_wrong_number, fraction_of, nearest_part};
 use trlab_bounds::programs::CERTAIN;
 use trlab_bounds::roads::{GREATEST_LENGTH, MOST_LANES};
 use trlab_lines::cut;
-use trlab_repairs::Why;
+use trlab_repairs::Slip;
 use trlab_texts::word::number_behind;
 
 /// The number of a line above the one at fault that is a name and a number, or 0.
@@ -16,34 +16,37 @@ fn number_of_line(list: &Candidates<'_>, number: u32, name: &[u8], most: u32) ->
     number_behind(name, 1, most, line).unwrap_or(0)
 }
 
+/// The line of a sweep text with the length of its roads.
+const LENGTH_LINE: u32 = 4;
+
 /// How many cells the roads of a sweep have, as its lines `length n` and `lanes n` say.
 fn cells_of(list: &Candidates<'_>) -> u32 {
-    let length = number_of_line(list, 4, b"length ", GREATEST_LENGTH);
+    let length = number_of_line(list, LENGTH_LINE, b"length ", GREATEST_LENGTH);
     let lanes = number_of_line(list, LANES_LINE, b"lanes ", MOST_LANES);
     length.saturating_mul(lanes)
 }
 
-/// The number that a word may mean, and why: a share of these, or a whole number.
-fn meaning_of(word: &[u8], of_whole: Option<(Why, u32)>) -> Option<(Why, u64)> {
+/// The number that a word may mean, a share of a whole or a number by itself, and what was got wrong.
+fn meaning_of(word: &[u8], of_whole: Option<(Slip, u32)>) -> Option<(Slip, u64)> {
     let fraction = fraction_of(word)?;
-    if let Some((why, whole)) = of_whole {
+    if let Some((slip, whole)) = of_whole {
         if let Some(number) = nearest_part(fraction, whole) {
-            return Some((why, u64::from(number)));
+            return Some((slip, u64::from(number)));
         }
     }
-    Some((Why::Digits, fraction.whole()?))
+    Some((Slip::Digits, fraction.whole()?))
 }
 
 /// Adds the number that a word may mean which stands at a byte of the line.
-fn meanings(list: &mut Candidates<'_>, at: usize, word: &[u8], of_whole: Option<(Why, u32)>) {
-    if let Some((why, number)) = meaning_of(word, of_whole) {
-        list.in_line(why, at, word.len(), Put::Number("", number));
+fn meanings(list: &mut Candidates<'_>, at: usize, word: &[u8], of_whole: Option<(Slip, u32)>) {
+    if let Some((slip, number)) = meaning_of(word, of_whole) {
+        list.in_line(slip, at, word.len(), Put::Number("", number));
     }
 }
 
 /// Adds what a chance may mean that stands at a byte of the line, in parts of 2^31.
 pub fn chance_candidates(list: &mut Candidates<'_>, at: usize, word: &[u8]) {
-    meanings(list, at, word, Some((Why::Parts, CERTAIN)));
+    meanings(list, at, word, Some((Slip::Parts, CERTAIN)));
 }
 
 /// Adds what a number may mean that stands at a byte of the line.
@@ -60,16 +63,16 @@ fn count_of_density(list: &Candidates<'_>) -> Option<u32> {
 /// Adds the line `cars n` for a line `density x`.
 pub fn density_candidate(list: &mut Candidates<'_>) {
     if let Some(count) = count_of_density(list) {
-        list.whole_line(Why::Count, Put::Number("cars ", u64::from(count)));
+        list.whole_line(Slip::Count, Put::Number("cars ", u64::from(count)));
     }
 }
 
 /// Of what a number of a line may be a share: a chance of 2^31 parts, cars of the cells.
-fn whole_of(list: &Candidates<'_>, name: &[u8]) -> Option<(Why, u32)> {
+fn whole_of(list: &Candidates<'_>, name: &[u8]) -> Option<(Slip, u32)> {
     if name == b"chance".as_slice() {
-        Some((Why::Parts, CERTAIN))
+        Some((Slip::Parts, CERTAIN))
     } else if name == b"cars".as_slice() {
-        Some((Why::Count, cells_of(list)))
+        Some((Slip::Count, cells_of(list)))
     } else {
         None
     }

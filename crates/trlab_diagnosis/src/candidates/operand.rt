@@ -7,9 +7,9 @@ use crate::candidates::program::other_comment_candidates;
 use crate::draft::Put;
 use crate::operands::{Operand, OperandWord, operand_at_fault};
 use std::alloc::AllocError;
-use trlab_asm::{INPUTS, REGISTERS, Why as Wrong};
+use trlab_asm::{INPUTS, REGISTERS, Why};
 use trlab_lines::{is_numeral, without_indent};
-use trlab_repairs::{Why, name_and_operands, start_of_name};
+use trlab_repairs::{Slip, name_and_operands, start_of_name};
 use trlab_texts::word::behind;
 
 /// Adds the name of one of these that a word is spelled nearly as. A number is none, also behind an `r`.
@@ -23,7 +23,7 @@ fn name_candidate<T: Spelled>(
         return Ok(());
     }
     if let Some(meant) = nearest(list.alloc, word, names)? {
-        list.in_line(Why::Name, at, word.len(), Put::Bytes(meant));
+        list.in_line(Slip::Name, at, word.len(), Put::Bytes(meant));
     }
     Ok(())
 }
@@ -35,7 +35,7 @@ fn word_candidate(list: &mut Candidates<'_>, found: OperandWord<'_>) -> Result<(
         Operand::Register | Operand::Result => return name_candidate(list, &REGISTERS, at, word),
         Operand::Input => return name_candidate(list, &INPUTS, at, word),
         Operand::Target if is_numeral(word) => {
-            list.in_line(Why::Target, at, 0, Put::Bytes(b"@"));
+            list.in_line(Slip::Target, at, 0, Put::Bytes(b"@"));
         }
         Operand::Target => {}
         Operand::Chance => chance_candidates(list, at, word),
@@ -52,13 +52,13 @@ fn comma_candidate(list: &mut Candidates<'_>) {
         .len()
         .saturating_add(operands.len().saturating_sub(gone));
     let at = start_of_name(list.line).saturating_add(before);
-    list.in_line(Why::Comma, at, gone, Put::Listed);
+    list.in_line(Slip::Comma, at, gone, Put::Listed);
 }
 
 /// Adds candidates for a line whose operands are wrong.
-pub fn operand_candidates(list: &mut Candidates<'_>, wrong: Wrong) -> Result<(), AllocError> {
+pub fn operand_candidates(list: &mut Candidates<'_>, why: Why) -> Result<(), AllocError> {
     other_comment_candidates(list);
-    match operand_at_fault(list.line, wrong) {
+    match operand_at_fault(list.line, why) {
         Some(found) => word_candidate(list, found),
         None => {
             comma_candidate(list);

@@ -3,11 +3,11 @@
 use crate::alike::{edits_within, is_spelled, nearest};
 use crate::candidates::Candidates;
 use crate::draft::Put;
-use crate::wanted::Wanted;
+use crate::line_name::LineName;
 use std::alloc::{AllocError, Global};
 use trlab_asm::{MNEMONICS, is_label, mnemonic_named};
 use trlab_lines::{cut, label_and_rest, next_line, without_comment};
-use trlab_repairs::{Subject, Why, name_and_operands, start_of_name};
+use trlab_repairs::{Slip, Subject, name_and_operands, start_of_name};
 use trlab_texts::word::head_word;
 
 /// The first words of the lines behind which a program begins.
@@ -33,7 +33,7 @@ fn is_like_end(alloc: Global, line: &[u8]) -> Result<bool, AllocError> {
     Ok(edits_within(alloc, name, b"end", 1)?.is_some())
 }
 
-/// What was seen of the last program of a text that does not end: where it may have had to.
+/// Where the line `end` may be missing in the last program of a text, by the lines seen so far.
 #[derive(Clone, Copy)]
 struct Ending {
     /// How many bytes stand before the line that may be `end` with something beside it, and how many it has.
@@ -43,7 +43,7 @@ struct Ending {
 }
 
 impl Ending {
-    /// Behind one more line, before which so many bytes stand.
+    /// After one more line, before which `at` bytes stand.
     fn behind(self, alloc: Global, at: usize, line: &[u8]) -> Result<Ending, AllocError> {
         let Ending { beside, next } = self;
         if is_program_head(line) {
@@ -68,7 +68,7 @@ impl Ending {
     }
 }
 
-/// Where the last program of a text may have had to end.
+/// Where the line `end` may be missing in the last program of a text.
 fn ending_of(alloc: Global, text: &[u8]) -> Result<Ending, AllocError> {
     let mut ending = Ending {
         beside: None,
@@ -86,38 +86,38 @@ fn ending_of(alloc: Global, text: &[u8]) -> Result<Ending, AllocError> {
     Ok(ending)
 }
 
-/// Adds the line `end` where the last program of a text that has ended may have had to end.
+/// Adds the line `end` where it may be missing in the last program of a text, which has ended.
 pub fn end_candidates(list: &mut Candidates<'_>) -> Result<(), AllocError> {
     let Ending { beside, next } = ending_of(list.alloc, list.place.text)?;
     if let Some((at, length)) = beside {
-        list.edit(Why::End, at, length, Put::Bytes(b"end"));
+        list.edit(Slip::End, at, length, Put::Bytes(b"end"));
     }
     if let Some(at) = next {
-        list.edit(Why::Endless, at, 0, Put::Bytes(b"end\n"));
+        list.edit(Slip::Endless, at, 0, Put::Bytes(b"end\n"));
     }
-    list.above(Why::Endless, Wanted::End);
+    list.above(Slip::Endless, LineName::End);
     Ok(())
 }
 
-/// Adds `;` where a comment begins as in other languages.
+/// Puts `;` where a comment begins as in other languages.
 pub fn other_comment_candidates(list: &mut Candidates<'_>) {
     let line = without_comment(list.line);
     if let Some((front, _)) = cut(line, b'#') {
-        list.in_line(Why::OtherComment, front.len(), 1, Put::Byte(b';'));
+        list.in_line(Slip::OtherComment, front.len(), 1, Put::Byte(b';'));
     }
     if let Some((front, rest)) = cut(line, b'/') {
         if rest.first() == Some(&b'/') {
-            list.in_line(Why::OtherComment, front.len(), 2, Put::Byte(b';'));
+            list.in_line(Slip::OtherComment, front.len(), 2, Put::Byte(b';'));
         }
     }
 }
 
-/// Adds what is meant by a line of a program that is like `end`: in a check text none is wanted.
+/// Puts `end` in the place of a line that is like it, or drops that in a check text, which has no such line.
 fn like_end_candidate(list: &mut Candidates<'_>) {
     if list.subject == Subject::Check {
-        list.without_line(Why::NoEnd);
+        list.without_line(Slip::NeedlessEnd);
     } else {
-        list.whole_line(Why::End, Put::Bytes(b"end"));
+        list.whole_line(Slip::End, Put::Bytes(b"end"));
     }
 }
 
@@ -127,7 +127,7 @@ pub fn word_candidates(list: &mut Candidates<'_>) -> Result<(), AllocError> {
     let (label, _) = label_and_rest(without_comment(list.line));
     let (name, _) = name_and_operands(list.line);
     if list.subject != Subject::Check && is_spelled(&NEXT_NAMES, name) {
-        list.above(Why::Endless, Wanted::End);
+        list.above(Slip::Endless, LineName::End);
     }
     if is_like_end(list.alloc, list.line)? {
         like_end_candidate(list);
@@ -137,7 +137,7 @@ pub fn word_candidates(list: &mut Candidates<'_>) -> Result<(), AllocError> {
     }
     if let Some(meant) = nearest(list.alloc, name, &MNEMONICS)? {
         let at = start_of_name(list.line);
-        list.in_line(Why::Name, at, name.len(), Put::Bytes(meant));
+        list.in_line(Slip::Name, at, name.len(), Put::Bytes(meant));
     }
     Ok(())
 }

@@ -2,7 +2,7 @@
 
 use crate::candidates::Candidates;
 use crate::draft::Put;
-use trlab_repairs::{Place, Subject, Why};
+use trlab_repairs::{Place, Slip, Subject};
 use trlab_texts::word::behind;
 
 /// The longest lane beside which an empty one is put.
@@ -14,13 +14,16 @@ pub const LANE_LINE: u32 = 4;
 /// The line of a sweep text with its count of lanes.
 pub const LANES_LINE: u32 = 5;
 
+/// How many bytes of the line of a lane stand before its cells.
+pub const FRONT: usize = 5;
+
 /// Adds the small letter in place of a capital at a cell.
 pub fn cell_candidate(list: &mut Candidates<'_>, cell: u32) {
-    let place = (cell as usize).saturating_add(5);
+    let place = FRONT.saturating_add(cell as usize);
     if let Some(letter) = list.line.get(place) {
         if letter.is_ascii_uppercase() {
             let small = letter.to_ascii_lowercase();
-            list.in_line(Why::Letter, place, 1, Put::Byte(small));
+            list.in_line(Slip::Letter, place, 1, Put::Byte(small));
         }
     }
 }
@@ -31,7 +34,7 @@ fn second_lane_candidate(list: &mut Candidates<'_>, place: Place<'_>) {
     if let Some(lane) = behind(b"lane ", line) {
         if lane.len() <= LONGEST_LANE {
             let end = place.start.saturating_add(line.len());
-            list.edit(Why::Lanes, end.saturating_add(1), 0, Put::Lane(lane.len()));
+            list.edit(Slip::Lanes, end.saturating_add(1), 0, Put::Lane(lane.len()));
         }
     }
 }
@@ -46,7 +49,7 @@ pub fn lanes_candidate(list: &mut Candidates<'_>) {
         Subject::Sweep => {
             let Place { start, line, .. } = list.place.line_above(LANES_LINE);
             let gone = line.unwrap_or(b"").len();
-            list.edit(Why::Lanes, start, gone, Put::Bytes(b"lanes 2"));
+            list.edit(Slip::Lanes, start, gone, Put::Bytes(b"lanes 2"));
         }
         Subject::Check => {}
     }

@@ -8,7 +8,7 @@ use trlab_lines::{label_and_rest, without_comment};
 use trlab_repairs::name_and_operands;
 
 /// Whether what stands before `:` is no label.
-pub fn label_finding(line: &[u8]) -> Option<Finding<'_>> {
+fn label_finding(line: &[u8]) -> Option<Finding<'_>> {
     let (label, _) = label_and_rest(without_comment(line));
     match label {
         Some(label) if !is_label(label) => Some(Finding::NoLabel(label)),
@@ -30,8 +30,8 @@ fn count_operands(operands: &[u8]) -> u64 {
     count
 }
 
-/// Which operand of an instruction has not its form, or that there are too many or too few.
-pub fn operand_finding(line: &[u8]) -> Option<Finding<'_>> {
+/// Which operand of an instruction is not of its form, or that there are too many or too few.
+fn operand_finding(line: &[u8]) -> Option<Finding<'_>> {
     let (name, operands) = name_and_operands(line);
     let found = count_operands(operands);
     let wanted = operands_of(mnemonic_named(name)?).len() as u64;
@@ -45,7 +45,17 @@ pub fn operand_finding(line: &[u8]) -> Option<Finding<'_>> {
 }
 
 /// Which number of an instruction is outside its range.
-pub fn operand_number_finding(line: &[u8]) -> Option<Finding<'_>> {
+fn operand_number_finding(line: &[u8]) -> Option<Finding<'_>> {
     let found = operand_at_fault(line, Why::Number)?;
     Some(number_finding(found.word, found.operand.range()?))
+}
+
+/// What is wrong with a line of a program, if it is more than the cause tells.
+pub fn program_finding(line: &[u8], why: Why) -> Option<Finding<'_>> {
+    match why {
+        Why::Word => label_finding(line),
+        Why::Operand => operand_finding(line),
+        Why::Number => operand_number_finding(line),
+        Why::LabelTwice | Why::NoLabel | Why::TooLong | Why::Empty | Why::Memory => None,
+    }
 }

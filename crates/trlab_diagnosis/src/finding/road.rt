@@ -1,6 +1,6 @@
 //! Findings in the lanes of a road.
 
-use crate::candidates::LANE_LINE;
+use crate::candidates::{FRONT, LANE_LINE};
 use crate::finding::Finding;
 use trlab_bounds::roads::GREATEST_LIMIT;
 use trlab_repairs::Place;
@@ -8,9 +8,6 @@ use trlab_texts::word::number_behind;
 
 /// The line of a job text with its limit.
 const LIMIT_LINE: u32 = 3;
-
-/// How many bytes stand before the cells of a lane.
-const FRONT: usize = 5;
 
 /// How many cells the lane of a line has.
 fn cells_of(line: Option<&[u8]>) -> u64 {

@@ -2,9 +2,9 @@
 
 use crate::alike::is_spelled;
 use crate::finding::Finding;
+use crate::line_name::{LineName, is_name};
 use crate::numbers::{NumberWord, Range, first_wrong_number};
 use crate::rules::{behind_rule, rule_named};
-use crate::wanted::{Wanted, is_name};
 use trlab_lines::{cut, next_line};
 use trlab_repairs::{Place, oddity_of};
 use trlab_texts::word::{head_word, long_number};
@@ -20,7 +20,7 @@ fn count_words(text: &[u8]) -> u64 {
     count
 }
 
-/// How many chances the rule of a line has, where it wants more or fewer.
+/// How many chances the rule of a line has, where it needs more or fewer.
 fn rule_finding(line: &[u8]) -> Option<Finding<'_>> {
     let words = behind_rule(line)?;
     let found = count_words(words).saturating_sub(1);
@@ -33,9 +33,9 @@ fn rule_finding(line: &[u8]) -> Option<Finding<'_>> {
 }
 
 /// What is wrong with a line that is not the one that must stand there, where these may.
-pub fn line_finding<'a>(place: &Place<'a>, wanted: &[Wanted]) -> Option<Finding<'a>> {
+pub fn line_finding<'a>(place: &Place<'a>, wanted: &[LineName]) -> Option<Finding<'a>> {
     let Some(line) = place.line else {
-        return Some(if wanted.contains(&Wanted::End) {
+        return Some(if wanted.contains(&LineName::End) {
             Finding::Endless
         } else {
             Finding::Ended

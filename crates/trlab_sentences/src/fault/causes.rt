@@ -60,7 +60,7 @@ fn meaning_of_code_fault(fault: CodeFault) -> &'static str {
 /// What a fault of a road's pictures means.
 fn meaning_of_road_fault(fault: RoadFault) -> &'static str {
     match fault {
-        RoadFault::Length => "A lane is too long, or the two lanes have not one length.",
+        RoadFault::Length => "A lane is too long, or the two lanes differ in length.",
         RoadFault::Character { .. } => "A character of this lane shows no cell.",
         RoadFault::SpeedAboveLimit { .. } => "A car of this lane is faster than the limit.",
         RoadFault::Lanes => "A road has one lane or two.",

@@ -12,7 +12,7 @@ fn odd_words(oddity: Oddity) -> &'static str {
         Oddity::ByteOrderMark => "the text begins with a byte order mark: save it as plain ASCII.",
         Oddity::CarriageReturn =>
             "the line has a carriage return: end lines with LF alone, not as Windows does.",
-        Oddity::Empty => "the line is empty: there are no empty lines but in programs.",
+        Oddity::Empty => "the line is empty: empty lines may stand in programs alone.",
         Oddity::Tab => "the line has a tab: one space stands between two words.",
         Oddity::FirstSpace => "the line begins with a space.",
         Oddity::FinalSpace => "the line ends with a space.",

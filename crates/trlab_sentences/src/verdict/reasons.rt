@@ -1,4 +1,4 @@
-//! What the verifier's reasons mean, in words, and their usual repairs.
+//! What the verifier's reasons mean, in words, and what is advised for each.
 
 use trlab_code::Kind;
 use trlab_notes::Reason;
@@ -24,8 +24,8 @@ pub fn meaning_of_reason(reason: Reason) -> &'static str {
     }
 }
 
-/// What usually mends a reason, in a program of a kind.
-pub fn repair_of_reason(reason: Reason, kind: Kind) -> &'static str {
+/// What is advised for a reason, in a program of a kind: it usually helps, and is not tried.
+pub fn advice_on_reason(reason: Reason, kind: Kind) -> &'static str {
     match reason {
         Reason::Unreachable =>
             "drop the instruction, or let the jump above it depend on something.",

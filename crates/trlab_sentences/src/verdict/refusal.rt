@@ -1,15 +1,14 @@
-//! The explanation of a refused program: the instruction, the reason, what the verifier knows there,
-//! and the usual repair.
+//! The explanation of a refused program: the instruction, the reason, what the verifier knows there, and what
+//! is advised.
 
 use crate::lines::{push_both, push_count, push_meaning, push_pieces};
 use crate::verdict::marks::push_known;
-use crate::verdict::operands::{leads_to, operands};
 use crate::verdict::placed::{Placed, push_instruction};
-use crate::verdict::reasons::{meaning_of_reason, repair_of_reason};
+use crate::verdict::reasons::{advice_on_reason, meaning_of_reason};
 use std::alloc::{AllocError, Global};
 use trlab_asm::register_text;
 use trlab_code::{Instr, Register};
-use trlab_notes::Reason;
+use trlab_notes::{Operands, Reason};
 use trlab_pages::Page;
 use trlab_verify::{Mark, Note, notes_of_refused};
 
@@ -26,29 +25,19 @@ struct Refused<'a> {
     notes: &'a [Note],
 }
 
-/// Adds what a note says of a register that is read, if one is.
-fn push_operand(
-    page: &mut Page,
-    note: &Note,
-    register: Option<Register>,
-) -> Result<(), AllocError> {
-    match register {
-        Some(register) => push_known(page, "", note, register),
-        None => Ok(()),
-    }
-}
-
 /// Adds what the note before an instruction says of the registers that it reads.
 fn push_operands(page: &mut Page, note: &Note, instr: Instr) -> Result<(), AllocError> {
-    let (first, second) = operands(instr);
-    if first.is_some() {
-        page.line("What is known before it:")?;
-    }
-    push_operand(page, note, first)?;
+    let (first, second) = match Operands::of(instr) {
+        Operands::Nothing => return Ok(()),
+        Operands::Value(a) | Operands::Number(a) | Operands::Flag(a) => (a, a),
+        Operands::Numbers(a, b) | Operands::Flags(a, b) => (a, b),
+    };
+    page.line("What is known before it:")?;
+    push_known(page, "", note, first)?;
     if first == second {
         return Ok(());
     }
-    push_operand(page, note, second)
+    push_known(page, "", note, second)
 }
 
 /// The greatest number that a note knows of a register.
@@ -112,15 +101,22 @@ fn push_why(page: &mut Page, reason: Reason, note: &Note, instr: Instr) -> Resul
     }
 }
 
+/// Whether a way leads from the instruction at a pc to the refused one.
+fn is_way(refused: &Refused<'_>, pc: u32) -> bool {
+    match refused.program.code.instrs().get(pc as usize) {
+        Some(instr) => {
+            let falls = instr.falls() && pc.checked_add(1) == Some(refused.at);
+            falls || instr.target() == Some(refused.at)
+        }
+        None => false,
+    }
+}
+
 /// How many ways lead to the refused instruction.
 fn count_ways(refused: &Refused<'_>) -> u32 {
     let mut ways = 0u32;
     for pc in 0..refused.at {
-        if leads_to(
-            refused.program.code.instrs(),
-            pc as usize,
-            refused.at as usize,
-        ) {
+        if is_way(refused, pc) {
             ways = ways.saturating_add(1);
         }
     }
@@ -134,11 +130,7 @@ fn push_ways(page: &mut Page, refused: &Refused<'_>) -> Result<(), AllocError> {
     }
     page.line("Several ways lead to it, and only what all of them know is known there:")?;
     for pc in 0..refused.at {
-        if leads_to(
-            refused.program.code.instrs(),
-            pc as usize,
-            refused.at as usize,
-        ) {
+        if is_way(refused, pc) {
             push_instruction(page, refused.program, pc)?;
         }
     }
@@ -179,8 +171,8 @@ fn push_refusal(page: &mut Page, refused: &Refused<'_>) -> Result<(), AllocError
         push_note(page, refused)?;
         push_ways(page, refused)?;
     }
-    let repair = repair_of_reason(refused.reason, refused.program.code.kind());
-    push_both(page, "Advice: ", repair)
+    let advice = advice_on_reason(refused.reason, refused.program.code.kind());
+    push_both(page, "Advice: ", advice)
 }
 
 /// The refused instruction, by the reason and by how many instructions have notes: one to which no way leads

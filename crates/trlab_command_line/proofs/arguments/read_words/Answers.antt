@@ -10,8 +10,8 @@ use Rattle.trlab_command_line.proofs.Alone.{asks_its_name, explain_alone, run_al
 use Rattle.trlab_command_line.proofs.Matches.{fault_some, met, met_some}
 use Rattle.trlab_command_line.proofs.arguments.read_words.Goals as goal
 
-pub wanted_of-requires : goal.wanted_of-requires
-wanted_of-requires c =
+pub request_of-requires : goal.request_of-requires
+request_of-requires c =
     let words = map string_bytes c.args.arguments.now in
     let parsed = c.in_ok-matches.ensures in
     (met _ words c.in_ok-matches.matches c.subcommand.result c.in_ok-command_line.ensures parsed.matches parsed.kinds c.subcommand.ensures.name c.subcommand.ensures.rows _ c.in-Some.is).is_entered
@@ -28,18 +28,18 @@ returns c =
     let parsed = c.in_ok-matches.ensures in
     let got = met _ words c.in_ok-matches.matches c.subcommand.result c.in_ok-command_line.ensures parsed.matches parsed.kinds c.subcommand.ensures.name c.subcommand.ensures.rows _ c.in-Some.is in
     let rows = rows_of (found_of c.in-Some.entered.now) in
-    let asked = c.wanted_of.ensures in
-    let answer : IfOk c.wanted_of.result (Asks (subcommand_of command_line words)) = subst (λ o. IfOk c.wanted_of.result (Asks o)) (sym got.at) asked.answer in
+    let asked = c.request_of.ensures in
+    let answer : IfOk c.request_of.result (Asks (subcommand_of command_line words)) = subst (λ o. IfOk c.request_of.result (Asks o)) (sym got.at) asked.answer in
     record {
       answer = answer;
-      fault = subst (λ o. FailsBy (or_else (fault_of command_line words) (pair_fault o)) c.wanted_of.result) (sym got.at)
-          (subst (λ f. FailsBy (or_else f (pair_fault (Some (c.in-Some.name.now, rows)))) c.wanted_of.result) (sym got.fault) asked.fault);
+      fault = subst (λ o. FailsBy (or_else (fault_of command_line words) (pair_fault o)) c.request_of.result) (sym got.at)
+          (subst (λ f. FailsBy (or_else f (pair_fault (Some (c.in-Some.name.now, rows)))) c.request_of.result) (sym got.fault) asked.fault);
       counts = asked.counts;
-      named = IfOk-weaker c.wanted_of.result _ _ (λ wanted a. (got.first.0, got.first.1 ∙ ap (λ n. n ∷ got.first.0) (asks_its_name _ _ wanted a))) asked.answer;
-      one = λ e. IfOk-weaker c.wanted_of.result _ _ (λ wanted a. run_alone wanted (subst (λ ws. Asks (subcommand_of command_line ws) wanted) e a)) answer;
-      ones = λ e. IfOk-weaker c.wanted_of.result _ _ (λ wanted a. sweep_alone wanted (subst (λ ws. Asks (subcommand_of command_line ws) wanted) e a)) answer;
-      every_step = λ e. IfOk-weaker c.wanted_of.result _ _ (λ wanted a. series_alone wanted (subst (λ ws. Asks (subcommand_of command_line ws) wanted) e a)) answer;
-      any_text = λ e. IfOk-weaker c.wanted_of.result _ _ (λ wanted a. explain_alone wanted (subst (λ ws. Asks (subcommand_of command_line ws) wanted) e a)) answer;
+      named = IfOk-weaker c.request_of.result _ _ (λ request a. (got.first.0, got.first.1 ∙ ap (λ n. n ∷ got.first.0) (asks_its_name _ _ request a))) asked.answer;
+      run_alone = λ e. IfOk-weaker c.request_of.result _ _ (λ request a. run_alone request (subst (λ ws. Asks (subcommand_of command_line ws) request) e a)) answer;
+      sweep_alone = λ e. IfOk-weaker c.request_of.result _ _ (λ request a. sweep_alone request (subst (λ ws. Asks (subcommand_of command_line ws) request) e a)) answer;
+      series_alone = λ e. IfOk-weaker c.request_of.result _ _ (λ request a. series_alone request (subst (λ ws. Asks (subcommand_of command_line ws) request) e a)) answer;
+      explain_alone = λ e. IfOk-weaker c.request_of.result _ _ (λ request a. explain_alone request (subst (λ ws. Asks (subcommand_of command_line ws) request) e a)) answer;
     }
 
 pub returns-in_err-matches-clause-fault : goal.returns-in_err-matches-clause-fault

@@ -1,9 +1,9 @@
-//! Repairs, in words: why a change may be meant, and the change.
+//! Repairs, in words: what was got wrong, and the change.
 
 use crate::lines::{Filled, push_both, push_filled};
 use std::alloc::AllocError;
 use trlab_pages::Page;
-use trlab_repairs::{Change, Edit, Place, Repair, Subject, Why};
+use trlab_repairs::{Change, Edit, Place, Repair, Slip, Subject};
 
 /// The command that reads a text.
 fn command_words(subject: Subject) -> &'static str {
@@ -14,35 +14,35 @@ fn command_words(subject: Subject) -> &'static str {
     }
 }
 
-/// Why a change may be meant.
-fn words_of(why: Why) -> &'static str {
-    match why {
-        Why::ByteOrderMark => "the text begins with a byte order mark: save it as plain ASCII.",
-        Why::CarriageReturn =>
+/// What the writer of a text most likely got wrong.
+fn words_of(slip: Slip) -> &'static str {
+    match slip {
+        Slip::ByteOrderMark => "the text begins with a byte order mark: save it as plain ASCII.",
+        Slip::CarriageReturn =>
             "the line ends with a carriage return: end all lines with LF alone, not as Windows does.",
-        Why::Blanks => "one space stands between two words, and none at an end.",
-        Why::Comment => "comments may stand in programs alone.",
-        Why::OtherComment => "a comment begins with `;`.",
-        Why::Empty => "there are no empty lines but in programs.",
-        Why::Other(_) => "the text is for another command.",
-        Why::Name => "another name may be meant.",
-        Why::Heading => "the first line of the program is missing.",
-        Why::Missing => "a line is missing above this one, such as this.",
-        Why::Late => "this line stands elsewhere, or once only.",
-        Why::Ended => "the text has ended, and a line is missing, such as this.",
-        Why::Endless => "the program has no line `end`.",
-        Why::End => "the last line of a program is `end`, with nothing beside it.",
-        Why::NoEnd =>
+        Slip::Blanks => "one space stands between two words, and none at an end.",
+        Slip::Comment => "comments may stand in programs alone.",
+        Slip::OtherComment => "a comment begins with `;`.",
+        Slip::Empty => "empty lines may stand in programs alone.",
+        Slip::OtherCommand(_) => "the text is for another command.",
+        Slip::Name => "another name may be meant.",
+        Slip::Heading => "the first line of the program is missing.",
+        Slip::Missing => "a line is missing above this one, such as this.",
+        Slip::Late => "this line stands elsewhere, or once only.",
+        Slip::Ended => "the text has ended, and a line is missing, such as this.",
+        Slip::Endless => "the program has no line `end`.",
+        Slip::End => "the last line of a program is `end`, with nothing beside it.",
+        Slip::NeedlessEnd =>
             "the program of a check text has no line `end`: it goes on to the end of the text.",
-        Why::Parts => "a chance is written in parts of 2147483648.",
-        Why::Count => "cars are counted: this is the share of the cells of the road.",
-        Why::Digits => "it is written in digits alone.",
-        Why::Label => "another label may be meant.",
-        Why::Comma => "put a comma between two operands.",
-        Why::Target => "`@` stands in front of the number of an instruction.",
-        Why::Lanes => "the rule wants two lanes; or take a rule without a lane change.",
-        Why::Letter => "a car is a digit or a small letter.",
-        Why::Version => "the version is 1 where no instruction reads `headspeed`.",
+        Slip::Parts => "a chance is written in parts of 2147483648.",
+        Slip::Count => "cars are counted: this is the share of the cells of the road.",
+        Slip::Digits => "it is written in digits alone.",
+        Slip::Label => "another label may be meant.",
+        Slip::Comma => "put a comma between two operands.",
+        Slip::Target => "`@` stands in front of the number of an instruction.",
+        Slip::Lanes => "the rule wants two lanes; or take a rule without a lane change.",
+        Slip::Letter => "a car is a digit or a small letter.",
+        Slip::Version => "the version is 1 where no instruction reads `headspeed`.",
     }
 }
 
@@ -94,7 +94,7 @@ fn words_of_change(before: usize, length: usize, edit: &Edit) -> &'static str {
     }
 }
 
-/// The bytes of a line that go, behind so many others.
+/// The bytes of a line that are replaced, by how many stand before them.
 fn gone_of(line: &[u8], before: usize, gone: usize) -> &[u8] {
     let (_, rest) = line.split_at(before.min(line.len()));
     let (gone, _) = rest.split_at(gone.min(rest.len()));
@@ -128,8 +128,8 @@ fn push_edit(page: &mut Page, fault: &Place<'_>, edit: &Edit) -> Result<(), Allo
 /// # Errors
 ///
 /// Where memory ran out.
-pub fn push_mend(page: &mut Page, fault: &Place<'_>, repair: &Repair) -> Result<(), AllocError> {
-    push_both(page, "Repair: ", words_of(repair.why))?;
+pub fn push_repair(page: &mut Page, fault: &Place<'_>, repair: &Repair) -> Result<(), AllocError> {
+    push_both(page, "Repair: ", words_of(repair.slip))?;
     match &repair.change {
         Change::Edited(edit) => push_edit(page, fault, edit),
         Change::ReadAs(other) => push_both(page, "Read it by ", command_words(*other)),

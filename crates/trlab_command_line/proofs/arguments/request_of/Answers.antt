@@ -4,7 +4,7 @@ use Rattle.clap.specs.Words.{found_of, rows_of}
 use Rattle.trlab_command_line.specs.Requests.{IsEntered}
 use Rattle.trlab_command_line.proofs.CommandLine.{entered_name}
 use Rattle.trlab_command_line.proofs.Levels.{explain, flag_of as flag_has, number_of as number_has, option_of, run, series, sweep}
-use Rattle.trlab_command_line.proofs.arguments.wanted_of.Goals as goal
+use Rattle.trlab_command_line.proofs.arguments.request_of.Goals as goal
 
 pub count_of-requires : goal.count_of-requires
 count_of-requires c =
