@@ -1,6 +1,12 @@
-//! What tests of the shared book have in common: new books, jobs of few cars, calls, and what histories say of calls.
+//! What the tests of the book have in common.
 
-pub mod blanks;
+pub mod answers;
+pub mod books;
 pub mod calls;
+pub mod held;
 pub mod histories;
 pub mod jobs;
+pub mod meeting;
+pub mod replies;
+pub mod shown;
+pub mod table;
