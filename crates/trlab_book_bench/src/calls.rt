@@ -12,6 +12,15 @@ use trlab_sequential_book::{BookFault, Event, Seed};
 use trlab_strands::{Blank, Ledger};
 use trlab_words::{Chance, Key};
 
+/// A call that is timed.
+#[derive(Clone, Copy)]
+pub enum Timed {
+    /// A read of the job.
+    Read,
+    /// A revoke of the job's lease, which is refused, since none is out.
+    Refused,
+}
+
 /// How many cells the lane has, a car in each.
 const CELLS: u32 = 100000;
 
@@ -37,50 +46,48 @@ fn submit<L: Ledger, R: Wait>(
         .ok()
 }
 
-/// Reads the job, or else revokes its lease, which is not out. Whether that was answered so.
+/// Makes a call, and says whether it was answered as it has to be.
 fn is_made<L: Ledger, R: Wait>(
     rt: &R,
     alloc: Global,
     book: &SharedBook<L>,
     desk: &mut Desk<L>,
-    reads: bool,
+    timed: Timed,
 ) -> bool {
-    if reads {
-        book.read(rt, alloc, desk, 0).is_ok()
-    } else {
-        book.revoke(rt, desk, 0) == Err(BookFault::StrangerLease)
+    match timed {
+        Timed::Read => book.read(rt, alloc, desk, 0).is_ok(),
+        Timed::Refused => book.revoke(rt, desk, 0) == Err(BookFault::StrangerLease),
     }
 }
 
-/// The same so many times.
+/// Makes a call so many times, and says whether each was answered as it has to be.
 fn are_made<L: Ledger, R: Wait>(
     rt: &R,
     alloc: Global,
     book: &SharedBook<L>,
     desk: &mut Desk<L>,
-    reads: bool,
+    timed: Timed,
     count: u32,
 ) -> bool {
     for _ in 0..count {
-        if !is_made(rt, alloc, book, desk, reads) {
+        if !is_made(rt, alloc, book, desk, timed) {
             return false;
         }
     }
     true
 }
 
-/// Makes so many calls of a new book with one job: reads of the job, or else revokes of a lease that is not
-/// out. Whether each call was answered so.
+/// Makes a call of a new book with one job so many times, and says whether each was answered as it has to be.
 pub fn make_calls<L: Ledger, R: Wait>(
     rt: &R,
     alloc: Global,
     blank: Blank<Event>,
-    reads: bool,
+    timed: Timed,
     count: u32,
 ) -> bool
     requires name { name_of blank ≡ L.name }
 {
     let (book, mut desk) = SharedBook::<L>::start(alloc, blank);
     submit(rt, alloc, &book, &mut desk).is_some()
-        && are_made(rt, alloc, &book, &mut desk, reads, count)
+        && are_made(rt, alloc, &book, &mut desk, timed, count)
 }

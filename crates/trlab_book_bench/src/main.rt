@@ -1,10 +1,10 @@
 //! What the bench of the book times: `read N` reads a job N times, whose road is a full lane of 100000
-//! cells, and `refused N` makes N calls that are refused. Without such words it does nothing.
+//! cells, and `refused N` makes N calls that are refused. Without two words it does nothing.
 #![tactic(auto)]
 
 mod calls;
 
-use crate::calls::make_calls;
+use crate::calls::{Timed, make_calls};
 use std::marker::Brand;
 use std::process::ExitCode;
 use std::rt::Env;
@@ -28,13 +28,24 @@ fn given_words(rt: &(impl Env + AllocGlobal)) -> io::Result<Vec<String>> {
     Ok(env::args(rt)?.skip(1).collect::<Vec<String>>(rt.alloc())?)
 }
 
-/// Makes so many calls as the second word says, and says whether they were answered as they have to be.
+/// The call that a word names.
+fn timed_of(kind: &str) -> Option<Timed> {
+    if kind == "read" {
+        Some(Timed::Read)
+    } else if kind == "refused" {
+        Some(Timed::Refused)
+    } else {
+        None
+    }
+}
+
+/// Makes as many calls as the second word says, and says whether each was answered as it has to be.
 fn is_done<R: AllocGlobal + Wait>(rt: &R, kind: &str, count: &str) -> bool {
-    let Ok(count) = count.parse::<u32>() else {
+    let (Some(timed), Ok(count)) = (timed_of(kind), count.parse::<u32>()) else {
         return false;
     };
     let Ok(blank) = Blank::new(rt.alloc()) else {
         return false;
     };
-    make_calls::<Brand, R>(rt, rt.alloc(), blank, kind == "read", count)
+    make_calls::<Brand, R>(rt, rt.alloc(), blank, timed, count)
 }

@@ -4,12 +4,12 @@
 ghost use Rattle.std.specs.Prelude.{◌≡◌};
 ghost use Rattle.trlab_strands.specs.Tokens.{name_of};
 
-use crate::replies::{ordered, own, seen, went_out};
-use crate::shown::{Shown, is_rule, show};
-use crate::table::Table;
-use crate::trials::blanks::new_blank;
-use crate::trials::histories::{Made, is_history};
-use crate::trials::jobs::{ALWAYS, NEVER, shows};
+use crate::common::books::new_blank;
+use crate::common::histories::{Made, is_history};
+use crate::common::jobs::{ALWAYS, NEVER};
+use crate::common::replies::{ordered, own, seen, went_out};
+use crate::common::shown::{Shown, are_shown, has_picture, is_rule};
+use crate::common::table::Table;
 use std::alloc::Global;
 use std::marker::Brand;
 use std::sync::Wait;
@@ -21,15 +21,14 @@ use trlab_strands::{Blank, Ledger};
 fn has_rule(alloc: Global, call: &Call) -> bool {
     match call {
         Call::Submit(from, rule, _) => {
-            is_rule(alloc, rule.get(), NEVER)
-                && shows(alloc, &from.get().road, b"0.0.......") == Some(true)
+            is_rule(alloc, rule.get(), NEVER) && has_picture(alloc, &from.get().road, b"0.0.......")
         }
         Call::Replace(_, rule) => is_rule(alloc, rule.get(), ALWAYS),
         _ => true,
     }
 }
 
-/// Whether a history has the seeds and the rules that were given; not so where memory runs out.
+/// Whether a history has the seeds and the rules that were given; false where memory ran out.
 fn is_given(alloc: Global, history: &[Event]) -> bool {
     for event in history {
         if !has_rule(alloc, &event.call) {
@@ -39,8 +38,8 @@ fn is_given(alloc: Global, history: &[Event]) -> bool {
     true
 }
 
-/// Whether a history has these calls, with the seeds and the rules that they were given. Where memory runs
-/// out it is looked once more.
+/// Whether a history has these calls, with the seeds and the rules that they were given. Where memory ran out
+/// it is looked at once more.
 fn is_as_made(alloc: Global, history: &[Event], calls: &[(Made, Reply)]) -> bool {
     is_history(history, calls) && (is_given(alloc, history) || is_given(alloc, history))
 }
@@ -57,7 +56,7 @@ fn leave_in<L: Ledger, R: Wait>(
     requires name { name_of blank ≡ L.name }
 {
     let mut table = Table::<L>::start(alloc, blank, b"0.0.......", 0);
-    let made = table.make_all(rt, alloc, calls) && show(alloc, &table.reads, wanted);
+    let made = table.make_all(rt, alloc, calls) && are_shown(alloc, &table.reads, wanted);
     match table.close() {
         Some(history) => made && is_as_made(alloc, &history, calls),
         None => false,

@@ -5,11 +5,11 @@ ghost use Rattle.std.specs.Thread.{IsSend, IsSync};
 ghost use Rattle.trlab_book.specs.Desks.{parts_of};
 ghost use Rattle.trlab_strands.specs.Tokens.{name_of};
 
-use crate::ends::{events_of, history_of};
-use crate::trials::blanks::new_blank;
-use crate::trials::calls::{reads, replace, submit};
-use crate::trials::histories::{Made, is_event, is_history};
-use crate::trials::jobs::{NEVER, two_cars};
+use crate::common::books::{events_of, history_of, new_blank};
+use crate::common::calls::{reads, replace, submit};
+use crate::common::histories::{Made, is_event, is_history};
+use crate::common::jobs::{NEVER, two_cars};
+use crate::common::shown::Shown;
 use std::alloc::Global;
 use std::marker::Brand;
 use std::sync::Wait;
@@ -20,6 +20,9 @@ use trlab_strands::{Blank, Ledger};
 
 /// How many calls each of four threads makes.
 const CALLS: u32 = 50;
+
+/// What a read shows of a job that has taken no step.
+const NEW_JOB: Shown = (0, b"0.0.......", &[(0, false)]);
 
 /// The call with a number that a thread makes on its job, and the reply to it: it submits the job, and
 /// then replaces its rule and reads it by turns.
@@ -39,7 +42,7 @@ fn wanted(number: u32, job: u32) -> (Made, Reply) {
     }
 }
 
-/// Makes the call with a number, behind the first, on the job of a thread.
+/// Makes the call with a number, which is not the first, on the job of a thread.
 fn makes<L: Ledger, R: Wait>(
     rt: &R,
     alloc: Global,
@@ -51,7 +54,7 @@ fn makes<L: Ledger, R: Wait>(
     if number % 2 == 1 {
         replace(rt, alloc, book, desk, job, NEVER) == Ok(0)
     } else {
-        reads(rt, alloc, book, desk, job, (0, 1, b"0.0......."))
+        reads(rt, alloc, book, desk, job, NEW_JOB)
     }
 }
 
@@ -178,7 +181,7 @@ fn closed_by_both<L: Ledger, R: Wait>(
     mut mine: Desk<L>,
     theirs: Desk<L>,
 ) -> Option<(u32, u32, Vec<Event>)> {
-    if !reads(rt, alloc, &book, &mut mine, 0, (0, 1, b"0.0.......")) {
+    if !reads(rt, alloc, &book, &mut mine, 0, NEW_JOB) {
         return None;
     }
     let (some, one) = (mine.parts(), theirs.parts());
@@ -205,8 +208,8 @@ fn half_a_desk<L: Ledger, R: Wait>(
     }
 }
 
-/// Whether two desks have the parts of one that was split, and the history its submit, the revoke of the other
-/// and the read behind the close that was refused.
+/// Whether two desks have the parts of one that was split, and the history has the submit, the other's revoke and the
+/// read after the close that was refused.
 fn stayed(some: u32, one: u32, history: &[Event]) -> bool {
     let read = Reply::Seen {
         step: 0,

@@ -4,10 +4,10 @@ ghost use Rattle.std.specs.Prelude.{◌≡◌, ◌≤◌};
 ghost use Rattle.trlab_book.specs.Desks.{parts_of};
 ghost use Rattle.trlab_strands.specs.Tokens.{name_of};
 
-use crate::ends::{ended, history_of};
-use crate::trials::blanks::new_blank;
-use crate::trials::calls::{replace, submit};
-use crate::trials::jobs::{ALWAYS, is_road_alone, two_cars};
+use crate::common::answers::snapshot_told;
+use crate::common::books::{ended, history_of, new_blank};
+use crate::common::calls::{replace, submit};
+use crate::common::jobs::{ALWAYS, is_road_alone, two_cars};
 use std::alloc::Global;
 use std::marker::Brand;
 use std::sync::Wait;
@@ -88,14 +88,6 @@ fn is_end(alloc: Global, seen: &Snapshot, entered: Option<u32>) -> bool {
     seen.step() == 100 && has_entered(seen, entered) && is_road_alone(alloc, seen)
 }
 
-/// What a snapshot is in the history.
-fn told(seen: &Snapshot) -> Reply {
-    Reply::Seen {
-        step: seen.step(),
-        entries: seen.sheet().len() as u32,
-    }
-}
-
 /// Reads job 0, and answers what this is in the history, if the job has come to its end.
 fn read_end<L: Ledger, R: Wait>(
     rt: &R,
@@ -105,7 +97,7 @@ fn read_end<L: Ledger, R: Wait>(
     entered: Option<u32>,
 ) -> Option<Reply> {
     match book.read(rt, alloc, desk, 0) {
-        Ok(seen) => is_end(alloc, &seen, entered).then_some(told(&seen)),
+        Ok(seen) => is_end(alloc, &seen, entered).then_some(snapshot_told(&seen)),
         Err(_) => None,
     }
 }

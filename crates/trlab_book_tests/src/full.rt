@@ -1,12 +1,14 @@
-//! Full books: a sheet that has had all its rules, and a history that has had all its events.
+//! Full books: a book that has had all its jobs, a sheet that has had all its rules, and a history that has had all
+//! its events.
 
 ghost use Rattle.std.specs.Prelude.{◌≡◌, ◌<◌, ◌≤◌};
 ghost use Rattle.trlab_strands.specs.Tokens.{name_of};
 
-use crate::replies::{ordered, own, seen, went_out};
-use crate::table::Table;
-use crate::trials::blanks::new_blank;
-use crate::trials::histories::Made;
+use crate::common::books::new_blank;
+use crate::common::histories::Made;
+use crate::common::jobs::{crossing, seed_of, two_cars};
+use crate::common::replies::{ordered, own, seen, went_out};
+use crate::common::table::Table;
 use std::alloc::Global;
 use std::marker::Brand;
 use std::sync::Wait;
@@ -16,7 +18,7 @@ use trlab_segments::OpenGate;
 use trlab_sequential_book::{BookFault, Event, Offered, Reply};
 use trlab_strands::{Blank, Ledger};
 
-/// Whether so many calls of a job that there is not are events.
+/// Whether so many calls on a job that is not there are events.
 fn hears<L: Ledger, R: Wait>(rt: &R, alloc: Global, table: &mut Table<L>, calls: u32) -> bool {
     let refused = Reply::Refused(BookFault::NoSuchJob);
     for _ in 0..calls {
@@ -50,7 +52,7 @@ fn is_full<L: Ledger, R: Wait>(rt: &R, alloc: Global, table: &mut Table<L>) -> b
     true
 }
 
-/// Lets so many runners take the jobs of a book, and says whether they ended since the history was full.
+/// Has so many runners take the jobs of a book, and says whether they ended because the history was full.
 fn run<L: Ledger + Send + Sync, R: Threads + Wait + Sync>(
     rt: &R,
     alloc: Global,
@@ -81,7 +83,7 @@ fn fills<L: Ledger, R: Wait>(rt: &R, alloc: Global, table: &mut Table<L>) -> boo
 }
 
 /// The length of the history of a book in which a runner has come to the last event, by the first order of
-/// a lease, and each call behind that is refused, those of three runners too.
+/// a lease, and each call after that is refused, those of three runners too.
 fn full_history<L: Ledger + Send + Sync, R: Threads + Wait + Sync>(
     rt: &R,
     alloc: Global,
@@ -110,7 +112,7 @@ fn a_full_history_closes(rt: HostRuntime) {
     assert!(rt; found == Some(1000000));
 }
 
-/// Whether the rule of a job is replaced behind each of its first ordered steps.
+/// Whether the rule of a job is replaced after each of its first ordered steps.
 fn replaces<L: Ledger, R: Wait>(rt: &R, alloc: Global, table: &mut Table<L>, steps: u32) -> bool {
     for step in 0..steps {
         let calls = [
@@ -131,9 +133,9 @@ const LONG: Reply = Reply::Leased {
     steps: 2000,
 };
 
-const FRONT: [(Made, Reply); 2] = [(Made::Submit(2000), Reply::Number(0)), (Made::Lease, LONG)];
+const FIRST: [(Made, Reply); 2] = [(Made::Submit(2000), Reply::Number(0)), (Made::Lease, LONG)];
 
-const END: [(Made, Reply); 3] = [
+const LAST: [(Made, Reply); 3] = [
     (Made::Order(own!(0, 0, 1023)), ordered!(0, 1023, 1023)),
     (Made::Replace(0), Reply::Refused(BookFault::SheetFull)),
     (Made::Read(0), seen!(0, 1024)),
@@ -144,15 +146,70 @@ fn has_full_sheet<L: Ledger, R: Wait>(rt: &R, alloc: Global, blank: Blank<Event>
     requires name { name_of blank ≡ L.name }
 {
     let mut table = Table::<L>::start(alloc, blank, b"0", 0);
-    table.make_all(rt, alloc, &FRONT)
+    table.make_all(rt, alloc, &FIRST)
         && replaces(rt, alloc, &mut table, 1023)
-        && table.make_all(rt, alloc, &END)
+        && table.make_all(rt, alloc, &LAST)
 }
 
 #[test]
 fn a_sheet_has_1024_entries(rt: HostRuntime) {
     assert!(rt;
         has_full_sheet::<Brand, HostRuntime>(
+            &rt,
+            rt.alloc(),
+            new_blank(rt.alloc()).expect(&rt, "memory")
+        )
+    );
+}
+
+/// Whether a book takes jobs of these numbers.
+fn takes<L: Ledger, R: Wait>(
+    rt: &R,
+    alloc: Global,
+    table: &mut Table<L>,
+    from: u32,
+    to: u32,
+) -> bool {
+    for number in from..to {
+        if !table.answers(rt, alloc, Made::Submit(4), Reply::Number(number)) {
+            return false;
+        }
+    }
+    true
+}
+
+/// Whether a rule of two lanes is refused, for a new job and in place of the rule of job 0.
+fn refuses_two_lanes<L: Ledger, R: Wait>(
+    rt: &R,
+    alloc: Global,
+    table: &mut Table<L>,
+) -> Option<bool> {
+    let (book, desk) = (&table.book, &mut table.desk);
+    let rule = crossing(alloc)?;
+    let replaced = book.replace(rt, alloc, desk, 0, rule);
+    let rule = crossing(alloc)?;
+    let seed = seed_of(alloc, &two_cars(0, 4))?;
+    let submitted = book.submit(rt, alloc, desk, seed, rule, 4);
+    let refused = Err(BookFault::LanesMismatch);
+    Some(replaced == refused && submitted == refused)
+}
+
+/// Whether a book takes 256 jobs and no more, and refuses a rule of two lanes after the first and after the last.
+fn has_256_jobs<L: Ledger, R: Wait>(rt: &R, alloc: Global, blank: Blank<Event>) -> bool
+    requires name { name_of blank ≡ L.name }
+{
+    let mut table = Table::<L>::start(alloc, blank, b"0.0.......", 0);
+    takes(rt, alloc, &mut table, 0, 1)
+        && refuses_two_lanes(rt, alloc, &mut table) == Some(true)
+        && takes(rt, alloc, &mut table, 1, 256)
+        && table.answers(rt, alloc, Made::Submit(4), Reply::Refused(BookFault::Full))
+        && refuses_two_lanes(rt, alloc, &mut table) == Some(true)
+}
+
+#[test]
+fn a_book_has_256_jobs(rt: HostRuntime) {
+    assert!(rt;
+        has_256_jobs::<Brand, HostRuntime>(
             &rt,
             rt.alloc(),
             new_blank(rt.alloc()).expect(&rt, "memory")

@@ -3,11 +3,11 @@
 ghost use Rattle.std.specs.Prelude.{◌≡◌};
 ghost use Rattle.trlab_strands.specs.Tokens.{name_of};
 
-use crate::ends::{ended, history_of};
-use crate::meeting::waits_for;
-use crate::trials::blanks::new_blank;
-use crate::trials::calls::{Wanted, reads, replace, submit};
-use crate::trials::jobs::{ALWAYS, two_cars};
+use crate::common::books::{ended, history_of, new_blank};
+use crate::common::calls::{reads, replace, submit};
+use crate::common::jobs::{ALWAYS, two_cars};
+use crate::common::meeting::waits_for;
+use crate::common::shown::Shown;
 use std::alloc::Global;
 use std::marker::Brand;
 use std::sync::Wait;
@@ -32,7 +32,7 @@ impl Gate for Barrier {
     }
 }
 
-/// How the lease of a runner ends that stands at the barrier.
+/// How the lease of a runner ends that is held at the barrier.
 #[derive(Clone, Copy)]
 enum Ending {
     /// It is revoked, and the rule of its job replaced.
@@ -57,7 +57,7 @@ fn end_lease<L: Ledger, R: Wait>(
     }
 }
 
-/// Ends the lease of a runner that stands at the barrier, and lets it go on.
+/// Ends the lease of a runner that is held at the barrier, and lets it go on.
 fn end_held<L: Ledger, R: Wait>(
     rt: &R,
     alloc: Global,
@@ -108,16 +108,16 @@ fn run_held<L: Ledger + Send + Sync, R: Threads + Wait + Sync>(
     (book.gather(mine, theirs), ended && ran)
 }
 
-/// What is to be read of the job at the end: it has come to its end under two rules, or where it was
-/// cancelled stands where it did.
-fn end_of(ending: Ending) -> Wanted {
+/// What is to be read of the job at the end: it has come to its end under two rules, or has taken no step since it was
+/// cancelled.
+fn end_of(ending: Ending) -> Shown {
     match ending {
-        Ending::Revoked => (4, 2, b".0....1..."),
-        Ending::Cancelled => (0, 1, b"0.0......."),
+        Ending::Revoked => (4, b".0....1...", &[(0, false), (1, true)]),
+        Ending::Cancelled => (0, b"0.0.......", &[(0, false)]),
     }
 }
 
-/// Has a runner be held while the lease of a job ends, and says whether all is as it has to be.
+/// Has a runner held while the lease of a job ends, and says whether all is as it has to be.
 fn hold<L: Ledger + Send + Sync, R: Threads + Wait + Sync>(
     rt: &R,
     alloc: Global,

@@ -4,20 +4,20 @@
 ghost use Rattle.std.specs.Prelude.{◌≡◌};
 ghost use Rattle.trlab_strands.specs.Tokens.{name_of};
 
-use crate::replies::{ordered, own, seen, went_out};
-use crate::shown::{Shown, show};
-use crate::table::Table;
-use crate::trials::blanks::new_blank;
-use crate::trials::histories::Made;
+use crate::common::books::new_blank;
+use crate::common::histories::Made;
+use crate::common::replies::{ordered, own, seen, went_out};
+use crate::common::shown::{Shown, are_shown};
+use crate::common::table::Table;
 use std::alloc::Global;
 use std::marker::Brand;
 use std::sync::Wait;
 use trlab_sequential_book::{BookFault, Event, Offered, Reply};
 use trlab_strands::{Blank, Ledger};
 
-/// What is done with two books.
+/// What is done with one of two books, or with both.
 #[derive(Clone, Copy)]
-enum Deed {
+enum Action {
     /// A call of the one answers this.
     Own(Made, Reply),
     /// A call of the other answers this.
@@ -28,115 +28,119 @@ enum Deed {
     Back(usize, u32),
 }
 
-/// Whether a deed is done.
+/// Whether an action is done.
 fn is_done<P: Ledger, Q: Ledger, R: Wait>(
     rt: &R,
     alloc: Global,
     own: &mut Table<P>,
     other: &mut Table<Q>,
-    deed: Deed,
+    action: Action,
 ) -> bool {
-    match deed {
-        Deed::Own(call, wanted) => own.answers(rt, alloc, call, wanted),
-        Deed::Other(call, wanted) => other.answers(rt, alloc, call, wanted),
-        Deed::Over(place, step) => own.held.hand_over(alloc, place, step, &mut other.held),
-        Deed::Back(place, step) => other.held.hand_over(alloc, place, step, &mut own.held),
+    match action {
+        Action::Own(call, wanted) => own.answers(rt, alloc, call, wanted),
+        Action::Other(call, wanted) => other.answers(rt, alloc, call, wanted),
+        Action::Over(place, step) => own.held.hand_over(alloc, place, step, &mut other.held),
+        Action::Back(place, step) => other.held.hand_over(alloc, place, step, &mut own.held),
     }
 }
 
-/// Whether all of some deeds are done.
+/// Whether actions are done, one after the other.
 fn are_done<P: Ledger, Q: Ledger, R: Wait>(
     rt: &R,
     alloc: Global,
     own: &mut Table<P>,
     other: &mut Table<Q>,
-    deeds: &[Deed],
+    actions: &[Action],
 ) -> bool {
-    for deed in deeds {
-        if !is_done(rt, alloc, own, other, *deed) {
+    for action in actions {
+        if !is_done(rt, alloc, own, other, *action) {
             return false;
         }
     }
     true
 }
 
-/// Whether deeds are done with two new books, the jobs of the other under the key of a byte, reads of the
-/// other show this, and both close behind that.
-fn are_done_anew<P: Ledger, Q: Ledger, R: Wait>(
+/// What is done with two new books, and what the other shows after that.
+#[derive(Clone, Copy)]
+struct Exchange {
+    actions: &'static [Action],
+    /// The byte of which the key of the other's jobs is.
+    byte: u8,
+    /// What reads of the other show.
+    shown: &'static [Shown],
+}
+
+/// Whether its actions are done, the other book shows what it says, and both books close after that.
+fn passes<P: Ledger, Q: Ledger, R: AllocGlobal + Wait>(
     rt: &R,
-    alloc: Global,
     first: Blank<Event>,
     second: Blank<Event>,
-    byte: u8,
-    deeds: &[Deed],
-    wanted: &[Shown],
+    exchange: &Exchange,
 ) -> bool
     requires first { name_of first ≡ P.name }
     requires second { name_of second ≡ Q.name }
 {
+    let alloc = rt.alloc();
     let mut own = Table::<P>::start(alloc, first, b"0.0.......", 0);
-    let mut other = Table::<Q>::start(alloc, second, b"0.0.......", byte);
-    let done = are_done(rt, alloc, &mut own, &mut other, deeds)
-        && show(alloc, &other.reads, wanted);
+    let mut other = Table::<Q>::start(alloc, second, b"0.0.......", exchange.byte);
+    let done = are_done(rt, alloc, &mut own, &mut other, exchange.actions)
+        && are_shown(alloc, &other.reads, exchange.shown);
     let closed = own.events().is_some();
     other.events().is_some() && closed && done
 }
 
+/// The same, with blanks of the allocator.
+fn passes_anew(rt: &(impl AllocGlobal + Wait), exchange: &Exchange) -> bool {
+    let Ok(first) = new_blank(rt.alloc()) else {
+        return false;
+    };
+    let Ok(second) = new_blank(rt.alloc()) else {
+        return false;
+    };
+    passes::<Brand, Brand, _>(rt, first, second, exchange)
+}
+
 const REFUSED: Reply = Reply::Refused(BookFault::StrangerLease);
 
-const ANOTHER_KEY: [Deed; 8] = [
-    Deed::Own(Made::Submit(4), Reply::Number(0)),
-    Deed::Own(Made::Lease, went_out!(0, 0)),
-    Deed::Other(Made::Submit(4), Reply::Number(0)),
-    Deed::Other(Made::Lease, went_out!(0, 0)),
-    Deed::Over(0, 0),
-    Deed::Other(Made::GiveBack(own!(1, 0, 0)), REFUSED),
-    Deed::Back(1, 0),
-    Deed::Own(Made::GiveBack(own!(1, 0, 0)), Reply::Done),
-];
+const ANOTHER_KEY: Exchange = Exchange {
+    actions: &[
+        Action::Own(Made::Submit(4), Reply::Number(0)),
+        Action::Own(Made::Lease, went_out!(0, 0)),
+        Action::Other(Made::Submit(4), Reply::Number(0)),
+        Action::Other(Made::Lease, went_out!(0, 0)),
+        Action::Over(0, 0),
+        Action::Other(Made::GiveBack(own!(1, 0, 0)), REFUSED),
+        Action::Back(1, 0),
+        Action::Own(Made::GiveBack(own!(1, 0, 0)), Reply::Done),
+    ],
+    byte: 255,
+    shown: &[],
+};
 
 #[test]
 fn a_lease_of_a_job_under_another_key_is_a_stranger(rt: HostRuntime) {
-    let (first, second) = (
-        new_blank(rt.alloc()).expect(&rt, "memory"),
-        new_blank(rt.alloc()).expect(&rt, "memory"),
-    );
-    assert!(rt;
-        are_done_anew::<Brand, Brand, _>(&rt, rt.alloc(), first, second, 255, &ANOTHER_KEY, &[])
-    );
+    assert!(rt; passes_anew(&rt, &ANOTHER_KEY));
 }
 
 // Which book lent a lease of the same run can't be told.
-const SAME_RUN: [Deed; 10] = [
-    Deed::Own(Made::Submit(4), Reply::Number(0)),
-    Deed::Own(Made::Lease, went_out!(0, 0)),
-    Deed::Own(Made::Order(own!(0, 0, 0)), ordered!(0, 0, 0)),
-    Deed::Other(Made::Submit(4), Reply::Number(0)),
-    Deed::Other(Made::Lease, went_out!(0, 0)),
-    Deed::Over(0, 1),
-    Deed::Other(Made::GiveBack(own!(1, 0, 1)), REFUSED),
-    Deed::Other(Made::Order(own!(0, 0, 0)), ordered!(0, 0, 0)),
-    Deed::Other(Made::GiveBack(own!(1, 0, 1)), Reply::Done),
-    Deed::Other(Made::Read(0), seen!(1, 1)),
-];
-
-const SAME_RUN_READS: [Shown; 1] = [(1, b".1.1......", &[(0, false)])];
+const SAME_RUN: Exchange = Exchange {
+    actions: &[
+        Action::Own(Made::Submit(4), Reply::Number(0)),
+        Action::Own(Made::Lease, went_out!(0, 0)),
+        Action::Own(Made::Order(own!(0, 0, 0)), ordered!(0, 0, 0)),
+        Action::Other(Made::Submit(4), Reply::Number(0)),
+        Action::Other(Made::Lease, went_out!(0, 0)),
+        Action::Over(0, 1),
+        Action::Other(Made::GiveBack(own!(1, 0, 1)), REFUSED),
+        Action::Other(Made::Order(own!(0, 0, 0)), ordered!(0, 0, 0)),
+        Action::Other(Made::GiveBack(own!(1, 0, 1)), Reply::Done),
+        Action::Other(Made::Read(0), seen!(1, 1)),
+    ],
+    byte: 0,
+    shown: &[(1, b".1.1......", &[(0, false)])],
+};
 
 #[test]
 fn a_lease_of_the_same_run_is_taken(rt: HostRuntime) {
-    let (first, second) = (
-        new_blank(rt.alloc()).expect(&rt, "memory"),
-        new_blank(rt.alloc()).expect(&rt, "memory"),
-    );
-    assert!(rt;
-        are_done_anew::<Brand, Brand, _>(
-            &rt,
-            rt.alloc(),
-            first,
-            second,
-            0,
-            &SAME_RUN,
-            &SAME_RUN_READS
-        )
-    );
+    assert!(rt; passes_anew(&rt, &SAME_RUN));
 }

@@ -8,17 +8,20 @@ use crate::one_road::drive;
 use crate::shared_book::share;
 use std::marker::Brand;
 use std::process::ExitCode;
+use std::sync::Wait;
+use std::thread::Threads;
 use trlab_strands::Blank;
 
 fn main(rt: HostRuntime) -> ExitCode {
-    let Ok(blank) = Blank::new(rt.alloc()) else {
-        return ExitCode::FAILURE;
-    };
-    if drive(&rt).is_none() {
-        return ExitCode::FAILURE;
-    }
-    match share::<Brand, HostRuntime>(&rt, rt.alloc(), blank) {
+    match show_both(&rt) {
         Some(()) => ExitCode::SUCCESS,
         None => ExitCode::FAILURE,
     }
+}
+
+/// Drives the road, and then has threads share the book.
+fn show_both<R: AllocGlobal + Threads + Wait + Sync + Print>(rt: &R) -> Option<()> {
+    drive(rt)?;
+    let blank = Blank::new(rt.alloc()).ok()?;
+    share::<Brand, _>(rt, blank)
 }

@@ -10,17 +10,21 @@ use trlab_words::{Chance, Key};
 
 const STEPS: u32 = 4;
 
-/// Two standing cars on one lane of ten cells.
+/// The greatest speed of the cars, in cells a step.
+const LIMIT: u32 = 5;
+
+/// Two stopped cars on one lane of ten cells.
 const LANES: [&[u8]; 1] = [b"0.0......."];
 
-/// The run of these cars, who never brake by chance, under the limit 5.
+/// The run of these cars, who never brake by chance.
 fn new_run(alloc: Global) -> Option<Run>
     ensures { IfSome result (λ run. run.step ≡ 0) }
 {
     let rule = nasch(alloc, Chance::new(0)?).ok()?;
-    let road = Road::parse(alloc, 5, &LANES).ok()?;
+    let road = Road::parse(alloc, LIMIT, &LANES).ok()?;
     let sheet = Sheet::new(rule, Vec::new(alloc));
-    Some(Run::new(alloc, Key([0; 32]), 0, 0, road, sheet))
+    let (key, number, warm) = (Key([0; 32]), 0, 0);
+    Some(Run::new(alloc, key, number, warm, road, sheet))
 }
 
 /// Prints the picture of each lane of a road.
@@ -32,15 +36,16 @@ fn show<R: Print>(rt: &R, alloc: Global, road: &Road) -> Option<()> {
     Some(())
 }
 
-/// Takes the steps of a run that begins, and prints its road at each.
+/// Takes the steps of a run that begins, and prints its road before and after each.
 fn walk<R: Print>(rt: &R, alloc: Global, run: &mut Run) -> Option<()>
     requires { run.old.step ≡ 0 }
 {
+    show(rt, alloc, run.road())?;
     for step in 0..STEPS {
-        show(rt, alloc, run.road())?;
         run.advance(&Caller, alloc).ok()?;
+        show(rt, alloc, run.road())?;
     }
-    show(rt, alloc, run.road())
+    Some(())
 }
 
 /// Drives the cars, and prints their road at each step. None where memory ran out or nothing can be printed.

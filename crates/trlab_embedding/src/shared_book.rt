@@ -3,7 +3,7 @@
 ghost use Rattle.std.specs.Prelude.{◌≡◌};
 ghost use Rattle.trlab_strands.specs.Tokens.{name_of};
 
-use std::alloc::Global;
+use std::alloc::{AllocGlobal, Global};
 use std::sync::Wait;
 use std::thread::Threads;
 use trlab_book::{Desk, SharedBook, run_jobs};
@@ -12,13 +12,19 @@ use trlab_rules::nasch;
 use trlab_segments::OpenGate;
 use trlab_sequential_book::{Event, Seed};
 use trlab_strands::{Blank, Ledger};
-use trlab_words::{Chance, Key};
+use trlab_words::{CERTAIN, Chance, Key};
 
 const JOBS: u32 = 2;
 
+const STEPS: u32 = 200;
+
+/// How many threads take jobs.
 const RUNNERS: u32 = 2;
 
-/// Ten cars that stand, evenly spread on a lane of 100 cells. The random words of a job go by its number.
+/// How many threads take each step of a job.
+const WORKERS: u32 = 1;
+
+/// Ten stopped cars, evenly spread on a lane of 100 cells. The random words of a job go by its number.
 fn seed_of(alloc: Global, number: u32) -> Option<Seed> {
     Some(Seed {
         road: Road::even(alloc, 1, 100, 5, 10).ok()?,
@@ -28,7 +34,7 @@ fn seed_of(alloc: Global, number: u32) -> Option<Seed> {
     })
 }
 
-/// Submits a job of 200 steps, whose cars brake by chance in every fourth case.
+/// Submits a job whose cars brake with a chance of a quarter.
 fn submit<L: Ledger, R: Wait>(
     rt: &R,
     alloc: Global,
@@ -36,12 +42,12 @@ fn submit<L: Ledger, R: Wait>(
     desk: &mut Desk<L>,
     number: u32,
 ) -> Option<u32> {
-    let rule = nasch(alloc, Chance::new(536870912)?).ok()?;
+    let rule = nasch(alloc, Chance::new(CERTAIN / 4)?).ok()?;
     let seed = seed_of(alloc, number)?;
-    book.submit(rt, alloc, desk, seed, rule, 200).ok()
+    book.submit(rt, alloc, desk, seed, rule, STEPS).ok()
 }
 
-/// Has two threads run all jobs of a book to their end.
+/// Has the runners take all jobs of a book to their end. Each runner calls the book at a part of the desk.
 fn run<L: Ledger + Send + Sync, R: Threads + Wait + Sync>(
     rt: &R,
     alloc: Global,
@@ -51,7 +57,7 @@ fn run<L: Ledger + Send + Sync, R: Threads + Wait + Sync>(
     if desk.parts() < RUNNERS {
         return None;
     }
-    run_jobs(rt, alloc, book, desk, RUNNERS, 1, &OpenGate).ok()
+    run_jobs(rt, alloc, book, desk, RUNNERS, WORKERS, &OpenGate).ok()
 }
 
 /// Prints how far a job has come, and how many cells its cars went.
@@ -67,15 +73,15 @@ fn tell<L: Ledger, R: Wait + Print>(
     println!(rt; "job {job}: {step} steps, {distance} cells").ok()
 }
 
-/// Submits jobs to a new book, has two threads run them, and prints what came of each. None where memory ran out or
+/// Submits jobs to a new book, has the runners take them, and prints what came of each. None where memory ran out or
 /// nothing can be printed.
-pub fn share<L: Ledger + Send + Sync, R: Threads + Wait + Sync + Print>(
+pub fn share<L: Ledger + Send + Sync, R: AllocGlobal + Threads + Wait + Sync + Print>(
     rt: &R,
-    alloc: Global,
     blank: Blank<Event>,
 ) -> Option<()>
     requires name { name_of blank ≡ L.name }
 {
+    let alloc = rt.alloc();
     let (book, mut desk) = SharedBook::<L>::start(alloc, blank);
     for number in 0..JOBS {
         submit(rt, alloc, &book, &mut desk, number)?;

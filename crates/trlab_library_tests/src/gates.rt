@@ -3,15 +3,13 @@
 
 ghost use Rattle.std.specs.Prelude.{◌<◌};
 
+use crate::pool::{pool_as_one, sparing_pool_as_one};
 use crate::traffic::{Traffic, spread};
-use std::alloc::Global;
 use std::hint;
 use std::sync::Wait;
 use std::sync::atomic::{AtomicBool, AtomicU64, Ordering};
 use std::thread::Threads;
-use trlab_machine::Dice;
-use trlab_segments::{Gate, Pool, step_shared};
-use trlab_step::step_road_by;
+use trlab_segments::{Gate, step_shared};
 use trlab_words::Key;
 
 /// Has 1 to 16 workers, one more than these, take a step of road 9 through a gate.
@@ -37,42 +35,10 @@ fn go_through<G: Gate + Sync>(
 ) -> bool
     requires { others < 16 }
 {
-    match spread(rt.alloc(), 100, cars) {
+    match spread(rt.alloc(), 2, 100, cars) {
         Some(traffic) => step_through(rt, &traffic, others, gate),
         None => false,
     }
-}
-
-/// Has a pool ask the cars in so many steps of road 9.
-fn ask_often<R: Wait, G: Gate>(
-    pool: &Pool<R, G>,
-    alloc: Global,
-    traffic: &Traffic,
-    steps: u32,
-) -> bool {
-    let Traffic { road, rule } = traffic;
-    for step in 0..steps {
-        let dice = Dice::new(&Key([7; 32]), 9, step);
-        if step_road_by(pool, alloc, road, rule, &dice).is_err() {
-            return false;
-        }
-    }
-    true
-}
-
-/// Has a pool of one worker more than these do so, in one run.
-fn ask_through<G: Gate + Sync>(
-    rt: &(impl AllocGlobal + Threads + Wait + Sync),
-    traffic: &Traffic,
-    others: u32,
-    steps: u32,
-    gate: &G,
-) -> bool
-    requires { others < 16 }
-{
-    let alloc = rt.alloc();
-    let pool = Pool::new(rt, others + 1, gate);
-    pool.run(alloc, &mut || ask_often(&pool, alloc, traffic, steps))
 }
 
 /// Notes which segments of road 9 are begun, those of its lane change and those of its motion, and how many.
@@ -131,35 +97,38 @@ fn sixteen_workers_begin_each_segment_once(rt: HostRuntime) {
 
 /// Whether a pool of one worker more than these begins so many segments of 60 cars in three steps, these in each
 /// phase.
-fn ask(rt: &(impl AllocGlobal + Threads + Wait + Sync), others: u32, calls: u64, begun: u64) -> bool
+fn pool_begins(
+    rt: &(impl AllocGlobal + Threads + Wait + Sync),
+    others: u32,
+    calls: u64,
+    begun: u64,
+) -> bool
     requires { others < 16 }
 {
     let notes = Notes::new();
-    match spread(rt.alloc(), 100, 60) {
-        Some(traffic) => { ask_through(rt, &traffic, others, 3, &notes) && notes.are(calls, begun) }
-        None => false,
-    }
+    pool_as_one(rt, others, &notes, 3) && notes.are(calls, begun)
 }
 
 #[test]
 fn a_pool_begins_each_segment_once(rt: HostRuntime) {
-    assert!(rt; ask(&rt, 15, 360, (1 << 60) - 1));
+    assert!(rt; pool_begins(&rt, 15, 360, (1 << 60) - 1));
+}
+
+/// Whether a sparing pool begins no segment where the cars are so few that one worker asks them alone.
+fn spares_workers(rt: &(impl AllocGlobal + Threads + Wait + Sync)) -> bool {
+    let notes = Notes::new();
+    sparing_pool_as_one(rt, 60, &notes) && notes.are(0, 0)
 }
 
 #[test]
 fn who_is_alone_passes_no_gate(rt: HostRuntime) {
-    assert!(rt; ask(&rt, 0, 0, 0));
-    let (notes, alloc) = (Notes::new(), rt.alloc());
-    let traffic = spread(alloc, 100, 60).expect(&rt, "there are no cars");
-    let sparing = Pool::new(&rt, 16, &notes).sparing();
-    assert!(rt; ask_often(&sparing, alloc, &traffic, 3));
-    assert!(rt; notes.are(0, 0));
+    assert!(rt; pool_begins(&rt, 0, 0, 0) && spares_workers(&rt));
 }
 
 /// How many turns a worker is held at most.
 const TURNS: u32 = 100_000_000;
 
-/// Holds who comes first in a phase until workers have come for its seven other segments.
+/// Holds the first to come in a phase until workers have come for its seven other segments.
 #[derive(Drop)]
 struct HoldsFirst {
     came: AtomicU64,
@@ -186,7 +155,7 @@ impl HoldsFirst {
         false
     }
 
-    /// Whether so many have come, and nobody waited in vain.
+    /// Whether so many have come, and nobody gave up waiting.
     fn saw(&self, came: u64) -> bool {
         self.came.load(Ordering::SeqCst) == came && !self.gave_up.load(Ordering::SeqCst)
     }
@@ -201,17 +170,24 @@ impl Gate for HoldsFirst {
     }
 }
 
+/// Whether one of two workers begins the seven other segments of each phase while the other is held.
+fn goes_on(rt: &(impl AllocGlobal + Threads + Sync)) -> bool {
+    let gate = HoldsFirst::new();
+    go_through(rt, 8, 1, &gate) && gate.saw(16)
+}
+
 #[test]
 fn a_worker_who_is_held_leaves_the_others_at_work(rt: HostRuntime) {
+    assert!(rt; goes_on(&rt));
+}
+
+/// Whether a pool's two workers do so in ten steps.
+fn pool_goes_on(rt: &(impl AllocGlobal + Threads + Wait + Sync)) -> bool {
     let gate = HoldsFirst::new();
-    assert!(rt; go_through(&rt, 8, 1, &gate));
-    assert!(rt; gate.saw(16));
+    pool_as_one(rt, 1, &gate, 10) && gate.saw(160)
 }
 
 #[test]
 fn a_worker_who_is_held_leaves_the_others_to_the_helper(rt: HostRuntime) {
-    let gate = HoldsFirst::new();
-    let traffic = spread(rt.alloc(), 100, 60).expect(&rt, "there are no cars");
-    assert!(rt; ask_through(&rt, &traffic, 1, 10, &gate));
-    assert!(rt; gate.saw(160));
+    assert!(rt; pool_goes_on(&rt));
 }

@@ -1,4 +1,4 @@
-//! The pool of threads as the one who asks the cars: its steps are those of one thread, whoever helps.
+//! Cars that a pool of threads asks: its steps are those of one thread, whichever thread helps.
 
 ghost use Rattle.std.specs.Prelude.{◌<◌};
 
@@ -43,33 +43,52 @@ fn are_as_one<R: Wait, G: Gate>(
     true
 }
 
-/// Whether ten steps of a run do so for a pool of one worker more than these.
-fn agree(rt: &(impl AllocGlobal + Threads + Wait + Sync), others: u32, traffic: &Traffic) -> bool
+/// Whether so many steps of cars that are spread over two lanes do so, in a run of the pool.
+fn runs_as_one<R: Threads + Wait + Sync, G: Gate + Sync>(
+    pool: &Pool<R, G>,
+    alloc: Global,
+    cells: u32,
+    cars: u32,
+    steps: u32,
+) -> bool {
+    match spread(alloc, 2, cells, cars) {
+        Some(traffic) => pool.run(alloc, &mut || are_as_one(pool, alloc, &traffic, steps)),
+        None => false,
+    }
+}
+
+/// Whether so many steps of 60 cars do so, in a run of a pool of one worker more than these, who pass a gate.
+pub fn pool_as_one<G: Gate + Sync>(
+    rt: &(impl AllocGlobal + Threads + Wait + Sync),
+    others: u32,
+    gate: &G,
+    steps: u32,
+) -> bool
     requires { others < 16 }
 {
-    let alloc = rt.alloc();
-    let pool = Pool::new(rt, others + 1, &OpenGate);
-    pool.run(alloc, &mut || are_as_one(&pool, alloc, traffic, 10))
+    let pool = Pool::new(rt, others + 1, gate);
+    runs_as_one(&pool, rt.alloc(), 100, 60, steps)
 }
 
 #[test]
 fn each_number_of_workers_steps_as_one(rt: HostRuntime) {
-    let traffic = spread(rt.alloc(), 100, 60).expect(&rt, "there are no cars");
     for others in 0..16 {
-        assert!(rt; agree(&rt, others, &traffic), "{others} helpers");
+        assert!(rt; pool_as_one(&rt, others, &OpenGate, 10), "{others} helpers");
     }
 }
 
-/// Whether twenty steps of a run do so for a sparing pool of four workers.
-fn agree_sparingly(rt: &(impl AllocGlobal + Threads + Wait + Sync), traffic: &Traffic) -> bool {
-    let alloc = rt.alloc();
-    let pool = Pool::new(rt, 4, &OpenGate).sparing();
-    pool.run(alloc, &mut || are_as_one(&pool, alloc, traffic, 20))
+/// Whether twenty steps of so many cars do so, in a run of a sparing pool of four workers, who pass a gate.
+pub fn sparing_pool_as_one<G: Gate + Sync>(
+    rt: &(impl AllocGlobal + Threads + Wait + Sync),
+    cars: u32,
+    gate: &G,
+) -> bool {
+    let pool = Pool::new(rt, 4, gate).sparing();
+    runs_as_one(&pool, rt.alloc(), 4000, cars, 20)
 }
 
-// Of forty phases, helpers await some awake and some asleep. The cars are enough for four workers.
+// Helpers await some of the forty phases awake and some asleep. The cars are enough for four workers.
 #[test]
 fn helpers_who_stay_awake_step_as_one(rt: HostRuntime) {
-    let traffic = spread(rt.alloc(), 4000, 4000).expect(&rt, "there are no cars");
-    assert!(rt; agree_sparingly(&rt, &traffic));
+    assert!(rt; sparing_pool_as_one(&rt, 4000, &OpenGate));
 }

@@ -11,7 +11,7 @@ pub fn steady(alloc: Global) -> Option<Rule> {
     nasch(alloc, Chance::new(0)?).ok()
 }
 
-/// The rule of 1998, by which a car that stands stays where it is.
+/// The rule of 1998, by which a stopped car stays where it is.
 pub fn resting(alloc: Global) -> Option<Rule> {
     vdr(alloc, Chance::new(0)?, Chance::new(CERTAIN)?).ok()
 }
@@ -33,10 +33,10 @@ pub struct Traffic {
     pub rule: Rule,
 }
 
-/// So many cars that stand, evenly spread over two lanes of so many cells, and go by the rule with chances.
-pub fn spread(alloc: Global, cells: u32, cars: u32) -> Option<Traffic> {
+/// So many stopped cars, evenly spread over lanes of so many cells, who go by the rule with chances.
+pub fn spread(alloc: Global, lanes: u32, cells: u32, cars: u32) -> Option<Traffic> {
     let rule = at_random(alloc)?;
-    let road = Road::even(alloc, 2, cells, 5, cars).ok()?;
+    let road = Road::even(alloc, lanes, cells, 5, cars).ok()?;
     Some(Traffic { road, rule })
 }
 

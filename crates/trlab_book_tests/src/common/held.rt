@@ -1,6 +1,6 @@
 //! The leases of a book that are not back, and the orders for them.
 
-use crate::answers::{lease_told, order_told};
+use crate::common::answers::{lease_told, order_told};
 use std::alloc::Global;
 use std::sync::Wait;
 use trlab_book::{Desk, SharedBook};
@@ -8,7 +8,7 @@ use trlab_sequential_book::{Lease, Offered, Order, Reply};
 use trlab_step::Caller;
 use trlab_strands::Ledger;
 
-/// By their places the leases that are not back, and the orders for them.
+/// The leases that are not back, by their places, and the orders for them.
 #[derive(Drop)]
 pub struct Held {
     leases: Vec<Option<Lease>>,
@@ -40,7 +40,7 @@ impl Held {
         }
     }
 
-    /// Leases a job, and lays the lease at the next place.
+    /// Leases a job, and puts the lease at the next place.
     pub fn lease<L: Ledger, R: Wait>(
         &mut self,
         rt: &R,
@@ -82,7 +82,7 @@ impl Held {
         }
     }
 
-    /// Gives the lease of a place back; where it is refused it is laid back there.
+    /// Gives the lease of a place back; where it is refused it is put there again.
     pub fn give_back<L: Ledger, R: Wait>(
         &mut self,
         rt: &R,
@@ -103,8 +103,8 @@ impl Held {
         }
     }
 
-    /// Hands the lease of a place over to others at a step, where it lies at the next place; whether it does.
-    /// Where memory runs out it is tried once more.
+    /// Hands the lease of a place over to others, once it has come to a step, and says whether it is at their next place.
+    /// Where memory ran out it is tried once more.
     pub fn hand_over(&mut self, alloc: Global, place: usize, step: u32, other: &mut Held) -> bool {
         if self.bring(alloc, place, step).is_none() && self.bring(alloc, place, step).is_none() {
             return false;

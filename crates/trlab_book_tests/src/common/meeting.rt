@@ -36,7 +36,7 @@ impl Meeting {
         }
     }
 
-    /// Whether nobody waited in vain.
+    /// Whether nobody gave up waiting.
     pub fn took_place(&self) -> bool {
         !self.gave_up.load(Ordering::SeqCst)
     }

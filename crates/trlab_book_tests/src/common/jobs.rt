@@ -2,19 +2,19 @@
 
 use std::alloc::Global;
 use trlab_road::Road;
-use trlab_rules::{Rule, nasch};
+use trlab_rules::{Rule, nasch, rickert};
 use trlab_sequential_book::{Seed, Snapshot};
 use trlab_step::step_road;
-use trlab_words::{Chance, Key};
+use trlab_words::{CERTAIN, Chance, Key};
 
-/// The chance, of 2147483648, by which no car brakes.
+/// The chance by which no car brakes.
 pub const NEVER: u32 = 0;
 
 /// The chance by which a car brakes in half of its steps.
-pub const BY_HALF: u32 = 1073741824;
+pub const BY_HALF: u32 = CERTAIN / 2;
 
 /// The chance by which each car brakes in each step.
-pub const ALWAYS: u32 = 2147483648;
+pub const ALWAYS: u32 = CERTAIN;
 
 /// A job of the cars of a picture on one lane, who brake with a chance.
 #[derive(Clone, Copy)]
@@ -54,23 +54,9 @@ pub fn rule_of(alloc: Global, chance: u32) -> Option<Rule> {
     nasch(alloc, Chance::new(chance)?).ok()
 }
 
-/// Whether a snapshot is of a step, and its one lane has this picture.
-pub fn is_seen(alloc: Global, seen: &Snapshot, step: u32, picture: &[u8]) -> Option<bool> {
-    if seen.step() != step {
-        return Some(false);
-    }
-    shows(alloc, seen.road(), picture)
-}
-
-/// Whether a road of one lane has this picture.
-pub fn shows(alloc: Global, road: &Road, picture: &[u8]) -> Option<bool> {
-    if road.lanes() != 1 {
-        return Some(false);
-    }
-    match road.picture(alloc, 0) {
-        Ok(shown) => Some(shown.as_slice() == picture),
-        Err(_) => None,
-    }
+/// The rule of 1996, which wants two lanes.
+pub fn crossing(alloc: Global) -> Option<Rule> {
+    rickert(alloc, Chance::new(0)?, Chance::new(ALWAYS)?).ok()
 }
 
 /// The rule of a snapshot's sheet in force at a step, by the number of its entry: the one before, or the

@@ -1,8 +1,17 @@
-//! How runners end, and what a book leaves when it closes.
+//! What a new book is made of, how its runners end, and what it leaves when it closes.
 
+use std::alloc::{AllocError, Global};
 use trlab_book::{Desk, RunFault, SharedBook};
 use trlab_sequential_book::Event;
-use trlab_strands::Ledger;
+use trlab_strands::{Blank, Ledger};
+
+/// The blank of a new book. Where memory ran out it is asked for once more, as calls of the book are.
+pub fn new_blank(alloc: Global) -> Result<Blank<Event>, AllocError> {
+    match Blank::new(alloc) {
+        Ok(blank) => Ok(blank),
+        Err(_) => Blank::new(alloc),
+    }
+}
 
 /// The desk of runners, and whether all went well.
 pub fn ended<L: Ledger>(ran: Result<Desk<L>, (Desk<L>, RunFault)>) -> (Desk<L>, bool) {

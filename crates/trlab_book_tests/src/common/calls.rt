@@ -1,10 +1,11 @@
 //! Calls of a shared book that tests have in common.
 
-use super::jobs::{Job, is_seen, rule_of, seed_of};
+use crate::common::jobs::{Job, rule_of, seed_of};
+use crate::common::shown::{Shown, is_shown};
 use std::alloc::Global;
 use std::sync::Wait;
 use trlab_book::{Desk, SharedBook};
-use trlab_sequential_book::{BookFault, Snapshot};
+use trlab_sequential_book::BookFault;
 use trlab_strands::Ledger;
 
 /// Submits a job.
@@ -39,9 +40,6 @@ pub fn replace<L: Ledger, R: Wait>(
     }
 }
 
-/// What a read is to show: the step, how many rules there are, and the picture of the one lane.
-pub type Wanted = (u32, usize, &'static [u8]);
-
 /// Whether a read of a job shows what is wanted.
 pub fn reads<L: Ledger, R: Wait>(
     rt: &R,
@@ -49,15 +47,10 @@ pub fn reads<L: Ledger, R: Wait>(
     book: &SharedBook<L>,
     desk: &mut Desk<L>,
     job: u32,
-    wanted: Wanted,
+    wanted: Shown,
 ) -> bool {
     match book.read(rt, alloc, desk, job) {
-        Ok(seen) => is_wanted(alloc, &seen, wanted),
+        Ok(seen) => is_shown(alloc, &seen, &wanted),
         Err(_) => false,
     }
-}
-
-/// Whether a snapshot is what is wanted.
-fn is_wanted(alloc: Global, seen: &Snapshot, (step, rules, picture): Wanted) -> bool {
-    seen.sheet().len() == rules && is_seen(alloc, seen, step, picture) == Some(true)
 }

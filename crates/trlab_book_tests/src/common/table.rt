@@ -2,17 +2,18 @@
 //! nothing, so that a test of many calls is proved to be safe in little time: what they answer, and what
 //! they leave in the history, is what the tests are for.
 //!
-//! A call for which memory ran out is made once more, so that a test ends as ever where one allocation is
+//! A call for which memory ran out is made once more, so that a test passes even where one allocation is
 //! refused, whichever it is.
 
 ghost use Rattle.std.specs.Prelude.{◌≡◌};
 ghost use Rattle.trlab_strands.specs.Tokens.{name_of};
 
-use crate::answers::{done_told, number_told, snapshot_told};
-use crate::held::Held;
-use crate::trials::calls::{replace, submit};
-use crate::trials::histories::Made;
-use crate::trials::jobs::{ALWAYS, Job, NEVER};
+use crate::common::answers::{done_told, number_told, snapshot_told};
+use crate::common::books::{events_of, history_of};
+use crate::common::calls::{replace, submit};
+use crate::common::held::Held;
+use crate::common::histories::Made;
+use crate::common::jobs::{ALWAYS, Job, NEVER};
 use std::alloc::Global;
 use std::sync::Wait;
 use trlab_book::{Desk, SharedBook};
@@ -77,7 +78,7 @@ impl<L: Ledger> Table<L> {
         }
     }
 
-    /// Makes a call, and tells what it answered; nothing where memory ran out before it.
+    /// Makes a call, and tells what it answered, or nothing where memory ran out before it was made.
     fn make<R: Wait>(&mut self, rt: &R, alloc: Global, call: Made) -> Option<Reply> {
         match call {
             Made::Submit(steps) => Some(self.submit(rt, alloc, steps)),
@@ -120,17 +121,12 @@ impl<L: Ledger> Table<L> {
     /// Closes the book, and gives its history.
     pub fn close(self) -> Option<Vec<Event>> {
         let Table { book, desk, .. } = self;
-        match book.close(desk) {
-            Ok((_, history)) => Some(history),
-            Err(_) => None,
-        }
+        history_of(book, desk)
     }
 
     /// How many events the history has, if the book closes.
     pub fn events(self) -> Option<usize> {
-        match self.close() {
-            Some(history) => Some(history.len()),
-            None => None,
-        }
+        let Table { book, desk, .. } = self;
+        events_of(book, desk)
     }
 }
