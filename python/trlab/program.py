@@ -48,7 +48,7 @@ def _numbers(form: str, answer: str) -> _Pair:
 
 
 def find_program() -> str:
-    """The path of the program: what `TRLAB` names, else the one of the checkout that this module lies in, as
+    """The path of the program: what `TRLAB` names, else the one of the checkout that has this module, as
     `./trlab` finds it, else `trlab` on the `PATH`."""
     return os.environ.get("TRLAB") or _of_checkout() or shutil.which("trlab") or _nowhere()
 

@@ -59,7 +59,7 @@ class Job:
         return _text(lines)
 
     def run(self, workers: int = 1) -> Pictures:
-        """The pictures of the road, of step 0 and of each step behind it."""
+        """The pictures of the road, of step 0 and after each step."""
         return Pictures(self.pictures(workers))
 
     def pictures(self, workers: int = 1) -> Iterator[Picture]:
