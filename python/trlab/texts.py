@@ -22,7 +22,7 @@ class Job:
     each cell, in cells a step, and None, or -1 as in arrays, where the cell is empty; for two lanes two such lists.
 
     `limit` is the greatest speed in cells a step, 1 to 35. `at` has the rules that take over later, each by its step. A
-    text that the program does not take is found when it runs, and told by `Refused`."""
+    text that the program refuses raises `Refused` when it runs."""
 
     limit: int
     rule: Rule
