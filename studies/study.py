@@ -44,7 +44,7 @@ class Study(NamedTuple):
     def by_words(cls, script: str, about: str) -> Study:
         words = argparse.ArgumentParser(description=about.split("\n")[0])
         words.add_argument("--full", action="store_true", help="the long run, which writes into full/ beside it")
-        words.add_argument("--draw", action="store_true", help="runs nothing: figures and numbers from the tables that are there")
+        words.add_argument("--draw", action="store_true", help="runs nothing, takes the tables that are there")
         asked = words.parse_args()
         here = Path(script).resolve().parent
         return cls(here / "full" if asked.full else here, asked.full, asked.draw)

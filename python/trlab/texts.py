@@ -76,9 +76,9 @@ class Job:
 class Sweep:
     """Roads of one shape under one rule, one for each of the `cars`, or for each of the `densities` in cars a cell.
 
-    At first all cars are evenly spread and stopped. `warm` steps are not counted, and then `measure` steps are. `limit` is the
-    greatest speed in cells a step, `length` the cells of a lane. Equal counts of cars are repetitions: each point has
-    random words of its own. All points together take 500000 steps at most."""
+    At first all cars are evenly spread and stopped. `warm` steps are not counted, and then `measure` steps are. `limit`
+    is the greatest speed in cells a step, `length` the cells of a lane. Equal counts of cars are repetitions: each point
+    has random words of its own. All points together take 500000 steps at most."""
 
     limit: int
     rule: Rule
