@@ -44,7 +44,7 @@ class Study(NamedTuple):
     def by_words(cls, script: str, about: str) -> Study:
         words = argparse.ArgumentParser(description=about.split("\n")[0])
         words.add_argument("--full", action="store_true", help="the long run, which writes into full/ beside it")
-        words.add_argument("--draw", action="store_true", help="runs nothing: figures and numbers of the tables there")
+        words.add_argument("--draw", action="store_true", help="runs nothing, takes the tables that are there")
         asked = words.parse_args()
         here = Path(script).resolve().parent
         return cls(here / "full" if asked.full else here, asked.full, asked.draw)
@@ -54,7 +54,7 @@ class Study(NamedTuple):
     ) -> Dict[str, List[Row]]:
         """The lines of a table by the names of their texts: as a file has them, or after all texts were run.
 
-        A long run that was cut off and is asked for again does not run a text twice."""
+        A long run that was cut off does not run a text twice when it is started again."""
         if not self.is_drawn_only:
             self.write_texts(texts)
             parts = self.folder / f"{file}.parts"

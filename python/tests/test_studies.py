@@ -49,7 +49,7 @@ def drawn(name):
 
 
 def rows(file):
-    """The lines of a table behind its heading, by the names of their texts."""
+    """The lines of a table after its heading, by the names of their texts."""
     lines = (line.split(",", 1) for line in file.read_text().splitlines()[1:])
     return {name: [row for _, row in group] for name, group in itertools.groupby(lines, lambda line: line[0])}
 
@@ -83,7 +83,7 @@ class Studies(unittest.TestCase):
                     self.assertIn(f"| {density} | {flow.value:.5f} ± {flow.error:.5f} |", page)
 
     def test_first_points_come_out_again(self):
-        # A point is the same whatever points stand behind it.
+        # A point is the same whatever points come after it.
         for name in "1992", "1996", "triangle":
             table = rows(STUDIES / name / "table.csv")
             self.assertEqual(list(table), list(script(name).texts(False)))

@@ -1,4 +1,4 @@
-"""trlab: cellular automaton road traffic, in a person's units.
+"""trlab: cellular automaton road traffic, in ordinary units.
 
     from trlab import Job, Nasch, Sweep, random
 
@@ -9,9 +9,10 @@
     job = Job(limit=5, length=100, density=0.2, start=random(1), rule=Nasch(0.25), steps=50, key=7)
     print(job.run()[-1].lanes[0])
 
-A length is in cells, a time in steps, a speed in cells a step, a chance and a density (cars a cell) are 0 to 1. Each
-text can be had by `.text()`, and a table or a picture is a function of it alone. No package is needed; `.to_numpy()`
-and `.to_pandas()` of results need theirs. `TRLAB` names the program; without it that of the checkout is found."""
+A length is in cells, a time in steps, a speed in cells a step; a chance and a density (cars a cell) are 0 to 1.
+`.text()` gives the text of a job or a sweep, and its table or pictures depend on that alone. No package is needed,
+except that `.to_numpy()` and `.to_pandas()` of results need numpy and pandas. `TRLAB` names the program; without it
+that of the checkout is found."""
 from .many import map, read_tables, write_texts
 from .program import Failed, Refused, find_program
 from .results import Picture, Pictures, Point, Table, Window

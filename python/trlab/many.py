@@ -24,8 +24,8 @@ text=$(ls {folder}/*.{kind} | sed -n "${{SLURM_ARRAY_TASK_ID}}p")
 def map(call: Callable[[Text], Result], texts: Iterable[Text], at_once: Optional[int] = None) -> List[Result]:
     """What a call answers to each text, in their order, as `map(Sweep.sweep, sweeps)`.
 
-    So many at a time run side by side, each in a process of the program, or as many as there are processors. The first
-    that fails raises what it raised."""
+    So many at a time run side by side, each in a process of the program, or as many as there are processors. If one
+    fails, what the first of them raised is raised."""
     with ThreadPoolExecutor(at_once or len(os.sched_getaffinity(0))) as threads:
         return list(threads.map(call, texts))
 

@@ -11,7 +11,7 @@ from pathlib import Path
 from typing import IO, Iterator, NamedTuple, NoReturn, Optional, Sequence
 
 REFUSED = 1
-# What explains a refused text reads it as one of these commands does.
+# `explain` reads a refused text as one of these commands does.
 _READ_AS = {"series": "run"}
 
 
@@ -30,7 +30,7 @@ class Refused(Exception):
 
 
 class Failed(Exception):
-    """The program ended otherwise than done or with a refusal: its `status`, and what it said of that."""
+    """The program ended neither done nor with a refusal: its `status`, and what it said."""
 
     def __init__(self, status: int, said: str) -> None:
         super().__init__(f"trlab ended with status {status}: {said.strip()}")
@@ -48,7 +48,7 @@ def _numbers(form: str, answer: str) -> _Pair:
 
 
 def find_program() -> str:
-    """The path of the program: what `TRLAB` names, else the one of the checkout that this module lies in, as
+    """The path of the program: what `TRLAB` names, else the one of the checkout that has this module, as
     `./trlab` finds it, else `trlab` on the `PATH`."""
     return os.environ.get("TRLAB") or _of_checkout() or shutil.which("trlab") or _nowhere()
 

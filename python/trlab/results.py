@@ -81,7 +81,7 @@ class _WindowColumns(NamedTuple):
 class Window(_WindowColumns, _Counted):
     """A line of a series: what was counted in so many steps, up to the picture `step`.
 
-    Units are those of a `Point`. `cars0`, `distance0` and `stopped0` are sums, over the roads behind the steps, of what
+    Units are those of a `Point`. `cars0`, `distance0` and `stopped0` are sums, over the roads after the steps, of what
     is on lane 0 then: the cars, their speeds, the stopped cars; those that end in 1 are of lane 1."""
 
     __slots__ = ()
@@ -137,7 +137,7 @@ class Picture(NamedTuple):
 
 
 class Pictures(List[Picture]):
-    """The pictures of a run, of step 0 and of each step behind it."""
+    """The pictures of a run, of step 0 and after each step."""
 
     def to_numpy(self) -> numpy.ndarray[Any, Any]:
         """An array by picture, lane and cell: the speed in cells a step, and -1 where the cell is empty."""

@@ -61,7 +61,7 @@ Rule = Union[Nasch, SlowToStart, Rickert, Own]
 
 
 def _part(kind: str, program: str) -> List[str]:
-    """The lines of a program in a text. Its first line may be left out, and `end` is none of them."""
+    """The lines of a program in a text. Its first line may be left out, and `end` is not one of them."""
     lines = program.rstrip("\n").split("\n")
     if lines[0].startswith("code "):
         return lines

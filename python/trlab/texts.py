@@ -22,7 +22,7 @@ class Job:
     each cell, in cells a step, and None, or -1 as in arrays, where the cell is empty; for two lanes two such lists.
 
     `limit` is the greatest speed in cells a step, 1 to 35. `at` has the rules that take over later, each by its step. A
-    text that the program does not take is found when it runs, and told by `Refused`."""
+    text that the program refuses raises `Refused` when it runs."""
 
     limit: int
     rule: Rule
@@ -59,7 +59,7 @@ class Job:
         return _text(lines)
 
     def run(self, workers: int = 1) -> Pictures:
-        """The pictures of the road, of step 0 and of each step behind it."""
+        """The pictures of the road, of step 0 and after each step."""
         return Pictures(self.pictures(workers))
 
     def pictures(self, workers: int = 1) -> Iterator[Picture]:
@@ -76,9 +76,9 @@ class Job:
 class Sweep:
     """Roads of one shape under one rule, one for each of the `cars`, or for each of the `densities` in cars a cell.
 
-    At first all cars are evenly spread and stopped. `warm` steps are not counted, and then `measure` steps are. `limit` is the
-    greatest speed in cells a step, `length` the cells of a lane. Equal counts of cars are repetitions: each point has
-    random words of its own. All points together take 500000 steps at most."""
+    At first all cars are evenly spread and stopped. `warm` steps are not counted, and then `measure` steps are. `limit`
+    is the greatest speed in cells a step, `length` the cells of a lane. Equal counts of cars are repetitions: each point
+    has random words of its own. All points together take 500000 steps at most."""
 
     limit: int
     rule: Rule

@@ -26,7 +26,7 @@ OLD_FORMS = re.compile(
     r"\b(?:want of|front of a|in vain|dearer|dearest|(?<!there )(?:is|are|was|were) none(?! of)|but for|so it is with|"
     r"upon|whence|hence|thereof|hereby|shall)\b"
 )
-# In DECISIONS.md and HISTORY.md a decision is cited as (12) or (12, 14); elsewhere behind the name of the file.
+# In DECISIONS.md and HISTORY.md a decision is cited as (12) or (12, 14); elsewhere after the name of the file.
 CITED_AT_HOME = re.compile(r"\((\d{1,3}(?:,\s+\d{1,3})*)\)")
 CITED_ELSEWHERE = re.compile(r"DECISIONS\.md\)?,?\s+((?:\d{1,3}(?:,\s+|\s+and\s+|\s+to\s+)?)+)")
 BEGUN = re.compile(r"(\d+)\. \*\*")
@@ -144,7 +144,7 @@ def versions_agree():
 
 
 def sources_are_shown_as_they_are():
-    """A block behind the name of a file of crates/ is that file."""
+    """A block after the name of a file of crates/ is that file."""
     for name in documents():
         for path, shown in SHOWN.findall(content(name)):
             is_same = os.path.exists(os.path.join(TOP, path)) and content(path) == shown
@@ -160,7 +160,7 @@ def layers_agree():
 
 
 def crates_are_there():
-    """Each crate that a document names is there, and so is each of its files that stands behind it."""
+    """Each crate that a document names is there, and so is each of its files that is named with it."""
     for name in documents():
         if name not in OF_OLD:
             for crate, path in sorted(set(CRATE.findall(content(name)))):

@@ -14,7 +14,7 @@ NUMBERED = ("explain cause", "explain reason")
 
 
 class Broken(Exception):
-    """A line of a file is none of a case file, or does not stand where it may."""
+    """A line of a file does not belong in a case file, or not where it is."""
 
 
 class Part(NamedTuple):
@@ -97,7 +97,7 @@ def wanted_by(part):
 
 
 def cases_of(name, content):
-    """The cases of a file, one behind the other: a title, a front, or a command and behind it what is wanted."""
+    """The cases of a file, one after the other: a title, a front, or a command and after it what is expected."""
     title, front, asked = "", "", None
     for part in parts_of(content):
         if asked:

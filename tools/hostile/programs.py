@@ -79,7 +79,7 @@ def read_operands(forms, text, line):
 
 
 def read_label(text, labels, place, line):
-    """The rest of a line behind its label, which is noted; or the whole where it has none."""
+    """The rest of a line after its label, which is noted; or the whole line if it has no label."""
     if b":" not in text:
         return text
     label, rest = text.split(b":", 1)
@@ -93,7 +93,7 @@ def read_label(text, labels, place, line):
 
 
 def assemble(lines, first):
-    """The program of the lines behind its first line, which has the number `first`."""
+    """The program of the lines after its first line, which has the number `first`."""
     instructions, labels, numbers = [], {}, []
     for line, text in enumerate(lines, first + 1):
         text = read_label(text.split(b";")[0].strip(BLANKS), labels, len(instructions), line)
@@ -200,7 +200,7 @@ def disassemble(instructions):
 
 
 def ways_from(instructions, pc):
-    """The instructions that may come behind one."""
+    """The instructions that may come after one."""
     name, operands = instructions[pc]
     if name in ENDS:
         return []

@@ -44,7 +44,7 @@ class Check(NamedTuple):
 
 
 def lines_of(text):
-    """The lines of a text; behind the last LF stands a line only where it is not empty."""
+    """The lines of a text; what follows the last LF is a line only if it is not empty."""
     lines = text.split(b"\n")
     return lines[:-1] if lines[-1] == b"" else lines
 
@@ -86,7 +86,7 @@ class Lines:
         return int(word)
 
     def named(self, name):
-        """The one word of the next line behind its name."""
+        """The one word of the next line after its name."""
         words = self.words()
         if len(words) != 2 or words[0] != name:
             self.fail(1)
@@ -156,7 +156,7 @@ def read_own(lines, lanes):
 
 
 def read_rule(lines, words, lanes, judge_line=lambda: None):
-    """Reads a rule whose words these are, at the end of the next line, and its parts behind it."""
+    """Reads a rule whose words these are, at the end of the next line, and its parts after it."""
     count = STANDARD.get(words[1]) if len(words) > 1 else None
     is_own = words == [b"rule", b"own"]
     if not is_own and (words[0] != b"rule" or count is None or len(words) != 2 + count):
@@ -167,7 +167,7 @@ def read_rule(lines, words, lanes, judge_line=lambda: None):
 
 
 def finish_rule(lines, words, lanes):
-    """What is judged of a rule behind its words and its numbers."""
+    """What is judged of a rule after its words and its numbers."""
     if words[1] == b"rickert" and lanes == 1:
         lines.fail(4)
     lines.past()

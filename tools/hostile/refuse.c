@@ -1,6 +1,6 @@
 // Loaded before a program: refuses one of its allocations, or all from one on, and counts them.
 // TRLAB_REFUSE is the number of the first that is refused, from 1; TRLAB_REFUSE_ALL is there where all
-// behind it are refused too. Each refused one is told by a byte to the file descriptor TRLAB_TELL.
+// after it are refused too. Each refused one is told by a byte to the file descriptor TRLAB_TELL.
 #define _GNU_SOURCE
 #include <dlfcn.h>
 #include <errno.h>

@@ -20,7 +20,7 @@ fn quarter(x: &mut [Lanes; 16], a: usize, b: usize, c: usize, d: usize) {
     x[b] = x[b].xor_rotated::<7, 25>(x[c]);
 }
 
-/// What the random words of a step go by, but for the car.
+/// What the random words of a step follow from, except for the car.
 #[derive(Clone, Copy)]
 pub struct Dice<'a> {
     pub key: &'a [u32; 8],

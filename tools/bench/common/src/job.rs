@@ -22,7 +22,7 @@ pub struct Job {
     pub steps: u32,
 }
 
-/// Reads a job text of one rule, whose own programs are byte code; nothing where it is none.
+/// Reads a job text of one rule, whose own programs are byte code; `None` for any other text.
 pub fn read_job(text: &str) -> Option<Job> {
     let (mut key, mut limit, mut length, mut steps, mut rule) = ([0; 8], 0, 0, 0, None);
     let (mut lanes, mut codes): (Vec<Vec<Car>>, _) = (Vec::new(), Vec::new());

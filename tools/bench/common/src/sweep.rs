@@ -28,7 +28,7 @@ struct Tally {
     changes: u64,
 }
 
-/// Reads a sweep text of a standard rule; nothing where it is none.
+/// Reads a sweep text of a standard rule; `None` for any other text.
 pub fn read_sweep(text: &str) -> Option<Sweep> {
     let mut lines = text.lines().map(|line| line.split(' ').collect::<Vec<_>>());
     let mut next = |name| lines.next().filter(|words| words[0] == name);

@@ -45,7 +45,7 @@ pub enum Input {
     Headspeed,
 }
 
-/// The instruction of a row; nothing where it is none.
+/// The instruction of a row; `None` if it is not one.
 pub fn read(row: &Row) -> Option<Instr> {
     let &(opcode, a, b, c, imm) = row;
     Some(match opcode {
@@ -103,7 +103,7 @@ fn input(number: u8) -> Option<Input> {
     })
 }
 
-/// The rows of a program's bytes, which stand behind a header of 8 bytes.
+/// The rows of a program's bytes, which follow a header of 8 bytes.
 pub fn rows(bytes: &[u8]) -> Vec<Row> {
     let (rows, _) = bytes.get(8..).unwrap_or_default().as_chunks::<8>();
     rows.iter()
