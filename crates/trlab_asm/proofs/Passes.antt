@@ -27,28 +27,28 @@ first_end parts number = refl
 
 -- some instructions, and those that are still to come
 abbrev pub following : List Instr → Result (List Instr) AsmFault → Result (List Instr) AsmFault
-following front rest = rest >>= λ instrs. Ok (front ++ instrs)
+following before rest = rest >>= λ instrs. Ok (before ++ instrs)
 
-regroup : (front : List Instr) (instr : Instr) (rest : Result (List Instr) AsmFault) → following front (rest >>= λ instrs. Ok (instr ∷ instrs)) ≡ following (front ++ (instr ∷ [])) rest
-regroup front instr (Ok instrs) = ap Ok (sym (append_assoc front (instr ∷ []) instrs))
-regroup front instr (Err fault) = refl
+regroup : (before : List Instr) (instr : Instr) (rest : Result (List Instr) AsmFault) → following before (rest >>= λ instrs. Ok (instr ∷ instrs)) ≡ following (before ++ (instr ∷ [])) rest
+regroup before instr (Ok instrs) = ap Ok (sym (append_assoc before (instr ∷ []) instrs))
+regroup before instr (Err fault) = refl
 
 -- an instruction whose label is found
-pub second_next : (labels : Labels) (reads : List LineDraft) (i : ℕ) (d : LineDraft) (front : List Instr) (instr : Instr) → i < length reads → Ok instr ≡ resolve labels (get_or reads i d)
-    → following front (second_pass labels (drop i reads)) ≡ following (front ++ (instr ∷ [])) (second_pass labels (drop (i + 1) reads))
+pub second_next : (labels : Labels) (reads : List LineDraft) (i : ℕ) (d : LineDraft) (before : List Instr) (instr : Instr) → i < length reads → Ok instr ≡ resolve labels (get_or reads i d)
+    → following before (second_pass labels (drop i reads)) ≡ following (before ++ (instr ∷ [])) (second_pass labels (drop (i + 1) reads))
 unfolding second_pass
-second_next labels reads i d front instr inside e = rw (add-one, drop-cons reads i d, ← e) (regroup front instr (second_pass labels (drop (suc i) reads)))
+second_next labels reads i d before instr inside e = rw (add-one, drop-cons reads i d, ← e) (regroup before instr (second_pass labels (drop (suc i) reads)))
 
 -- an instruction whose label is not
-pub second_fault : (labels : Labels) (reads : List LineDraft) (i : ℕ) (d : LineDraft) (front : List Instr) (fault : AsmFault) → i < length reads → Err fault ≡ resolve labels (get_or reads i d)
-    → following front (second_pass labels (drop i reads)) ≡ Err fault
+pub second_fault : (labels : Labels) (reads : List LineDraft) (i : ℕ) (d : LineDraft) (before : List Instr) (fault : AsmFault) → i < length reads → Err fault ≡ resolve labels (get_or reads i d)
+    → following before (second_pass labels (drop i reads)) ≡ Err fault
 unfolding second_pass
-second_fault labels reads i d front fault inside e = rw (drop-cons reads i d, ← e) refl
+second_fault labels reads i d before fault inside e = rw (drop-cons reads i d, ← e) refl
 
 -- the end of the instructions
-pub second_end : (labels : Labels) (reads : List LineDraft) (i : ℕ) (front : List Instr) → length reads ≤ i → following front (second_pass labels (drop i reads)) ≡ Ok front
+pub second_end : (labels : Labels) (reads : List LineDraft) (i : ℕ) (before : List Instr) → length reads ≤ i → following before (second_pass labels (drop i reads)) ≡ Ok before
 unfolding second_pass
-second_end labels reads i front past = rw (drop_of_length-le reads past) (ap Ok (append-nil front))
+second_end labels reads i before past = rw (drop_of_length-le reads past) (ap Ok (append-nil before))
 
 -- where there is an instruction, the second pass tells the rest
 pub some_instrs : (parts : Parts) (reads : List LineDraft) (labels : Labels) → false ≡ (length reads == 0) → reads ≡ parts.reads → labels ≡ parts.labels → instrs_of parts ≡ second_pass labels reads

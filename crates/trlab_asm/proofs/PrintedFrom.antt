@@ -4,13 +4,13 @@ use Rattle.std.proofs.Math.ListN.{drop_of_length-le}
 use Rattle.trlab_code.specs.declared.instruction.Instr.{Instr}
 use Rattle.trlab_asm.specs.Canonical.{line_text, is_target, text_from}
 
--- a line that is printed, and the lines behind it
-pub text_next : (instrs : List Instr) (pc : ℕ) (d : Instr) (front : List ℕ) → pc < length instrs
-    → (front ++ line_text (length instrs) (is_target instrs pc) pc (get_or instrs pc d)) ++ (10 ∷ text_from instrs (pc + 1) (drop (pc + 1) instrs)) ≡ front ++ text_from instrs pc (drop pc instrs)
+-- a line that is printed, and the lines after it
+pub text_next : (instrs : List Instr) (pc : ℕ) (d : Instr) (before : List ℕ) → pc < length instrs
+    → (before ++ line_text (length instrs) (is_target instrs pc) pc (get_or instrs pc d)) ++ (10 ∷ text_from instrs (pc + 1) (drop (pc + 1) instrs)) ≡ before ++ text_from instrs pc (drop pc instrs)
 unfolding text_from
-text_next instrs pc d front inside = rw (drop-cons instrs pc d, append_assoc, add-one) refl
+text_next instrs pc d before inside = rw (drop-cons instrs pc d, append_assoc, add-one) refl
 
--- no line is left behind the last instruction
-pub text_end : (instrs : List Instr) (pc : ℕ) (front : List ℕ) → length instrs ≤ pc → front ++ text_from instrs pc (drop pc instrs) ≡ front
+-- no line is left after the last instruction
+pub text_end : (instrs : List Instr) (pc : ℕ) (before : List ℕ) → length instrs ≤ pc → before ++ text_from instrs pc (drop pc instrs) ≡ before
 unfolding text_from
-text_end instrs pc front past = rw (drop_of_length-le instrs past, append-nil) refl
+text_end instrs pc before past = rw (drop_of_length-le instrs past, append-nil) refl

@@ -126,7 +126,7 @@ none_append : (p : ℕ → Bool) (a b : List ℕ) → none_of p a ≡ true → n
 none_append p [] b first second = second
 none_append p (c ∷ a) b first second = let both = and_parts (not (p c)) (none_of p a) first in and_both (not (p c)) (none_of p (a ++ b)) both.0 (none_append p a b both.1 second)
 
--- a printed label and what stands behind it
+-- a printed label and what stands after it
 marked_none : (p : ℕ → Bool) (count pc : ℕ) (i : Instr) → IsAside p → p 58 ≡ false → pc < MOST_INSTRUCTIONS → Fits i → none_of p (label_text pc ++ (58 ∷ 32 ∷ instr_text count i)) ≡ true
 marked_none p count pc i aside colon room fits =
     none_append p (label_text pc) (58 ∷ 32 ∷ instr_text count i)

@@ -60,7 +60,7 @@ free instrs zero t le small = refl
 free instrs (suc n) t le small =
     other_step (labels_below instrs n) n t (is_target instrs n) (omega arith) small (λ e. absurd (omega arith)) ∙ free instrs n t (omega arith) small
 
--- but it is there behind that, if some jump goes there
+-- but it is there after that, if some jump goes there
 here_step : (labels : Labels) (n t : ℕ) (b : Bool) → n ≡ t → b ≡ true → with_label labels n (mark b n) (label_text t) ≡ Some t
 here_step labels n t true is marked = rw (is, same_label t) refl
 here_step labels n t false is marked = cc
@@ -83,18 +83,18 @@ says_at : (labels : Labels) (count pc here : ℕ) (marked : Bool) (i : Instr) �
 says_at labels count pc here marked i same room fits none = subst (λ n. line_says labels n (line_text count marked pc i) ≡ Ok (record { label = mark marked pc; draft = Some (draft_again count i) })) (sym same) (line_again labels count pc marked i room fits none)
 
 -- the first pass over the canonical text
-first_again : (instrs : List Instr) (pc number : ℕ) (front : List LineDraft) (left : List Instr) → length front ≡ pc → pc + length left ≤ MOST_INSTRUCTIONS → AllByRecursion Fits left
-    → first_pass (record { labels = labels_below instrs pc; reads = front }) number (lines_of (text_from instrs pc left)) ≡ Ok (record { labels = labels_below instrs (pc + length left); reads = front ++ reads_of (length instrs) number left })
+first_again : (instrs : List Instr) (pc number : ℕ) (before : List LineDraft) (left : List Instr) → length before ≡ pc → pc + length left ≤ MOST_INSTRUCTIONS → AllByRecursion Fits left
+    → first_pass (record { labels = labels_below instrs pc; reads = before }) number (lines_of (text_from instrs pc left)) ≡ Ok (record { labels = labels_below instrs (pc + length left); reads = before ++ reads_of (length instrs) number left })
 unfolding first_pass text_from lines_of
-first_again instrs pc number front [] at room fit = let end : pc + 0 ≡ pc = omega arith in rw (append-nil front, end) refl
-first_again instrs pc number front (i ∷ left) at room fit =
-    let says = says_at (labels_below instrs pc) (length instrs) pc (length front) (is_target instrs pc) i at (omega arith) fit.0 (free instrs pc pc (omega arith) (omega arith)) in
+first_again instrs pc number before [] at room fit = let end : pc + 0 ≡ pc = omega arith in rw (append-nil before, end) refl
+first_again instrs pc number before (i ∷ left) at room fit =
+    let says = says_at (labels_below instrs pc) (length instrs) pc (length before) (is_target instrs pc) i at (omega arith) fit.0 (free instrs pc pc (omega arith) (omega arith)) in
     let line = line_and_rest (line_text (length instrs) (is_target instrs pc) pc i) (text_from instrs (pc + 1) left) (line_has_no_end (length instrs) pc (is_target instrs pc) i (omega arith) fit.0) in
-    let next = first_next (record { labels = labels_below instrs pc; reads = front }) number (line_text (length instrs) (is_target instrs pc) pc i) (lines_of (text_from instrs (pc + 1) left)) (record { label = mark (is_target instrs pc) pc; draft = Some (draft_again (length instrs) i) }) (rw says refl) in
-    let more = first_again instrs (pc + 1) (number + 1) (front ++ (record { line = number; draft = draft_again (length instrs) i } ∷ [])) left (simp length-append (omega arith)) (omega arith) fit.1 in
-    let marked : labels_below instrs (pc + 1) ≡ with_label (labels_below instrs pc) (length front) (mark (is_target instrs pc) pc) = rw (at, add-one) refl in
+    let next = first_next (record { labels = labels_below instrs pc; reads = before }) number (line_text (length instrs) (is_target instrs pc) pc i) (lines_of (text_from instrs (pc + 1) left)) (record { label = mark (is_target instrs pc) pc; draft = Some (draft_again (length instrs) i) }) (rw says refl) in
+    let more = first_again instrs (pc + 1) (number + 1) (before ++ (record { line = number; draft = draft_again (length instrs) i } ∷ [])) left (simp length-append (omega arith)) (omega arith) fit.1 in
+    let marked : labels_below instrs (pc + 1) ≡ with_label (labels_below instrs pc) (length before) (mark (is_target instrs pc) pc) = rw (at, add-one) refl in
     let end : pc + 1 + length left ≡ pc + length (i ∷ left) = omega arith in
-    ap (first_pass (record { labels = labels_below instrs pc; reads = front }) number) line ∙ (next ∙ rw (marked, end, append_assoc) at more)
+    ap (first_pass (record { labels = labels_below instrs pc; reads = before }) number) line ∙ (next ∙ rw (marked, end, append_assoc) at more)
 
 -- where a jump goes is read again
 jump_again : (labels : Labels) (count line t : ℕ) (instr : ℕ → Instr) → ((pc q : ℕ) → with_target pc (instr q) ≡ instr pc) → (t < count → labels (label_text t) ≡ Some t)

@@ -63,7 +63,7 @@ none_in_plain p [] fails plain = refl
 none_in_plain p (c ∷ w) fails plain = let both = and_parts (is_plain c) (plain_word w) plain in rw (fails c both.0) (none_in_plain p w fails both.1)
 
 -- a test looks past such bytes
-past : (p : ℕ → Bool) (front rest : List ℕ) → none_of p front ≡ true → position_or_len p (front ++ rest) ≡ length front + position_or_len p rest
+past : (p : ℕ → Bool) (before rest : List ℕ) → none_of p before ≡ true → position_or_len p (before ++ rest) ≡ length before + position_or_len p rest
 past p [] rest none = omega arith
 past p (c ∷ w) rest none =
     let both = and_parts (not (p c)) (none_of p w) none in
@@ -71,12 +71,12 @@ past p (c ∷ w) rest none =
     rw (not_true (p c) both.0) (omega arith)
 
 -- and stops at one that passes
-stops : (p : ℕ → Bool) (front : List ℕ) (c : ℕ) (rest : List ℕ) → none_of p front ≡ true → p c ≡ true → position p (front ++ (c ∷ rest)) ≡ Some (length front)
-stops p front c rest none passes =
+stops : (p : ℕ → Bool) (before : List ℕ) (c : ℕ) (rest : List ℕ) → none_of p before ≡ true → p c ≡ true → position p (before ++ (c ∷ rest)) ≡ Some (length before)
+stops p before c rest none passes =
     let here : position_or_len p (c ∷ rest) ≡ 0 = rw passes refl in
-    let place : position_or_len p (front ++ (c ∷ rest)) ≡ length front = past p front (c ∷ rest) none ∙ omega arith in
-    let inside : length front < length (front ++ (c ∷ rest)) = simp length-append (omega arith) in
-    rw (place, lt-ltb (length front) (length (front ++ (c ∷ rest))) inside) refl
+    let place : position_or_len p (before ++ (c ∷ rest)) ≡ length before = past p before (c ∷ rest) none ∙ omega arith in
+    let inside : length before < length (before ++ (c ∷ rest)) = simp length-append (omega arith) in
+    rw (place, lt-ltb (length before) (length (before ++ (c ∷ rest))) inside) refl
 
 not_below : (n : ℕ) → nat_lt n n ≡ false
 not_below n = grind (arith, nat_tests)
@@ -86,8 +86,8 @@ never p w none =
     let place : position_or_len p w ≡ length w = ap (position_or_len p) (sym (append-nil w)) ∙ (past p w [] none ∙ omega arith) in
     rw (place, not_below (length w)) refl
 
-pub cut_here : (c : ℕ) (front rest : List ℕ) → none_of (λ b. b == c) front ≡ true → (c == c) ≡ true → cut c (front ++ (c ∷ rest)) ≡ Some (front, rest)
-cut_here c front rest none same = rw (stops (λ b. b == c) front c rest none same, take-append_seam front (c ∷ rest), drop-append-add front (c ∷ rest) 1) refl
+pub cut_here : (c : ℕ) (before rest : List ℕ) → none_of (λ b. b == c) before ≡ true → (c == c) ≡ true → cut c (before ++ (c ∷ rest)) ≡ Some (before, rest)
+cut_here c before rest none same = rw (stops (λ b. b == c) before c rest none same, take-append_seam before (c ∷ rest), drop-append-add before (c ∷ rest) 1) refl
 
 pub cut_nowhere : (c : ℕ) (w : List ℕ) → none_of (λ b. b == c) w ≡ true → cut c w ≡ None
 cut_nowhere c w none = rw (never (λ b. b == c) w none) refl
@@ -105,13 +105,13 @@ pub word_and_more : (w rest : List ℕ) → plain_word w ≡ true → up_to_blan
 word_and_more w rest plain =
     rw (stops (λ b. is_blank b) w 32 rest (none_in_plain (λ b. is_blank b) w no_blank plain) refl, take-append_seam w (32 ∷ rest), drop-append_seam w (32 ∷ rest)) refl
 
--- a word behind a space is the only word there
+-- a word after a space is the only word there
 pub alone_behind_blank : (w : List ℕ) → plain_word w ≡ true → 0 < length w → only_word (32 ∷ w) ≡ Some w
 alone_behind_blank [] plain some = absurd (omega arith)
 alone_behind_blank (c ∷ cs) plain some =
     rw (behind_blank c cs (and_parts (is_plain c) (plain_word cs) plain).0, one_word (c ∷ cs) plain) refl
 
--- and so is one at the front
+-- and so is one with no space before it
 pub alone_at_front : (w : List ℕ) → plain_word w ≡ true → 0 < length w → only_word w ≡ Some w
 alone_at_front [] plain some = absurd (omega arith)
 alone_at_front (c ∷ cs) plain some =

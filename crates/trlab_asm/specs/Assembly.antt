@@ -31,7 +31,7 @@ pub record Parts : Type 0 where
 abbrev pub line_numbers : Parts → List ℕ
 line_numbers parts = map (λ read. read.line) parts.reads
 
--- of no line
+-- those of no line
 abbrev pub nothing : Parts
 nothing = record { labels = λ name. None; reads = [] }
 
@@ -52,7 +52,7 @@ with_line parts number line = record {
   reads = with_draft parts.reads number line.draft;
 }
 
--- the first pass: what the lines from a number on say behind what was read so far, or the first fault
+-- the first pass: what the lines from a number on say after what was read so far, or the first fault
 unfoldable pub first_pass : Parts → ℕ → List (List ℕ) → Result Parts AsmFault
 first_pass parts number [] = Ok parts
 first_pass parts number (line ∷ left) =
@@ -101,6 +101,6 @@ code_of kind lines = do
   instrs ← instrs_of parts
   Ok (record { kind = kind; instrs = instrs })
 
--- the fault where memory runs out, which says nothing of the text
+-- the fault where memory ran out, which says nothing of the text
 abbrev pub IsOutOfMemory : AsmFault → Type 0
 IsOutOfMemory fault = fault ≡ record { line = 0; why = Memory }

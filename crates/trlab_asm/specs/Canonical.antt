@@ -16,7 +16,7 @@ use Rattle.trlab_asm.specs.declared.printing.Row.TheVariants.{Bare, One, Two, Th
 abbrev pub label_text : ℕ → List ℕ
 label_text pc = 76 ∷ decimal pc
 
--- a target in a program of so many instructions: its label, or behind the program `@` and its digits
+-- a target in a program of so many instructions: its label, or past the end of the program `@` and its digits
 abbrev pub target_text : ℕ → ℕ → List ℕ
 target_text count pc = if nat_lt pc count then label_text pc else 64 ∷ decimal pc
 
@@ -80,7 +80,7 @@ is_pc pc (Some t) = nat_eq t pc
 abbrev pub is_target : List Instr → ℕ → Bool
 is_target instrs pc = list_any (λ instr. is_pc pc (target instr)) instrs
 
--- an instruction's line, behind its label if it is marked
+-- an instruction's line, after its label if it is marked
 abbrev pub line_text : ℕ → Bool → ℕ → Instr → List ℕ
 line_text count marked pc instr =
     if marked then label_text pc ++ (58 ∷ 32 ∷ instr_text count instr) else instr_text count instr

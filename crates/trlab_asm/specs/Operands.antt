@@ -82,7 +82,7 @@ abbrev pub target : List ℕ → Result Target Why
 target text = word text >>= target_named
 
 infixr 15 ◌then◌
--- what stands before the first comma, and then what stands behind it
+-- what stands before the first comma, and then what stands after it
 abbrev pub ◌then◌ : {A B : Type 0} → (List ℕ → Result A Why) → (List ℕ → Result B Why)
     → List ℕ → Result (A × B) Why
 (first then rest) text = do

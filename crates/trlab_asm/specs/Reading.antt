@@ -121,6 +121,6 @@ parts_say labels pc parts = do
   draft ← body pc (without_indent parts.1)
   Ok (record { label = label; draft = draft })
 
--- what a line says behind these labels, where its instruction is that of this pc
+-- what a line says after these labels, where its instruction is that of this pc
 abbrev pub line_says : Labels → ℕ → List ℕ → Result Line Why
 line_says labels pc line = parts_say labels pc (label_and_rest (without_comment line))

@@ -140,7 +140,8 @@ fn numbers_of(alloc: Global, reads: &[LineDraft<'_>]) -> Result<Vec<usize>, Allo
 ///
 /// # Errors
 ///
-/// The first fault of the text, where it is not a jump's label that is nowhere; or `Memory`, where memory ran out.
+/// The first fault of the text, unless it is that no line has a jump's label; or `Memory`, where memory ran
+/// out.
 pub fn instruction_lines(alloc: Global, text: &[u8]) -> Result<Vec<usize>, AsmFault>
     ensures { MatchResult result
         (λ numbers. (parts : Found)

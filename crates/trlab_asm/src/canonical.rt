@@ -30,7 +30,7 @@ fn is_target(instrs: &[Instr], pc: u32) -> bool
 /// The canonical text of a program: an instruction a line, each line with its LF.
 ///
 /// Before an instruction that some jump goes to stands its label, `L` and the pc. The operands are
-/// separated by a comma and a space. A target behind the program is `@` and the pc.
+/// separated by a comma and a space. A target past the end of the program is `@` and the pc.
 ///
 /// # Errors
 ///

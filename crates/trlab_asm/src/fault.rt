@@ -10,7 +10,7 @@ use thiserror::Error;
 ///
 /// In a line, read from left to right, a label that is there twice or that is none comes first, then
 /// the instruction's name, then its room, then the form of all operands, then their ranges. Lines are
-/// read in order. `Empty` comes behind all these, and then `NoLabel`, again in the order of lines.
+/// read in order. `Empty` comes after all these, and then `NoLabel`, again in the order of lines.
 #[derive(Clone, Copy, Debug, PartialEq, Eq, Error)]
 pub enum Why {
     #[error("no instruction has this name, or no label can")]

@@ -30,7 +30,7 @@ impl<'a> Labels<'a> {
         self.pcs.get(&name).copied()
     }
 
-    /// A label more.
+    /// Adds a label.
     pub(crate) fn add(&mut self, name: &'a [u8], pc: u32) -> Result<(), AllocError>
         ensures { OnOk result (pcs self.new ≡ update bytes_eq (pcs self.old) name.now (Some pc)) }
     {

@@ -55,7 +55,7 @@ impl<'a> Parts<'a> {
     ghost use Rattle.trlab_asm.specs.Assembly.{nothing, in_line, with_line};
     ghost use Rattle.trlab_asm.specs.Stored.{pcs, stored_parts};
 
-    /// Of no line.
+    /// Those of no line.
     pub(crate) fn new(alloc: Global) -> Parts<'a>
         ensures { stored_parts result ≡ nothing }
     {
@@ -93,7 +93,7 @@ impl<'a> Parts<'a> {
         })
     }
 
-    /// The line of a number more: its label names the next instruction.
+    /// Adds what the line of a number says: its label names the next instruction.
     pub(crate) fn add(&mut self, number: usize, line: Line<'a>) -> Result<(), AllocError>
         requires { OnSome line.draft (length (stored_parts self.old).reads < MOST_INSTRUCTIONS) }
         ensures { OnOk result (stored_parts self.new ≡ with_line (stored_parts self.old) number line.entry) }

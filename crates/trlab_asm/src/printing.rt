@@ -89,22 +89,6 @@ fn push_two(
     push_operand(alloc, out, b", ", b)
 }
 
-/// A name and three operands.
-fn push_three(
-    alloc: Global,
-    out: &mut Vec<u8>,
-    name: Mnemonic,
-    a: Operand,
-    b: Operand,
-    c: Operand,
-) -> Result<(), AllocError>
-    ensures { OnOk result (out.new.items
-        ≡ out.old.items ++ row_text name (operand_text a comma operand_text b comma operand_text c)) }
-{
-    push_two(alloc, out, name, a, b)?;
-    push_operand(alloc, out, b", ", c)
-}
-
 /// The row of an instruction, in a program of so many.
 fn row_of(count: usize, instr: Instr) -> Row
     ensures value { row_says result ≡ instr_text count instr }
@@ -152,11 +136,14 @@ fn push_row(alloc: Global, out: &mut Vec<u8>, row: Row) -> Result<(), AllocError
         Bare(name) => out.extend_from_slice(mnemonic_text(name)),
         One(name, a) => push_one(alloc, out, name, a),
         Two(name, a, b) => push_two(alloc, out, name, a, b),
-        Three(name, a, b, c) => push_three(alloc, out, name, a, b, c),
+        Three(name, a, b, c) => {
+            push_two(alloc, out, name, a, b)?;
+            push_operand(alloc, out, b", ", c)
+        }
     }
 }
 
-/// The line of an instruction in a program of so many, behind its label if it is marked.
+/// The line of an instruction in a program of so many, after its label if it is marked.
 pub(crate) fn push_line(
     alloc: Global,
     out: &mut Vec<u8>,

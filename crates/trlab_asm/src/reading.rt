@@ -83,7 +83,7 @@ fn label_of<'a>(labels: &Labels<'a>, text: Option<&'a [u8]>) -> Result<Option<&'
     }
 }
 
-/// What a line says behind these labels, where its instruction is that of this pc.
+/// What a line says after these labels, where its instruction is that of this pc.
 pub(crate) fn read_line<'a>(labels: &Labels<'a>, pc: usize, line: &'a [u8]) -> Result<Line<'a>, Why>
     ensures value { result ≡ line_says (pcs labels.now) pc line.now }
     ensures room { IfOk result (λ said. OnSome said.draft (pc < MOST_INSTRUCTIONS)) }

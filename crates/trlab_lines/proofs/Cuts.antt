@@ -1,4 +1,4 @@
--- A text that is cut behind its first line.
+-- A text that is cut after its first line.
 use Rattle.std.proofs.Common.{◌≡◌, ◌==◌, ℕ, suc, ◌+◌, ◌<◌, ◌≤◌, List, [], ◌∷◌, ◌++◌, length, take, drop, get_or, refl, sym, ◌∙◌, ap, subst, arith, Bool, true, false, cond, add-one, nat_lt, drop-cons}
 use Rattle.std.specs.Prelude.{Option, None, Some, unwrap_or}
 use Rattle.std.specs.List.{position, position_or_len}
@@ -65,7 +65,7 @@ none_before text end found =
     let others = position-Some (λ byte. byte == 10) text end d found in
     rw (get_or-take end text k d below) (differs (get_or text k d) (others.2 k below))
 
--- and the text is what stands before it, the LF, and what stands behind
+-- and the text is what stands before it, the LF, and what stands after it
 end_between : (text : List ℕ) (end : ℕ) → position (λ byte. byte == 10) text ≡ Some end → text ≡ take end text ++ (10 ∷ drop (end + 1) text)
 end_between text end found =
     let at = position-Some (λ byte. byte == 10) text end 0 found in
@@ -73,7 +73,7 @@ end_between text end found =
     let inside = at.0 in
     sym (take-append-drop end text) ∙ rw (drop-cons text end 0, is, add-one) refl
 
--- so the lines are the one before it, and those behind it
+-- so the lines are the one before it, and those after it
 line_before : (text : List ℕ) (end : ℕ) → position (λ byte. byte == 10) text ≡ Some end → lines_of text ≡ take end text ∷ lines_of (drop (end + 1) text)
 line_before text end found = ap lines_of (end_between text end found) ∙ line_and_rest (take end text) (drop (end + 1) text) (none_before text end found)
 
@@ -101,7 +101,7 @@ end_around text line rest (Some end) at e = record {
 end_of_cut : (text line rest : List ℕ) → Some (line, rest) ≡ cut 10 text → IsEnd text line rest
 end_of_cut text line rest e = end_around text line rest (position (λ byte. byte == 10) text) refl e
 
--- so the lines are the one before it, and those behind it
+-- so the lines are the one before it, and those after it
 pub lines_of_cut : (text line rest : List ℕ) → Some (line, rest) ≡ cut 10 text → lines_of text ≡ line ∷ lines_of rest
 lines_of_cut text line rest e =
     let at = end_of_cut text line rest e in

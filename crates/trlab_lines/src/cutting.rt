@@ -35,16 +35,16 @@ fn first_of_word(text: &[u8]) -> Option<usize>
     text.iter().position(|b| !is_blank(*b))
 }
 
-/// What stands before the first such byte of a text, and what stands behind it.
+/// What stands before the first such byte of a text, and what stands after it.
 pub fn cut(text: &[u8], byte: u8) -> Option<(&[u8], &[u8])>
     ensures { option_map (λ parts. (parts.0.now, parts.1.now)) result ≡ cut byte text.now }
 {
     match position_of(text, byte) {
         None => None,
         Some(i) => {
-            let (front, _) = text.split_at(i);
-            let (_, behind) = text.split_at(i + 1);
-            Some((front, behind))
+            let (before, _) = text.split_at(i);
+            let (_, after) = text.split_at(i + 1);
+            Some((before, after))
         }
     }
 }
@@ -79,7 +79,7 @@ fn first_word(text: &[u8]) -> (&[u8], &[u8])
     up_to_blank(without_indent(text))
 }
 
-/// The word of a text that has but blanks beside it; of blanks alone it is the empty word.
+/// The word of a text that has only blanks beside it; of blanks alone it is the empty word.
 pub fn only_word(text: &[u8]) -> Option<&[u8]>
     ensures { option_map (λ word. word.now) result ≡ only_word text.now }
 {
@@ -97,11 +97,11 @@ pub fn without_comment(line: &[u8]) -> &[u8]
 {
     match cut(line, b';') {
         None => line,
-        Some((front, _)) => front,
+        Some((before, _)) => before,
     }
 }
 
-/// What stands before the first colon, if there is one, and what stands behind.
+/// What stands before the first colon, if there is one, and what stands after it.
 pub fn label_and_rest(text: &[u8]) -> (Option<&[u8]>, &[u8])
     ensures { (option_map (λ label. label.now) result.0, result.1.now) ≡ label_and_rest text.now }
 {

@@ -5,8 +5,8 @@ ghost use Rattle.trlab_lines.specs.Lines.{lines_of, BeginsWithLine, HasNoEnd};
 
 use crate::cutting::cut;
 
-/// The first line of a text, without its LF, and what stands behind that; where no byte is left, no
-/// line is.
+/// The first line of a text, without its LF, and what stands after that; where no byte is left, there is no
+/// line.
 ///
 /// LF ends each line, and may be missing at the last. So a text of one LF has one empty line.
 pub fn next_line(text: &[u8]) -> Option<(&[u8], &[u8])>

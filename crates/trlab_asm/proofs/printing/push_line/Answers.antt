@@ -4,7 +4,7 @@ use Rattle.trlab_asm.specs.Canonical.{label_text, instr_text}
 use Rattle.trlab_asm.proofs.printing.push_line.Goals as goal
 use Rattle.trlab_asm.proofs.printing.push_line.Goals.{then-marked+in_ok-push_number+in_ok-extend_from_slice, else-marked}
 
--- a text was put behind a label
+-- a text was put after a label
 labelled : {E : Type 0} (r : Result (Unit {0}) E) (new mid start old label text : List ℕ) → mid ≡ start ++ (58 ∷ 32 ∷ []) → start ≡ old ++ label → OnOk r (new ≡ mid ++ text)
     → OnOk r (new ≡ old ++ (label ++ (58 ∷ 32 ∷ text)))
 labelled (Ok x) new mid start old label text m s p = rw (p, m, s) (simp append_assoc)

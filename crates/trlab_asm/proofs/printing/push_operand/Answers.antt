@@ -3,7 +3,7 @@ use Rattle.std.specs.Prelude.{Result, Ok, Err, OnOk, is_ok, if◌then◌else◌}
 use Rattle.trlab_asm.specs.Names.{register_text, input_text}
 use Rattle.trlab_asm.proofs.printing.push_operand.Goals as goal
 
--- a text was put behind a list and a prefix
+-- a text was put after a list and a prefix
 put : {E : Type 0} (r : Result (Unit {0}) E) (new mid old prefix text : List ℕ) → mid ≡ old ++ prefix → OnOk r (new ≡ mid ++ text) → OnOk r (new ≡ old ++ (prefix ++ text))
 put (Ok x) new mid old prefix text m p = rw (p, m) (append_assoc old prefix text)
 put (Err e) new mid old prefix text m p = tt

@@ -17,15 +17,15 @@ abbrev of_label : ℕ → List ℕ → Result (Option (List ℕ)) Why → Result
 of_label pc rest label = label >>= λ label. of_draft label (body pc (without_indent rest))
 
 -- what is said of the parts of a line is said of the line
-of_line : (labels : Labels) (pc : ℕ) (line front : List ℕ) (parts : Option (List ℕ) × List ℕ)
-    → front ≡ without_comment line → parts ≡ label_and_rest front → parts_say labels pc parts ≡ line_says labels pc line
-of_line labels pc line front parts e f = ap (λ p. parts_say labels pc p) (f ∙ ap label_and_rest e)
+of_line : (labels : Labels) (pc : ℕ) (line before : List ℕ) (parts : Option (List ℕ) × List ℕ)
+    → before ≡ without_comment line → parts ≡ label_and_rest before → parts_say labels pc parts ≡ line_says labels pc line
+of_line labels pc line before parts e f = ap (λ p. parts_say labels pc p) (f ∙ ap label_and_rest e)
 
-of_parts : (labels : Labels) (pc : ℕ) (line front : List ℕ) (parts : Option (List ℕ) × List ℕ)
-    → front ≡ without_comment line → parts ≡ label_and_rest front → (text : List ℕ) (label : Option (List ℕ)) (draft : Result (Option Draft) Why)
+of_parts : (labels : Labels) (pc : ℕ) (line before : List ℕ) (parts : Option (List ℕ) × List ℕ)
+    → before ≡ without_comment line → parts ≡ label_and_rest before → (text : List ℕ) (label : Option (List ℕ)) (draft : Result (Option Draft) Why)
     → Ok label ≡ label_of labels parts.0 → text ≡ without_indent parts.1 → draft ≡ body pc text → of_draft label draft ≡ line_says labels pc line
-of_parts labels pc line front parts e f text label draft h g k =
-    ap (of_draft label) (k ∙ ap (body pc) g) ∙ (ap (of_label pc parts.1) h ∙ of_line labels pc line front parts e f)
+of_parts labels pc line before parts e f text label draft h g k =
+    ap (of_draft label) (k ∙ ap (body pc) g) ∙ (ap (of_label pc parts.1) h ∙ of_line labels pc line before parts e f)
 
 pub returns-in_err-label-clause-value : goal.returns-in_err-label-clause-value
 returns-in_err-label-clause-value c =
