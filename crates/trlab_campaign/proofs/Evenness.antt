@@ -46,7 +46,7 @@ stands_at lanes cells n road legal count home l i low here =
     let lane : l ≡ car.lane = sym here ∙ ap (even_lane lanes cells n) (sym number) ∙ is.in_place.on_lane in
     let place : even_place lanes cells n i ≡ car.place = ap (even_place lanes cells n) (sym number) ∙ is.in_place.at_place in
     ap (λ (m : ℕ). cell road m (even_place lanes cells n i)) lane ∙ ap (λ (x : ℕ). cell road car.lane x) place ∙ at_it
-    ∙ ap (λ (m : ℕ). Some (m, car.speed)) number ∙ ap (λ (v : ℕ). Some (i, v)) is.still
+    ∙ ap (λ (m : ℕ). Some (m, car.speed)) number ∙ ap (λ (v : ℕ). Some (i, v)) is.stopped
 
 pub home_is_even : (lanes cells limit n : ℕ) (road : Cells) → IsLegal road → road.limit ≡ limit → length road.lanes ≡ lanes
     → length (lane_of road 0) ≡ cells → cars road ≡ n → AreHome lanes cells n road → IsEven lanes cells limit n road
@@ -72,4 +72,4 @@ even_is_home lanes cells limit n road e k car order =
     let home = lane.nothing_else car.place car.number car.speed stands in
     let here : cell road car.lane car.place ≡ Some (car.number, 0) =
     subst (λ (x : ℕ). cell road car.lane x ≡ Some (car.number, 0)) home.at_place (lane.stands car.number home.numbered home.on_lane) in
-    record { in_place = home; still = (some_pair_parts car.number car.number car.speed 0 (sym stands ∙ here)).1 }
+    record { in_place = home; stopped = (some_pair_parts car.number car.number car.speed 0 (sym stands ∙ here)).1 }

@@ -1,8 +1,8 @@
--- What is known where the pictures were not all written.
+-- What is known where an output was not written whole.
 use Rattle.std.proofs.Common.{◌≡◌, ◌↔◌, Bool, true, false, sym, ◌∙◌}
 use Rattle.std.proofs.lemmas.Bool.{false≢true}
-use Rattle.trlab_campaign.specs.declared.run.pictures.WriteFault.{WriteFault}
-use Rattle.trlab_campaign.specs.declared.run.pictures.WriteFault.TheVariants.{Memory, Device}
+use Rattle.trlab_campaign.specs.declared.pooled.WriteFault.{WriteFault}
+use Rattle.trlab_campaign.specs.declared.pooled.WriteFault.TheVariants.{Memory, Device}
 
 memory≢device : Memory ≡ Device → ⊥
 memory≢device e = cc e

@@ -11,7 +11,7 @@ use Rattle.trlab_campaign.specs.Device.{AppendsBy, AppendsPrefix}
 use Rattle.trlab_step.specs.Progress.{Progress, at_start}
 use Rattle.trlab_jobs.specs.Job.{Job, seed_of, sheet_of}
 use Rattle.trlab_jobs.specs.Stored.{IsStored}
-use Rattle.trlab_campaign.specs.Ending.{WroteBy}
+use Rattle.trlab_campaign.specs.Ending.{WroteBy, WrotePrefix}
 use Rattle.trlab_campaign.specs.SeriesOutput.{IsCourse, IsSeries, SeriesOutput, first_windows, nth_window, window_of}
 use Rattle.trlab_campaign.proofs.Courses.{course_of}
 use Rattle.trlab_campaign.proofs.KnownBytes.{appends_more}
@@ -75,8 +75,13 @@ module _ (job : Job) (every from count steps : ℕ) (run : Progress) (stored : I
   is_output : SeriesOutput every from job false (series_text the_windows)
   is_output = (refl, (the_windows, (is_series, refl)))
 
+  pub series_stops : (old new : Option (List ℕ))
+      → ((roads : ℕ → Cells) (tallies : ℕ → StepTally) → IsCourse run.seed run.sheet roads tallies → AppendsPrefix old new (series_text (first_windows roads tallies every from count)))
+      → WrotePrefix (SeriesOutput every from job) old new
+  series_stops old new told = inr (false, (series_text the_windows, (is_output, told job_course.0 job_course.1 run_course)))
+
   pub series_wrote : {A E : Type 0} (r : Result A E) (old new : Option (List ℕ))
       → ((roads : ℕ → Cells) (tallies : ℕ → StepTally) → IsCourse run.seed run.sheet roads tallies → AppendsBy r old new (series_text (first_windows roads tallies every from count)))
       → WroteBy (SeriesOutput every from job) r old new
   series_wrote (Ok x) old new told = (series_text the_windows, (is_output, told job_course.0 job_course.1 run_course))
-  series_wrote (Err e) old new told = inr (false, (series_text the_windows, (is_output, told job_course.0 job_course.1 run_course)))
+  series_wrote (Err e) old new told = series_stops old new told

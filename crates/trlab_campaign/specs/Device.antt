@@ -8,7 +8,8 @@ pub record AppendsPrefix (old new : Option (List ℕ)) (text : List ℕ) : Type 
   pub prefix : Appends old new (take count text)
 
 -- by its result, a writing appended a text, or a prefix of it
-abbrev pub AppendsBy : {A E : Type 0} → Result A E → Option (List ℕ) → Option (List ℕ) → List ℕ → Type 0
+abbrev pub AppendsBy : {A E : Type 0} → Result A E
+    → Option (List ℕ) → Option (List ℕ) → List ℕ → Type 0
 AppendsBy (Ok done) old new text = Appends old new text
 AppendsBy (Err fault) old new text = AppendsPrefix old new text
 

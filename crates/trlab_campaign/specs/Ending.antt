@@ -8,8 +8,8 @@ use Rattle.trlab_campaign.specs.declared.device.Source as Source
 use Rattle.trlab_campaign.specs.declared.device.flushes.Flushes.{Flushes}
 use Rattle.trlab_campaign.specs.declared.end.End.{End}
 use Rattle.trlab_campaign.specs.declared.end.End.TheVariants.{Done, Refused, Memory, DeviceFault}
-use Rattle.trlab_campaign.specs.declared.run.pictures.WriteFault.{WriteFault}
-use Rattle.trlab_campaign.specs.declared.run.pictures.WriteFault.TheVariants.{Device}
+use Rattle.trlab_campaign.specs.declared.pooled.WriteFault.{WriteFault}
+use Rattle.trlab_campaign.specs.declared.pooled.WriteFault.TheVariants.{Device}
 use Rattle.trlab_campaign.specs.Device.{AppendsPrefix, ConsumesUpTo}
 use Rattle.trlab_campaign.specs.Flushes.{AtMostOnce, HandedOnce}
 use Rattle.trlab_campaign.specs.Refusal.{Outputs}
@@ -25,7 +25,8 @@ WrotePrefix IsWhole old new =
     ⊎ ((refused : Bool) × ((out : List ℕ) × (IsWhole refused out × AppendsPrefix old new out)))
 
 -- by its result, a writing wrote a whole output that is no refusal, or a prefix of one
-abbrev pub WroteBy : {A E : Type 0} → Outputs → Result A E → Option (List ℕ) → Option (List ℕ) → Type 0
+abbrev pub WroteBy : {A E : Type 0} → Outputs → Result A E
+    → Option (List ℕ) → Option (List ℕ) → Type 0
 WroteBy IsWhole (Ok done) old new = WroteAll IsWhole false old new
 WroteBy IsWhole (Err fault) old new = WrotePrefix IsWhole old new
 
@@ -51,8 +52,8 @@ OutputEnds refused out Refused old new = (refused ≡ true) × Appends old new o
 OutputEnds refused out Memory old new = AppendsPrefix old new out
 OutputEnds refused out DeviceFault old new = AppendsPrefix old new out
 
--- a writing that hands nothing on yet left its writer so: it works where all was written, it has failed just
--- where that is the fault, and it was not flushed
+-- a writing that hands nothing on yet left its writer so: it works where all was written, it has failed
+-- exactly where that is the fault, and it was not flushed
 pub record WritesOn {A K : Type 0} (sink : Sink.Ghosts K) (result : Result A WriteFault)
     (old new : K) : Type 0 where
   pub works : OnOk result (sink.failed new ≡ false)
@@ -60,9 +61,10 @@ pub record WritesOn {A K : Type 0} (sink : Sink.Ghosts K) (result : Result A Wri
   pub flushed : sink.flushes new ≡ sink.flushes old
 
 -- a call ended so, and left its writer so: by this end so much was written, what was written whole was handed
--- on by one flush, and it ended in a device fault just where the writer has failed
+-- on by one flush, and it ended in a device fault exactly where the writer has failed
 pub record LeavesWriter {K : Type 0} (sink : Sink.Ghosts K)
-    (Wrote : End → Option (List ℕ) → Option (List ℕ) → Type 0) (end : End) (old new : K) : Type 0 where
+    (Wrote : End → Option (List ℕ) → Option (List ℕ) → Type 0)
+    (end : End) (old new : K) : Type 0 where
   pub answer : Wrote end (sink.written old) (sink.written new)
   pub handed : HandsOn end (sink.handed_on new) (sink.flushes old) (sink.flushes new)
   pub device : (end ≡ DeviceFault) ↔ (sink.failed new ≡ true)

@@ -3,7 +3,7 @@ use Rattle.std.specs.Prelude.{◌≡◌, ◌⊎◌, Bool, true}
 use Rattle.trlab_campaign.specs.declared.device.flushes.Flushes.{Flushes}
 use Rattle.trlab_campaign.specs.declared.device.flushes.Flushes.TheVariants.{Never, Once, Often}
 
--- how often, behind one flush more
+-- how often, after one flush more
 abbrev pub once_more : Flushes → Flushes
 once_more Never = Once
 once_more Once = Often

@@ -23,7 +23,8 @@ steps_text roads count = flat_map (λ step. step_text step (roads step)) (range_
 
 -- the output of a job: the pictures of its road at each step, from the start to the last step
 pub record IsRunText (job : Job) (roads : ℕ → Cells) (out : List ℕ) : Type 0 where
-  pub road_at : (step : ℕ) → step ≤ job.steps → IsRoadAt (seed_of job) (sheet_of job) step (roads step)
+  pub road_at : (step : ℕ) → step ≤ job.steps
+      → IsRoadAt (seed_of job) (sheet_of job) step (roads step)
   pub pictures : out ≡ steps_text roads (job.steps + 1)
 
 -- what is written for a job, which is no refusal

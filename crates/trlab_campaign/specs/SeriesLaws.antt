@@ -5,7 +5,7 @@ use Rattle.trlab_jobs.specs.Job.{Job, JobText}
 use Rattle.trlab_campaign.specs.Laws.{HasOneOutput, HasSomeOutput}
 use Rattle.trlab_campaign.specs.SeriesOutput.{IsSeries, IsSeriesOutput}
 
--- what stands on the lanes of a window is together all cars in each of its steps, all cells that they
+-- what was counted on the lanes of a window is together all cars in each of its steps, all cells that they
 -- went, and all that were stopped
 pub record LanesAddUp (window : Window) : Type 0 where
   pub cars : window.first.cars + window.second.cars ≡ window.point.steps * window.point.cars

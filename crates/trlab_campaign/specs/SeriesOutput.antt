@@ -35,7 +35,7 @@ pub record IsCourse (seed : Seed) (sheet : Sheet) (roads : ℕ → Cells)
   pub step_at : (step : ℕ)
       → IsStepAt seed sheet step (roads step) (roads (step + 1)) (tallies step)
 
--- does a car stand on this lane?
+-- is a car on this lane?
 abbrev pub is_on : ℕ → Car → Bool
 is_on lane car = nat_eq car.lane lane
 
@@ -76,7 +76,7 @@ sum_point road steps tallies = record {
   changes = sum_by (λ (tally : StepTally). tally.changes) tallies;
 }
 
--- the window of these steps: what was counted in them, and what stood on each lane behind them
+-- the window of these steps: what was counted in them, and on each lane behind them
 abbrev pub window_of : (ℕ → Cells) → (ℕ → StepTally) → ℕ → ℕ → Window
 window_of roads tallies first count = record {
   step = first + count;

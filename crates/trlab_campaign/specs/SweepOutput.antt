@@ -71,4 +71,5 @@ IsSweepOutput text refused out =
 abbrev pub TellsTable : {A B E : Type 0} → (A → Bor Sweep → Type 0)
     → (A → Bor Sweep → Result (Vec ℕ B) E → Type 0) → Type 0
 TellsTable pre post = (alloc : _) (sweep : Bor Sweep) → pre alloc sweep
-    × ((told : _) → post alloc sweep told → IfOk told (λ table. SweepOutput sweep.now false table.items))
+    × ((told : _) → post alloc sweep told
+    → IfOk told (λ table. SweepOutput sweep.now false table.items))

@@ -1,4 +1,4 @@
--- Readers and writers of std that remember what has come of their calls.
+-- Readers and writers of std that remember what came of their calls.
 use Rattle.std.specs.Prelude.{ℕ, Bool}
 use Rattle.trlab_campaign.specs.declared.device.flushes.Flushes.{Flushes}
 use Rattle.trlab_campaign.specs.declared.device.watched.Watched.{Watched}

@@ -1,4 +1,4 @@
-//! The engine of check texts: what the verifier says of the one program of a text.
+//! The engine of checks: check texts in, verdicts out. The verifier judges the one program of a text.
 
 ghost use Rattle.std.specs.Prelude.{◌≡◌, false};
 ghost use Rattle.trlab_campaign.specs.CheckOutput.{IsCheckOutput};

@@ -1,4 +1,4 @@
-//! Devices: what a text is read from, and what one is written to. Once a call has failed, it stays so.
+//! Devices: what a text is read from, and what one is written to. One that has failed stays failed.
 
 mod flushes;
 mod watched;
@@ -25,7 +25,7 @@ pub struct DeviceError;
 pub trait Source {
     // The bytes that are left to read, where they are told.
     ghost left: { Self → Option (List ℕ) };
-    // How many bytes its calls have given, whether it tells them or not.
+    // How many bytes its calls have given, whether it tells the bytes or not.
     ghost taken: { Self → ℕ };
     // Whether a call has failed.
     ghost failed: { Self → Bool };

@@ -1,4 +1,4 @@
-//! Engines: each makes outputs of texts. A text is read whole before its engine begins.
+//! Engines: each makes the output of a text, which is read whole before its engine begins.
 
 ghost use Rattle.std.specs.Prelude.{◌≡◌, ℕ, List, false};
 ghost use Rattle.trlab_campaign.specs.Ending.{EndsSo, EndsTooBig, EngineEnds, LeavesWriter};
@@ -10,7 +10,7 @@ use std::alloc::Global;
 
 /// What makes the output of a text.
 pub trait Engine: Drop {
-    // What has to hold for it to write: who lets workers ask says here what they need.
+    // What has to hold for it to write: an engine whose workers ask the cars says here what they need.
     ghost is_ready: { Self → Type 0 };
 
     // The whole outputs that there may be for a text.

@@ -1,5 +1,5 @@
-//! Laws of the outputs of texts, whichever code writes them: what one worker who drives the roads comes
-//! to, and what the points of a sweep keep to.
+//! Laws of the outputs of texts, whichever code writes them: that one worker drives the roads, that a text
+//! has one output, and what the tables of sweeps and series keep to.
 //!
 //! Each law is the contract of a function with nothing to do.
 
@@ -59,7 +59,7 @@ pub fn series_has_one_output()
     ensures one_output { SeriesHasOneOutput }
 {}
 
-/// In each window of a series, what stands on lane 0 and on lane 1 is together what the road has: the
+/// In each window of a series, what was counted on lane 0 and on lane 1 is together what the road has: the
 /// cars once in each step, the cells that they went, and those that were stopped.
 pub fn lanes_of_series_add_up()
     ensures { LanesOfSeriesAddUp }

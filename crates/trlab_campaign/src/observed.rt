@@ -3,7 +3,7 @@
 ghost use Rattle.std.specs.Prelude.{◌≡◌};
 
 use crate::end::End;
-use crate::progress::{Mark, Observer, newly_reached};
+use crate::progress::{Milestone, Observer, newly_reached};
 use std::alloc::{AllocError, Global};
 use trlab_machine::Dice;
 use trlab_road::Road;
@@ -45,7 +45,7 @@ impl<'a, A, O: Observer> Observed<'a, A, O> {
     fn tell(&self, taken: u32) {
         let before = u64::from(taken.saturating_sub(1));
         if let Some(hundredths) = newly_reached(before, u64::from(taken), u64::from(self.steps)) {
-            self.observer.reached(Mark {
+            self.observer.reached(Milestone {
                 hundredths,
                 number: taken,
                 count: self.steps,

@@ -30,7 +30,8 @@ pub fn push_text(out: &mut Vec<u8>, text: Result<String, AllocError>) -> Result<
 
 /// Adds the line of a step, whose digits need no memory of their own.
 fn push_step_line(out: &mut Vec<u8>, step: u32) -> Result<(), AllocError>
-    ensures { OnOk result (out.new.items ≡ out.old.items ++ (codes "step " ++ (decimal step ++ (10 ∷ [])))) }
+    ensures { OnOk result
+        (out.new.items ≡ out.old.items ++ (codes "step " ++ (decimal step ++ (10 ∷ [])))) }
 {
     let mut digits = Buffer::new();
     out.extend_from_slice(b"step ")?;

@@ -1,8 +1,10 @@
-//! Engines of job texts: a pool of workers asks the cars of the run, and an observer is told of its steps.
+//! The engine that runs and series share: a pool of workers asks the cars of a job's run, and an observer is
+//! told of its steps. What is written meanwhile is the account.
 
 ghost use Rattle.std.specs.Prelude.{◌≡◌, ◌≤◌, false};
-ghost use Rattle.trlab_jobs.specs.Job.{Job as Told};
-ghost use Rattle.trlab_campaign.specs.Ending.{EndsSo, EngineEnds, LeavesWriter};
+ghost use Rattle.trlab_jobs.specs.Job.{Job as Told, seed_of, sheet_of};
+ghost use Rattle.trlab_step.specs.Progress.{at_start};
+ghost use Rattle.trlab_campaign.specs.Ending.{EndsSo, EngineEnds, LeavesWriter, WritesOn, WroteBy};
 ghost use Rattle.trlab_campaign.specs.Output.{IsOutputOf};
 ghost use Rattle.trlab_campaign.specs.Refusal.{Outputs};
 
@@ -18,8 +20,17 @@ use std::thread::Threads;
 use trlab_bounds::runs::MOST_WORKERS;
 use trlab_jobs::{Job, read_job};
 use trlab_segments::{OpenGate, Pool};
-use trlab_step::Asker;
+use trlab_step::{Asker, Run, Sheet};
 use trlab_texts::{Cause, TextFault};
+
+/// Why an account was not written whole.
+#[derive(Clone, Copy)]
+pub enum WriteFault {
+    /// Memory ran out.
+    Memory,
+    /// The writer failed.
+    Device,
+}
 
 /// What is written for a job while its run is taken.
 pub trait Account {
@@ -29,17 +40,40 @@ pub trait Account {
     /// How many steps of a job's run it takes.
     fn steps(&self, job: &Job) -> u32;
 
-    /// Takes the run of a job, in which the asker asks the cars, writes the output, and hands it on.
+    /// Takes the run of a job, in which the asker asks the cars, and writes the output.
     fn write_job<A: Asker, K: Sink>(
         &self,
         asker: &A,
         alloc: Global,
         job: Job,
         writer: &mut K,
-    ) -> End
+    ) -> Result<(), WriteFault>
         requires ready { A.is_ready asker.now }
         requires works { K.failed writer.old ≡ false }
-        ensures { LeavesWriter K.Sink (EndsSo (outputs self.now job)) result writer.old writer.new };
+        ensures wrote { WroteBy (outputs self.now job) result (K.written writer.old) (K.written writer.new) }
+        ensures writer { WritesOn K.Sink result writer.old writer.new };
+}
+
+/// Writes the account of a job, and hands it on.
+fn write_account<C: Account, A: Asker, K: Sink>(
+    account: &C,
+    asker: &A,
+    alloc: Global,
+    job: Job,
+    writer: &mut K,
+) -> End
+    requires ready { A.is_ready asker.now }
+    requires works { K.failed writer.old ≡ false }
+    ensures { LeavesWriter K.Sink (EndsSo (C.outputs account.now job)) result writer.old writer.new }
+{
+    match account.write_job(asker, alloc, job, writer) {
+        Ok(()) => match writer.flush() {
+            Ok(()) => End::Done,
+            Err(_) => End::DeviceFault,
+        },
+        Err(WriteFault::Memory) => End::Memory,
+        Err(WriteFault::Device) => End::DeviceFault,
+    }
 }
 
 /// The engine of job texts: what it writes for a job, who asks the cars, and who is told how far it is.
@@ -59,7 +93,7 @@ impl<'a, C: Account, A: Asker, O: Observer> Engine for Driver<'a, C, A, O> {
         match read_job(alloc, text) {
             Ok(job) => {
                 let observed = Observed::new(self.asker, self.observer, self.account.steps(&job));
-                let end = self.account.write_job(&observed, alloc, job, writer);
+                let end = write_account(self.account, &observed, alloc, job, writer);
                 observed.ended(end);
                 end
             }
@@ -71,6 +105,20 @@ impl<'a, C: Account, A: Asker, O: Observer> Engine for Driver<'a, C, A, O> {
     fn write_too_big<K: Sink>(self, alloc: Global, writer: &mut K) -> End {
         refuse(alloc, 0, Cause::TooBig, writer)
     }
+}
+
+/// The run of a job from step 0 on.
+pub fn run_of(alloc: Global, job: Job) -> Run
+    ensures { result ≡ at_start (seed_of job) (sheet_of job) }
+{
+    let Job {
+        key,
+        road,
+        first,
+        later,
+        steps: _,
+    } = job;
+    Run::new(alloc, key, 0, 0, road, Sheet::new(first, later))
 }
 
 /// Reads a job text, and writes the account of its run, or the line of the text's first fault.

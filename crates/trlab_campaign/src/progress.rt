@@ -9,12 +9,12 @@ pub trait Observer {
     fn is_watching(&self) -> bool;
 
     /// So much of the work is done. It may be called by any worker.
-    fn reached(&self, mark: Mark);
+    fn reached(&self, milestone: Milestone);
 }
 
 /// How far the work is.
 #[derive(Clone, Copy, Debug, PartialEq, Eq)]
-pub struct Mark {
+pub struct Milestone {
     /// How many hundredths of the work are done, 1 to 100.
     pub hundredths: u32,
     /// The number of the step (of a run or a series) or point (of a sweep) that is at hand, from 1 on.
@@ -32,7 +32,7 @@ impl Observer for Unobserved {
         false
     }
 
-    fn reached(&self, _mark: Mark) {}
+    fn reached(&self, _milestone: Milestone) {}
 }
 
 /// How many whole hundredths of the work are done, where so many of its parts are.

@@ -1,6 +1,7 @@
-//! Job texts in, pictures out: the whole text is judged before the first picture is written.
+//! The engine of runs: job texts in, pictures out. The whole text is judged before the first picture is
+//! written.
 
-pub mod pictures;
+mod pictures;
 mod step_text;
 
 ghost use Rattle.std.specs.Prelude.{◌≡◌, ◌≤◌, false};
@@ -9,9 +10,9 @@ ghost use Rattle.trlab_campaign.specs.Output.{IsOutput, JobOutput};
 
 use crate::device::{Sink, Source};
 use crate::end::End;
-use crate::pooled::{Account, run_pooled};
+use crate::pooled::{Account, WriteFault, run_pooled};
 use crate::progress::{Observer, Unobserved};
-use crate::run::pictures::run_job;
+use crate::run::pictures::write_pictures;
 use std::alloc::{AllocGlobal, Global};
 use std::sync::Wait;
 use std::thread::Threads;
@@ -36,8 +37,8 @@ impl Account for StepPictures {
         alloc: Global,
         job: Job,
         writer: &mut K,
-    ) -> End {
-        run_job(asker, alloc, job, writer)
+    ) -> Result<(), WriteFault> {
+        write_pictures(asker, alloc, job, writer)
     }
 }
 

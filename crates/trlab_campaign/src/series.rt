@@ -1,5 +1,5 @@
-//! Job texts in, tables of windows out: a text is judged as a run's is, and then a line is written for each
-//! window of so many steps.
+//! The engine of series: job texts in, tables of windows out. The whole text is judged before the first line
+//! is written, and that of a window is written once the steps of the window are taken.
 
 mod counting;
 mod lanes;
@@ -12,9 +12,9 @@ ghost use Rattle.trlab_campaign.specs.SeriesOutput.{IsSeriesOutput, SeriesOutput
 
 use crate::device::{Sink, Source};
 use crate::end::End;
-use crate::pooled::{Account, run_pooled};
+use crate::pooled::{Account, WriteFault, run_pooled};
 use crate::progress::{Observer, Unobserved};
-use crate::series::lines::run_series;
+use crate::series::lines::write_series;
 use std::alloc::{AllocGlobal, Global};
 use std::sync::Wait;
 use std::thread::Threads;
@@ -42,8 +42,8 @@ impl<'a> Account for Series<'a> {
         alloc: Global,
         job: Job,
         writer: &mut K,
-    ) -> End {
-        run_series(asker, alloc, self.windows, job, writer)
+    ) -> Result<(), WriteFault> {
+        write_series(asker, alloc, self.windows, job, writer)
     }
 }
 

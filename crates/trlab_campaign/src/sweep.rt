@@ -1,4 +1,5 @@
-//! The engine of sweep texts: all points are there before the first line of their table is written.
+//! The engine of sweeps: sweep texts in, tables of points out. All points are there before the first line of
+//! their table is written.
 
 mod batches;
 mod evenness;

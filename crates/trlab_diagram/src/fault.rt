@@ -1,4 +1,4 @@
-//! Why a table cannot be written.
+//! Why a table can't be written.
 
 ghost use Rattle.std.specs.Prelude.{◌≡◌};
 ghost use Rattle.trlab_diagram.specs.declared.fault.DiagramFault.TheVariants.{Memory};
@@ -6,7 +6,7 @@ ghost use Rattle.trlab_diagram.specs.declared.fault.DiagramFault.TheVariants.{Me
 use std::alloc::AllocError;
 use thiserror::Error;
 
-/// Why there is no table of points.
+/// Why there is no table of points or of windows.
 #[derive(Clone, Copy, Debug, PartialEq, Eq, Error)]
 pub enum DiagramFault {
     /// Memory ran out.
@@ -20,7 +20,7 @@ impl From<AllocError> for DiagramFault {
     }
 }
 
-// A table is written to memory, where nothing but memory can fail.
+// A table is written to memory, so only memory can run out.
 impl From<csv::Error> for DiagramFault {
     fn from(_: csv::Error) -> DiagramFault {
         DiagramFault::Memory

@@ -1,8 +1,9 @@
 //! The fundamental diagram of road traffic: how many cars pass at each density of cars.
 //!
-//! A point of the diagram is what was counted on one road over some steps. The flow at a point is
-//! worked out from its counts, and the points of a sweep make a table of comma-separated values. So do the
-//! windows of a series: what was counted on one road over some steps after some others.
+//! A point of the diagram (`point`) is what was counted on one road over some steps, with the flow that
+//! follows from it. A window of a series (`window`) has a point, and what was counted on each lane. Both are
+//! lines of comma-separated values, in the table of a sweep's points (`table`) and in that of a series
+//! (`series`).
 #![tactic(auto)]
 
 mod fault;

@@ -11,7 +11,7 @@ use crate::{DiagramFault, Window, flow};
 use csv::{ByteRecord, Writer};
 use std::alloc::{AllocError, Global};
 
-// The fields of the first line.
+/// The fields of the first line.
 fn heading_row(alloc: Global) -> Result<ByteRecord, AllocError>
     ensures { IfOk result (λ row. row_text default_writer (fields_of row) ≡ line_text series_heading) }
 {
@@ -37,7 +37,7 @@ fn heading_row(alloc: Global) -> Result<ByteRecord, AllocError>
     Ok(row)
 }
 
-// Adds a field for each count.
+/// Adds a field for each count.
 fn push_counts(alloc: Global, row: &mut ByteRecord, counts: &[u64]) -> Result<(), DiagramFault>
     requires { partial_of row.old ≡ [] }
     ensures fields { OnOk result (fields_of row.new ≡ fields_of row.old ++ map decimal counts.now) }
@@ -50,10 +50,11 @@ fn push_counts(alloc: Global, row: &mut ByteRecord, counts: &[u64]) -> Result<()
     Ok(())
 }
 
-// The fields of a window's line.
+/// The fields of a window's line.
 fn window_row(alloc: Global, window: &Window) -> Result<ByteRecord, DiagramFault>
     requires { IsMeasured window.now.point }
-    ensures { IfOk result (λ row. row_text default_writer (fields_of row) ≡ line_text (window_line window.now)) }
+    ensures { IfOk result (λ row.
+        row_text default_writer (fields_of row) ≡ line_text (window_line window.now)) }
 {
     let Window {
         step,
@@ -85,7 +86,7 @@ fn window_row(alloc: Global, window: &Window) -> Result<ByteRecord, DiagramFault
     Ok(row)
 }
 
-// The text of a line with these fields.
+/// The text of a line with these fields.
 fn row_bytes(alloc: Global, row: &ByteRecord) -> Result<Vec<u8>, DiagramFault>
     ensures { IfOk result (λ text. text.items ≡ row_text default_writer (fields_of row.now)) }
 {

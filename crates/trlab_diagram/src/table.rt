@@ -10,7 +10,7 @@ use crate::{DiagramFault, Point, flow};
 use csv::{ByteRecord, Writer};
 use std::alloc::{AllocError, Global};
 
-// The fields of the first line.
+/// The fields of the first line.
 fn heading_row(alloc: Global) -> Result<ByteRecord, AllocError>
     ensures { IfOk result (λ row. row_text default_writer (fields_of row) ≡ line_text heading) }
 {
@@ -23,10 +23,11 @@ fn heading_row(alloc: Global) -> Result<ByteRecord, AllocError>
     Ok(row)
 }
 
-// The fields of a point's line.
+/// The fields of a point's line.
 fn point_row(alloc: Global, point: &Point) -> Result<ByteRecord, DiagramFault>
     requires { IsMeasured point.now }
-    ensures { IfOk result (λ row. row_text default_writer (fields_of row) ≡ line_text (point_line point.now)) }
+    ensures { IfOk result (λ row.
+        row_text default_writer (fields_of row) ≡ line_text (point_line point.now)) }
 {
     let counts = [
         point.cars,

@@ -1,8 +1,8 @@
-//! Windows of a series: what was counted on a road over some steps, one after another.
+//! Windows of a series: what was counted on a road over some steps one after another.
 
 use crate::Point;
 
-/// What stood on a lane, summed over the roads behind some steps.
+/// The cars on a lane, summed over the roads behind some steps.
 #[derive(Clone, Copy, Debug, PartialEq, Eq)]
 pub struct LaneCount {
     /// The cars on the lane.
@@ -13,7 +13,7 @@ pub struct LaneCount {
     pub stopped: u64,
 }
 
-/// A window of a series: what was counted over some steps, one after another, of the whole road and of
+/// A window of a series: what was counted over some steps one after another, on the whole road and on
 /// each lane.
 #[derive(Clone, Copy, Debug, PartialEq, Eq)]
 pub struct Window {
@@ -21,8 +21,8 @@ pub struct Window {
     pub step: u64,
     /// What was counted on the road.
     pub point: Point,
-    /// What stood on lane 0.
+    /// What was counted on lane 0.
     pub first: LaneCount,
-    /// What stood on lane 1, and nothing where there is no such lane.
+    /// What was counted on lane 1, which is nothing where there is no such lane.
     pub second: LaneCount,
 }

@@ -1,4 +1,4 @@
-//! What the number of a page is, in figures.
+//! The bound of a page, in figures.
 //!
 //! The law is the contract of a function with nothing to do.
 

@@ -159,8 +159,8 @@ impl Page {
         ensures { OnOk result (self.new ≡ self.old ++ quoted line.now) }
     {
         if line.len() > MOST_QUOTED {
-            let (front, _) = line.split_at(MOST_QUOTED);
-            self.show_all(front)?;
+            let (start, _) = line.split_at(MOST_QUOTED);
+            self.show_all(start)?;
             self.push(b' ')?;
             self.push(b'.')?;
             self.push(b'.')

@@ -14,7 +14,7 @@ use std::rt::Env;
 use std::sync::Wait;
 use std::thread::Threads;
 use std::{env, io};
-use trlab_campaign::{End, Mark, Observer, Sink, Source, Watched};
+use trlab_campaign::{End, Milestone, Observer, Sink, Source, Watched};
 use trlab_command_line::{
     REFUSED_ARGUMENTS, Request, carry_out, read_words, status_of_end, status_of_print,
 };
@@ -77,12 +77,12 @@ impl<R: Eprint> Observer for Teller<'_, R> {
         self.counted.is_some()
     }
 
-    fn reached(&self, mark: Mark) {
-        let Mark {
+    fn reached(&self, milestone: Milestone) {
+        let Milestone {
             hundredths,
             number,
             count,
-        } = mark;
+        } = milestone;
         if let Some(counted) = self.counted {
             let _ = eprintln!(self.rt; "trlab: {hundredths} of 100, {counted} {number} of {count}");
         }

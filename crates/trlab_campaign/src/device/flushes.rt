@@ -14,7 +14,7 @@ pub enum Flushes {
 impl Flushes {
     ghost use Rattle.trlab_campaign.specs.Flushes.{once_more};
 
-    /// The same behind one flush more.
+    /// The same after one flush more.
     pub fn once_more(self) -> Flushes
         ensures { result ≡ once_more self }
     {

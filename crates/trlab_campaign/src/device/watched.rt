@@ -1,4 +1,4 @@
-//! Readers and writers of std that remember what has come of their calls.
+//! Readers and writers of std that remember what came of their calls.
 
 ghost use Rattle.std.specs.Prelude.{◌≡◌, false};
 ghost use Rattle.trlab_campaign.specs.declared.device.flushes.Flushes.TheVariants.{Never};
@@ -6,7 +6,7 @@ ghost use Rattle.trlab_campaign.specs.declared.device.flushes.Flushes.TheVariant
 use crate::device::{DeviceError, Flushes, Sink, Source};
 use std::io::{Read, Write};
 
-/// A reader or a writer, whether a call of it has failed, of a reader how many bytes it gave, and of a
+/// A reader or a writer, and whether a call of it has failed; of a reader how many bytes it gave, and of a
 /// writer whether it has handed on all that was written and how often it was flushed.
 #[derive(Drop)]
 pub struct Watched<X> {
@@ -88,7 +88,7 @@ impl<X: Write> Sink for Watched<X> {
         self.handed_on = false;
         match self.inner.write(bytes) {
             Ok(count) => {
-                // A writer that takes nothing would be asked for ever.
+                // A writer that takes nothing would be asked again and again.
                 if count == 0 && !bytes.is_empty() {
                     self.failed = true;
                     return Err(DeviceError);

@@ -9,20 +9,16 @@ ghost use Rattle.trlab_campaign.specs.declared.device.whole.ReadFault.TheVariant
 
 use crate::device::{DeviceError, Sink, Source};
 use std::alloc::Global;
-use thiserror::Error;
 use trlab_bounds::texts::TEXT_LIMIT;
 
 /// Why a text was not read.
-#[derive(Clone, Copy, Debug, Error)]
+#[derive(Clone, Copy)]
 pub enum ReadFault {
     /// One byte more has come than a text may have.
-    #[error("the text is too long")]
     TooBig,
-    /// An allocation was refused.
-    #[error("out of memory")]
+    /// Memory ran out.
     Memory,
     /// The reader failed.
-    #[error("the reader failed")]
     Device,
 }
 

@@ -6,38 +6,15 @@ ghost use Rattle.trlab_jobs.specs.Stored.{IsStored};
 ghost use Rattle.trlab_step.specs.Progress.{IsOneStepOn, at_start};
 ghost use Rattle.trlab_step.specs.Run.{IsRoadAt};
 ghost use Rattle.trlab_campaign.specs.Device.{AppendsBy};
-ghost use Rattle.trlab_campaign.specs.Ending.{EndsSo, LeavesWriter, WritesOn, WroteBy};
+ghost use Rattle.trlab_campaign.specs.Ending.{WritesOn, WroteBy};
 ghost use Rattle.trlab_campaign.specs.Output.{JobOutput, step_text};
 
 use crate::device::{Sink, write_text};
-use crate::end::End;
+use crate::pooled::{WriteFault, run_of};
 use crate::run::step_text::StepText;
 use std::alloc::Global;
 use trlab_jobs::Job;
-use trlab_road::Road;
-use trlab_step::{Asker, Onlooker, Run, Sheet};
-
-/// Why the pictures were not all written.
-#[derive(Clone, Copy)]
-pub enum WriteFault {
-    Memory,
-    /// The writer failed.
-    Device,
-}
-
-/// The run of a job from step 0 on.
-pub fn run_of(alloc: Global, job: Job) -> Run
-    ensures { result ≡ at_start (seed_of job) (sheet_of job) }
-{
-    let Job {
-        key,
-        road,
-        first,
-        later,
-        steps: _,
-    } = job;
-    Run::new(alloc, key, 0, 0, road, Sheet::new(first, later))
-}
+use trlab_step::{Asker, Onlooker, Run};
 
 /// Writes the text of a step, where it was made.
 fn write_made<K: Sink>(text: &StepText, writer: &mut K) -> Result<(), WriteFault>
@@ -60,7 +37,6 @@ fn show_step<A: Asker, K: Sink>(
     asker: &A,
     alloc: Global,
     text: &mut StepText,
-    step: u32,
     run: &mut Run,
     writer: &mut K,
 ) -> Result<(), WriteFault>
@@ -69,11 +45,11 @@ fn show_step<A: Asker, K: Sink>(
     requires steps { run.old.step + 1 < 2 ^ 32 }
     ensures road { IsRoadAt run.old.seed run.old.sheet run.old.step run.old.road }
     ensures wrote { AppendsBy result
-        (K.written writer.old) (K.written writer.new) (step_text step run.old.road) }
+        (K.written writer.old) (K.written writer.new) (step_text run.old.step run.old.road) }
     ensures on { OnOk result (IsOneStepOn run.old run.new) }
     ensures writer { WritesOn K.Sink result writer.old writer.new }
 {
-    text.step = step;
+    text.step = run.step();
     let advanced = run.advance_showing(asker, alloc, text);
     write_made(text, writer)?;
     match advanced {
@@ -82,20 +58,16 @@ fn show_step<A: Asker, K: Sink>(
     }
 }
 
-/// Writes the text of a road at a step.
-fn show_last<K: Sink>(
-    text: &mut StepText,
-    step: u32,
-    road: &Road,
-    writer: &mut K,
-) -> Result<(), WriteFault>
+/// Writes the text of the road to which a run has come.
+fn show_last<K: Sink>(text: &mut StepText, run: &Run, writer: &mut K) -> Result<(), WriteFault>
     requires { K.failed writer.old ≡ false }
+    ensures road { IsRoadAt run.now.seed run.now.sheet run.now.step run.now.road }
     ensures wrote { AppendsBy result
-        (K.written writer.old) (K.written writer.new) (step_text step road.now) }
+        (K.written writer.old) (K.written writer.new) (step_text run.now.step run.now.road) }
     ensures writer { WritesOn K.Sink result writer.old writer.new }
 {
-    text.step = step;
-    text.see(road);
+    text.step = run.step();
+    text.see(run.road());
     write_made(text, writer)
 }
 
@@ -116,14 +88,15 @@ fn write_run<A: Asker, K: Sink>(
     ensures writer { WritesOn K.Sink result writer.old writer.new }
 {
     let mut text = StepText::new(alloc);
-    for step in 0..steps {
-        show_step(asker, alloc, &mut text, step, run, writer)?;
+    for _ in 0..steps {
+        show_step(asker, alloc, &mut text, run, writer)?;
     }
-    show_last(&mut text, steps, run.road(), writer)
+    show_last(&mut text, run, writer)
 }
 
-/// Writes the pictures of a job's road at each step, as they are made.
-fn write_pictures<A: Asker, K: Sink>(
+/// Runs a job, in which the asker asks the cars: writes the pictures of its road at each step, as they are
+/// made.
+pub fn write_pictures<A: Asker, K: Sink>(
     asker: &A,
     alloc: Global,
     job: Job,
@@ -139,21 +112,4 @@ fn write_pictures<A: Asker, K: Sink>(
     let written = write_run(asker, alloc, &mut run, steps, writer);
     drop(run);
     written
-}
-
-/// Runs a job, in which the asker asks the cars: writes the pictures of its road at each step, and
-/// hands them on at the end.
-pub fn run_job<A: Asker, K: Sink>(asker: &A, alloc: Global, job: Job, writer: &mut K) -> End
-    requires ready { A.is_ready asker.now }
-    requires works { K.failed writer.old ≡ false }
-    ensures { LeavesWriter K.Sink (EndsSo (JobOutput job)) result writer.old writer.new }
-{
-    match write_pictures(asker, alloc, job, writer) {
-        Ok(()) => match writer.flush() {
-            Ok(()) => End::Done,
-            Err(_) => End::DeviceFault,
-        },
-        Err(WriteFault::Memory) => End::Memory,
-        Err(WriteFault::Device) => End::DeviceFault,
-    }
 }

@@ -30,7 +30,7 @@ pub fn skip_steps<A: Asker>(
     Ok(())
 }
 
-/// Takes so many steps of a run, and tells what stood on lane 0 and on lane 1 behind them.
+/// Takes so many steps of a run, and tells what was counted on lane 0 and on lane 1 behind each.
 fn count_lanes<A: Asker>(
     asker: &A,
     alloc: Global,

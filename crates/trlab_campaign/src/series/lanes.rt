@@ -1,4 +1,4 @@
-//! What stands on a lane of a road: how many cars, their speeds, and how many are stopped.
+//! The cars on a lane of a road: how many, the sum of their speeds, and how many are stopped.
 
 ghost use Rattle.std.specs.Prelude.{◌≡◌, ◌+◌, ◌<◌, ◌^◌, ◌&&◌, cond, nat_eq};
 ghost use Rattle.trlab_campaign.specs.Counting.{IsFewCars};
@@ -18,7 +18,7 @@ pub fn no_cars() -> LaneCount
     }
 }
 
-/// The count with one car more, where it stands on the lane.
+/// The count with one car more, where it is on the lane.
 fn with_car(count: LaneCount, lane: u32, car: Car) -> LaneCount
     requires cars { count.cars + 1 < 2 ^ 64 }
     requires distance { count.distance + car.speed < 2 ^ 64 }
@@ -38,7 +38,7 @@ fn with_car(count: LaneCount, lane: u32, car: Car) -> LaneCount
     }
 }
 
-/// What stands on a lane of a road.
+/// What is counted on a lane of a road.
 pub fn count_lane(road: &Road, lane: u32) -> LaneCount
     ensures cars { result.cars ≡ cars_on lane road.now }
     ensures distance { result.distance ≡ speed_on lane road.now }

@@ -2,17 +2,16 @@
 
 ghost use Rattle.std.specs.Prelude.{◌≡◌, ℕ, ◌+◌, ◌*◌, ◌<◌, ◌≤◌, ◌^◌, List, flat_map, false, IfOk, IsOk, OnOk};
 ghost use Rattle.trlab_bounds.specs.declared.runs.TheConstants.{MOST_STEPS};
-ghost use Rattle.trlab_diagram.specs.Series.{series_heading, series_text, window_text};
+ghost use Rattle.trlab_diagram.specs.Series.{window_text};
 ghost use Rattle.trlab_road.specs.Cells.{Cells};
 ghost use Rattle.trlab_step.specs.declared.tally.StepTally.{StepTally};
 ghost use Rattle.trlab_campaign.specs.Counting.{IsStepsOn};
 ghost use Rattle.trlab_campaign.specs.Device.{AppendsBy};
-ghost use Rattle.trlab_campaign.specs.Ending.{EndsSo, LeavesWriter, WritesOn, WroteBy};
+ghost use Rattle.trlab_campaign.specs.Ending.{WritesOn, WroteBy};
 ghost use Rattle.trlab_campaign.specs.SeriesOutput.{IsCourse, SeriesOutput, first_windows, window_of};
 
 use crate::device::{Sink, write_text};
-use crate::end::End;
-use crate::run::pictures::{WriteFault, run_of};
+use crate::pooled::{WriteFault, run_of};
 use crate::series::counting::{skip_steps, take_window};
 use crate::series::windows::Windows;
 use std::alloc::Global;
@@ -118,32 +117,8 @@ fn write_windows<A: Asker, K: Sink>(
     Ok(())
 }
 
-/// Writes the table of a run's first windows, from its start on.
-fn write_table<A: Asker, K: Sink>(
-    asker: &A,
-    alloc: Global,
-    run: &mut Run,
-    windows: &Windows,
-    count: u32,
-    writer: &mut K,
-) -> Result<(), WriteFault>
-    requires ready { A.is_ready asker.now }
-    requires works { K.failed writer.old ≡ false }
-    requires start { run.old.step ≡ 0 }
-    requires counts { run.old.seed.warm ≡ 0 }
-    requires room { (k : ℕ) → k < count → windows.now.from + (k + 1) * windows.now.every < 2 ^ 32 }
-    ensures wrote { (roads : ℕ → Cells) (tallies : ℕ → StepTally)
-        → IsCourse run.old.seed run.old.sheet roads tallies
-        → AppendsBy result (K.written writer.old) (K.written writer.new)
-        (series_text (first_windows roads tallies windows.now.every windows.now.from count)) }
-    ensures writer { WritesOn K.Sink result writer.old writer.new }
-{
-    write_line(series_heading(alloc), writer)?;
-    write_windows(asker, alloc, run, windows, count, writer)
-}
-
-/// Writes the table of a job's series.
-fn write_series<A: Asker, K: Sink>(
+/// Runs a job, in which the asker asks the cars: writes the table of its series.
+pub fn write_series<A: Asker, K: Sink>(
     asker: &A,
     alloc: Global,
     windows: &Windows,
@@ -157,31 +132,9 @@ fn write_series<A: Asker, K: Sink>(
     ensures writer { WritesOn K.Sink result writer.old writer.new }
 {
     let count = windows.count(job.steps);
+    write_line(series_heading(alloc), writer)?;
     let mut run = run_of(alloc, job);
-    let written = write_table(asker, alloc, &mut run, windows, count, writer);
+    let written = write_windows(asker, alloc, &mut run, windows, count, writer);
     drop(run);
     written
-}
-
-/// Runs a job, in which the asker asks the cars: writes the table of its series, and hands it on at the end.
-pub fn run_series<A: Asker, K: Sink>(
-    asker: &A,
-    alloc: Global,
-    windows: &Windows,
-    job: Job,
-    writer: &mut K,
-) -> End
-    requires ready { A.is_ready asker.now }
-    requires works { K.failed writer.old ≡ false }
-    ensures { LeavesWriter K.Sink (EndsSo (SeriesOutput windows.now.every windows.now.from job))
-        result writer.old writer.new }
-{
-    match write_series(asker, alloc, windows, job, writer) {
-        Ok(()) => match writer.flush() {
-            Ok(()) => End::Done,
-            Err(_) => End::DeviceFault,
-        },
-        Err(WriteFault::Memory) => End::Memory,
-        Err(WriteFault::Device) => End::DeviceFault,
-    }
 }

@@ -17,7 +17,7 @@ fn flat_cell(cells: u64, cars: u64, number: u64) -> u64
     number * cells / cars
 }
 
-/// Whether a car stands still where its number puts it, among so many cars on lanes of so many cells.
+/// Whether a car is stopped where its number puts it, among so many cars on lanes of so many cells.
 fn is_home(lanes: u32, cells: u32, cars: u32, car: Car) -> bool
     requires some { 1 ≤ lanes }
     requires few { lanes ≤ MOST_LANES }
@@ -37,7 +37,7 @@ fn is_home(lanes: u32, cells: u32, cars: u32, car: Car) -> bool
         && flat / u64::from(lanes) == u64::from(car.place)
 }
 
-/// Whether each car of a road does.
+/// Whether each car of a road is.
 fn are_home(road: &Road, lanes: u32, cells: u32, cars: u32) -> bool
     requires some { 1 ≤ lanes }
     requires few { lanes ≤ MOST_LANES }

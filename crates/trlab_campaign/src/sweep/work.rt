@@ -1,6 +1,6 @@
 //! The work of a sweep, which is counted as its workers pass a gate. The work of a step is that of its cars.
 
-use crate::progress::{Mark, Observer, newly_reached};
+use crate::progress::{Milestone, Observer, newly_reached};
 use std::sync::atomic::{AtomicU64, Ordering};
 use trlab_jobs::Sweep;
 use trlab_segments::{Asked, Gate};
@@ -80,7 +80,7 @@ impl<'a, O: Observer> WorkGate<'a, O> {
         if let Some(hundredths) = newly_reached(before, after, self.whole)
             && hundredths < 100
         {
-            self.observer.reached(Mark {
+            self.observer.reached(Milestone {
                 hundredths,
                 number,
                 count: self.count,
@@ -91,7 +91,7 @@ impl<'a, O: Observer> WorkGate<'a, O> {
     /// All points are there.
     pub fn finished(&self) {
         if self.is_watching {
-            self.observer.reached(Mark {
+            self.observer.reached(Milestone {
                 hundredths: 100,
                 number: self.count,
                 count: self.count,

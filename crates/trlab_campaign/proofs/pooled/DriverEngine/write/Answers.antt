@@ -14,9 +14,9 @@ returns-in-Err-At g c =
 pub returns-in-Ok : goal.returns-in-Ok
 returns-in-Ok g c =
     let output = g.C.Account.outputs c.args.self.account.now in
-    let ends = c.write_job-end.ensures in
+    let ends = c.write_account-end.ensures in
     record {
-      answer = text_ends output c.write_job-end.result c.args.text.now c.in-Ok.job _ _ c.in-Ok.ensures.told ends.answer;
+      answer = text_ends output c.write_account-end.result c.args.text.now c.in-Ok.job _ _ c.in-Ok.ensures.told ends.answer;
       handed = ends.handed;
       device = ends.device;
     }

@@ -1,7 +1,10 @@
 use Rattle.trlab_campaign.proofs.run.pictures.show_last.Goals as goal
 
 pub returns : goal.returns
-returns g c = record {
-  wrote = c.write_made.ensures.wrote _ c.see.ensures;
-  writer = c.write_made.ensures.writer;
-}
+returns g c =
+    let seen = rw (c.step-text.ensures.value, c.road.ensures.value) at c.see.ensures in
+    record {
+      road = rw c.road.ensures.value at c.road.ensures.run;
+      wrote = c.write_made.ensures.wrote _ seen;
+      writer = c.write_made.ensures.writer;
+    }

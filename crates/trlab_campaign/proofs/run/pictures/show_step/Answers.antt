@@ -8,9 +8,10 @@ pub returns-in_err-write_made : goal.returns-in_err-write_made
 returns-in_err-write_made g c =
     let fault = err_from_is_err_and c.from_residual.result c.from_residual.ensures.1 in
     let writer = c.in_err-write_made.ensures.writer in
+    let seen = rw c.step-text.ensures.value at c.advance_showing-advanced.ensures.seen in
     record {
       road = c.advance_showing-advanced.ensures.run;
-      wrote = rw fault.1 (c.in_err-write_made.ensures.wrote _ c.advance_showing-advanced.ensures.seen);
+      wrote = rw fault.1 (c.in_err-write_made.ensures.wrote _ seen);
       on = rw fault.1 tt;
       writer = record { works = rw fault.1 tt; fails = rw (fault.1, fault.2) writer.fails; flushed = writer.flushed };
     }
@@ -18,9 +19,10 @@ returns-in_err-write_made g c =
 pub returns-in-Err : goal.returns-in-Err
 returns-in-Err g c =
     let writer = c.in_ok-write_made.ensures.writer in
+    let seen = rw c.step-text.ensures.value at c.advance_showing-advanced.ensures.seen in
     record {
       road = c.advance_showing-advanced.ensures.run;
-      wrote = prefix_whole _ _ _ (c.in_ok-write_made.ensures.wrote _ c.advance_showing-advanced.ensures.seen);
+      wrote = prefix_whole _ _ _ (c.in_ok-write_made.ensures.wrote _ seen);
       on = tt;
       writer = record { works = tt; fails = by_memory _ _ refl writer.works; flushed = writer.flushed };
     }
@@ -28,9 +30,10 @@ returns-in-Err g c =
 pub returns-in-Ok : goal.returns-in-Ok
 returns-in-Ok g c =
     let writer = c.in_ok-write_made.ensures.writer in
+    let seen = rw c.step-text.ensures.value at c.advance_showing-advanced.ensures.seen in
     record {
       road = c.advance_showing-advanced.ensures.run;
-      wrote = c.in_ok-write_made.ensures.wrote _ c.advance_showing-advanced.ensures.seen;
+      wrote = c.in_ok-write_made.ensures.wrote _ seen;
       on = c.in-Ok.ensures.on;
       writer = record { works = writer.works; fails = tt; flushed = writer.flushed };
     }
