@@ -10,7 +10,7 @@ use trlab_verify::{Note, NotesFault, check_notes, notes};
 /// The bytes and the canonical text of the program that is assembled, or the fault.
 pub fn assembled(page: &mut Page, kind: Kind, text: &[u8]) -> End {
     match assemble(page.alloc, kind, text) {
-        Ok(code) => spelt(page, &code),
+        Ok(code) => spelled(page, &code),
         Err(fault) => not_assembled(page, fault),
     }
 }
@@ -28,12 +28,12 @@ fn not_assembled(page: &mut Page, fault: AsmFault) -> End {
 }
 
 /// The bytes and the canonical text of a program.
-fn spelt(page: &mut Page, code: &Code) -> End {
+fn spelled(page: &mut Page, code: &Code) -> End {
     match encode(page.alloc, code) {
         Ok(bytes) => add_rows(page, &bytes),
         Err(_) => return page.fail(),
     }
-    read(page, code)
+    canonical(page, code)
 }
 
 /// Adds bytes in hexadecimal, eight on a line.
@@ -45,7 +45,7 @@ fn add_rows(page: &mut Page, bytes: &[u8]) {
 }
 
 /// The canonical text of a program.
-fn read(page: &mut Page, code: &Code) -> End {
+fn canonical(page: &mut Page, code: &Code) -> End {
     match disassemble(page.alloc, code) {
         Ok(text) => page.add_bytes(&text),
         Err(_) => return page.fail(),
@@ -88,7 +88,7 @@ fn decoded_bytes(page: &mut Page, bytes: &[u8]) -> End {
                 Kind::Motion => "Motion\n",
                 Kind::Change => "Change\n",
             });
-            read(page, &code)
+            canonical(page, &code)
         }
         Err(CodeFault::Memory) => page.fail(),
         Err(fault) => {

@@ -1,5 +1,5 @@
 -- What the matches of a parse of the command line tell its caller.
-use Rattle.std.proofs.Common.{◌≡◌, ◌∙◌, ◌≤◌, ◌<◌, ◌^◌, ◌⊎◌, ◌||◌, ℕ, Bool, true, false, inl, inr, refl, sym, ap, ap₂, subst, arith, List, [], ◌∷◌, Option, Some, None, Result, Ok, codes}
+use Rattle.std.proofs.Common.{◌≡◌, ◌∙◌, ◌≤◌, ◌<◌, ◌^◌, ◌||◌, ℕ, Bool, true, false, inl, inr, refl, sym, ap, ap₂, subst, arith, List, [], ◌∷◌, Option, Some, None, Result, Ok, codes}
 use Rattle.std.specs.Prelude.{option_map, unwrap_or, Box}
 use Rattle.std.specs.Str.{bytes_eq}
 use Rattle.std.specs.Str.Parse.{ParsesUnsigned}

@@ -1,5 +1,5 @@
 //! What a refused text most likely needs: which line may stand where its fault is, what is wrong with the
-//! line that stands there, and a repair where one is likely: those that may be are tried.
+//! line that stands there, and a repair, where one helps of those that are likely: each is tried.
 #![tactic(auto)]
 
 mod alike;

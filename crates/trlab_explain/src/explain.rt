@@ -6,27 +6,14 @@ ghost use Rattle.trlab_campaign.specs.Ending.{EngineEnds, HandsOn, OutputEnds};
 ghost use Rattle.trlab_campaign.specs.Refusal.{too_big_line};
 ghost use Rattle.trlab_campaign.specs.declared.end.End.TheVariants.{DeviceFault, Memory};
 ghost use Rattle.trlab_pages.specs.Plain.{IsPlain};
-ghost use Rattle.trlab_explain.specs.Explanations.{BeginsWith, Explains, TellsAs};
+ghost use Rattle.trlab_explain.specs.Explanations.{BeginsWith, Explains};
 
-use crate::check::explain_check;
 use crate::fault::explain_fault;
-use crate::job::explain_job;
-use crate::sweep::explain_sweep;
+use crate::texts::explain_as;
 use std::alloc::{AllocError, AllocGlobal, Global};
 use trlab_campaign::{Cause, End, Engine, Sink, Source, run_engine, write_output};
 use trlab_pages::Page;
 use trlab_repairs::{Subject, subject_of};
-
-/// Whether a text that is read so is refused, and the page on it.
-fn explain_as(alloc: Global, subject: Subject, text: &[u8]) -> Result<(bool, Page), AllocError>
-    ensures { IfOk result (λ told. TellsAs subject text.now told.0 told.1) }
-{
-    match subject {
-        Subject::Job => explain_job(alloc, text),
-        Subject::Sweep => explain_sweep(alloc, text),
-        Subject::Check => explain_check(alloc, text),
-    }
-}
 
 /// The page on a text that is too big.
 fn too_big_page(alloc: Global) -> Result<(bool, Page), AllocError>

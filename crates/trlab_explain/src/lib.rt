@@ -2,14 +2,12 @@
 //! will do, in plain words. What is promised of them stands here; the words are `trlab_sentences`'s.
 #![tactic(auto)]
 
-mod check;
 mod explain;
 mod fault;
 mod good;
 mod head;
-mod job;
 pub mod laws;
-mod sweep;
+mod texts;
 mod topics;
 mod verdict;
 

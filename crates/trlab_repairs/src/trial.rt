@@ -11,11 +11,7 @@ use trlab_jobs::{read_check, read_job, read_sweep};
 use trlab_texts::{Cause, TextFault};
 
 /// The first fault of a text that is read so, if it has one: its line, and what is wrong there.
-///
-/// # Errors
-///
-/// Where memory ran out.
-pub fn first_fault(
+fn first_fault(
     alloc: Global,
     subject: Subject,
     text: &[u8],

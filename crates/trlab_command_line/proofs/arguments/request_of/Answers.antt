@@ -1,4 +1,4 @@
-use Rattle.std.proofs.Common.{arith, ◌∷◌, [], inl, inr, refl, subst, codes}
+use Rattle.std.proofs.Common.{arith, inl, inr, refl, subst, codes}
 use Rattle.trlab_bounds.specs.declared.runs.TheConstants.{MOST_RUNNERS, MOST_STEPS, MOST_WORKERS}
 use Rattle.clap.specs.Words.{found_of, rows_of}
 use Rattle.trlab_command_line.specs.Requests.{IsEntered}

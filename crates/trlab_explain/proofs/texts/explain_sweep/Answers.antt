@@ -1,5 +1,5 @@
 use Rattle.std.proofs.Common.{rules}
-use Rattle.trlab_explain.proofs.sweep.explain_sweep.Goals as goal
+use Rattle.trlab_explain.proofs.texts.explain_sweep.Goals as goal
 
 pub returns-in-Err-At : goal.returns-in-Err-At
 returns-in-Err-At c = search rules

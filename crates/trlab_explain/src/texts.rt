@@ -1,0 +1,68 @@
+//! The explanations of texts, each as its command reads it.
+
+ghost use Rattle.std.specs.Prelude.{IfOk};
+ghost use Rattle.trlab_explain.specs.Explanations.{TellsAs};
+
+use crate::fault::explain_fault;
+use crate::good::explain_good;
+use crate::verdict::explain_program;
+use std::alloc::{AllocError, Global};
+use trlab_jobs::{read_check, read_job, read_sweep};
+use trlab_pages::Page;
+use trlab_repairs::Subject;
+use trlab_sentences::{job_page, sweep_page};
+use trlab_texts::TextFault;
+
+/// Whether a job text is refused, and the page on it.
+fn explain_job(alloc: Global, text: &[u8]) -> Result<(bool, Page), AllocError>
+    ensures { IfOk result (λ told. TellsAs Subject.Job text.now told.0 told.1) }
+{
+    match read_job(alloc, text) {
+        Ok(job) => explain_good(job_page(alloc, text, &job)),
+        Err(TextFault::At { line, cause }) => {
+            explain_fault(alloc, Subject::Job, text, line, cause)
+        }
+        Err(TextFault::Memory) => Err(AllocError),
+    }
+}
+
+/// Whether a sweep text is refused, and the page on it.
+fn explain_sweep(alloc: Global, text: &[u8]) -> Result<(bool, Page), AllocError>
+    ensures { IfOk result (λ told. TellsAs Subject.Sweep text.now told.0 told.1) }
+{
+    match read_sweep(alloc, text) {
+        Ok(sweep) => explain_good(sweep_page(alloc, text, &sweep)),
+        Err(TextFault::At { line, cause }) => {
+            explain_fault(alloc, Subject::Sweep, text, line, cause)
+        }
+        Err(TextFault::Memory) => Err(AllocError),
+    }
+}
+
+/// Whether a check text or its program is refused, and the page on it.
+fn explain_check(alloc: Global, text: &[u8]) -> Result<(bool, Page), AllocError>
+    ensures { IfOk result (λ told. TellsAs Subject.Check text.now told.0 told.1) }
+{
+    match read_check(alloc, text) {
+        Ok(check) => explain_program(alloc, text, check),
+        Err(TextFault::At { line, cause }) => {
+            explain_fault(alloc, Subject::Check, text, line, cause)
+        }
+        Err(TextFault::Memory) => Err(AllocError),
+    }
+}
+
+/// Whether a text that is read so is refused, and the page on it.
+///
+/// # Errors
+///
+/// Where memory ran out.
+pub fn explain_as(alloc: Global, subject: Subject, text: &[u8]) -> Result<(bool, Page), AllocError>
+    ensures { IfOk result (λ told. TellsAs subject text.now told.0 told.1) }
+{
+    match subject {
+        Subject::Job => explain_job(alloc, text),
+        Subject::Sweep => explain_sweep(alloc, text),
+        Subject::Check => explain_check(alloc, text),
+    }
+}
