@@ -1,4 +1,4 @@
-"""What documents say of each other and of the sources: numbers of decisions, links, versions, crates, files, names,
+"""What documents say of each other and of the sources: numbers of decisions, links, versions, crates, files, names, clauses,
 sources that are shown, a figure; and how they are written: short lines, in the English of today.
 
 Each function yields a verdict and what is wrong where it is no."""
@@ -41,6 +41,9 @@ NAME = re.compile(r"\b(?:[A-Z][a-z]\w*|[A-Za-z]\w*_\w*)")
 NOT_USED = {"ptr_eq"}
 FENCED = re.compile(r"^```.*?^```$", re.M | re.S)
 LINK = re.compile(r"\]\(([^)\s]+)\)")
+# A function that a document names, and the clauses that it names right after it.
+CITED_CLAUSES = re.compile(r"`(?:\w+::)?([a-z]\w*)`(?: \(`trlab_\w+`\))?,? \(?clauses? ((?:`\w+`(?:, | and )?)+)")
+CONTRACT = re.compile(r"\bfn (\w+)(.*?)(?=\n *\{\n|\bfn |\Z)", re.S)
 SHOWN = re.compile(r"^`(crates/[^`]+)`:\n\n```\w*\n(.*?)^```$", re.M | re.S)
 
 
@@ -221,6 +224,27 @@ def names_are_there():
                 yield name in words_of_sources(), f"{document} names `{name}`, which stands in no source"
 
 
+@functools.cache
+def clauses():
+    """The clauses of the functions of a name, in all crates."""
+    found = {}
+    for name in known_files():
+        if name.endswith(".rt"):
+            for function, contract in CONTRACT.findall(content(name)):
+                found.setdefault(function, set()).update(re.findall(r"\bensures (\w+)", contract))
+    return found
+
+
+def clauses_are_there():
+    """Each clause that a document names after a function is one of it."""
+    for document in documents():
+        if document not in OF_OLD:
+            for function, cited in CITED_CLAUSES.findall(re.sub(r"\s+", " ", content(document))):
+                for clause in QUOTED.findall(cited):
+                    is_there = clause in clauses().get(function, ())
+                    yield is_there, f"{document} names the clause `{clause}` of `{function}`, which is not there"
+
+
 def readme_is_short():
     lines = content("README.md").count("\n")
     yield lines <= MOST_LINES_OF_README, f"README.md has {lines} lines, and is to have {MOST_LINES_OF_README} at most"
@@ -263,6 +287,7 @@ def verdicts():
         crates_are_there,
         files_of_maps_are_there,
         names_are_there,
+        clauses_are_there,
         figure_is_of_the_table,
         readme_is_short,
         lines_are_short,
