@@ -1,5 +1,5 @@
-"""What documents say of each other and of the sources: numbers of decisions, links, versions, crates, files, names, clauses,
-sources that are shown, a figure; and how they are written: short lines, in the English of today.
+"""What documents say of each other and of the sources: numbers of decisions, links, versions, crates, files, names,
+clauses, sources that are shown, a figure; and how they are written: short lines, in the English of today.
 
 Each function yields a verdict and what is wrong where it is no."""
 import contextlib
@@ -90,7 +90,8 @@ def decisions_are_told_once():
     yield list(found) == list(range(1, len(found) + 1)), f"{DECISIONS} is out of order: tools/documents/renumber"
     for number, texts in found.items():
         is_short = all(len(lines) <= MOST_LINES_OF_A_DECISION for lines in texts)
-        yield len(texts) == 1 and is_short, f"decision {number} stands twice, or is longer than {MOST_LINES_OF_A_DECISION} lines"
+        wrong = f"decision {number} is there twice, or is longer than {MOST_LINES_OF_A_DECISION} lines"
+        yield len(texts) == 1 and is_short, wrong
 
 
 def form_of_citations(name):
@@ -159,7 +160,8 @@ def layers_agree():
     for heading, crates in LAYER.findall(content("crates.txt")):
         table = re.search(rf"^### {re.escape(heading)}$(.*?)^#", content(ARCHITECTURE), re.M | re.S)
         told = re.findall(r"^\| `(trlab_\w+)`", table[1], re.M) if table else []
-        yield told == re.findall(r"^\w+", crates, re.M), f"{ARCHITECTURE} has other crates in the layer {heading!r} than crates.txt"
+        wrong = f"{ARCHITECTURE} has other crates in the layer {heading!r} than crates.txt"
+        yield told == re.findall(r"^\w+", crates, re.M), wrong
 
 
 def crates_are_there():
@@ -172,7 +174,7 @@ def crates_are_there():
 
 
 def files_of_maps_are_there():
-    """So is each file of the maps of crates: `src/run.rt` is of the crate that its section named last, `run.rt` lies beside
+    """So is each file of the maps of crates: `src/run.rt` is of the crate that its section named last, `run.rt` is beside
     the file named last."""
     for document in MAPS:
         for section in re.split(r"^#+ ", content(document), flags=re.M):
