@@ -1,5 +1,5 @@
 """What documents say of each other and of the sources: numbers of decisions, links, versions, crates, files, names,
-sources that are shown, a figure; and how they are written: short lines, in the English of today.
+clauses, sources that are shown, a figure; and how they are written: short lines, in the English of today.
 
 Each function yields a verdict and what is wrong where it is no."""
 import contextlib
@@ -41,6 +41,9 @@ NAME = re.compile(r"\b(?:[A-Z][a-z]\w*|[A-Za-z]\w*_\w*)")
 NOT_USED = {"ptr_eq"}
 FENCED = re.compile(r"^```.*?^```$", re.M | re.S)
 LINK = re.compile(r"\]\(([^)\s]+)\)")
+# A function that a document names, and the clauses that it names right after it.
+CITED_CLAUSES = re.compile(r"`(?:\w+::)?([a-z]\w*)`(?: \(`trlab_\w+`\))?,? \(?clauses? ((?:`\w+`(?:, | and )?)+)")
+CONTRACT = re.compile(r"\bfn (\w+)(.*?)(?=\n *\{\n|\bfn |\Z)", re.S)
 SHOWN = re.compile(r"^`(crates/[^`]+)`:\n\n```\w*\n(.*?)^```$", re.M | re.S)
 
 
@@ -87,7 +90,8 @@ def decisions_are_told_once():
     yield list(found) == list(range(1, len(found) + 1)), f"{DECISIONS} is out of order: tools/documents/renumber"
     for number, texts in found.items():
         is_short = all(len(lines) <= MOST_LINES_OF_A_DECISION for lines in texts)
-        yield len(texts) == 1 and is_short, f"decision {number} stands twice, or is longer than {MOST_LINES_OF_A_DECISION} lines"
+        wrong = f"decision {number} is there twice, or is longer than {MOST_LINES_OF_A_DECISION} lines"
+        yield len(texts) == 1 and is_short, wrong
 
 
 def form_of_citations(name):
@@ -156,7 +160,8 @@ def layers_agree():
     for heading, crates in LAYER.findall(content("crates.txt")):
         table = re.search(rf"^### {re.escape(heading)}$(.*?)^#", content(ARCHITECTURE), re.M | re.S)
         told = re.findall(r"^\| `(trlab_\w+)`", table[1], re.M) if table else []
-        yield told == re.findall(r"^\w+", crates, re.M), f"{ARCHITECTURE} has other crates in the layer {heading!r} than crates.txt"
+        wrong = f"{ARCHITECTURE} has other crates in the layer {heading!r} than crates.txt"
+        yield told == re.findall(r"^\w+", crates, re.M), wrong
 
 
 def crates_are_there():
@@ -169,7 +174,7 @@ def crates_are_there():
 
 
 def files_of_maps_are_there():
-    """So is each file of the maps of crates: `src/run.rt` is of the crate that its section named last, `run.rt` lies beside
+    """So is each file of the maps of crates: `src/run.rt` is of the crate that its section named last, `run.rt` is beside
     the file named last."""
     for document in MAPS:
         for section in re.split(r"^#+ ", content(document), flags=re.M):
@@ -221,6 +226,27 @@ def names_are_there():
                 yield name in words_of_sources(), f"{document} names `{name}`, which stands in no source"
 
 
+@functools.cache
+def clauses():
+    """The clauses of the functions of a name, in all crates."""
+    found = {}
+    for name in known_files():
+        if name.endswith(".rt"):
+            for function, contract in CONTRACT.findall(content(name)):
+                found.setdefault(function, set()).update(re.findall(r"\bensures (\w+)", contract))
+    return found
+
+
+def clauses_are_there():
+    """Each clause that a document names after a function is one of it."""
+    for document in documents():
+        if document not in OF_OLD:
+            for function, cited in CITED_CLAUSES.findall(re.sub(r"\s+", " ", content(document))):
+                for clause in QUOTED.findall(cited):
+                    is_there = clause in clauses().get(function, ())
+                    yield is_there, f"{document} names the clause `{clause}` of `{function}`, which is not there"
+
+
 def readme_is_short():
     lines = content("README.md").count("\n")
     yield lines <= MOST_LINES_OF_README, f"README.md has {lines} lines, and is to have {MOST_LINES_OF_README} at most"
@@ -263,6 +289,7 @@ def verdicts():
         crates_are_there,
         files_of_maps_are_there,
         names_are_there,
+        clauses_are_there,
         figure_is_of_the_table,
         readme_is_short,
         lines_are_short,
