@@ -1,6 +1,6 @@
 -- Slow starts make free flow metastable (Barlovic and others 1998). Where cars that move never brake by
--- chance, free flow goes on for ever; where cars that are stopped always do, they stay stopped for ever,
--- however few they are. So at one density there are two flows, and the start decides which.
+-- chance, free flow goes on for ever; where cars that are stopped always do, a road of stopped cars stays so
+-- for ever, however few they are. So at one density there are two flows, and the start decides which.
 use Rattle.std.specs.Prelude.{◌≡◌, ℕ}
 use Rattle.trlab_bounds.specs.declared.programs.TheConstants.{CERTAIN}
 use Rattle.trlab_road.specs.declared.car.Car.{Car}
