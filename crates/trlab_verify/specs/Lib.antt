@@ -4,4 +4,5 @@ pub mod Incoming
 pub mod Verdict
 pub mod Faults
 pub mod Tables
+pub mod Verified
 pub mod TableForm

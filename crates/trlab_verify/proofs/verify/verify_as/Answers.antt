@@ -1,4 +1,4 @@
-use Rattle.std.proofs.Common.{rules}
+use Rattle.std.proofs.Common.{refl}
 use Rattle.trlab_verify.proofs.Accepted.{checked, forward}
 use Rattle.trlab_verify.proofs.Refusals.{called, own}
 use Rattle.trlab_verify.proofs.VerdictChecks.{table_checks}
@@ -16,22 +16,24 @@ new-requires g c =
     let longest = rw c.instrs.ensures.value at c.longest_way-budget.ensures in
     checked g.K.ProgramKind.KIND c.args.code c.longest_way-budget.result c.instrs.ensures.program accepted longest
 
-pub returns-in-Ok-None-clause-safe : goal.returns-in-Ok-None-clause-safe
-returns-in-Ok-None-clause-safe g c =
+pub returns-in-Ok-None : goal.returns-in-Ok-None
+returns-in-Ok-None g c =
     let accepted = rw (c.in-Ok-None.field-0-is, c.KIND.ensures) at c.in-Ok-None.ensures in
     let longest = rw c.instrs.ensures.value at c.longest_way-budget.ensures in
-    rw c.new.ensures.budget (sound g.K.ProgramKind.KIND c.args.code c.longest_way-budget.result accepted longest)
-
-pub returns-in-Ok-None-clause-some_table : goal.returns-in-Ok-None-clause-some_table
-returns-in-Ok-None-clause-some_table g c =
-    let accepted = rw (c.in-Ok-None.field-0-is, c.KIND.ensures) at c.in-Ok-None.ensures in
     let found = table_checks g.K.ProgramKind.KIND c.args.code accepted in
-    (found.0, found.2)
+    record {
+      same = c.new.ensures.program;
+      accepted = accepted;
+      longest = rw c.new.ensures.budget longest;
+      safe = rw c.new.ensures.budget (sound g.K.ProgramKind.KIND c.args.code c.longest_way-budget.result accepted longest);
+      some_table = (found.0, found.2);
+    }
 
-pub returns-in-Ok-Some-clause-no_table : goal.returns-in-Ok-Some-clause-no_table
-returns-in-Ok-Some-clause-no_table g c =
+pub returns-in-Ok-Some : goal.returns-in-Ok-Some
+returns-in-Ok-Some g c =
     let refused = rw (c.in-Ok-Some.field-0-is, c.KIND.ensures) at c.in-Ok-Some.ensures in
-    rw c.number.ensures.value (called g.K.ProgramKind.KIND c.args.code _ _ refused, own g.K.ProgramKind.KIND c.args.code _ _ refused)
-
-pub returns-in-Ok-None-clause-accepted : goal.returns-in-Ok-None-clause-accepted
-returns-in-Ok-None-clause-accepted g c = search rules
+    record {
+      same = refl;
+      refused = rw c.number.ensures.value refused;
+      no_table = rw c.number.ensures.value (called g.K.ProgramKind.KIND c.args.code _ _ refused, own g.K.ProgramKind.KIND c.args.code _ _ refused);
+    }

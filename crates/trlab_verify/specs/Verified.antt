@@ -1,0 +1,27 @@
+-- What the verifier's calls answer of a code, as a program of a kind.
+use Rattle.std.specs.Prelude.{◌≡◌}
+use Rattle.trlab_code.specs.declared.kind.Kind.{Kind}
+use Rattle.trlab_code.specs.Program.{Program}
+use Rattle.trlab_code.specs.Machine.{IsSafe}
+use Rattle.trlab_verify.specs.declared.fault.VerifyFault.{VerifyFault}
+use Rattle.trlab_verify.specs.CheckedProgram.{CheckedProgram}
+use Rattle.trlab_verify.specs.Faults.{NoTableChecks, Tells}
+use Rattle.trlab_verify.specs.Longest.{IsLongest}
+use Rattle.trlab_verify.specs.Tables.{SomeTableChecks}
+use Rattle.trlab_verify.specs.Verdict.{IsAccepted}
+
+-- the accepted program of a code: it is safe within its budget, which is its longest way, and some table of
+-- notes checks
+pub record IsAcceptedAs (kind : Kind) (code : Program) (program : CheckedProgram) : Type 0 where
+  pub same : program.program ≡ code
+  pub accepted : IsAccepted kind code
+  pub longest : IsLongest code.instrs 0 program.budget
+  pub safe : IsSafe kind code.instrs program.budget
+  pub some_table : SomeTableChecks kind code
+
+-- a code that is not accepted, which comes back, and why: a refusal, where no table of notes checks, or that
+-- memory ran out
+pub record IsRefusedAs (kind : Kind) (code : Program) (back : Program × VerifyFault) : Type 0 where
+  pub same : back.0 ≡ code
+  pub refused : Tells kind code back.1
+  pub no_table : NoTableChecks kind code back.1
