@@ -7,13 +7,13 @@ mod instruction;
 mod line;
 mod odd;
 mod repair;
+mod reread;
 mod subject;
-mod trial;
 
 pub use edit::Edit;
 pub use instruction::{name_and_operands, start_of_name};
 pub use line::Place;
 pub use odd::{Oddity, oddity_of};
 pub use repair::{Change, Repair, Slip, where_it_helps};
+pub use reread::may_follow;
 pub use subject::{Subject, is_named, subject_of};
-pub use trial::may_follow;

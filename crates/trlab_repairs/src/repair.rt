@@ -4,8 +4,8 @@ ghost use Rattle.std.specs.Prelude.{◌≡◌, IfOk, IfSome, true};
 ghost use Rattle.trlab_repairs.specs.Repairs.{Helps};
 
 use crate::edit::{Edit, edited};
+use crate::reread::gets_further;
 use crate::subject::Subject;
-use crate::trial::gets_further;
 use std::alloc::{AllocError, Global};
 
 /// What a repair changes.

@@ -1,4 +1,4 @@
-//! Trials: what the readers of texts say of a changed text.
+//! What the readers of texts say of a changed text.
 
 ghost use Rattle.std.specs.Prelude.{◌≡◌, ◌++◌, IfOk, true};
 ghost use Rattle.trlab_lines.specs.Lines.{lines_of};
