@@ -9,7 +9,7 @@ use Rattle.trlab_code.specs.declared.instruction.Instr.{Instr}
 use Rattle.trlab_code.specs.declared.instruction.Instr.TheVariants.{Num, Get, Side, Draw, Copy, Add, Sub, Mul, Div, Min, Max, Not, And, Or, Jump, JumpLess, JumpAtMost, JumpTrue, JumpFalse, Go, Cross, Stay}
 use Rattle.trlab_bounds.specs.declared.programs.TheConstants.{MOST_INSTRUCTIONS, WORDS, CERTAIN}
 use Rattle.trlab_code.specs.Program.{IsInRange, IsProgram}
-use Rattle.trlab_lines.specs.Cutting.{behind, cut, label_and_rest, only_word, without_comment, without_indent, up_to_blank}
+use Rattle.trlab_lines.specs.Cutting.{without_prefix, cut, label_and_rest, only_word, without_comment, without_indent, up_to_blank}
 use Rattle.trlab_asm.specs.Names.{register_named, input_named, mnemonic_named}
 use Rattle.trlab_lines.specs.Numbers.{is_numeral}
 use Rattle.trlab_asm.specs.Operands.{◌then◌, digits_of, input, is_label, no_operand, number, numeral, pc_named, value_within, register, register_input, register_number, register_target, register_word_chance, target, target_named, three_registers, two_registers, two_registers_number, two_registers_target, word, word_chance}
@@ -115,7 +115,7 @@ draw_gives = both_give Anything _ register word_chance register_gives word_chanc
 
 pc_gives : (text : List ℕ) → Gives Anything (pc_named text)
 pc_gives text =
-    then_gives Anything Anything (ok_or (behind (codes "@") text) Operand) _ (wanted_gives (behind (codes "@") text)) (λ digits a.
+    then_gives Anything Anything (ok_or (without_prefix (codes "@") text) Operand) _ (wanted_gives (without_prefix (codes "@") text)) (λ digits a.
     then_gives Anything Anything (digits_of digits) _ (digits_give digits) (λ more b.
     then_gives (λ m. (0 ≤ m) × (m ≤ GREATEST_NUMBER)) Anything (value_within 0 GREATEST_NUMBER more) _ (ranged_gives 0 GREATEST_NUMBER more) (λ pc c. tt)))
 

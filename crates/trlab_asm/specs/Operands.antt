@@ -6,7 +6,7 @@ use Rattle.std.specs.Str.Parse.{digits_value}
 use Rattle.trlab_code.specs.declared.instruction.Register.{Register}
 use Rattle.trlab_code.specs.declared.instruction.Input.{Input}
 use Rattle.trlab_bounds.specs.declared.programs.TheConstants.{WORDS, CERTAIN}
-use Rattle.trlab_lines.specs.Cutting.{behind, cut, only_word}
+use Rattle.trlab_lines.specs.Cutting.{without_prefix, cut, only_word}
 use Rattle.trlab_lines.specs.Numbers.{is_numeral}
 use Rattle.trlab_asm.specs.Results.{◌>>=◌}
 use Rattle.trlab_asm.specs.Names.{register_named, input_named}
@@ -68,7 +68,7 @@ at_pc pc = Ok (record { pc = pc; label = None })
 -- the pc of `@` and digits
 abbrev pub pc_named : List ℕ → Result Target Why
 pc_named text = do
-  digits ← ok_or (behind (codes "@") text) Operand
+  digits ← ok_or (without_prefix (codes "@") text) Operand
   digits ← digits_of digits
   pc ← value_within 0 GREATEST_NUMBER digits
   at_pc pc

@@ -58,7 +58,7 @@ replays_more history s c r room =
 pub replays_start : (items : List Event) (s : State) → items ≡ [] → s ≡ start → ∥ Replays items s ∥₁
 replays_start items s none begun = rw (none, begun) (∣ record { replies = refl; state_is = refl; count_is = refl } ∣₁)
 
--- a history with a call and its reply behind it replays to the state after the call
+-- a history with a call and its reply after it replays to the state after the call
 replays_on : (history items : List Event) (s t : State) (c : Call) (told : Reply)
     → ∥ Replays history s ∥₁ → is_full s ≡ false → items ≡ history ++ event c told ∷ []
     → told ≡ reply_of s c → t ≡ after s c → ∥ Replays items t ∥₁

@@ -38,7 +38,7 @@ abbrev pub IsSame : {L : Type 0} {ledger : Ghosts L} → Desk L ledger → Desk 
 IsSame old new = (parts_of new ≡ parts_of old) × strand.IsSame old.strand new.strand
 
 -- a call is one event: the book, as all events before replay to it, gave this reply, and the desk has noted
--- the event behind them
+-- the event after them
 pub record IsOneEvent {L : Type 0} {ledger : Ghosts L} (old : Desk L ledger) (call : Call) (told : Reply)
     (new : Desk L ledger) (book : State) : Type 0 where
   pub before : List Event
@@ -61,7 +61,7 @@ abbrev pub Makes : {L : Type 0} {ledger : Ghosts L}
     → Desk L ledger → Call → Reply → Desk L ledger → Type 0
 Makes old call told new = MakesOf (λ book. Unit {0}) old call told new
 
--- what is put down at a desk behind these events: the call, where its reply is an event, else nothing
+-- what is put down at a desk after these events: the call, where its reply is an event, else nothing
 abbrev pub PutsDown : {L : Type 0} {ledger : Ghosts L} → Desk L ledger → List Event → Call → Reply
     → Desk L ledger → Type 0
 PutsDown old before call told new =
@@ -100,8 +100,8 @@ abbrev pub AreOfRunners : ℕ → ℕ → List (Noted Event) → Type 0
 AreOfRunners from to calls =
     All (λ n. (from ≤ number_of n) × (number_of n < to) × (is_of_runner n.event.call ≡ true)) calls
 
--- a desk through which runners have called: the same parts, and behind its events those of the runners, which
--- stand in the history behind all that the desk had seen, and before all that is made through it from now on
+-- a desk through which runners have called: the same parts, and after its events those of the runners, which
+-- stand in the history after all that the desk had seen, and before all that is made through it from now on
 pub record GoesOn {L : Type 0} {ledger : Ghosts L} (old new : Desk L ledger) : Type 0 where
   pub parts : parts_of new ≡ parts_of old
   pub least : least_of old ≤ least_of new

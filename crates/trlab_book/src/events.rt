@@ -272,7 +272,7 @@ impl Kept {
     }
 }
 
-/// Puts a call and its reply behind the history, where they are an event.
+/// Puts a call and its reply after the history, where they are an event.
 fn put_event(history: &mut Vec<Event>, call: Call, reply: Reply)
     requires { vec_len history.old < vec_capacity history.old }
     ensures { MatchBool (is_event reply)

@@ -15,7 +15,7 @@ use trlab_segments::Gate;
 use trlab_strands::Ledger;
 
 /// Runs the jobs of a book by 1 to 16 runners, until none is free, and gives the desk back, with all their
-/// calls behind its own, those of one runner after those of another. Each step is taken by 1 to 16 workers,
+/// calls after its own, those of one runner after those of another. Each step is taken by 1 to 16 workers,
 /// who pass the gate.
 ///
 /// The desk has a part for each runner. The calling thread is runner 0; it begins once the others were

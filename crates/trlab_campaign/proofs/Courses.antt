@@ -24,7 +24,7 @@ use Rattle.trlab_step.proofs.NextLaws.{next_road_is_one}
 use Rattle.trlab_step.proofs.RunLaws.{run_comes_to_road, road_is_one, road_at_is_one}
 use Rattle.trlab_step.specs.Progress.{Progress, IsUnderway}
 use Rattle.trlab_campaign.specs.Counting.{IsFewCars, IsStepsOn}
-use Rattle.trlab_campaign.specs.SeriesOutput.{AreRoads, IsCourse, IsStepAt, cars_on, is_on, lane_count, roads_behind, speed_on, stopped_on, tallies_from, window_of}
+use Rattle.trlab_campaign.specs.SeriesOutput.{AreRoads, IsCourse, IsStepAt, cars_on, is_on, lane_count, roads_after, speed_on, stopped_on, tallies_from, window_of}
 
 -- a run that has come to a step came there by one more step
 last_step : (seed : Seed) (sheet : Sheet) (step : ℕ) (before after : Cells) (sum : StepTally) (comes : ComesTo seed sheet (suc step) after sum) → comes.0 ≡ before
@@ -100,19 +100,19 @@ module _ (seed : Seed) (sheet : Sheet) (roads : ℕ → Cells) (tallies : ℕ �
       sum_more tallies first count old comes.1 new (sum_since first count (first + count) before comes.0 old comes.1 refl start comes.4)
       (counted_here (first + count) road new comes)
 
--- what stands on a lane behind one step more
-pub lane_more : (lane : ℕ) (roads : ℕ → Cells) (first done : ℕ) (road : Cells) (old now new : LaneCount) → old ≡ lane_count lane (roads_behind roads first done)
+-- what stands on a lane after one step more
+pub lane_more : (lane : ℕ) (roads : ℕ → Cells) (first done : ℕ) (road : Cells) (old now new : LaneCount) → old ≡ lane_count lane (roads_after roads first done)
     → roads (first + 1 + done) ≡ road → now.cars ≡ cars_on lane road → now.distance ≡ speed_on lane road → now.stopped ≡ stopped_on lane road
     → new.cars ≡ old.cars + now.cars → new.distance ≡ old.distance + now.distance → new.stopped ≡ old.stopped + now.stopped
-    → new ≡ lane_count lane (roads_behind roads first (done + 1))
+    → new ≡ lane_count lane (roads_after roads first (done + 1))
 lane_more lane roads first done road old now new is here cars distance stopped a b c =
     let p = sum_by-map-range_with_len_more (cars_on lane) roads (first + 1) done (first + 1 + done) refl in
     let q = sum_by-map-range_with_len_more (speed_on lane) roads (first + 1) done (first + 1 + done) refl in
     let r = sum_by-map-range_with_len_more (stopped_on lane) roads (first + 1) done (first + 1 + done) refl in
-    counts_are new (lane_count lane (roads_behind roads first (done + 1)))
-    (a ∙ ap (λ n. n + now.cars) (ap (λ (l : LaneCount). l.cars) is) ∙ ap (λ n. (lane_count lane (roads_behind roads first done)).cars + n) (cars ∙ ap (cars_on lane) (sym here)) ∙ sym p)
-    (b ∙ ap (λ n. n + now.distance) (ap (λ (l : LaneCount). l.distance) is) ∙ ap (λ n. (lane_count lane (roads_behind roads first done)).distance + n) (distance ∙ ap (speed_on lane) (sym here)) ∙ sym q)
-    (c ∙ ap (λ n. n + now.stopped) (ap (λ (l : LaneCount). l.stopped) is) ∙ ap (λ n. (lane_count lane (roads_behind roads first done)).stopped + n) (stopped ∙ ap (stopped_on lane) (sym here)) ∙ sym r)
+    counts_are new (lane_count lane (roads_after roads first (done + 1)))
+    (a ∙ ap (λ n. n + now.cars) (ap (λ (l : LaneCount). l.cars) is) ∙ ap (λ n. (lane_count lane (roads_after roads first done)).cars + n) (cars ∙ ap (cars_on lane) (sym here)) ∙ sym p)
+    (b ∙ ap (λ n. n + now.distance) (ap (λ (l : LaneCount). l.distance) is) ∙ ap (λ n. (lane_count lane (roads_after roads first done)).distance + n) (distance ∙ ap (speed_on lane) (sym here)) ∙ sym q)
+    (c ∙ ap (λ n. n + now.stopped) (ap (λ (l : LaneCount). l.stopped) is) ∙ ap (λ n. (lane_count lane (roads_after roads first done)).stopped + n) (stopped ∙ ap (stopped_on lane) (sym here)) ∙ sym r)
   where
     counts_are : (x y : LaneCount) → x.cars ≡ y.cars → x.distance ≡ y.distance → x.stopped ≡ y.stopped → x ≡ y
     counts_are x y p q r =
@@ -161,7 +161,7 @@ whole_windows every from steps some k = (ends, fits)
         let many = le-div (k + 1) (steps - from) every (omega arith) (omega (arith, within)) in
         omega (arith, many)
 
--- what was counted in some steps of a run, by its sums of tallies before and behind them
+-- what was counted in some steps of a run, by its sums of tallies before and after them
 pub record IsPointSince (road : Cells) (count : ℕ) (old new : StepTally) (point : Point) : Type 0 where
   pub cars : point.cars ≡ cars road
   pub cells : point.cells ≡ length road.lanes * length (lane_of road 0)
@@ -192,12 +192,12 @@ point_is roads tallies first count road old new point here sum is =
 -- the window of some steps of a run
 pub window_is : (roads : ℕ → Cells) (tallies : ℕ → StepTally) (first count step : ℕ) (road : Cells) (old new : StepTally) (point : Point) (one two : LaneCount) → step ≡ first + count
     → roads (first + count) ≡ road → IsSumSince (tallies_from tallies first count) old new → IsPointSince road count old new point
-    → one ≡ lane_count 0 (roads_behind roads first count) → two ≡ lane_count 1 (roads_behind roads first count)
+    → one ≡ lane_count 0 (roads_after roads first count) → two ≡ lane_count 1 (roads_after roads first count)
     → record { step = step; point = point; first = one; second = two } ≡ window_of roads tallies first count
 window_is roads tallies first count step road old new point one two at here sum is a b =
     let same = point_is roads tallies first count road old new point here sum is in
     let of : ℕ → Point → LaneCount → LaneCount → Window = λ s p x y. record { step = s; point = p; first = x; second = y } in
-    let all : of step point one two ≡ of (first + count) (window_of roads tallies first count).point (lane_count 0 (roads_behind roads first count)) (lane_count 1 (roads_behind roads first count)) = cc (at, same, a, b) in
+    let all : of step point one two ≡ of (first + count) (window_of roads tallies first count).point (lane_count 0 (roads_after roads first count)) (lane_count 1 (roads_after roads first count)) = cc (at, same, a, b) in
     all
 
 -- the road of a run at a step is that of its roads
@@ -212,7 +212,7 @@ whole_standing road k end is low high =
     let same : k ≡ length (standing road) = omega (arith, is, low, high, size) in
     rw same (take-length (standing road))
 
--- behind one step more still few cars are counted
+-- after one step more still few cars are counted
 pub few_more : (steps : ℕ) (old now new : LaneCount) → IsFewCars steps old → IsFewCars 1 now → new.cars ≡ old.cars + now.cars → new.distance ≡ old.distance + now.distance
     → new.stopped ≡ old.stopped + now.stopped → IsFewCars (steps + 1) new
 few_more steps old now new few more a b c =

@@ -20,7 +20,7 @@ use Rattle.trlab_jobs.specs.Stored.{IsStored}
 use Rattle.trlab_jobs.proofs.OneText.{one_thing}
 use Rattle.trlab_jobs.proofs.SomeText.{says_plain}
 use Rattle.trlab_campaign.specs.SeriesLaws.{LanesAddUp, LanesOfSeriesAddUp}
-use Rattle.trlab_campaign.specs.SeriesOutput.{AreRoads, IsCourse, IsSeries, cars_on, first_windows, is_on, lane_count, nth_window, roads_behind, speed_on, stopped_on, tallies_from, window_of}
+use Rattle.trlab_campaign.specs.SeriesOutput.{AreRoads, IsCourse, IsSeries, cars_on, first_windows, is_on, lane_count, nth_window, roads_after, speed_on, stopped_on, tallies_from, window_of}
 use Rattle.trlab_campaign.proofs.Sheets.{plain_sheet}
 
 -- a number of a car, on lane 0 or on lane 1
@@ -89,21 +89,21 @@ both_stopped road legal =
 -- the windows of a course of legal roads with so many cars
 module _ (seed : Seed) (sheet : Sheet) (roads : ℕ → Cells) (tallies : ℕ → StepTally) (course : IsCourse seed sheet roads tallies)
     (legal : (step : ℕ) → IsLegal (roads step)) (most : ℕ) (kept : (step : ℕ) → cars (roads step) ≡ most) where
-  all_cars : (first count : ℕ) → (lane_count 0 (roads_behind roads first count)).cars + (lane_count 1 (roads_behind roads first count)).cars ≡ count * most
+  all_cars : (first count : ℕ) → (lane_count 0 (roads_after roads first count)).cars + (lane_count 1 (roads_after roads first count)).cars ≡ count * most
   all_cars first zero = omega arith
   all_cars first (suc count) =
-      let a = sum_by-cons (cars_on 0) (roads (first + 1)) (roads_behind roads (first + 1) count) in
-      let b = sum_by-cons (cars_on 1) (roads (first + 1)) (roads_behind roads (first + 1) count) in
+      let a = sum_by-cons (cars_on 0) (roads (first + 1)) (roads_after roads (first + 1) count) in
+      let b = sum_by-cons (cars_on 1) (roads (first + 1)) (roads_after roads (first + 1) count) in
       let here = both_cars (roads (first + 1)) (legal (first + 1)) ∙ kept (first + 1) in
       let rest = all_cars (first + 1) count in
       omega (arith, a, b, here, rest)
 
   all_speeds : (first count : ℕ)
-      → (lane_count 0 (roads_behind roads first count)).distance + (lane_count 1 (roads_behind roads first count)).distance ≡ sum_by (λ (tally : StepTally). tally.distance) (tallies_from tallies first count)
+      → (lane_count 0 (roads_after roads first count)).distance + (lane_count 1 (roads_after roads first count)).distance ≡ sum_by (λ (tally : StepTally). tally.distance) (tallies_from tallies first count)
   all_speeds first zero = refl
   all_speeds first (suc count) =
-      let a = sum_by-cons (speed_on 0) (roads (first + 1)) (roads_behind roads (first + 1) count) in
-      let b = sum_by-cons (speed_on 1) (roads (first + 1)) (roads_behind roads (first + 1) count) in
+      let a = sum_by-cons (speed_on 0) (roads (first + 1)) (roads_after roads (first + 1) count) in
+      let b = sum_by-cons (speed_on 1) (roads (first + 1)) (roads_after roads (first + 1) count) in
       let c = sum_by-cons (λ (tally : StepTally). tally.distance) (tallies first) (tallies_from tallies (first + 1) count) in
       let here = both_speeds (roads (first + 1)) (legal (first + 1)) in
       let told = (course.step_at first).next.1.distance in
@@ -111,11 +111,11 @@ module _ (seed : Seed) (sheet : Sheet) (roads : ℕ → Cells) (tallies : ℕ �
       omega (arith, a, b, c, here, told, rest)
 
   all_stopped : (first count : ℕ)
-      → (lane_count 0 (roads_behind roads first count)).stopped + (lane_count 1 (roads_behind roads first count)).stopped ≡ sum_by (λ (tally : StepTally). tally.stopped) (tallies_from tallies first count)
+      → (lane_count 0 (roads_after roads first count)).stopped + (lane_count 1 (roads_after roads first count)).stopped ≡ sum_by (λ (tally : StepTally). tally.stopped) (tallies_from tallies first count)
   all_stopped first zero = refl
   all_stopped first (suc count) =
-      let a = sum_by-cons (stopped_on 0) (roads (first + 1)) (roads_behind roads (first + 1) count) in
-      let b = sum_by-cons (stopped_on 1) (roads (first + 1)) (roads_behind roads (first + 1) count) in
+      let a = sum_by-cons (stopped_on 0) (roads (first + 1)) (roads_after roads (first + 1) count) in
+      let b = sum_by-cons (stopped_on 1) (roads (first + 1)) (roads_after roads (first + 1) count) in
       let c = sum_by-cons (λ (tally : StepTally). tally.stopped) (tallies first) (tallies_from tallies (first + 1) count) in
       let here = both_stopped (roads (first + 1)) (legal (first + 1)) in
       let told = (course.step_at first).next.1.stopped in

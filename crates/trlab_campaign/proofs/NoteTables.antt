@@ -21,7 +21,7 @@ use Rattle.trlab_campaign.proofs.Lines.{next_whole, pieces_agree}
 abbrev pub marked_text : Form → Register → List ℕ
 marked_text form register = said_text register (with_side form.side (said_of (slice_index_or form.regs (register_number register) Unset)))
 
--- of what a form says of the registers the next was put behind a text
+-- of what a form says of the registers the next was put after a text
 pub next_marked : (form : Form) (i number : ℕ) (d : Register) (old new : List ℕ) → i < length REGISTERS → number ≡ register_number (get_or REGISTERS i d)
     → new ≡ old ++ said_text (get_or REGISTERS i d) (with_side form.side (said_of (slice_index_or form.regs number Unset)))
     → new ++ flat_map (marked_text form) (drop (i + 1) REGISTERS) ≡ old ++ flat_map (marked_text form) (drop i REGISTERS)
@@ -37,14 +37,14 @@ table_lines program forms are =
     (λ pc below. sym (ap (maybe_note_line pc) (are.each pc (omega (arith, count)) ∙ ap Some (get_or-map (meaning program.kind) forms pc empty_form blank (omega arith))))) in
     agree ∙ ap (λ n. flat_map (λ pc. maybe_note_line pc (note_at program.kind program.instrs pc)) (range_with_len 0 n)) count
 
--- the parts of a note's line were put behind a text
+-- the parts of a note's line were put after a text
 pub note_put : {E : Type 0} (r : Result (Unit {0}) E) (pc : ℕ) (registers side head old a b new : List ℕ) → head ≡ codes "note " ++ decimal pc → a ≡ old ++ head
     → b ≡ a ++ registers → new ≡ (if is_ok r then b ++ (side ++ (10 ∷ [])) else b)
     → OnOk r (new ≡ old ++ (codes "note " ++ (decimal pc ++ (registers ++ (side ++ (10 ∷ []))))))
 note_put (Ok x) pc registers side head old a b new h p q s = rw (s, q, p, h) (simp append_assoc)
 note_put (Err e) pc registers side head old a b new h p q s = tt
 
--- the lines of such a table were put behind a text
+-- the lines of such a table were put after a text
 pub notes_put : {E : Type 0} (r : Result (Unit {0}) E) (program : Program) (forms : List Form) (old new : List ℕ) → AreVerdictNotes program.kind program (table_of program.kind forms)
     → ((kind : Kind) → OnOk r (new ≡ old ++ flat_map (λ pc. note_line pc (meaning_at kind forms pc)) (range_with_len 0 (length forms)))) → OnOk r (new ≡ old ++ notes_text program)
 notes_put (Ok x) program forms old new are put = put program.kind ∙ ap (λ (t : List ℕ). old ++ t) (table_lines program forms are)

@@ -153,7 +153,7 @@ step_stops steps step left start run old a b writes road text job begins =
     let here = writes job begins in
     stop_within job step left run.road old a b here.0 (driven_road job step run run.road here.1 road) text
 
--- behind the last step none is left
+-- after the last step none is left
 pub no_step_left : (step steps : ℕ) → step ≤ steps → steps ≤ step → (step ≡ steps) × (steps - step ≡ 0)
 no_step_left step steps inside all = (omega arith, omega arith)
 

@@ -22,7 +22,7 @@ use Rattle.trlab_campaign.proofs.Owed.{Owes, owes_all, owes_prefix, owes_less}
 abbrev pub lines_from : (ℕ → Cells) → (ℕ → StepTally) → ℕ → ℕ → ℕ → ℕ → List ℕ
 lines_from roads tallies every from k count = flat_map window_text (map (nth_window roads tallies every from) (range_with_len k count))
 
--- the line of window k, and those behind it
+-- the line of window k, and those after it
 next_line : (roads : ℕ → Cells) (tallies : ℕ → StepTally) (every from k left : ℕ)
     → lines_from roads tallies every from k (left + 1) ≡ window_text (nth_window roads tallies every from k) ++ lines_from roads tallies every from (k + 1) left
 next_line roads tallies every from k left = rw (add-one left) refl

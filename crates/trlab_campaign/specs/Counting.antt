@@ -9,7 +9,7 @@ pub record IsStepsOn (count : ℕ) (old new : Progress) : Type 0 where
   pub same_sheet : new.sheet ≡ old.sheet
   pub later : new.step ≡ old.step + count
 
--- no more than a lane can have on so many roads, one behind each step
+-- no more than a lane can have on so many roads, one after each step
 pub record IsFewCars (steps : ℕ) (count : LaneCount) : Type 0 where
   pub cars : count.cars ≤ 200000 * steps
   pub distance : count.distance ≤ 7000000 * steps

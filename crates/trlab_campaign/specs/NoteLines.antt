@@ -12,7 +12,7 @@ use Rattle.trlab_notes.specs.declared.note.Said.TheVariants.{Nothing, Between, I
 use Rattle.trlab_notes.specs.Notes.{Note, with_side}
 use Rattle.trlab_verify.specs.Incoming.{note_at}
 
--- the name of a register and what it holds, each behind a space
+-- the name of a register and what it holds, each after a space
 abbrev pub register_entry : Register → List ℕ → List ℕ
 register_entry register held = 32 ∷ (register_text register ++ (32 ∷ held))
 

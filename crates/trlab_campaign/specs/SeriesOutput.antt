@@ -61,9 +61,9 @@ lane_count lane roads = record {
 abbrev pub tallies_from : (ℕ → StepTally) → ℕ → ℕ → List StepTally
 tallies_from tallies first count = map tallies (range_with_len first count)
 
--- the roads behind these steps
-abbrev pub roads_behind : (ℕ → Cells) → ℕ → ℕ → List Cells
-roads_behind roads first count = map roads (range_with_len (first + 1) count)
+-- the roads after these steps
+abbrev pub roads_after : (ℕ → Cells) → ℕ → ℕ → List Cells
+roads_after roads first count = map roads (range_with_len (first + 1) count)
 
 -- what was counted in so many steps by their tallies, of the cars of a road
 abbrev pub sum_point : Cells → ℕ → List StepTally → Point
@@ -76,13 +76,13 @@ sum_point road steps tallies = record {
   changes = sum_by (λ (tally : StepTally). tally.changes) tallies;
 }
 
--- the window of these steps: what was counted in them, and on each lane behind them
+-- the window of these steps: what was counted in them, and on each lane after them
 abbrev pub window_of : (ℕ → Cells) → (ℕ → StepTally) → ℕ → ℕ → Window
 window_of roads tallies first count = record {
   step = first + count;
   point = sum_point (roads (first + count)) count (tallies_from tallies first count);
-  first = lane_count 0 (roads_behind roads first count);
-  second = lane_count 1 (roads_behind roads first count);
+  first = lane_count 0 (roads_after roads first count);
+  second = lane_count 1 (roads_after roads first count);
 }
 
 -- window k of a series, whose windows are so many steps each, from a step on

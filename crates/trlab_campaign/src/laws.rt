@@ -12,7 +12,7 @@ ghost use Rattle.trlab_campaign.specs.SeriesLaws.{LanesOfSeriesAddUp, SeriesHasO
 ghost use Rattle.trlab_campaign.specs.SweepOutput.{IsSweepOutput};
 
 /// The output for a job text that is not refused has the pictures of the roads through which one worker
-/// drives, from the road that the text shows to that behind its last step: each step is under the rule
+/// drives, from the road that the text shows to that after its last step: each step is under the rule
 /// in force, its programs end within their budgets, no car goes onto or through another, and none is
 /// lost or made.
 pub fn job_texts_are_driven()

@@ -15,7 +15,7 @@ use trlab_asm::{REGISTERS, register_text};
 use trlab_code::{Code, Register};
 use trlab_verify::{Mark, Note, NotesFault, notes};
 
-/// Adds the name of a register and what it holds, each behind a space.
+/// Adds the name of a register and what it holds, each after a space.
 fn push_entry(out: &mut Vec<u8>, register: Register, held: &[u8]) -> Result<(), AllocError>
     ensures { OnOk result (out.new.items ≡ out.old.items ++ register_entry register held.now) }
 {

@@ -1,4 +1,4 @@
-//! Writes the lines of its input again, and behind each call that stands there the answer: `done` or
+//! Writes the lines of its input again, and after each call that stands there the answer: `done` or
 //! `refused`, and what is written. A line `WORDS | TEXT` begins a call, `| TEXT` is one more line of its
 //! text, and `?` stands where the answer is wanted; other lines are titles and comments. The calls are:
 //!

@@ -62,17 +62,17 @@ fn add_mark(page: &mut Page, name: &str, mark: Mark) {
     }
 }
 
-/// Adds a name, behind a blank where no line begins, and what stands behind it.
-fn add_named(page: &mut Page, name: &str, behind: &str) {
+/// Adds a name, after a blank where no line begins, and what stands after it.
+fn add_named(page: &mut Page, name: &str, after: &str) {
     match page.bytes.last() {
         None | Some(b'\n') => {}
         Some(_) => page.add(" "),
     }
     page.add(name);
-    page.add(behind);
+    page.add(after);
 }
 
-/// Adds the other variables to which a variable has this level, behind its name and a sign, where there
+/// Adds the other variables to which a variable has this level, after its name and a sign, where there
 /// are some.
 fn add_order(page: &mut Page, variable: usize, sign: &str, levels: &[u8; VARIABLES], level: u8)
     requires { variable < VARIABLES }

@@ -54,7 +54,7 @@ impl Page {
         }
     }
 
-    /// Adds a number behind some words.
+    /// Adds a number after some words.
     pub fn add_number(&mut self, words: &str, number: u32) {
         self.add(words);
         self.add_text(number.to_string(self.alloc));

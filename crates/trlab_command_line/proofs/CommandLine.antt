@@ -124,7 +124,7 @@ stops_at a word name rest met =
     ap (λ (w : Walk). (fold (walked a.top.rules (names_of a)) w rest).stopped) at
     ∙ ap (λ (w : Walk). w.stopped) (sym (walk_stopped a.top.rules (names_of a) start name [] rest))
 
--- the words behind it have no fault of their own
+-- the words after it have no fault of their own
 passes_behind : (a : App) (name : Text) (words rest : List Text) → built_fault a nothing_held words ≡ []
     → (walk a.top.rules (names_of a) nothing_held words).stopped ≡ Some (name, rest) → entered_fault a (Some (name, rest)) ≡ []
 passes_behind a name words rest e stops =
@@ -198,7 +198,7 @@ help_fails : (rest : List Text) → walk_fault top names start (codes "help" ∷
 unfolding walk_fault
 help_fails rest e = cc
 
--- behind `--` every word is a stray one, and a command is missing
+-- after `--` every word is a stray one, and a command is missing
 dashes_fail : (rest : List Text) → fault_of command_line ((45 ∷ 45 ∷ []) ∷ rest) ≡ [] → ⊥
 unfolding clap_on_literals
 dashes_fail [] e =

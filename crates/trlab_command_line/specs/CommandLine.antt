@@ -73,7 +73,7 @@ abbrev pub explain_command : App
 explain_command = command (codes "explain") (what_argument ∷ number_argument ∷ [])
 
 -- the program, which has a version, and which no command line may call without a command; its arguments
--- begin behind its name
+-- begin after its name
 abbrev pub program : App
 program = on_top (λ s. record s {
   no_binary_name = true;

@@ -117,13 +117,13 @@ Standard input:
 Standard output:
   A table of comma-separated values, a line for each window of n steps from
   step s on (`--every n`, `--from s`), written once the window is done: the
-  number of the picture behind it, the cars, the cells, the steps, and over
+  number of the picture after it, the cars, the cells, the steps, and over
   these the cells that the cars went, how often a car was stopped, how often
   one changed lanes, and the flow: how many cars pass a cell in a step, in
-  millionths. Then for lane 0 and for lane 1, summed over the roads behind the
+  millionths. Then for lane 0 and for lane 1, summed over the roads after the
   steps: its cars, their speeds, and those of speed 0. Or `fault line N cause
   K`, where the text has a fault: `trlab explain run` says it in words. Steps
-  behind the last whole window are not counted. docs/TEXTS.md explains all.
+  after the last whole window are not counted. docs/TEXTS.md explains all.
 
 Example:
   trlab series --every 10 < examples/overtaking.job";

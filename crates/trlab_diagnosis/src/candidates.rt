@@ -20,7 +20,7 @@ use crate::candidates::program::word_candidates;
 pub use crate::candidates::road::{FRONT, LANE_LINE};
 use crate::candidates::road::{cell_candidate, lanes_candidate};
 use crate::draft::{Draft, Put};
-use crate::line_name::{LineName, put_behind};
+use crate::line_name::{LineName, put_after};
 use crate::tried::{MOST_TRIED, first_that_helps};
 use std::alloc::{AllocError, Global};
 use trlab_asm::Why;
@@ -79,9 +79,9 @@ impl<'a> Candidates<'a> {
         self.in_line(slip, 0, self.line.len(), put);
     }
 
-    /// Adds a line above the one at fault, or behind the last line of the text.
+    /// Adds a line above the one at fault, or after the last line of the text.
     pub fn above(&mut self, slip: Slip, line: LineName) {
-        let put = put_behind(self.place.above(), line);
+        let put = put_after(self.place.above(), line);
         self.edit(slip, self.place.start, 0, Put::Bytes(put));
     }
 

@@ -1,6 +1,6 @@
 //! Where hexadecimal digits stand in a line.
 
-use trlab_texts::word::behind;
+use trlab_texts::word::without_prefix;
 
 /// What may stand before hexadecimal digits.
 const FRONTS: [&[u8]; 3] = [b"key ", b"code ", b"notes code "];
@@ -8,7 +8,7 @@ const FRONTS: [&[u8]; 3] = [b"key ", b"code ", b"notes code "];
 /// The word of a line that has to be hexadecimal digits, and how many bytes of the line stand before it.
 pub fn digits_at(line: &[u8]) -> Option<(usize, &[u8])> {
     for front in &FRONTS {
-        if let Some(word) = behind(front, line) {
+        if let Some(word) = without_prefix(front, line) {
             return Some((front.len(), word));
         }
     }

@@ -10,7 +10,7 @@ pub enum Put {
     Bytes(&'static [u8]),
     /// One byte.
     Byte(u8),
-    /// A word, and the digits of a number behind it.
+    /// A word, and the digits of a number after it.
     Number(&'static str, u64),
     /// The words that go, with one space between two.
     Spaced,
@@ -43,30 +43,30 @@ fn separates(byte: u8) -> bool {
 pub fn has_odd_blanks(line: &[u8]) -> bool {
     let mut is_odd = false;
     let mut has_word = false;
-    let mut is_behind_blank = true;
+    let mut is_after_blank = true;
     for byte in line {
         let is_blank = separates(*byte);
-        is_odd = is_odd || (is_blank && (is_behind_blank || *byte != b' '));
+        is_odd = is_odd || (is_blank && (is_after_blank || *byte != b' '));
         has_word = has_word || !is_blank;
-        is_behind_blank = is_blank;
+        is_after_blank = is_blank;
     }
-    has_word && (is_odd || is_behind_blank)
+    has_word && (is_odd || is_after_blank)
 }
 
 /// Adds words, each two with this between them, or with a space where a comma stands already.
 fn put_words(bytes: &mut Vec<u8>, words: &[u8], between: &[u8]) -> Result<(), AllocError> {
-    let mut is_behind_blank = false;
+    let mut is_after_blank = false;
     for byte in words {
         if separates(*byte) {
-            is_behind_blank = !bytes.is_empty();
+            is_after_blank = !bytes.is_empty();
             continue;
         }
-        if is_behind_blank {
+        if is_after_blank {
             let is_parted = bytes.last() == Some(&b',');
             bytes.extend_from_slice(if is_parted { b" " } else { between })?;
         }
         bytes.push(*byte)?;
-        is_behind_blank = false;
+        is_after_blank = false;
     }
     Ok(())
 }
@@ -82,8 +82,8 @@ fn put_lane(bytes: &mut Vec<u8>, cells: usize) -> Result<(), AllocError> {
 
 /// Bytes of a text, by how many stand before them and how many they are, as far as it has them.
 fn bytes_at(text: &[u8], at: usize, count: usize) -> &[u8] {
-    let (_, behind) = text.split_at(at.min(text.len()));
-    let (bytes, _) = behind.split_at(count.min(behind.len()));
+    let (_, after) = text.split_at(at.min(text.len()));
+    let (bytes, _) = after.split_at(count.min(after.len()));
     bytes
 }
 

@@ -18,5 +18,5 @@ pub use candidates::likely_repair;
 pub use finding::{Finding, finding_of};
 pub use line_name::LineName;
 pub use operands::Operand;
-pub use rules::behind_rule;
+pub use rules::after_rule;
 pub use wanted::wanted_at;

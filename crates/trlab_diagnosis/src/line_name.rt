@@ -35,7 +35,7 @@ pub enum LineName {
     Measure,
     /// A line `cars n` of a sweep.
     Cars,
-    /// A line of a program, or the line `end` behind its last.
+    /// A line of a program, or the line `end` after its last.
     End,
 }
 
@@ -100,7 +100,7 @@ impl LineName {
         None
     }
 
-    /// Whether it is never left out, and has no lines of a program behind it.
+    /// Whether it is never left out, and has no lines of a program after it.
     pub fn stands_alone(self) -> bool {
         !matches!(
             self,
@@ -132,8 +132,8 @@ impl LineName {
     }
 }
 
-/// An example of a line as it is put behind a text, whose last line it ends where that has no end.
-pub fn put_behind(text: &[u8], line: LineName) -> &'static [u8] {
+/// An example of a line as it is put after a text, whose last line it ends where that has no end.
+pub fn put_after(text: &[u8], line: LineName) -> &'static [u8] {
     let sample = line.sample();
     if !text.is_empty() && text.last() != Some(&b'\n') {
         return sample;

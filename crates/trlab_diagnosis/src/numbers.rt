@@ -62,7 +62,7 @@ fn decimal_of(word: &[u8]) -> Option<Fraction> {
     Some(Fraction { over, under })
 }
 
-/// The fraction that a word writes with a power of ten behind an `e`.
+/// The fraction that a word writes with a power of ten after an `e`.
 fn power_form_of(word: &[u8]) -> Option<Fraction> {
     let (front, power) = cut(word, b'e').or(cut(word, b'E'))?;
     let Fraction { over, under } = decimal_of(front)?;
@@ -146,8 +146,8 @@ const LINES: [(&[u8], u64, u64); 8] = [
     (b"at", 0, LONGEST_NUMBER),
 ];
 
-/// What number has to stand behind a word of a line.
-fn range_behind(word: &[u8]) -> Option<Range> {
+/// What number has to stand after a word of a line.
+fn range_after(word: &[u8]) -> Option<Range> {
     for line in &LINES {
         if line.0 == word {
             return Some(Range {
@@ -179,7 +179,7 @@ pub fn first_wrong_number(line: &[u8]) -> Option<NumberWord<'_>> {
     let mut range = None;
     for _ in 0..8 {
         let word = head_word(left);
-        match (range_behind(word), range) {
+        match (range_after(word), range) {
             (Some(found), _) => range = Some(found),
             (None, Some(range)) if word != b"rule".as_slice() && !range.has(word) => {
                 return Some(NumberWord {

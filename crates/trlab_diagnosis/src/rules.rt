@@ -5,9 +5,9 @@ use trlab_lines::cut;
 /// A rule, as the lines of texts name it.
 #[derive(Clone, Copy)]
 pub struct RuleForm {
-    /// Its name, behind the word `rule`.
+    /// Its name, after the word `rule`.
     pub name: &'static [u8],
-    /// How many chances stand behind the name.
+    /// How many chances stand after the name.
     pub chances: u64,
 }
 
@@ -31,8 +31,8 @@ pub const RULES: [RuleForm; 4] = [
     },
 ];
 
-/// What stands in a line behind the word `rule`, which is its first or its third.
-pub fn behind_rule(line: &[u8]) -> Option<&[u8]> {
+/// What stands in a line after the word `rule`, which is its first or its third.
+pub fn after_rule(line: &[u8]) -> Option<&[u8]> {
     let mut left = line;
     for _ in 0..3 {
         let (word, rest) = cut(left, b' ')?;

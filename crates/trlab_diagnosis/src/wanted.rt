@@ -1,6 +1,6 @@
 //! Which lines may stand at a place of a job or sweep text: the readers are asked.
 
-use crate::line_name::{LINES, LineName, TOP_LINES, put_behind};
+use crate::line_name::{LINES, LineName, TOP_LINES, put_after};
 use crate::tried::LONGEST_ASKED;
 use std::alloc::{AllocError, Global};
 use trlab_repairs::{Place, Subject, may_follow};
@@ -16,7 +16,7 @@ fn is_wanted(
     line: LineName,
 ) -> Result<bool, AllocError> {
     let above = place.above();
-    may_follow(alloc, subject, above, place.number, put_behind(above, line))
+    may_follow(alloc, subject, above, place.number, put_after(above, line))
 }
 
 /// Which of these lines may stand at a place.

@@ -36,7 +36,7 @@ plain_digits (c ∷ cs) all = rw (plain_digit c (digit_from_value c all.0).0, pl
 plain_number : (n : ℕ) → n < 2 ^ 128 → needs_quotes default_writer (decimal n) ≡ false
 plain_number n small = plain_digits (decimal n) (decimal_is_IsNumeral_wide n (omega arith)).0.1
 
--- what stands behind the first of several plain fields
+-- what stands after the first of several plain fields
 plain_body : (first : List ℕ) (fields : List (List ℕ)) → needs_quotes default_writer first ≡ false → ArePlain fields
     → row_body default_writer (first ∷ fields) ≡ join_with_byte 44 (first ∷ fields)
 unfolding fields_text

@@ -28,7 +28,7 @@ cut (x ∷ xs) (u ∷ us) ys vs a b e =
     let more = cut xs us ys vs a.1 b.1 rest in
     (cc (same, more.0), more.1)
 
--- a number in front of a comma, and what stands behind that
+-- a number in front of a comma, and what stands after that
 number : (m n : ℕ) (ys vs : List ℕ) → m < 2 ^ 64 → n < 2 ^ 64 → decimal m ++ (44 ∷ ys) ≡ decimal n ++ (44 ∷ vs) → (m ≡ n) × (ys ≡ vs)
 number m n ys vs hm hn e =
     let both = cut (decimal m) (decimal n) ys vs (decimal_is_IsNumeral m hm).0.1 (decimal_is_IsNumeral n hn).0.1 e in
@@ -62,7 +62,7 @@ line p q ps qs hp hq e =
     let end : 10 ∷ ps ≡ 10 ∷ qs = append_cancel_left (decimal (flow_of p)) (10 ∷ ps) (10 ∷ qs) (rw (← same) at changes.1) in
     (same, cc end)
 
--- what stands behind the heading
+-- what stands after the heading
 abbrev rows : List Point → List ℕ
 rows points = flat_map line_text (map point_line points)
 

@@ -2,7 +2,7 @@
 
 use crate::Point;
 
-/// The cars on a lane, summed over the roads behind some steps.
+/// The cars on a lane, summed over the roads after some steps.
 #[derive(Clone, Copy, Debug, PartialEq, Eq)]
 pub struct LaneCount {
     /// The cars on the lane.
@@ -17,7 +17,7 @@ pub struct LaneCount {
 /// each lane.
 #[derive(Clone, Copy, Debug, PartialEq, Eq)]
 pub struct Window {
-    /// The number of the picture behind the last of the steps.
+    /// The number of the picture after the last of the steps.
     pub step: u64,
     /// What was counted on the road.
     pub point: Point,

@@ -19,7 +19,7 @@ use Rattle.trlab_repairs.specs.declared.subject.Subject.TheVariants.{Job, Sweep,
 use Rattle.trlab_explain.specs.Explanations.{BeginsWith, Explains, ExplainsAs, TellsNumber, TellsAs, topic_front}
 use Rattle.trlab_sentences.specs.declared.topics.Topic.{Topic}
 
--- two parts were put behind a text, the second unless memory ran out
+-- two parts were put after a text, the second unless memory ran out
 pub parts_put : {A E : Type 0} (r : Result A E) (old mid new first last : List ℕ) → mid ≡ old ++ first → OnOk r (new ≡ mid ++ last) → OnOk r (new ≡ old ++ (first ++ last))
 parts_put (Ok x) old mid new first last p q = rw (q, p) (simp append_assoc)
 parts_put (Err e) old mid new first last p q = tt

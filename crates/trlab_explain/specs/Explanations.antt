@@ -21,7 +21,7 @@ use Rattle.trlab_sentences.specs.declared.topics.Topic.TheVariants.{Cause, Reaso
 abbrev pub fault_head : List ℕ → Fault → List ℕ
 fault_head text fault = fault_line fault ++ quote_line fault.line (line_at fault.line (lines_of text))
 
--- a text goes on behind this front
+-- a text goes on after this front
 abbrev pub BeginsWith : List ℕ → List ℕ → Type 0
 BeginsWith front out = (more : List ℕ) × (out ≡ front ++ more)
 

@@ -9,11 +9,11 @@ use Rattle.trlab_texts.specs.Lines.{Rest}
 use Rattle.trlab_texts.specs.Reading.{Fault, LineSays, in_line, at_line, exactly, Reports}
 use Rattle.trlab_jobs.specs.Counts.{cars_line, counts_from}
 
--- counts behind others
+-- counts after others
 abbrev pub behind : List ℕ → Result (List ℕ) Fault → Result (List ℕ) Fault
 behind first said = said >>= λ counts. Ok (first ++ counts)
 
--- what the lines that are left say, behind the counts that were read, is what all lines say
+-- what the lines that are left say, after the counts that were read, is what all lines say
 abbrev pub ReadSoFar : ℕ → ℕ → Rest → List ℕ → ℕ → Rest → Type 0
 ReadSoFar cells steps begin counts point place =
     behind counts (counts_from cells steps point place.number place.left) ≡ counts_from cells steps 1 begin.number begin.left

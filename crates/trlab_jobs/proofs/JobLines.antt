@@ -14,7 +14,7 @@ use Rattle.trlab_jobs.specs.Later.{later_rules}
 use Rattle.trlab_jobs.specs.Job.{Job, job, road_line, key_line, limit_line, steps_line, LinesSay, UpToTheEnd}
 use Rattle.trlab_texts.proofs.Readings.{goes_on}
 
--- what is read behind each line
+-- what is read after each line
 abbrev pub after_all : List ℕ → Cells → Programs → ℕ → Sheet → Reading Job
 after_all key road first steps later = say (record { key = key; road = road; first = first; later = later; steps = steps })
 
@@ -39,7 +39,7 @@ after_road = line (exactly key_line) >>= after_key
 abbrev pub whole : Reading Job
 whole = line (exactly road_line) >> after_road
 
--- behind each line that was read
+-- after each line that was read
 pub behind_road : (at after : Rest) (out : Result (Job × Rest) TextFault) → line (exactly road_line) at (Ok (tt, after)) → Reports (after_road after) out → Reports (whole at) out
 behind_road at after out says rest = goes_on (line (exactly road_line)) (λ _. after_road) at after tt out says rest
 

@@ -12,12 +12,12 @@ use Rattle.trlab_jobs.specs.Later.{later_rule, to_the_end, later_from, later_rul
 use Rattle.trlab_jobs.specs.Stored.{AreLaterRules}
 use Rattle.trlab_texts.proofs.Readings.{goes_on, stops}
 
--- later rules behind others
+-- later rules after others
 abbrev pub behind : Sheet → Result (Sheet × Rest) TextFault → Result (Sheet × Rest) TextFault
 behind first (Ok found) = Ok (first ++ found.0, found.1)
 behind first (Err fault) = Err fault
 
--- what the lines that are left say, behind the later rules that were read, is what all lines say
+-- what the lines that are left say, after the later rules that were read, is what all lines say
 pub record ReadSoFar (lanes steps : ℕ) (start : Rest) (later : Sheet) (room least : ℕ) (place : Rest) : Type 0 where
   pub goes_on : (out : Result (Sheet × Rest) TextFault) → Reports (later_from room lanes steps least place) out
       → Reports (later_rules lanes steps start) (behind later out)
@@ -40,7 +40,7 @@ open_line : (reading : Reading Sheet) (place : Rest) (left : List (List ℕ)) (o
 open_line reading place [] out some told = absurd (some refl)
 open_line reading place (text ∷ left) out some told = told
 
--- what is read of a later rule and of those behind it
+-- what is read of a later rule and of those after it
 abbrev one_and_more : ℕ → ℕ → ℕ → ℕ → Reading Sheet
 one_and_more room lanes steps least = later_rule (suc room) lanes steps least >>= λ entry.
     later_from room lanes steps (entry.0 + 1) >>= λ later. say (entry ∷ later)

@@ -2,36 +2,36 @@
 use Rattle.std.proofs.Common.{◌≡◌, List, ℕ, Bool, true, false, ap, refl, ◌∙◌}
 use Rattle.std.specs.Prelude.{Option, None, Some, Ok, codes, option_map, option_and_then, if◌then◌else◌}
 use Rattle.trlab_texts.specs.Words.{is_word}
-use Rattle.trlab_lines.specs.Cutting.{behind, cut}
+use Rattle.trlab_lines.specs.Cutting.{without_prefix, cut}
 use Rattle.trlab_jobs.specs.RuleLines.{rule_words, rule_numbers, step_and_rule, step_of, admit, later_words, later_line}
 use Rattle.trlab_jobs.specs.declared.rule_line.RuleLine.{RuleLine}
 
--- the words of a rule behind a step
+-- the words of a rule after a step
 abbrev rule_behind : List ℕ → Option (RuleLine (List ℕ)) → Option (List ℕ × RuleLine (List ℕ))
 rule_behind step words = option_map (λ rule. (step, rule)) words
 
--- the words behind `at `
+-- the words after `at `
 abbrev behind_at : Option (List ℕ) → Option (List ℕ × RuleLine (List ℕ))
 behind_at rest = option_and_then step_and_rule (option_and_then (cut 32) rest)
 
 -- no `at ` is there
-pub no_at : (text : List ℕ) → None ≡ behind (codes "at ") text → None ≡ later_words text
+pub no_at : (text : List ℕ) → None ≡ without_prefix (codes "at ") text → None ≡ later_words text
 no_at text p = ap behind_at p
 
--- nothing stands behind the step
-pub no_space : (text rest : List ℕ) → Some rest ≡ behind (codes "at ") text → None ≡ cut 32 rest → None ≡ later_words text
+-- nothing stands after the step
+pub no_space : (text rest : List ℕ) → Some rest ≡ without_prefix (codes "at ") text → None ≡ cut 32 rest → None ≡ later_words text
 no_space text rest p q = ap (λ (parts : Option (List ℕ × List ℕ)). option_and_then step_and_rule parts) q ∙ ap behind_at p
 
--- the step, or none, and what stands behind it
-cut_said : (text rest step words : List ℕ) → Some rest ≡ behind (codes "at ") text → Some (step, words) ≡ cut 32 rest → step_and_rule (step, words) ≡ later_words text
+-- the step, or none, and what stands after it
+cut_said : (text rest step words : List ℕ) → Some rest ≡ without_prefix (codes "at ") text → Some (step, words) ≡ cut 32 rest → step_and_rule (step, words) ≡ later_words text
 cut_said text rest step words p q = ap (λ (parts : Option (List ℕ × List ℕ)). option_and_then step_and_rule parts) q ∙ ap behind_at p
 
 -- the step is no word
-pub no_step : (text rest step words : List ℕ) → Some rest ≡ behind (codes "at ") text → Some (step, words) ≡ cut 32 rest → false ≡ is_word step → None ≡ later_words text
+pub no_step : (text rest step words : List ℕ) → Some rest ≡ without_prefix (codes "at ") text → Some (step, words) ≡ cut 32 rest → false ≡ is_word step → None ≡ later_words text
 no_step text rest step words p q w = ap (λ (b : Bool). if b then rule_behind step (rule_words words) else None) w ∙ cut_said text rest step words p q
 
--- what stands behind it is a rule, or none
-pub step_said : (text rest step words : List ℕ) (rule : Option (RuleLine (List ℕ))) → Some rest ≡ behind (codes "at ") text → Some (step, words) ≡ cut 32 rest → true ≡ is_word step
+-- what stands after it is a rule, or none
+pub step_said : (text rest step words : List ℕ) (rule : Option (RuleLine (List ℕ))) → Some rest ≡ without_prefix (codes "at ") text → Some (step, words) ≡ cut 32 rest → true ≡ is_word step
     → rule ≡ rule_words words → rule_behind step rule ≡ later_words text
 step_said text rest step words rule p q w r =
     ap (rule_behind step) r ∙ (ap (λ (b : Bool). if b then rule_behind step (rule_words words) else None) w ∙ cut_said text rest step words p q)

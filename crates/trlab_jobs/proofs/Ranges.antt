@@ -3,7 +3,7 @@ use Rattle.std.proofs.Common.{◌≡◌, ℕ, ◌≤◌, Bool, true, false, List
 use Rattle.std.specs.Prelude.{◌&&◌, Option, None, Some, Result, Ok, Err, IfOk, nat_le, if◌then◌else◌}
 use Rattle.trlab_texts.specs.declared.fault.Cause.{Cause}
 use Rattle.trlab_texts.specs.declared.fault.Cause.TheVariants.{Number}
-use Rattle.trlab_texts.specs.Words.{number_of, within, number_within, word_behind}
+use Rattle.trlab_texts.specs.Words.{number_of, within, number_within, word_after}
 
 -- a number from low to high
 pub record InRange (least most n : ℕ) : Type 0 where
@@ -24,9 +24,9 @@ word_range : (low high : ℕ) (word : Result (List ℕ) Cause) → IfOk (number_
 word_range low high (Ok word) = within_range low high (number_of word)
 word_range low high (Err cause) = tt
 
--- the number that stands behind a name
-pub number_range : (name text : List ℕ) (low high : ℕ) → IfOk (number_within low high (word_behind name text)) (InRange low high)
-number_range name text low high = word_range low high (word_behind name text)
+-- the number that stands after a name
+pub number_range : (name text : List ℕ) (low high : ℕ) → IfOk (number_within low high (word_after name text)) (InRange low high)
+number_range name text low high = word_range low high (word_after name text)
 
 above : (low high : ℕ) (r : Result ℕ Cause) → IfOk r (InRange low high) → IfOk r (λ n. low ≤ n)
 above low high (Ok n) is = is.low
@@ -36,8 +36,8 @@ below : (low high : ℕ) (r : Result ℕ Cause) → IfOk r (InRange low high) �
 below low high (Ok n) is = is.high
 below low high (Err cause) is = tt
 
-pub number_low : (name text : List ℕ) (low high : ℕ) → IfOk (number_within low high (word_behind name text)) (λ n. low ≤ n)
-number_low name text low high = above low high (number_within low high (word_behind name text)) (number_range name text low high)
+pub number_low : (name text : List ℕ) (low high : ℕ) → IfOk (number_within low high (word_after name text)) (λ n. low ≤ n)
+number_low name text low high = above low high (number_within low high (word_after name text)) (number_range name text low high)
 
-pub number_high : (name text : List ℕ) (low high : ℕ) → IfOk (number_within low high (word_behind name text)) (λ n. n ≤ high)
-number_high name text low high = below low high (number_within low high (word_behind name text)) (number_range name text low high)
+pub number_high : (name text : List ℕ) (low high : ℕ) → IfOk (number_within low high (word_after name text)) (λ n. n ≤ high)
+number_high name text low high = below low high (number_within low high (word_after name text)) (number_range name text low high)

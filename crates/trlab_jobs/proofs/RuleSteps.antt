@@ -1,4 +1,4 @@
--- What is said of a rule by its line, and by the lines behind it.
+-- What is said of a rule by its line, and by the lines after it.
 use Rattle.std.proofs.Common.{◌≡◌, ◌≤◌, ℕ, Bool, true, false, Option, None, Some, arith, ap, refl, subst}
 use Rattle.std.specs.Prelude.{Result, Ok, Err, MatchResult, IsSome, nat_eq}
 use Rattle.std.proofs.lemmas.Bool.{eqb-false}
@@ -28,23 +28,23 @@ pub rule_line_fails : (lanes : ℕ) (place : Rest) (fault : TextFault) → Repor
     → Reports {A = Programs × Rest} (rule lanes place) (Err fault)
 rule_line_fails lanes place fault told = stops (line (exactly rule_line)) (rule_from lanes place.number) place fault told
 
--- it was read, and its programs stand behind it
+-- it was read, and its programs stand after it
 pub behind_rule_line : (lanes number : ℕ) (place after : Rest) (at : RuleLine ℕ) (out : Result (Programs × Rest) TextFault) → number ≡ place.number
     → line (exactly rule_line) place (Ok (at, after)) → Reports (rule_from lanes number at after) out → Reports (rule lanes place) out
 behind_rule_line lanes number place after at out here one told =
     goes_on (line (exactly rule_line)) (rule_from lanes place.number) place after at out one
     (subst (λ n. Reports (rule_from lanes n at after) out) here told)
 
--- what is read behind the line of a later rule
-abbrev behind_line : ℕ → ℕ → ℕ × RuleLine ℕ → Reading (ℕ × Programs)
-behind_line lanes number at = rule_from lanes number at.1 >>= λ rule. say (at.0, rule)
+-- what is read after the line of a later rule
+abbrev after_line : ℕ → ℕ → ℕ × RuleLine ℕ → Reading (ℕ × Programs)
+after_line lanes number at = rule_from lanes number at.1 >>= λ rule. say (at.0, rule)
 
 -- the line of a later rule has a fault
 pub later_line_fails : (room lanes steps least : ℕ) (place : Rest) (fault : TextFault)
     → Reports {A = (ℕ × RuleLine ℕ) × Rest} (line (exactly (later_line room steps least)) place) (Err fault)
     → Reports {A = (ℕ × Programs) × Rest} (later_rule room lanes steps least place) (Err fault)
 later_line_fails room lanes steps least place fault told =
-    stops (line (exactly (later_line room steps least))) (behind_line lanes place.number) place fault told
+    stops (line (exactly (later_line room steps least))) (after_line lanes place.number) place fault told
 
 -- its programs have one
 pub later_programs_fail : (room lanes steps least number : ℕ) (place after : Rest) (at : ℕ × RuleLine ℕ) (fault : TextFault) → number ≡ place.number
@@ -52,7 +52,7 @@ pub later_programs_fail : (room lanes steps least number : ℕ) (place after : R
     → Reports {A = Programs × Rest} (rule_from lanes number at.1 after) (Err fault)
     → Reports {A = (ℕ × Programs) × Rest} (later_rule room lanes steps least place) (Err fault)
 later_programs_fail room lanes steps least number place after at fault here one told =
-    goes_on (line (exactly (later_line room steps least))) (behind_line lanes place.number) place after at (Err fault) one
+    goes_on (line (exactly (later_line room steps least))) (after_line lanes place.number) place after at (Err fault) one
     (stops (rule_from lanes place.number at.1) (λ rule. say (at.0, rule)) after fault
     (subst (λ n. Reports {A = Programs × Rest} (rule_from lanes n at.1 after) (Err fault)) here told))
 

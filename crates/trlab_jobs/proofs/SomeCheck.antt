@@ -8,14 +8,14 @@ use Rattle.trlab_asm.specs.Results.{map_ok}
 use Rattle.trlab_texts.specs.declared.fault.Cause.{Cause}
 use Rattle.trlab_texts.specs.declared.fault.Cause.TheVariants.{Line}
 use Rattle.trlab_texts.specs.Reading.{Fault}
-use Rattle.trlab_texts.specs.Programs.{program_behind}
+use Rattle.trlab_texts.specs.Programs.{program_after}
 use Rattle.trlab_jobs.specs.declared.check.Question.{Question}
-use Rattle.trlab_jobs.specs.Check.{check_of, no_more_behind, lone_program, heading_kind, question_of, Check, CheckLinesSay, CheckText, HeadedLinesSay, QuestionSays}
+use Rattle.trlab_jobs.specs.Check.{check_of, no_more_after, lone_program, heading_kind, question_of, Check, CheckLinesSay, CheckText, HeadedLinesSay, QuestionSays}
 use Rattle.trlab_jobs.specs.Laws.{SaysSomething}
 use Rattle.trlab_texts.proofs.SomeProgram.{code_some, behind_keeps}
 use Rattle.trlab_texts.proofs.SomeReading.{whole_some}
 
-no_more_keeps : (left : List (List ℕ)) (program : Program) → IsProgram program → IfOk (no_more_behind left program) IsProgram
+no_more_keeps : (left : List (List ℕ)) (program : Program) → IsProgram program → IfOk (no_more_after left program) IsProgram
 no_more_keeps [] program is = is
 no_more_keeps (text ∷ left) program is = tt
 
@@ -25,7 +25,7 @@ alone_keeps left (Err cause) is = tt
 
 behind_some : (headed : Option Kind) (text : List ℕ) (left : List (List ℕ))
     → (says : Result Program Fault) × (HeadedLinesSay headed text left says × IfOk says IsProgram)
-behind_some (Some kind) text left = (program_behind kind 1 left, (refl, behind_keeps kind 1 left))
+behind_some (Some kind) text left = (program_after kind 1 left, (refl, behind_keeps kind 1 left))
 behind_some None text left =
     let any = code_some text in
     (lone_program left any.0, ((any.0, (any.1.0, refl)), alone_keeps left any.0 any.1.1))

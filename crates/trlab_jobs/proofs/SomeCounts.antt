@@ -6,7 +6,7 @@ use Rattle.trlab_asm.specs.Results.{◌>>=◌}
 use Rattle.trlab_road.specs.declared.fault.RoadFault.TheVariants.{TooManyCars}
 use Rattle.trlab_texts.specs.declared.fault.Cause.{Cause}
 use Rattle.trlab_texts.specs.declared.fault.Cause.TheVariants.{TooMany, Road, Work}
-use Rattle.trlab_texts.specs.Words.{number_within, word_behind}
+use Rattle.trlab_texts.specs.Words.{number_within, word_after}
 use Rattle.trlab_texts.specs.Reading.{Fault, at_line}
 use Rattle.trlab_texts.proofs.SomeReading.{Anything, anything}
 use Rattle.trlab_jobs.specs.declared.limits.TheConstants.{MOST_CARS, MOST_POINTS, MOST_WORK}
@@ -33,7 +33,7 @@ admit_keeps cells steps point count =
 
 line_keeps : (cells steps point : ℕ) (text : List ℕ) → IfOk (cars_line cells steps point text) (HasRoom cells steps point)
 line_keeps cells steps point text =
-    let word = number_within 0 MOST_CARS (word_behind (codes "cars ") text) in
+    let word = number_within 0 MOST_CARS (word_after (codes "cars ") text) in
     then_keeps Anything (HasRoom cells steps point) word (admit_cars cells steps point) (anything word) (λ count any. admit_keeps cells steps point count)
 
 -- counts from a point on, for each of which there is room

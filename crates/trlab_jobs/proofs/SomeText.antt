@@ -25,7 +25,7 @@ any_line rule = line_some Anything (exactly rule) (exactly_some Anything rule (�
 few_lanes : (road : Cells) → IsLegal road → FewLanes (length road.lanes)
 few_lanes road legal = record { some = legal.shape.lanes.some_lane; few = legal.shape.lanes.few_lanes }
 
--- what is read behind the lanes
+-- what is read after the lanes
 lanes_on : (key : List ℕ) (road : Cells) → IsLegal road → SomeReading IsStored (after_lanes key road)
 lanes_on key road legal =
     let few = few_lanes road legal in

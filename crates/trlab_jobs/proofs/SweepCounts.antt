@@ -1,4 +1,4 @@
--- The points of a sweep text, behind what they have in common.
+-- The points of a sweep text, after what they have in common.
 use Rattle.std.proofs.Common.{◌≡◌, ℕ, List, ap}
 use Rattle.std.specs.Prelude.{Ok, Err}
 use Rattle.trlab_asm.specs.Results.{map_ok}

@@ -4,24 +4,24 @@ use Rattle.std.specs.Str.{bytes_eq}
 use Rattle.trlab_code.specs.declared.kind.Kind.{Kind}
 use Rattle.trlab_code.specs.declared.kind.Kind.TheVariants.{Motion, Change}
 use Rattle.trlab_code.specs.Program.{Program}
-use Rattle.trlab_lines.specs.Cutting.{behind}
+use Rattle.trlab_lines.specs.Cutting.{without_prefix}
 use Rattle.trlab_lines.specs.Lines.{lines_of}
 use Rattle.trlab_asm.specs.Results.{map_ok}
 use Rattle.trlab_texts.specs.declared.fault.Cause.{Cause}
 use Rattle.trlab_texts.specs.declared.fault.Cause.TheVariants.{Line}
 use Rattle.trlab_texts.specs.Reading.{Fault, TextSays}
-use Rattle.trlab_texts.specs.Programs.{heading, program_behind, code_line}
+use Rattle.trlab_texts.specs.Programs.{heading, program_after, code_line}
 use Rattle.trlab_jobs.specs.declared.check.Question.{Question}
 use Rattle.trlab_jobs.specs.declared.check.Question.TheVariants.{Verdict, Notes}
 
--- what is asked of a program, and the line that begins it: behind `notes ` notes are asked for
-abbrev pub question_behind : List ℕ → Option (List ℕ) → Question × List ℕ
-question_behind text None = (Verdict, text)
-question_behind text (Some rest) = (Notes, rest)
+-- what is asked of a program, and the line that begins it: after `notes ` notes are asked for
+abbrev pub question_after : List ℕ → Option (List ℕ) → Question × List ℕ
+question_after text None = (Verdict, text)
+question_after text (Some rest) = (Notes, rest)
 
 -- what the first line of a check text asks, and that line without it
 abbrev pub question_of : List ℕ → Question × List ℕ
-question_of text = question_behind text (behind (codes "notes ") text)
+question_of text = question_after text (without_prefix (codes "notes ") text)
 
 -- the kind of program that a line heads, if it heads one
 abbrev pub heading_kind : List ℕ → Option Kind
@@ -31,27 +31,27 @@ heading_kind text =
     else None
 
 -- a program on the first line of a text, where no more lines may stand
-abbrev pub no_more_behind : List (List ℕ) → Program → Result Program Fault
-no_more_behind [] program = Ok program
-no_more_behind (text ∷ left) program = Err (record { line = 2; cause = Line })
+abbrev pub no_more_after : List (List ℕ) → Program → Result Program Fault
+no_more_after [] program = Ok program
+no_more_after (text ∷ left) program = Err (record { line = 2; cause = Line })
 
 -- what is said of a program on the first line of a text; its own faults come first
 abbrev pub lone_program : List (List ℕ) → Result Program Cause → Result Program Fault
 lone_program left (Err cause) = Err (record { line = 1; cause = cause })
-lone_program left (Ok program) = no_more_behind left program
+lone_program left (Ok program) = no_more_after left program
 
 -- the line `code X` and nothing more
 abbrev pub LoneCodeSays : List ℕ → List (List ℕ) → Result Program Fault → Type 0
 LoneCodeSays text left says =
     (any : Result Program Cause) × (code_line text any × (says ≡ lone_program left any))
 
--- the program that a line begins, with the lines behind it: all of them are the program's where it
+-- the program that a line begins, with the lines after it: all of them are the program's where it
 -- heads one
 abbrev pub HeadedLinesSay : Option Kind → List ℕ → List (List ℕ) → Result Program Fault → Type 0
-HeadedLinesSay (Some kind) text left says = says ≡ program_behind kind 1 left
+HeadedLinesSay (Some kind) text left says = says ≡ program_after kind 1 left
 HeadedLinesSay None text left says = LoneCodeSays text left says
 
--- what a line that begins a program and the lines behind it say
+-- what a line that begins a program and the lines after it say
 abbrev pub ProgramSays : List ℕ → List (List ℕ) → Result Program Fault → Type 0
 ProgramSays text left says = HeadedLinesSay (heading_kind text) text left says
 

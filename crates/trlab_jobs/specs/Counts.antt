@@ -4,7 +4,7 @@ use Rattle.trlab_road.specs.declared.fault.RoadFault.TheVariants.{TooManyCars}
 use Rattle.trlab_asm.specs.Results.{◌>>=◌}
 use Rattle.trlab_texts.specs.declared.fault.Cause.{Cause}
 use Rattle.trlab_texts.specs.declared.fault.Cause.TheVariants.{Line, TooMany, Road, Work}
-use Rattle.trlab_texts.specs.Words.{word_behind, number_within}
+use Rattle.trlab_texts.specs.Words.{word_after, number_within}
 use Rattle.trlab_texts.specs.Reading.{Fault, at_line}
 use Rattle.trlab_jobs.specs.declared.limits.TheConstants.{MOST_CARS, MOST_POINTS, MOST_WORK}
 
@@ -20,7 +20,7 @@ admit_cars cells steps point count =
 -- the line `cars n` of that point
 abbrev pub cars_line : ℕ → ℕ → ℕ → List ℕ → Result ℕ Cause
 cars_line cells steps point text =
-    number_within 0 MOST_CARS (word_behind (codes "cars ") text) >>= admit_cars cells steps point
+    number_within 0 MOST_CARS (word_after (codes "cars ") text) >>= admit_cars cells steps point
 
 -- the counts of the points from that number on, whose lines are numbered from `number` on
 unfoldable pub counts_from : ℕ → ℕ → ℕ → ℕ → List (List ℕ) → Result (List ℕ) Fault

@@ -11,7 +11,7 @@ use Rattle.trlab_texts.specs.declared.fault.Cause.{Cause}
 use Rattle.trlab_texts.specs.declared.fault.Cause.TheVariants.{Line, Key}
 use Rattle.trlab_bounds.specs.declared.runs.TheConstants.{MOST_STEPS}
 use Rattle.trlab_texts.specs.Lines.{start, Rest}
-use Rattle.trlab_texts.specs.Words.{word_behind, number_within}
+use Rattle.trlab_texts.specs.Words.{word_after, number_within}
 use Rattle.trlab_texts.specs.Reading.{Fault, Reading, say, ◌>>=◌, ◌>>◌, line, exactly, TextSays}
 use Rattle.trlab_jobs.specs.Lanes.{lanes}
 use Rattle.trlab_jobs.specs.RuleParts.{rule}
@@ -41,19 +41,19 @@ key_of (Err cause) = Err cause
 
 -- the line `key H`
 abbrev pub key_line : List ℕ → Result (List ℕ) Cause
-key_line text = key_of (word_behind (codes "key ") text)
+key_line text = key_of (word_after (codes "key ") text)
 
 -- the line `limit n`
 abbrev pub limit_line : List ℕ → Result ℕ Cause
-limit_line text = number_within 1 GREATEST_LIMIT (word_behind (codes "limit ") text)
+limit_line text = number_within 1 GREATEST_LIMIT (word_after (codes "limit ") text)
 
 -- the line `steps n`
 abbrev pub steps_line : List ℕ → Result ℕ Cause
-steps_line text = number_within 0 MOST_STEPS (word_behind (codes "steps ") text)
+steps_line text = number_within 0 MOST_STEPS (word_after (codes "steps ") text)
 
--- the lines of a job text behind those of its road: a rule, a count of steps, and rules of later steps
-abbrev pub job_behind : List ℕ → Cells → Reading Job
-job_behind key road = do
+-- the lines of a job text after those of its road: a rule, a count of steps, and rules of later steps
+abbrev pub job_after : List ℕ → Cells → Reading Job
+job_after key road = do
   first ← rule (length road.lanes)
   steps ← line (exactly steps_line)
   later ← later_rules (length road.lanes) steps
@@ -66,7 +66,7 @@ job = do
   key ← line (exactly key_line)
   limit ← line (exactly limit_line)
   road ← lanes limit
-  job_behind key road
+  job_after key road
 
 -- what is said by the lines from a place on, of which the last may stay unread
 abbrev pub UpToTheEnd : {A : Type 0} → Reading A → Rest → Result A Fault → Type 0

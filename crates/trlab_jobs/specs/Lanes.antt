@@ -7,12 +7,12 @@ use Rattle.trlab_road.specs.declared.fault.RoadFault.{RoadFault}
 use Rattle.trlab_road.specs.declared.fault.RoadFault.TheVariants.{Lanes, Length, Limit, Character, SpeedAboveLimit, Memory, TooManyCars}
 use Rattle.trlab_texts.specs.declared.fault.Cause.{Cause}
 use Rattle.trlab_texts.specs.declared.fault.Cause.TheVariants.{Road}
-use Rattle.trlab_texts.specs.Words.{word_behind, next_word_is}
+use Rattle.trlab_texts.specs.Words.{word_after, next_word_is}
 use Rattle.trlab_texts.specs.Reading.{Fault, Reading, ◌>>=◌, line, exactly, perhaps, before}
 
 -- the picture of the line `lane P`
 abbrev pub lane_word : List ℕ → Result (List ℕ) Cause
-lane_word text = word_behind (codes "lane ") text
+lane_word text = word_after (codes "lane ") text
 
 -- the picture of a second lane, where the next line states a lane: where its first word is `lane`
 abbrev pub second_lane : Reading (Option (List ℕ))

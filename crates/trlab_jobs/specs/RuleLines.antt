@@ -9,24 +9,24 @@ use Rattle.trlab_jobs.specs.declared.rule_line.RuleLine.{RuleLine}
 use Rattle.trlab_jobs.specs.declared.rule_line.RuleLine.TheVariants.{Nasch, Vdr, Rickert, Own}
 use Rattle.trlab_bounds.specs.declared.texts.TheConstants.{LONGEST_NUMBER}
 use Rattle.trlab_texts.specs.Words.{is_word, as_word, two_words, number_of, within}
-use Rattle.trlab_lines.specs.Cutting.{behind, cut}
+use Rattle.trlab_lines.specs.Cutting.{without_prefix, cut}
 use Rattle.trlab_asm.specs.Results.{◌>>=◌}
 
 -- the words of the line `rule own`
 abbrev pub own_words : List ℕ → Option (RuleLine (List ℕ))
 own_words text = if bytes_eq text (codes "rule own") then Some Own else None
 
--- the words of `rule rickert t c`, by what stands behind its name, or else others
+-- the words of `rule rickert t c`, by what stands after its name, or else others
 abbrev pub rickert_words : Option (List ℕ) → Option (RuleLine (List ℕ)) → Option (RuleLine (List ℕ))
 rickert_words None others = others
 rickert_words (Some words) others = option_map (λ two. Rickert two.0 two.1) (two_words words)
 
--- the words of `rule vdr t t0`, by what stands behind its name, or else others
+-- the words of `rule vdr t t0`, by what stands after its name, or else others
 abbrev pub vdr_words : Option (List ℕ) → Option (RuleLine (List ℕ)) → Option (RuleLine (List ℕ))
 vdr_words None others = others
 vdr_words (Some words) others = option_map (λ two. Vdr two.0 two.1) (two_words words)
 
--- the words of `rule nasch t`, by what stands behind its name, or else others
+-- the words of `rule nasch t`, by what stands after its name, or else others
 abbrev pub nasch_words : Option (List ℕ) → Option (RuleLine (List ℕ)) → Option (RuleLine (List ℕ))
 nasch_words None others = others
 nasch_words (Some words) others = option_map Nasch (as_word words)
@@ -34,9 +34,9 @@ nasch_words (Some words) others = option_map Nasch (as_word words)
 -- the words of a rule line, where it is one of the four
 abbrev pub rule_words : List ℕ → Option (RuleLine (List ℕ))
 rule_words text =
-    nasch_words (behind (codes "rule nasch ") text)
-    (vdr_words (behind (codes "rule vdr ") text)
-    (rickert_words (behind (codes "rule rickert ") text) (own_words text)))
+    nasch_words (without_prefix (codes "rule nasch ") text)
+    (vdr_words (without_prefix (codes "rule vdr ") text)
+    (rickert_words (without_prefix (codes "rule rickert ") text) (own_words text)))
 
 -- the chance that a word writes, in parts of 2 ^ 31
 abbrev pub chance_of : List ℕ → Result ℕ Cause
@@ -53,14 +53,14 @@ rule_numbers Own = Ok Own
 abbrev pub rule_line : List ℕ → Result (RuleLine ℕ) Cause
 rule_line text = ok_or (rule_words text) Line >>= rule_numbers
 
--- the word of a step, and the words of the rule behind it
+-- the word of a step, and the words of the rule after it
 abbrev pub step_and_rule : List ℕ × List ℕ → Option (List ℕ × RuleLine (List ℕ))
 step_and_rule parts =
     if is_word parts.0 then option_map (λ rule. (parts.0, rule)) (rule_words parts.1) else None
 
--- the words of the line `at s` with a rule behind it
+-- the words of the line `at s` with a rule after it
 abbrev pub later_words : List ℕ → Option (List ℕ × RuleLine (List ℕ))
-later_words text = option_and_then step_and_rule (option_and_then (cut 32) (behind (codes "at ") text))
+later_words text = option_and_then step_and_rule (option_and_then (cut 32) (without_prefix (codes "at ") text))
 
 -- the number of the step from which a later rule is in force: here it may be any number of ten digits
 abbrev pub step_of : List ℕ → Result ℕ Cause

@@ -1,4 +1,4 @@
--- Rules in texts: a standard rule on one line, or own programs on the lines behind.
+-- Rules in texts: a standard rule on one line, or own programs on the lines after.
 use Rattle.std.specs.Prelude.{◌≡◌, ◌⊎◌, ℕ, ◌+◌, ◌||◌, Bool, true, false, List, [], ◌∷◌, length, codes, nat_eq, Option, None, Some, MatchOption, Result, Ok, Err}
 use Rattle.std.specs.Str.{bytes_eq}
 use Rattle.hex.specs.Hex.{decode_of}
@@ -15,7 +15,7 @@ use Rattle.trlab_texts.specs.declared.fault.Cause.{Cause}
 use Rattle.trlab_texts.specs.declared.fault.Cause.TheVariants.{Line, Hex, OneLane, StandardRefused}
 use Rattle.trlab_jobs.specs.declared.rule_line.RuleLine.{RuleLine}
 use Rattle.trlab_jobs.specs.declared.rule_line.RuleLine.TheVariants.{Nasch, Vdr, Rickert, Own}
-use Rattle.trlab_texts.specs.Words.{word_behind, next_word_is}
+use Rattle.trlab_texts.specs.Words.{word_after, next_word_is}
 use Rattle.trlab_texts.specs.Reading.{Fault, Reading, say, ◌>>=◌, line, exactly, perhaps, of_line}
 use Rattle.trlab_texts.specs.Programs.{Part, part, part_of, heading}
 use Rattle.trlab_jobs.specs.RuleLines.{rule_line}
@@ -62,7 +62,7 @@ block_misplacement first left (Some parts) = record { line = first; cause = OneL
 abbrev pub part_misplacement : Bool → ℕ → List ℕ → List (List ℕ) → Fault
 part_misplacement true first text left = block_misplacement first left (part_of left)
 part_misplacement false first text left =
-    record { line = first; cause = code_misplacement (word_behind (codes "code ") text) }
+    record { line = first; cause = code_misplacement (word_after (codes "code ") text) }
 
 -- what is wrong with a change part on a road of one lane, from a line on: its words or the lack of
 -- its `end`, else that its digits are not hexadecimal, and else the one lane

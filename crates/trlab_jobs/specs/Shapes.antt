@@ -3,7 +3,7 @@ use Rattle.std.specs.Prelude.{ℕ, ◌+◌, ◌*◌, List, codes, Result}
 use Rattle.trlab_bounds.specs.declared.roads.TheConstants.{GREATEST_LENGTH, MOST_LANES}
 use Rattle.trlab_bounds.specs.declared.runs.TheConstants.{MOST_STEPS}
 use Rattle.trlab_texts.specs.declared.fault.Cause.{Cause}
-use Rattle.trlab_texts.specs.Words.{word_behind, number_within}
+use Rattle.trlab_texts.specs.Words.{word_after, number_within}
 use Rattle.trlab_texts.specs.Reading.{Reading, say, ◌>>=◌, line, exactly}
 use Rattle.trlab_jobs.specs.declared.shape.Shape.{Shape}
 use Rattle.trlab_jobs.specs.declared.shape.Span.{Span}
@@ -11,19 +11,19 @@ use Rattle.trlab_jobs.specs.Job.{limit_line}
 
 -- the line `length n`
 abbrev pub length_line : List ℕ → Result ℕ Cause
-length_line text = number_within 1 GREATEST_LENGTH (word_behind (codes "length ") text)
+length_line text = number_within 1 GREATEST_LENGTH (word_after (codes "length ") text)
 
 -- the line `lanes n`
 abbrev pub lanes_line : List ℕ → Result ℕ Cause
-lanes_line text = number_within 1 MOST_LANES (word_behind (codes "lanes ") text)
+lanes_line text = number_within 1 MOST_LANES (word_after (codes "lanes ") text)
 
 -- the line `warm n`
 abbrev pub warm_line : List ℕ → Result ℕ Cause
-warm_line text = number_within 0 MOST_STEPS (word_behind (codes "warm ") text)
+warm_line text = number_within 0 MOST_STEPS (word_after (codes "warm ") text)
 
 -- the line `measure n`
 abbrev pub measure_line : List ℕ → Result ℕ Cause
-measure_line text = number_within 1 MOST_STEPS (word_behind (codes "measure ") text)
+measure_line text = number_within 1 MOST_STEPS (word_after (codes "measure ") text)
 
 -- the lines of the roads, in their order
 abbrev pub shape : Reading Shape

@@ -37,7 +37,7 @@ sweep_of key limit cells lanes rule warm measure cars =
 abbrev pub sweep_line : List ℕ → Result (Unit {0}) Cause
 sweep_line text = if bytes_eq text (codes "sweep 1") then Ok tt else Err Line
 
--- the key, behind the line `sweep 1`
+-- the key, after the line `sweep 1`
 abbrev pub heading : Reading (List ℕ)
 heading = line (exactly sweep_line) >> line (exactly key_line)
 

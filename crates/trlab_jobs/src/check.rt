@@ -11,8 +11,8 @@ use std::marker::Model;
 use trlab_bounds::texts::TEXT_LIMIT;
 use trlab_code::{Code, Kind};
 use trlab_lines::next_line;
-use trlab_texts::program::{code_line, heads, program_behind};
-use trlab_texts::word::behind;
+use trlab_texts::program::{code_line, heads, program_after};
+use trlab_texts::word::without_prefix;
 use trlab_texts::{Cause, TextFault};
 
 /// What is asked of a program.
@@ -45,7 +45,7 @@ impl Model for Check {
 fn question_of(line: &[u8]) -> (Question, &[u8])
     ensures { (result.0, result.1.now) ≡ question_of line.now }
 {
-    match behind(b"notes ", line) {
+    match without_prefix(b"notes ", line) {
         Some(rest) => (Question::Notes, rest),
         None => (Question::Verdict, line),
     }
@@ -64,7 +64,7 @@ fn heading_kind(line: &[u8]) -> Option<Kind>
     }
 }
 
-/// The program of the line `code X`, behind which no more may stand.
+/// The program of the line `code X`, after which no more may stand.
 fn code_alone(alloc: Global, line: &[u8], rest: &[u8]) -> Result<Code, TextFault>
     ensures { Reports (LoneCodeSays line.now (lines_of rest.now)) result }
 {
@@ -83,13 +83,13 @@ fn code_alone(alloc: Global, line: &[u8], rest: &[u8]) -> Result<Code, TextFault
     }
 }
 
-/// The program that begins on a line and goes on in the lines behind it, which are not too long.
+/// The program that begins on a line and goes on in the lines after it, which are not too long.
 fn read_program(alloc: Global, line: &[u8], rest: &[u8]) -> Result<Code, TextFault>
     requires { length rest.now ≤ TEXT_LIMIT }
     ensures { Reports (ProgramSays line.now (lines_of rest.now)) result }
 {
     match heading_kind(line) {
-        Some(kind) => program_behind(alloc, kind, 1, rest),
+        Some(kind) => program_after(alloc, kind, 1, rest),
         None => code_alone(alloc, line, rest),
     }
 }

@@ -9,7 +9,7 @@ ghost use Rattle.trlab_jobs.specs.Counts.{admit_cars, cars_line, counts, counts_
 use crate::limits::{MOST_CARS, MOST_POINTS, MOST_WORK};
 use std::alloc::Global;
 use trlab_road::RoadFault;
-use trlab_texts::word::number_behind;
+use trlab_texts::word::number_after;
 use trlab_texts::{Cause, Rest, TextFault};
 
 /// A count of cars at the point of this number: there is room for the point, for the cars, and for
@@ -35,7 +35,7 @@ fn cars_line(cells: u32, steps: u32, point: u32, line: &[u8]) -> Result<u32, Cau
     ensures value { result ≡ cars_line cells steps point line.now }
     ensures room { OnOk result (point ≤ MOST_POINTS) }
 {
-    let count = number_behind(b"cars ", 0, MOST_CARS, line)?;
+    let count = number_after(b"cars ", 0, MOST_CARS, line)?;
     admit_cars(cells, steps, point, count)
 }
 
@@ -60,12 +60,12 @@ fn counts_to_end(
     let mut counts = Vec::new(alloc);
     let mut point = 1;
     while !rest.is_end() {
-        let (count, behind) = count(cells, steps, point, rest)?;
+        let (count, after) = count(cells, steps, point, rest)?;
         if counts.push(count).is_err() {
             return Err(TextFault::Memory);
         }
         point += 1;
-        rest = behind;
+        rest = after;
     }
     Ok(counts)
 }

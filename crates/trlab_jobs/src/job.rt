@@ -3,7 +3,7 @@
 ghost use Rattle.std.specs.Prelude.{◌≤◌, IfOk, length};
 ghost use Rattle.trlab_road.specs.Legal.{IsLegal};
 ghost use Rattle.trlab_texts.specs.Reading.{Reports};
-ghost use Rattle.trlab_jobs.specs.Job.{JobText, LinesSay, UpToTheEnd, job_behind};
+ghost use Rattle.trlab_jobs.specs.Job.{JobText, LinesSay, UpToTheEnd, job_after};
 ghost use Rattle.trlab_jobs.specs.Stored.{IsStored};
 ghost use Rattle.trlab_bounds.specs.declared.texts.TheConstants.{TEXT_LIMIT};
 
@@ -55,10 +55,10 @@ impl Model for Job {
     }) };
 }
 
-/// Reads what stands behind the lanes: a rule, how many steps to go, and rules of later steps.
+/// Reads what stands after the lanes: a rule, how many steps to go, and rules of later steps.
 fn read_rules(alloc: Global, key: [u8; 32], road: Road, rest: Rest<'_>) -> Result<Job, TextFault>
     requires { IsLegal road }
-    ensures told { Reports (UpToTheEnd (job_behind key road) rest.entry) result }
+    ensures told { Reports (UpToTheEnd (job_after key road) rest.entry) result }
     ensures stored { IfOk result IsStored }
 {
     let count = road.lanes();

@@ -8,14 +8,14 @@ ghost use Rattle.trlab_jobs.specs.Lanes.{lane_word, second_lane, line_of_fault, 
 
 use std::alloc::Global;
 use trlab_road::{Road, RoadFault};
-use trlab_texts::word::word_behind;
+use trlab_texts::word::word_after;
 use trlab_texts::{Cause, Rest, TextFault};
 
 /// The picture of the line `lane P`.
 fn lane_word(line: &[u8]) -> Result<&[u8], Cause>
     ensures { result_map_both (λ word. word.now) (λ cause. cause) result ≡ lane_word line.now }
 {
-    word_behind(b"lane ", line)
+    word_after(b"lane ", line)
 }
 
 /// The picture of a lane that must stand here.
@@ -58,23 +58,23 @@ fn line_of_fault(first: u32, last: u32, fault: RoadFault) -> u32
 }
 
 /// The road that one picture or two show, of which the first stands on the line `first`, before the
-/// line `behind`.
+/// line `after`.
 fn road_of(
     alloc: Global,
     first: u32,
-    behind: u32,
+    after: u32,
     limit: u32,
     picture: &[u8],
     second: Option<&[u8]>,
 ) -> Result<Road, TextFault>
-    requires { behind ≡ first + 1 }
+    requires { after ≡ first + 1 }
     ensures told { Reports
         (PicturesSay first limit picture.now (option_map (λ picture. picture.now) second.entry)) result }
     ensures legal { IfOk result (λ road. IsLegal road) }
 {
     let (road, last) = match second {
         None => (Road::parse(alloc, limit, &[picture]), first),
-        Some(second) => (Road::parse(alloc, limit, &[picture, second]), behind),
+        Some(second) => (Road::parse(alloc, limit, &[picture, second]), after),
     };
     match road {
         Ok(road) => Ok(road),
@@ -93,8 +93,8 @@ pub fn lanes(alloc: Global, limit: u32, rest: Rest<'_>) -> Result<(Road, Rest<'_
 {
     let first = rest.number();
     let (picture, rest) = lane(rest)?;
-    let behind = rest.number();
+    let after = rest.number();
     let (second, rest) = second_lane(rest)?;
-    let road = road_of(alloc, first, behind, limit, picture, second)?;
+    let road = road_of(alloc, first, after, limit, picture, second)?;
     Ok((road, rest))
 }

@@ -71,13 +71,13 @@ pub fn later_rules(
     let mut room = MOST_LATER;
     let mut least = 0;
     while !rest.is_end() {
-        let ((from, rule), behind) = later_rule(alloc, room, lanes, steps, least, rest)?;
+        let ((from, rule), after) = later_rule(alloc, room, lanes, steps, least, rest)?;
         if later.push((from, rule)).is_err() {
             return Err(TextFault::Memory);
         }
         room -= 1;
         least = from + 1;
-        rest = behind;
+        rest = after;
     }
     Ok((later, rest))
 }

@@ -7,7 +7,7 @@ use hex::FromHex;
 use trlab_bounds::roads::GREATEST_LIMIT;
 use trlab_bounds::runs::MOST_STEPS;
 use trlab_texts::Cause;
-use trlab_texts::word::{number_behind, word_behind};
+use trlab_texts::word::{number_after, word_after};
 
 /// The line `road 1`.
 pub fn road_line(line: &[u8]) -> Result<(), Cause>
@@ -24,7 +24,7 @@ pub fn road_line(line: &[u8]) -> Result<(), Cause>
 pub fn key_line(line: &[u8]) -> Result<[u8; 32], Cause>
     ensures { result ≡ key_line line.now }
 {
-    let digits = word_behind(b"key ", line)?;
+    let digits = word_after(b"key ", line)?;
     match <[u8; 32]>::from_hex(digits) {
         Ok(key) => Ok(key),
         Err(_) => Err(Cause::Key),
@@ -35,12 +35,12 @@ pub fn key_line(line: &[u8]) -> Result<[u8; 32], Cause>
 pub fn limit_line(line: &[u8]) -> Result<u32, Cause>
     ensures { result ≡ limit_line line.now }
 {
-    number_behind(b"limit ", 1, GREATEST_LIMIT, line)
+    number_after(b"limit ", 1, GREATEST_LIMIT, line)
 }
 
 /// The line `steps n`, how many steps are run: 0 to `MOST_STEPS`.
 pub fn steps_line(line: &[u8]) -> Result<u32, Cause>
     ensures { result ≡ steps_line line.now }
 {
-    number_behind(b"steps ", 0, MOST_STEPS, line)
+    number_after(b"steps ", 0, MOST_STEPS, line)
 }

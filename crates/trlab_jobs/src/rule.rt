@@ -1,4 +1,4 @@
-//! Rules: a standard rule on one line, or own programs in the parts behind the line `rule own`.
+//! Rules: a standard rule on one line, or own programs in the parts after the line `rule own`.
 
 ghost use Rattle.std.specs.Prelude.{◌≡◌, ◌≢◌, ◌≤◌, ℕ, IfOk, IfSome, IsSome, MatchResult, nat_eq, codes};
 ghost use Rattle.trlab_code.specs.declared.kind.Kind.TheVariants.{Motion as OfMotion, Change as OfChange};
@@ -6,7 +6,7 @@ ghost use Rattle.trlab_rules.specs.Standard.{nasch_program, vdr_program, rickert
 ghost use Rattle.trlab_step.specs.Laws.{IsRuleFor};
 ghost use Rattle.trlab_verify.specs.CheckedProgram.{IsChecked};
 ghost use Rattle.trlab_texts.specs.Reading.{Reports, ReportsLine, ReportsCause, ReportsFault, line, exactly, fault_at};
-ghost use Rattle.trlab_texts.specs.Words.{word_behind};
+ghost use Rattle.trlab_texts.specs.Words.{word_after};
 ghost use Rattle.trlab_jobs.specs.RuleLines.{rule_line};
 ghost use Rattle.trlab_jobs.specs.RuleParts.{MotionSays, ExchangeSays, code_misplacement, misplacement, next_is_change, change_by, change_part, own_rule, rule_from, rule};
 
@@ -15,7 +15,7 @@ use hex::FromHexError;
 use std::alloc::Global;
 use trlab_code::Kind;
 use trlab_rules::{Rule, StandardFault, nasch, rickert, vdr};
-use trlab_texts::word::word_behind;
+use trlab_texts::word::word_after;
 use trlab_texts::{Cause, LineFault, Rest, TextFault, program};
 use trlab_verify::{Change, ChangeKind, MotionKind};
 use trlab_words::Chance;
@@ -69,9 +69,9 @@ fn rickert_rule(
 
 /// What is wrong with the line `code X` of a change program on a road of one lane.
 fn code_misplacement(alloc: Global, line: &[u8]) -> LineFault
-    ensures { ReportsCause (code_misplacement (word_behind (codes "code ") line.now)) result }
+    ensures { ReportsCause (code_misplacement (word_after (codes "code ") line.now)) result }
 {
-    let digits = match word_behind(b"code ", line) {
+    let digits = match word_after(b"code ", line) {
         Ok(digits) => digits,
         Err(cause) => return LineFault::Wrong(cause),
     };
@@ -150,7 +150,7 @@ fn own_rule(alloc: Global, lanes: u32, rest: Rest<'_>) -> Result<(Rule, Rest<'_>
     Ok((Rule::new(motion, change), rest))
 }
 
-/// What a line says, and the rest behind it.
+/// What a line says, and the rest after it.
 fn of_line(
     number: u32,
     say: Result<Rule, LineFault>,
@@ -166,7 +166,7 @@ fn of_line(
     }
 }
 
-/// The rule of a line that was read, or of the programs behind it; `number` is that of the line.
+/// The rule of a line that was read, or of the programs after it; `number` is that of the line.
 pub fn rule_from(
     alloc: Global,
     lanes: u32,
@@ -191,7 +191,7 @@ pub fn rule_from(
     }
 }
 
-/// A rule for a road of so many lanes: a line `rule ..`, and own programs behind it.
+/// A rule for a road of so many lanes: a line `rule ..`, and own programs after it.
 pub fn rule(alloc: Global, lanes: u32, rest: Rest<'_>) -> Result<(Rule, Rest<'_>), TextFault>
     requires some { 1 ≤ lanes }
     requires few { lanes ≤ 2 }

@@ -5,7 +5,7 @@ ghost use Rattle.trlab_jobs.specs.RuleLines.{rule_words, chance_of, rule_numbers
 
 use trlab_lines::cut;
 use trlab_texts::Cause;
-use trlab_texts::word::{as_word, behind, is_word, long_number, number_from, two_words};
+use trlab_texts::word::{as_word, without_prefix, is_word, long_number, number_from, two_words};
 use trlab_words::{CERTAIN, Chance};
 
 /// A rule as a line states it, by words or by the chances that they write.
@@ -17,7 +17,7 @@ pub enum RuleLine<T> {
     Vdr { moving: T, stopped: T },
     /// `rule rickert t c`, the second for crossing.
     Rickert { brake: T, crossing: T },
-    /// `rule own`, whose programs stand on the lines behind.
+    /// `rule own`, whose programs stand on the lines after.
     Own,
 }
 
@@ -25,19 +25,19 @@ pub enum RuleLine<T> {
 fn rule_words(line: &[u8]) -> Option<RuleLine<&[u8]>>
     ensures { option_map stored_words result ≡ rule_words line.now }
 {
-    if let Some(words) = behind(b"rule nasch ", line) {
+    if let Some(words) = without_prefix(b"rule nasch ", line) {
         return match as_word(words) {
             Some(brake) => Some(RuleLine::Nasch { brake }),
             None => None,
         };
     }
-    if let Some(words) = behind(b"rule vdr ", line) {
+    if let Some(words) = without_prefix(b"rule vdr ", line) {
         return match two_words(words) {
             Some((moving, stopped)) => Some(RuleLine::Vdr { moving, stopped }),
             None => None,
         };
     }
-    if let Some(words) = behind(b"rule rickert ", line) {
+    if let Some(words) = without_prefix(b"rule rickert ", line) {
         return match two_words(words) {
             Some((brake, crossing)) => Some(RuleLine::Rickert { brake, crossing }),
             None => None,
@@ -96,7 +96,7 @@ pub fn rule_line(line: &[u8]) -> Result<RuleLine<Chance>, Cause>
 fn later_words(line: &[u8]) -> Option<(&[u8], RuleLine<&[u8]>)>
     ensures { option_map stored_later result ≡ later_words line.now }
 {
-    let (step, rule) = cut(behind(b"at ", line)?, b' ')?;
+    let (step, rule) = cut(without_prefix(b"at ", line)?, b' ')?;
     if !is_word(step) {
         return None;
     }

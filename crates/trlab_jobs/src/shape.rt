@@ -4,12 +4,12 @@ ghost use Rattle.std.specs.Prelude.{◌≡◌, ◌≤◌, IfOk};
 ghost use Rattle.trlab_bounds.specs.declared.roads.TheConstants.{GREATEST_LENGTH, MOST_LANES};
 ghost use Rattle.trlab_bounds.specs.declared.runs.TheConstants.{MOST_STEPS};
 ghost use Rattle.trlab_texts.specs.Reading.{Reports, line, exactly};
-ghost use Rattle.trlab_texts.specs.Words.{number_within, word_behind};
+ghost use Rattle.trlab_texts.specs.Words.{number_within, word_after};
 ghost use Rattle.trlab_jobs.specs.Shapes.{shape, span};
 
 use trlab_bounds::roads::{GREATEST_LENGTH, GREATEST_LIMIT, MOST_LANES};
 use trlab_bounds::runs::MOST_STEPS;
-use trlab_texts::word::number_behind;
+use trlab_texts::word::number_after;
 use trlab_texts::{Cause, Rest, TextFault};
 
 /// What the roads of a sweep have in common.
@@ -35,11 +35,11 @@ pub struct Span {
 /// The line that is a name and a number from `low` to `high`.
 #[tactic(auto, using(crate::proofs::Ranges::number_low, crate::proofs::Ranges::number_high))]
 fn number_line(name: &[u8], low: u32, high: u32, line: &[u8]) -> Result<u32, Cause>
-    ensures value { result ≡ number_within low high (word_behind name.now line.now) }
+    ensures value { result ≡ number_within low high (word_after name.now line.now) }
     ensures low { IfOk result (λ n. low ≤ n) }
     ensures high { IfOk result (λ n. n ≤ high) }
 {
-    number_behind(name, low, high, line)
+    number_after(name, low, high, line)
 }
 
 /// The number from `low` to `high` of the line with this name, which must stand here.
@@ -50,7 +50,7 @@ fn number<'a>(
     rest: Rest<'a>,
 ) -> Result<(u32, Rest<'a>), TextFault>
     ensures told { Reports
-        (line (exactly (λ text. number_within low high (word_behind name.now text))) rest.entry) result }
+        (line (exactly (λ text. number_within low high (word_after name.now text))) rest.entry) result }
     ensures low { IfOk result (λ found. low ≤ found.0) }
     ensures high { IfOk result (λ found. found.0 ≤ high) }
 {

@@ -87,7 +87,7 @@ fn sweep_line(line: &[u8]) -> Result<(), Cause>
     }
 }
 
-/// The key behind the line `sweep 1`.
+/// The key after the line `sweep 1`.
 fn heading(rest: Rest<'_>) -> Result<([u8; 32], Rest<'_>), TextFault>
     ensures { Reports (heading rest.entry) result }
 {

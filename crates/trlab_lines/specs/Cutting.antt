@@ -12,8 +12,8 @@ abbrev pub cut : ℕ → List ℕ → Option (List ℕ × List ℕ)
 cut c text = around text (position (λ b. b == c) text)
 
 -- what follows a prefix of a text
-abbrev pub behind : List ℕ → List ℕ → Option (List ℕ)
-behind prefix text =
+abbrev pub without_prefix : List ℕ → List ℕ → Option (List ℕ)
+without_prefix prefix text =
     if bytes_eq (take (length prefix) text) prefix then Some (drop (length prefix) text) else None
 
 -- a space or a tab

@@ -25,24 +25,24 @@ HasFirst Job text fault = (says : Result JobSaid Fault) × JobText text says × 
 HasFirst Sweep text fault = (says : Result SweepSaid Fault) × SweepText text says × (fault ≡ fault_of says)
 HasFirst Check text fault = (says : Result CheckSaid Fault) × CheckText text says × (fault ≡ fault_of says)
 
--- a text has no fault, or its first one is behind the line of a number, and fewer lines are left there than
+-- a text has no fault, or its first one is after the line of a number, and fewer lines are left there than
 -- another text has from that line on
-abbrev pub IsBehind : List (List ℕ) → ℕ → List (List ℕ) → Option (ℕ × Cause) → Type 0
-IsBehind lines number mended None = Unit {0}
-IsBehind lines number mended (Some fault) =
+abbrev pub IsAfter : List (List ℕ) → ℕ → List (List ℕ) → Option (ℕ × Cause) → Type 0
+IsAfter lines number mended None = Unit {0}
+IsAfter lines number mended (Some fault) =
     (number < fault.0) × (length mended + number < length lines + fault.0)
 
 -- a text, read so, gets further than another with its fault at the line of a number
 abbrev pub GetsFurther : List ℕ → ℕ → Subject → List ℕ → Type 0
 GetsFurther text number subject mended = (fault : Option (ℕ × Cause))
-    × HasFirst subject mended fault × IsBehind (lines_of text) number (lines_of mended) fault
+    × HasFirst subject mended fault × IsAfter (lines_of text) number (lines_of mended) fault
 
 -- the first fault, if there is one, is not that a line up to the one of a number is the wrong line
 abbrev pub IsPast : ℕ → Option (ℕ × Cause) → Type 0
 IsPast number None = Unit {0}
 IsPast number (Some fault) = fault.1 ≡ Line → number < fault.0
 
--- a line of this number may stand behind others, and each of these is the one that must stand there,
+-- a line of this number may stand after others, and each of these is the one that must stand there,
 -- whatever is wrong in them
 abbrev pub MayFollow : Subject → List ℕ → ℕ → List ℕ → Type 0
 MayFollow subject above number line = (fault : Option (ℕ × Cause))

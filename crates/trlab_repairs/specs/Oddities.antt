@@ -2,7 +2,7 @@
 use Rattle.std.specs.Prelude.{◌≡◌, ◌⊎◌, ℕ, ◌-◌, ◌==◌, IsTrue, List, [], ◌∷◌, length, Some, slice_get}
 use Rattle.std.specs.List.{list_any}
 use Rattle.std.specs.Option.{is_some}
-use Rattle.trlab_lines.specs.Cutting.{behind}
+use Rattle.trlab_lines.specs.Cutting.{without_prefix}
 use Rattle.trlab_repairs.specs.declared.odd.Oddity.{Oddity}
 use Rattle.trlab_repairs.specs.declared.odd.Oddity.TheVariants.{ByteOrderMark, CarriageReturn, Empty, Tab, FirstSpace, FinalSpace, Comment}
 
@@ -12,7 +12,7 @@ Has byte line = IsTrue (list_any (λ c. c == byte) line)
 
 -- the oddity is there
 abbrev pub Shows : List ℕ → Oddity → Type 0
-Shows line ByteOrderMark = IsTrue (is_some (behind (239 ∷ 187 ∷ 191 ∷ []) line))
+Shows line ByteOrderMark = IsTrue (is_some (without_prefix (239 ∷ 187 ∷ 191 ∷ []) line))
 Shows line CarriageReturn = Has 13 line
 Shows line Empty = line ≡ []
 Shows line Tab = Has 9 line

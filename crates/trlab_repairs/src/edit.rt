@@ -32,10 +32,10 @@ pub fn edited(
     ensures { IfOk result (λ mended. mended.items ≡ edited at gone put.now text.now) }
 {
     let (above, _) = text.split_at(at);
-    let (_, behind) = text.split_at(at + gone);
+    let (_, after) = text.split_at(at + gone);
     let mut mended = Vec::new(alloc);
     mended.extend_from_slice(above)?;
     mended.extend_from_slice(put)?;
-    mended.extend_from_slice(behind)?;
+    mended.extend_from_slice(after)?;
     Ok(mended)
 }

@@ -5,7 +5,7 @@ ghost use Rattle.trlab_repairs.specs.Quoting.{name_and_operands};
 
 use trlab_lines::{label_and_rest, up_to_blank, without_comment, without_indent};
 
-/// The name of the instruction of a line, and what stands behind it: both are empty where the line has
+/// The name of the instruction of a line, and what stands after it: both are empty where the line has
 /// none.
 pub fn name_and_operands(line: &[u8]) -> (&[u8], &[u8])
     ensures { (result.0.now, result.1.now) ≡ name_and_operands line.now }

@@ -19,7 +19,7 @@ pub fn count_lines(text: &[u8]) -> usize
     count
 }
 
-/// The place of a text at which its fault is: a line, or the end behind the last line.
+/// The place of a text at which its fault is: a line, or the end after the last line.
 #[derive(Clone, Copy)]
 pub struct Place<'a> {
     /// The whole text.

@@ -3,7 +3,7 @@
 ghost use Rattle.std.specs.Prelude.{IfSome};
 ghost use Rattle.trlab_repairs.specs.Oddities.{Shows};
 
-use trlab_texts::word::behind;
+use trlab_texts::word::without_prefix;
 
 /// What is odd about a line.
 #[derive(Clone, Copy)]
@@ -28,7 +28,7 @@ pub enum Oddity {
 pub fn oddity_of(line: &[u8]) -> Option<Oddity>
     ensures { IfSome result (Shows line.now) }
 {
-    if behind(b"\xef\xbb\xbf", line).is_some() {
+    if without_prefix(b"\xef\xbb\xbf", line).is_some() {
         Some(Oddity::ByteOrderMark)
     } else if line.contains(&b'\r') {
         Some(Oddity::CarriageReturn)

@@ -2,7 +2,7 @@
 
 ghost use Rattle.std.specs.Prelude.{◌≡◌, ◌++◌, IfOk, true};
 ghost use Rattle.trlab_lines.specs.Lines.{lines_of};
-ghost use Rattle.trlab_repairs.specs.Edits.{GetsFurther, HasFirst, IsBehind, IsPast, MayFollow};
+ghost use Rattle.trlab_repairs.specs.Edits.{GetsFurther, HasFirst, IsAfter, IsPast, MayFollow};
 
 use crate::line::count_lines;
 use crate::subject::Subject;
@@ -37,10 +37,10 @@ fn first_fault(
     }
 }
 
-/// Whether a text has no fault, or its first one is behind the line of a number, and fewer lines are left
+/// Whether a text has no fault, or its first one is after the line of a number, and fewer lines are left
 /// there than another text has from that line on.
-fn is_behind(text: &[u8], number: u32, mended: &[u8], fault: Option<(u32, Cause)>) -> bool
-    ensures { result ≡ true → IsBehind (lines_of text.now) number (lines_of mended.now) fault }
+fn is_after(text: &[u8], number: u32, mended: &[u8], fault: Option<(u32, Cause)>) -> bool
+    ensures { result ≡ true → IsAfter (lines_of text.now) number (lines_of mended.now) fault }
 {
     match fault {
         None => true,
@@ -66,7 +66,7 @@ pub fn gets_further(
     ensures { IfOk result (λ is_so. is_so ≡ true → GetsFurther text.now number subject mended.now) }
 {
     let fault = first_fault(alloc, subject, mended)?;
-    Ok(is_behind(text, number, mended, fault))
+    Ok(is_after(text, number, mended, fault))
 }
 
 /// Whether the first fault of a text, if it has one, is not that a line up to the one of a number is the
@@ -80,7 +80,7 @@ fn is_past(number: u32, fault: Option<(u32, Cause)>) -> bool
     }
 }
 
-/// Whether a line, of this number, may stand behind others, whatever is wrong in it.
+/// Whether a line, of this number, may stand after others, whatever is wrong in it.
 ///
 /// # Errors
 ///

@@ -52,7 +52,7 @@ first_of_all cars count some =
 pub begin_and_end : (cars count : ℕ) → 0 < count → (first_car cars count 0 ≡ 0) × (first_car cars count count ≡ cars)
 begin_and_end cars count some = (first_of_none cars count some, first_of_all cars count some)
 
--- behind the last segment of some workers there is no car, also where no car is there
+-- after the last segment of some workers there is no car, also where no car is there
 pub last_behind : (cars count workers : ℕ) → 0 < workers → count ≡ segment_count cars workers → first_car cars count count ≡ cars
 last_behind zero count workers some is = let none : count ≡ 0 = is ∙ omega arith in rw none refl
 last_behind (suc n) count workers some is =

@@ -1,4 +1,4 @@
--- Behind the last of any number of segments, but none where there are cars, there is no car.
+-- After the last of any number of segments, but none where there are cars, there is no car.
 use Rattle.std.proofs.Common.{◌≡◌, ℕ, zero, suc, ◌<◌, ◌≤◌, refl, arith}
 use Rattle.trlab_segments.specs.Segments.{first_car, segment_count}
 use Rattle.trlab_segments.proofs.Borders.{begin_and_end}

@@ -39,7 +39,7 @@ speeds_begin motion dice road = (
   },
 )
 
--- speeds of two parts that are within the gaps and the limit, one behind the other, are so too
+-- speeds of two parts that are within the gaps and the limit, one after the other, are so too
 fits_join : (road : Cells) (from middle : ℕ) (first second : List ℕ) → middle ≡ from + length first
     → FitsPart road from first → FitsPart road middle second → FitsPart road from (first ++ second)
 fits_join road from middle first second behind a b =
@@ -50,7 +50,7 @@ fits_join road from middle first second behind a b =
       within_limit = both 0 (λ i s. s ≤ road.limit) first second a.within_limit b.within_limit;
     }
 
--- the speeds of two parts, one behind the other, are those of both
+-- the speeds of two parts, one after the other, are those of both
 pub speeds_join : (motion : CheckedProgram) (dice : Dice) (road : Cells) (from middle to : ℕ)
     → (first second : List ℕ)
     → IsSpeedsPart motion dice road from middle first → IsSpeedsPart motion dice road middle to second
@@ -68,7 +68,7 @@ crosses_begin change dice road = (
   record { side_empty = λ k below. absurd (omega (arith, below)) },
 )
 
--- cars of two parts that cross to empty cells only, one behind the other, do so too
+-- cars of two parts that cross to empty cells only, one after the other, do so too
 free_join : (road : Cells) (from middle : ℕ) (first second : List Bool) → middle ≡ from + length first
     → CrossesFreePart road from first → CrossesFreePart road middle second
     → CrossesFreePart road from (first ++ second)
@@ -79,7 +79,7 @@ free_join road from middle first second behind a b =
           (λ k below. subst (λ i. IsFree i (get_or second k false)) (place k) (b.side_empty k below));
     }
 
--- whoever crosses in one of two parts, one behind the other, crosses in both together
+-- whoever crosses in one of two parts, one after the other, crosses in both together
 pub crosses_join : (change : CheckedProgram) (dice : Dice) (road : Cells) (from middle to : ℕ)
     → (first second : List Bool)
     → IsCrossesPart change dice road from middle first → IsCrossesPart change dice road middle to second

@@ -22,7 +22,7 @@ AllPassesHaveAllTickets = (plan : Plan) (s : State ℕ Knowledge) (seat : ℕ) (
     → KeepsTickets plan s → get_elem? s.views seat ≡ some mine → mine.passes ≡ plan.drawers
     → IsWhole mine.tickets plan.count ↔ (plan.count ≤ counter_of s)
 
--- segment 0 begins with car 0, and behind the last segment there is no car
+-- segment 0 begins with car 0, and after the last segment there is no car
 abbrev pub SegmentsBeginAndEnd : Type 0
 SegmentsBeginAndEnd = (cars count : ℕ) → 0 < count
     → (first_car cars count 0 ≡ 0) × (first_car cars count count ≡ cars)
@@ -32,13 +32,13 @@ abbrev pub SegmentsHaveCars : Type 0
 SegmentsHaveCars = (cars count i : ℕ) → 0 < count → count ≤ cars
     → first_car cars count i < first_car cars count (i + 1)
 
--- the segments, one behind the other, are all cars in standing order, each once
+-- the segments, one after the other, are all cars in standing order, each once
 abbrev pub SegmentsAreAllCars : Type 0
 SegmentsAreAllCars = (cars workers : ℕ) → 0 < workers
     → flat_map (segment cars (segment_count cars workers)) (range_with_len 0 (segment_count cars workers))
     ≡ range_with_len 0 cars
 
--- what the cars of each segment answer, one segment behind the other, is what all cars answer
+-- what the cars of each segment answer, one segment after the other, is what all cars answer
 abbrev pub AnswersJoin : Type 0 → Type 0
 AnswersJoin A = (cars workers : ℕ) (answer : ℕ → A) → 0 < workers
     → let count = segment_count cars workers in

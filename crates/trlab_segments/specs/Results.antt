@@ -14,7 +14,7 @@ use Rattle.trlab_segments.specs.declared.pool.results.Results.{Results}
 abbrev pub AsksOf : {P : Type 0} → P → Dice → Cells → Brief P → Type 0
 AsksOf program dice road b = (b.program ≡ program) × (b.dice ≡ dice) × (b.road ≡ road)
 
--- behind the last segment there is no car
+-- after the last segment there is no car
 abbrev pub IsCutWhole : {P : Type 0} → Brief P → Type 0
 IsCutWhole b = first_car (cars b.road) (count_of b.tickets) (count_of b.tickets) ≡ cars b.road
 

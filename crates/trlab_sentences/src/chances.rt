@@ -2,22 +2,22 @@
 
 use std::alloc::AllocError;
 use trlab_bounds::programs::CERTAIN;
-use trlab_diagnosis::behind_rule;
+use trlab_diagnosis::after_rule;
 use trlab_lines::cut;
 use trlab_pages::Page;
 use trlab_texts::word::{head_word, number_from};
 
-/// How many chances stand behind the name of a rule at most.
+/// How many chances stand after the name of a rule at most.
 const MOST_CHANCES: u32 = 2;
 
 /// The greatest chance, in parts of 2^31, that is so small that it may be meant as a number of another kind:
 /// one in a million.
 const SMALL: u32 = 2147;
 
-/// How many digits behind the point are written at most.
+/// How many digits after the point are written at most.
 const MOST_DECIMALS: u32 = 11;
 
-/// Adds a chance as a decimal; what is behind the last digit is dropped.
+/// Adds a chance as a decimal; what is after the last digit is dropped.
 fn push_decimal(page: &mut Page, parts: u32) -> Result<(), AllocError> {
     let whole = u64::from(CERTAIN);
     page.number(u64::from(parts) / whole)?;
@@ -55,7 +55,7 @@ fn push_chance(page: &mut Page, parts: u32) -> Result<(), AllocError> {
 ///
 /// Where memory ran out.
 pub fn push_chances(page: &mut Page, line: &[u8]) -> Result<(), AllocError> {
-    let mut left = behind_rule(line).unwrap_or(b"");
+    let mut left = after_rule(line).unwrap_or(b"");
     for _ in 0..MOST_CHANCES {
         let Some((_, rest)) = cut(left, b' ') else {
             break;

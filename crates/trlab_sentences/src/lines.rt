@@ -18,14 +18,14 @@ pub fn push_count(
     page: &mut Page,
     front: &str,
     count: u64,
-    behind: &str,
+    after: &str,
 ) -> Result<(), AllocError> {
     page.say(front)?;
     page.number(count)?;
-    page.line(behind)
+    page.line(after)
 }
 
-/// Adds lines with numbers: of each what stands in front of it, the number, and what stands behind.
+/// Adds lines with numbers: of each what stands in front of it, the number, and what stands after.
 ///
 /// # Errors
 ///
@@ -42,9 +42,9 @@ pub fn push_counts(page: &mut Page, rows: &[(&str, u64, &str)]) -> Result<(), Al
 /// # Errors
 ///
 /// Where memory ran out.
-pub fn push_both(page: &mut Page, front: &str, behind: &str) -> Result<(), AllocError> {
+pub fn push_both(page: &mut Page, front: &str, after: &str) -> Result<(), AllocError> {
     page.say(front)?;
-    page.line(behind)
+    page.line(after)
 }
 
 /// Words with room for others.

@@ -44,7 +44,7 @@ fn push_reason_of(page: &mut Page, cause: Cause) -> Result<(), AllocError> {
     push_advice(page, reason)
 }
 
-/// Adds what is told of a cause behind its number.
+/// Adds what is told of a cause after its number.
 fn push_cause(page: &mut Page, cause: Cause) -> Result<(), AllocError> {
     page.line(meaning_of_cause(cause))?;
     push_reason_of(page, cause)?;
@@ -54,7 +54,7 @@ fn push_cause(page: &mut Page, cause: Cause) -> Result<(), AllocError> {
     )
 }
 
-/// Adds what is told of a reason behind its number.
+/// Adds what is told of a reason after its number.
 fn push_reason(page: &mut Page, reason: Reason) -> Result<(), AllocError> {
     page.line(meaning_of_reason(reason))?;
     push_advice(page, reason)?;
@@ -63,7 +63,7 @@ fn push_reason(page: &mut Page, reason: Reason) -> Result<(), AllocError> {
     )
 }
 
-/// Adds what is told of a number behind it, and answers whether there is no such number.
+/// Adds what is told of a number after it, and answers whether there is no such number.
 fn push_number(page: &mut Page, topic: Topic, number: u32) -> Result<bool, AllocError> {
     match (topic, cause_numbered(number), Reason::from_number(number)) {
         (Topic::Cause, Some(cause), _) => push_cause(page, cause)?,

@@ -17,13 +17,13 @@ use trlab_code::Code;
 use trlab_lines::next_line;
 use trlab_notes::Reason;
 use trlab_pages::Page;
-use trlab_texts::word::behind;
+use trlab_texts::word::without_prefix;
 
-/// The program of a check text, if it stands there in lines: what is behind the first line.
+/// The program of a check text, if it stands there in lines: what is after the first line.
 fn lines_of_program(text: &[u8]) -> Option<&[u8]> {
     let (line, below) = next_line(text)?;
-    let line = behind(b"notes ", line).unwrap_or(line);
-    if behind(b"code ", line).is_some() {
+    let line = without_prefix(b"notes ", line).unwrap_or(line);
+    if without_prefix(b"code ", line).is_some() {
         return None;
     }
     Some(below)

@@ -109,7 +109,7 @@ after_lease : (jobs : List JobState) (next : ℕ) (free : Option ℕ) → AfterO
 after_lease jobs next None = record { was = still jobs; size = refl }
 after_lease jobs next (Some index) = on_one jobs index (leasing index next) (λ job. record { seed = refl; steps = refl })
 
--- a job behind a push was there before, or is the one that was pushed
+-- a job after a push was there before, or is the one that was pushed
 push_was : (jobs : List JobState) (last job : JobState) (number : ℕ) → slice_get (jobs ++ last ∷ []) number ≡ Some job → (slice_get jobs number ≡ Some job) ⊎ ((number ≡ length jobs) × (job ≡ last))
 push_was [] last job zero at = inr (refl, sym (same_Some last job at))
 push_was [] last job (suc number) at = absurd (none-some job at)
@@ -125,7 +125,7 @@ Submits asked told number job =
     (rule : Programs) × (asked ≡ call.Submit job.seed rule job.steps) × (told ≡ reply.Number number)
 
 -- what a call leaves: each job was there before or is submitted by the call; no job goes, and a submit that is
--- replied a number has put one job behind the others
+-- replied a number has put one job after the others
 record Left (jobs : List JobState) (asked : Call) (told : Reply) (now : List JobState) : Type 0 where
   from : (number : ℕ) (job : JobState) → slice_get now number ≡ Some job → Was jobs number job ⊎ Submits asked told number job
   grows : length jobs ≤ length now

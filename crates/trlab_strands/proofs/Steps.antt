@@ -87,7 +87,7 @@ module _ {E : Type 0} where
       (λ (same : w ≡ u). subst (IsSound events) same mine)
       (at_snoc views w u j e)
 
-  -- the event behind the list is of the strand that keeps it
+  -- the event after the list is of the strand that keeps it
   notes : (events : List E) (views : List (Knowledge E)) (id : ℕ) (v : Knowledge E) (e : E) → get_elem? views id ≡ some v → v.keeps ≡ true → 0 < v.parts
       → AreSound events views → AreSound (events ++ e ∷ []) (set views id (with_event v e))
   notes events views id v e at keeping some_part r =
@@ -254,7 +254,7 @@ module _ {E : Type 0} where
       let c : max v.least 0 ≡ v.least = omega arith in
       λ i. knowledge (a i) (b i) (c i) (keeping i) k.all
 
--- a strand that has noted an event, and the list behind it
+-- a strand that has noted an event, and the list after it
 pub record HasNoted {E : Type 0} (v k : Knowledge E) (e : E) (left right : Me E (Knowledge E)) : Type 0 where
   pub left_slot : left.1 ≡ []
   pub left_list : left.0.keeps ≡ false

@@ -31,7 +31,7 @@ abbrev pub StandIn : {E : Type 0} → List E → List (Noted E) → Type 0
 StandIn events own = All (StandsIn events) own
 
 -- the list is a linearization of these events, that is, all of them in the order of their numbers: there are
--- as many, each stands in the list behind what stood before it, and each place of the list is the number of
+-- as many, each stands in the list after what stood before it, and each place of the list is the number of
 -- exactly one
 pub record IsLinearization {E : Type 0} (events : List E) (own : List (Noted E)) : Type 0 where
   pub count : length own ≡ length events
@@ -71,7 +71,7 @@ one_part k = knowledge 1 [] k.least false []
 abbrev pub union : {E : Type 0} → Knowledge E → Knowledge E → Knowledge E
 union k l = knowledge (k.parts + l.parts) (k.own ++ l.own) (max k.least l.least) l.keeps l.all
 
--- one event more, behind the list
+-- one event more, after the list
 abbrev pub with_event : {E : Type 0} → Knowledge E → E → Knowledge E
 with_event k e =
     knowledge k.parts (k.own ++ noted k.all e ∷ []) (length k.all + 1) k.keeps (k.all ++ e ∷ [])

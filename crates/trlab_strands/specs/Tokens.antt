@@ -28,7 +28,7 @@ subhistory_of s = s.seat.me.0.own
 abbrev pub least_of : {L E : Type 0} {ledger : Ghosts L} → Strand L E ledger → ℕ
 least_of s = s.seat.me.0.least
 
--- one event more, behind the strand's own and behind all that stood in the list, of which the strand had
+-- one event more, after the strand's own and after all that stood in the list, of which the strand had
 -- seen no more
 abbrev pub Adds : {L E : Type 0} {ledger : Ghosts L}
     → Strand L E ledger → List E → E → Strand L E ledger → Type 0

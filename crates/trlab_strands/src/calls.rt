@@ -12,7 +12,7 @@ use crate::tokens::{Keeper, Strand, Strands};
 use std::marker::PhantomData;
 
 impl<L: Ledger, E: Drop> Keeper<L, E> {
-    /// Adds an event behind the list, as one of this strand.
+    /// Adds an event after the list, as one of this strand.
     pub fn note(&mut self, strands: &Strands<L, E>, strand: &mut Strand<L, E>, event: &E)
         ensures list { list_of self.new ≡ list_of self.old ++ event.now ∷ [] }
         ensures strand { Adds strand.old (list_of self.old) event.now strand.new }
@@ -25,7 +25,7 @@ impl<L: Ledger, E: Drop> Keeper<L, E> {
     }
 
     /// Changes nothing, and tells how the list and a strand agree: each event of the strand stands in the
-    /// list behind what stood before it; with all parts the strand has as many events as the list; and where
+    /// list after what stood before it; with all parts the strand has as many events as the list; and where
     /// it has as many, the list is a linearization of them.
     pub fn audit(&mut self, strands: &Strands<L, E>, strand: &mut Strand<L, E>)
         ensures same { (list_of self.new ≡ list_of self.old) × IsSame strand.old strand.new }

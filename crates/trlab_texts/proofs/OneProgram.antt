@@ -20,7 +20,7 @@ use Rattle.trlab_verify.specs.Verdict.{IsAccepted, IsRefused, fault_at}
 use Rattle.trlab_texts.specs.declared.fault.Cause.{Cause}
 use Rattle.trlab_texts.specs.declared.fault.Cause.TheVariants.{Line, Number, Key, OneLane, Order, TooMany, Work, Hex, TooBig, Program as InProgram, Code, Road, StandardRefused, Verdict}
 use Rattle.trlab_texts.specs.Lines.{Rest}
-use Rattle.trlab_texts.specs.Words.{word_behind}
+use Rattle.trlab_texts.specs.Words.{word_after}
 use Rattle.trlab_texts.specs.Reading.{Fault, before}
 use Rattle.trlab_texts.specs.Programs.{Spell, BytesSay, DigitsSay, CodeSays, code_line, of_kind, code_line_of, heading, HeadingSays, PartSays, program_part, VerdictSays, verdict, part}
 use Rattle.trlab_texts.proofs.OneReading.{OneRule, OneReading, next_one, then_one}
@@ -75,7 +75,7 @@ code_one_of (Ok digits) a b p q = digits_one (decode_of digits) a b p q
 code_one_of (Err cause) a b p q = p ∙ sym q
 
 pub code_one : OneRule code_line
-code_one text a b p q = code_one_of (word_behind (codes "code ") text) a b p q
+code_one text a b p q = code_one_of (word_after (codes "code ") text) a b p q
 
 code_of_one : (kind : Kind) → OneRule (code_line_of kind)
 code_of_one kind text a b p q = p.1.1 ∙ ap (of_kind kind) (code_one text p.0 q.0 p.1.0 q.1.0) ∙ sym q.1.1

@@ -130,7 +130,7 @@ searched_all text left count s none =
       ap (λ t. length (lines_of t)) whole ∙ s.counted,
     )
 
--- the part, and the place behind it
+-- the part, and the place after it
 pub part_found : (text left line rest part : List ℕ) (number count : ℕ) → Searched text left count → part ≡ take (length text - length left) text
     → lines_of left ≡ line ∷ lines_of rest → length rest < length left → bytes_eq line (codes "end") ≡ true
     → (part_of (lines_of text) ≡ Some (lines_of part, lines_of rest)) × (number + (count + 1) ≡ number + length (lines_of part) + 1)

@@ -38,7 +38,7 @@ line_by P Q rest (Ok found) weaker says = next_by P Q rest.number rest.left (Ok 
 line_by P Q rest (Err (At number cause)) weaker says = next_by P Q rest.number rest.left (Err (record { line = number; cause = cause })) weaker says
 line_by P Q rest (Err Memory) weaker says = tt
 
--- a reading goes on behind what was said
+-- a reading goes on after what was said
 pub goes_on : {A B : Type 0} (first : Reading A) (next : A → Reading B) (place after : Rest) (x : A) (out : Result (B × Rest) TextFault)
     → first place (Ok (x, after)) → Reports (next x after) out → Reports ((first >>= next) place) out
 goes_on first next place after x (Ok found) says rest = (Ok (x, after), (says, rest))

@@ -9,8 +9,8 @@ use Rattle.std.proofs.lemmas.Str.Parse.{digit_from_value}
 use Rattle.std.proofs.lemmas.Slice.Eq.{bytes_eq-Decides}
 use Rattle.std.proofs.lemmas.Bool.{leb-true, lt-ltb, le-leb, ne_eqb}
 use Rattle.trlab_texts.proofs.Numbers.{number_of_some}
-use Rattle.trlab_lines.specs.Cutting.{behind}
-use Rattle.trlab_texts.specs.Words.{is_word, has_space, number_of, within, one_word, word_behind, number_within}
+use Rattle.trlab_lines.specs.Cutting.{without_prefix}
+use Rattle.trlab_texts.specs.Words.{is_word, has_space, number_of, within, one_word, word_after, number_within}
 use Rattle.trlab_texts.specs.declared.fault.Cause.{Cause}
 use Rattle.trlab_texts.specs.declared.fault.Cause.TheVariants.{Line, Number}
 
@@ -25,7 +25,7 @@ ok n = Ok n
 abbrev ok_word : List ℕ → Result (List ℕ) Cause
 ok_word word = Ok word
 
-pub behind_front : (front line word : List ℕ) → behind front line ≡ Some word → line ≡ front ++ word
+pub behind_front : (front line word : List ℕ) → without_prefix front line ≡ Some word → line ≡ front ++ word
 behind_front front line word e = elim (chosen (bytes_eq (take (length front) line) front) (Some (drop (length front) line)) None (Some word) e) [
   | inl h ↦ let same = (bytes_eq-Decides (take (length front) line) front).0 h.0 in
       let rest : drop (length front) line ≡ word = cc in
@@ -52,7 +52,7 @@ within_said low high (Some m) n e = elim (chosen (nat_le low m && nat_le m high)
   | inr h ↦ cc (h.1)
 ]
 
-number_said_by : (front line : List ℕ) (low high n : ℕ) (o : Option (List ℕ)) → behind front line ≡ o → number_within low high (one_word o) ≡ Ok n
+number_said_by : (front line : List ℕ) (low high n : ℕ) (o : Option (List ℕ)) → without_prefix front line ≡ o → number_within low high (one_word o) ≡ Ok n
     → (line ≡ front ++ decimal n) × (low ≤ n) × (n ≤ high)
 number_said_by front line low high n None is e = cc
 number_said_by front line low high n (Some word) is e = word_is (is_word word) refl e
@@ -63,8 +63,8 @@ number_said_by front line low high n (Some word) is e = word_is (is_word word) r
         let say = within_said low high (number_of word) n f in
         (behind_front front line word is ∙ ap (λ t. front ++ t) (number_said word n say.0), say.1, say.2)
 
-pub number_line : (front line : List ℕ) (low high n : ℕ) → number_within low high (word_behind front line) ≡ Ok n → (line ≡ front ++ decimal n) × (low ≤ n) × (n ≤ high)
-number_line front line low high n e = number_said_by front line low high n (behind front line) refl e
+pub number_line : (front line : List ℕ) (low high n : ℕ) → number_within low high (word_after front line) ≡ Ok n → (line ≡ front ++ decimal n) × (low ≤ n) × (n ≤ high)
+number_line front line low high n e = number_said_by front line low high n (without_prefix front line) refl e
 
 no_digit : (c : ℕ) → 48 ≤ c → c ≡ 32 → ⊥
 no_digit c low e = omega arith
@@ -84,12 +84,12 @@ decimal_is_word n small =
 within_again : (low high n : ℕ) → low ≤ n → n ≤ high → within low high (Some n) ≡ Ok n
 within_again low high n above below = rw (le-leb low n above, le-leb n high below) refl
 
-front_after : (front word : List ℕ) → behind front (front ++ word) ≡ Some word
+front_after : (front word : List ℕ) → without_prefix front (front ++ word) ≡ Some word
 front_after front word =
     let same = (bytes_eq-Decides (take (length front) (front ++ word)) front).1 (take-append_seam front word) in
     rw (same, drop-append_seam front word) refl
 
 -- the other way round
-pub number_again : (front : List ℕ) (low high n : ℕ) → high < 2 ^ 32 → low ≤ n → n ≤ high → number_within low high (word_behind front (front ++ decimal n)) ≡ Ok n
+pub number_again : (front : List ℕ) (low high n : ℕ) → high < 2 ^ 32 → low ≤ n → n ≤ high → number_within low high (word_after front (front ++ decimal n)) ≡ Ok n
 number_again front low high n small above below =
     rw (front_after front (decimal n), decimal_is_word n (omega arith), number_of_some (decimal n) n (omega arith) refl) (within_again low high n above below)

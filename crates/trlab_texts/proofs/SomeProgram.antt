@@ -21,9 +21,9 @@ use Rattle.trlab_verify.proofs.Judged.{accepted_or_refused, some_budget}
 use Rattle.trlab_texts.specs.declared.fault.Cause.{Cause}
 use Rattle.trlab_texts.specs.declared.fault.Cause.TheVariants.{Line, Hex, Code, Verdict}
 use Rattle.trlab_texts.specs.Lines.{Rest}
-use Rattle.trlab_texts.specs.Words.{word_behind}
+use Rattle.trlab_texts.specs.Words.{word_after}
 use Rattle.trlab_texts.specs.Reading.{Fault, before}
-use Rattle.trlab_texts.specs.Programs.{BytesSay, DigitsSay, CodeSays, code_line, as_kind, of_kind, code_line_of, behind_line, program_behind, part_of, heading, block, HeadingSays, PartSays, program_part, VerdictSays, verdict, part}
+use Rattle.trlab_texts.specs.Programs.{BytesSay, DigitsSay, CodeSays, code_line, as_kind, of_kind, code_line_of, after_line, program_after, part_of, heading, block, HeadingSays, PartSays, program_part, VerdictSays, verdict, part}
 use Rattle.trlab_texts.proofs.SomeReading.{SomeRule, SomeReading, next_some, then_some, before_keeps}
 
 -- decoded digits are bytes
@@ -46,7 +46,7 @@ code_some_of (Err cause) = (Err cause, (refl, tt))
 
 -- each line says a program in hexadecimal digits, or has a fault
 pub code_some : SomeRule IsProgram code_line
-code_some text = code_some_of (word_behind (codes "code ") text)
+code_some text = code_some_of (word_after (codes "code ") text)
 
 as_kind_keeps : (kind own : Kind) (program : Program) → IsProgram program → IfOk (as_kind kind own program) IsProgram
 as_kind_keeps Motion Motion program is = is
@@ -64,19 +64,19 @@ code_of_some kind text =
     (of_kind kind any.0, ((any.0, (any.1.0, refl)), of_kind_keeps kind any.0 any.1.1))
 
 behind_line_keeps : (first : ℕ) (says : Result Program AsmFault) → MatchResult says IsProgram (λ fault. fault.why ≢ Memory)
-    → IfOk (behind_line first says) IsProgram
+    → IfOk (after_line first says) IsProgram
 behind_line_keeps first (Ok program) is = is
 behind_line_keeps first (Err fault) is = tt
 
 -- what the lines of a program say is a program, or a fault
-pub behind_keeps : (kind : Kind) (first : ℕ) (lines : List (List ℕ)) → IfOk (program_behind kind first lines) IsProgram
+pub behind_keeps : (kind : Kind) (first : ℕ) (lines : List (List ℕ)) → IfOk (program_after kind first lines) IsProgram
 behind_keeps kind first lines = behind_line_keeps first (code_of kind lines) (lines_say kind lines)
 
 block_keeps : (kind : Kind) (first : ℕ) (left : List (List ℕ)) (parts : Option (List (List ℕ) × List (List ℕ)))
     → IfOk (block kind first left parts) (λ found. IsProgram found.0)
 block_keeps kind first left None = tt
 block_keeps kind first left (Some parts) =
-    before_keeps IsProgram (record { number = first + length parts.0 + 2; left = parts.1 }) (program_behind kind first parts.0) (behind_keeps kind first parts.0)
+    before_keeps IsProgram (record { number = first + length parts.0 + 2; left = parts.1 }) (program_after kind first parts.0) (behind_keeps kind first parts.0)
 
 headed_some : (kind : Kind) (headed : Bool) (number : ℕ) (text : List ℕ) (left : List (List ℕ))
     → (out : Result (Program × Rest) Fault) × (HeadingSays kind headed number text left out × IfOk out (λ found. IsProgram found.0))

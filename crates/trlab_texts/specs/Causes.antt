@@ -60,7 +60,7 @@ own_cause_number Work = 7
 own_cause_number Hex = 8
 own_cause_number _ = 0
 
--- the number of a cause in the line of a refused text: 9 where the text is too big, behind 10, 20 and 30
+-- the number of a cause in the line of a refused text: 9 where the text is too big, after 10, 20 and 30
 -- those of faults of programs and roads, from 40 on what the verifier refuses
 abbrev pub cause_number : Cause → ℕ
 cause_number (Program why) = 10 + why_number why

@@ -11,6 +11,6 @@ pub record Rest : Type 0 where
 abbrev pub start : List ℕ → Rest
 start text = record { number = 1; left = lines_of text }
 
--- the next line of a rest, and the rest behind it
+-- the next line of a rest, and the rest after it
 abbrev pub IsNextLine : Rest → List ℕ → Rest → Type 0
 IsNextLine rest text after = (rest.left ≡ text ∷ after.left) × (after.number ≡ rest.number + 1)

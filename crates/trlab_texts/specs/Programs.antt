@@ -16,7 +16,7 @@ use Rattle.trlab_verify.specs.Verdict.{IsAccepted, IsRefused}
 use Rattle.trlab_texts.specs.declared.fault.Cause.{Cause}
 use Rattle.trlab_texts.specs.declared.fault.Cause.TheVariants.{Line, Hex, Program as InProgram, Code, Verdict}
 use Rattle.trlab_texts.specs.Lines.{Rest}
-use Rattle.trlab_texts.specs.Words.{word_behind}
+use Rattle.trlab_texts.specs.Words.{word_after}
 use Rattle.trlab_texts.specs.Reading.{Fault, Rule, Reading, ◌>>=◌, LineSays, before}
 
 -- bytes spell a program
@@ -41,7 +41,7 @@ CodeSays (Ok digits) says = DigitsSay (decode_of digits) says
 
 -- the line `code X`, X being the digits of a program's bytes
 abbrev pub code_line : Rule Program
-code_line text says = CodeSays (word_behind (codes "code ") text) says
+code_line text says = CodeSays (word_after (codes "code ") text) says
 
 -- a program where one of a kind must stand: one of the other kind is a fault of its code
 abbrev pub as_kind : Kind → Kind → Program → Result Program Cause
@@ -60,17 +60,17 @@ abbrev pub code_line_of : Kind → Rule Program
 code_line_of kind text says =
     (any : Result Program Cause) × (code_line text any × (says ≡ of_kind kind any))
 
--- what an assembler says of the lines behind the line `first`, counted in the whole text; where no
+-- what an assembler says of the lines after the line `first`, counted in the whole text; where no
 -- line is at fault, as in a program without instructions, it stands at the line `first`
-abbrev pub behind_line : ℕ → Result Program AsmFault → Result Program Fault
-behind_line first (Ok program) = Ok program
-behind_line first (Err fault) = Err (record { line = first + fault.line; cause = InProgram fault.why })
+abbrev pub after_line : ℕ → Result Program AsmFault → Result Program Fault
+after_line first (Ok program) = Ok program
+after_line first (Err fault) = Err (record { line = first + fault.line; cause = InProgram fault.why })
 
--- what the lines of a program of a kind say, behind the line `first`
-abbrev pub program_behind : Kind → ℕ → List (List ℕ) → Result Program Fault
-program_behind kind first lines = behind_line first (code_of kind lines)
+-- what the lines of a program of a kind say, after the line `first`
+abbrev pub program_after : Kind → ℕ → List (List ℕ) → Result Program Fault
+program_after kind first lines = after_line first (code_of kind lines)
 
--- the lines of a part, and the lines behind its line `end`
+-- the lines of a part, and the lines after its line `end`
 abbrev pub Part : Type 0
 Part = List (List ℕ) × List (List ℕ)
 
@@ -79,13 +79,13 @@ abbrev pub with_first : List ℕ → Option Part → Option Part
 with_first text None = None
 with_first text (Some found) = Some (text ∷ found.0, found.1)
 
--- the lines up to the line `end`, and the lines behind it; none where no line is `end`
+-- the lines up to the line `end`, and the lines after it; none where no line is `end`
 unfoldable pub part_of : List (List ℕ) → Option Part
 part_of [] = None
 part_of (text ∷ left) =
     if bytes_eq text (codes "end") then Some ([], left) else with_first text (part_of left)
 
--- the lines of a part, and the rest behind its line `end`
+-- the lines of a part, and the rest after its line `end`
 abbrev pub IsPart : Rest → List (List ℕ) → Rest → Type 0
 IsPart rest lines after =
     (part_of rest.left ≡ Some (lines, after.left)) × (after.number ≡ rest.number + length lines + 1)
@@ -101,7 +101,7 @@ abbrev pub block : Kind → ℕ → List (List ℕ) → Option Part → Result (
 block kind first left None = Err (record { line = first + 1 + length left; cause = Line })
 block kind first left (Some parts) =
     before (record { number = first + length parts.0 + 2; left = parts.1 })
-    (program_behind kind first parts.0)
+    (program_after kind first parts.0)
 
 -- a program by its first line, which is the heading of a block or is not
 abbrev pub HeadingSays : Kind → Bool → ℕ → List ℕ → List (List ℕ)

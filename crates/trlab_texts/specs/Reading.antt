@@ -19,7 +19,7 @@ abbrev pub Rule : Type 0 → Type 1
 Rule A = List ℕ → Result A Cause → Type 0
 
 -- what the rest of a text can say: a reading relates the rest to what is said there and the rest
--- behind it, or to the first fault
+-- after it, or to the first fault
 abbrev pub Reading : Type 0 → Type 1
 Reading A = Rest → Result (A × Rest) Fault → Type 0
 
@@ -44,7 +44,7 @@ infixl 10 ◌>>◌
 abbrev pub ◌>>◌ : {A B : Type 0} → Reading A → Reading B → Reading B
 first >> next = first >>= λ _. next
 
--- what a line says, with the lines behind it
+-- what a line says, with the lines after it
 abbrev pub in_line : {A : Type 0} → ℕ → List (List ℕ) → Result A Cause → Result (A × Rest) Fault
 in_line number left (Ok x) = Ok (x, record { number = number + 1; left = left })
 in_line number left (Err cause) = Err (record { line = number; cause = cause })
@@ -92,7 +92,7 @@ abbrev pub perhaps : {A : Type 0} → Bool → Reading A → Reading (Option A)
 perhaps true reading = reading >>= λ x. say (Some x)
 perhaps false reading = say None
 
--- what is said, with the rest behind it
+-- what is said, with the rest after it
 abbrev pub before : {A : Type 0} → Rest → Result A Fault → Result (A × Rest) Fault
 before rest (Ok x) = Ok (x, rest)
 before rest (Err fault) = Err fault

@@ -3,7 +3,7 @@ use Rattle.std.specs.Prelude.{ℕ, ◌==◌, ◌&&◌, not, Bool, false, List, [
 use Rattle.std.specs.Str.{bytes_eq}
 use Rattle.std.specs.Str.Parse.{digits_value}
 use Rattle.std.specs.List.{list_any}
-use Rattle.trlab_lines.specs.Cutting.{behind, cut, front_or_all}
+use Rattle.trlab_lines.specs.Cutting.{without_prefix, cut, front_or_all}
 use Rattle.trlab_texts.specs.declared.fault.Cause.{Cause}
 use Rattle.trlab_texts.specs.declared.fault.Cause.TheVariants.{Line, Number}
 
@@ -15,14 +15,14 @@ has_space text = list_any (λ c. c == 32) text
 abbrev pub is_word : List ℕ → Bool
 is_word text = nat_lt 0 (length text) && not (has_space text)
 
--- what stands behind a name, where it is one word: cause Line where it is anything else
+-- what stands after a name, where it is one word: cause Line where it is anything else
 abbrev pub one_word : Option (List ℕ) → Result (List ℕ) Cause
 one_word None = Err Line
 one_word (Some word) = if is_word word then Ok word else Err Line
 
--- the one word of a line behind its name, which ends with a space
-abbrev pub word_behind : List ℕ → List ℕ → Result (List ℕ) Cause
-word_behind name text = one_word (behind name text)
+-- the one word of a line after its name, which ends with a space
+abbrev pub word_after : List ℕ → List ℕ → Result (List ℕ) Cause
+word_after name text = one_word (without_prefix name text)
 
 -- the number that a word is the decimal digits of
 abbrev pub number_of : List ℕ → Option ℕ

@@ -4,7 +4,7 @@
 
 ghost use Rattle.trlab_texts.specs.Laws.{NumbersAreAsWritten};
 
-/// A line of a name and a number is read exactly where the number's decimal digits stand behind the
+/// A line of a name and a number is read exactly where the number's decimal digits stand after the
 /// name.
 pub fn numbers_are_as_written()
     ensures { NumbersAreAsWritten }

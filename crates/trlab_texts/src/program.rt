@@ -4,4 +4,4 @@ mod code;
 mod part;
 
 pub use code::code_line;
-pub use part::{accepted_part, heads, program_behind};
+pub use part::{accepted_part, heads, program_after};

@@ -64,7 +64,7 @@ impl<'a> Rest<'a> {
         }
     }
 
-    /// The next line, if there is one, and the rest behind it.
+    /// The next line, if there is one, and the rest after it.
     pub fn next(self) -> Option<(&'a [u8], Rest<'a>)>
         ensures { MatchOption result (self.entry.left ≡ [])
             (λ found. IsNextLine self.entry found.0.now found.1) }
@@ -80,7 +80,7 @@ impl<'a> Rest<'a> {
         ))
     }
 
-    /// The line that must stand here, and the rest behind it.
+    /// The line that must stand here, and the rest after it.
     ///
     /// # Errors
     ///
@@ -97,7 +97,7 @@ impl<'a> Rest<'a> {
         self.next().ok_or(fault)
     }
 
-    /// What the next line says by a rule, and the rest behind it.
+    /// What the next line says by a rule, and the rest after it.
     ///
     /// # Errors
     ///
@@ -120,7 +120,7 @@ impl<'a> Rest<'a> {
         }
     }
 
-    /// The lines up to the line `end`, and the rest behind it.
+    /// The lines up to the line `end`, and the rest after it.
     ///
     /// # Errors
     ///

@@ -2,17 +2,17 @@
 
 ghost use Rattle.std.specs.Prelude.{◌≡◌, ◌≢◌, ◌≤◌, ℕ, decimal, MatchOption, option_map};
 ghost use Rattle.trlab_bounds.specs.declared.texts.TheConstants.{LONGEST_NUMBER};
-ghost use Rattle.trlab_lines.specs.Cutting.{behind};
+ghost use Rattle.trlab_lines.specs.Cutting.{without_prefix};
 ghost use Rattle.std.specs.Result.{result_map_both};
-ghost use Rattle.trlab_texts.specs.Words.{is_word, word_behind, number_of, within, number_within, as_word, head_word, two_words};
+ghost use Rattle.trlab_texts.specs.Words.{is_word, word_after, number_of, within, number_within, as_word, head_word, two_words};
 
 use crate::fault::Cause;
 use trlab_bounds::programs::MOST_DIGITS;
 use trlab_lines::{cut, digits_value, is_numeral};
 
-/// What stands behind a prefix of a line.
-pub fn behind<'a>(prefix: &[u8], line: &'a [u8]) -> Option<&'a [u8]>
-    ensures { option_map (λ rest. rest.now) result ≡ behind prefix.now line.now }
+/// What stands after a prefix of a line.
+pub fn without_prefix<'a>(prefix: &[u8], line: &'a [u8]) -> Option<&'a [u8]>
+    ensures { option_map (λ rest. rest.now) result ≡ without_prefix prefix.now line.now }
 {
     line.strip_prefix(prefix)
 }
@@ -24,15 +24,15 @@ pub fn is_word(text: &[u8]) -> bool
     !text.is_empty() && !text.contains(&b' ')
 }
 
-/// The one word of a line behind its name, which ends with a space.
+/// The one word of a line after its name, which ends with a space.
 ///
 /// # Errors
 ///
 /// `Cause::Line` where anything else stands there.
-pub fn word_behind<'a>(name: &[u8], line: &'a [u8]) -> Result<&'a [u8], Cause>
-    ensures { result_map_both (λ word. word.now) (λ cause. cause) result ≡ word_behind name.now line.now }
+pub fn word_after<'a>(name: &[u8], line: &'a [u8]) -> Result<&'a [u8], Cause>
+    ensures { result_map_both (λ word. word.now) (λ cause. cause) result ≡ word_after name.now line.now }
 {
-    match behind(name, line) {
+    match without_prefix(name, line) {
         Some(word) if is_word(word) => Ok(word),
         _ => Err(Cause::Line),
     }
@@ -110,14 +110,14 @@ pub fn long_number(word: &[u8]) -> Result<u64, Cause>
     number(word).ok_or(Cause::Number)
 }
 
-/// The number from `low` to `high` that is the one word of a line behind its name.
+/// The number from `low` to `high` that is the one word of a line after its name.
 ///
 /// # Errors
 ///
-/// `Cause::Line` where no one word stands behind the name, and else `Cause::Number`.
-pub fn number_behind(name: &[u8], low: u32, high: u32, line: &[u8]) -> Result<u32, Cause>
-    ensures { result ≡ number_within low high (word_behind name.now line.now) }
+/// `Cause::Line` where no one word stands after the name, and else `Cause::Number`.
+pub fn number_after(name: &[u8], low: u32, high: u32, line: &[u8]) -> Result<u32, Cause>
+    ensures { result ≡ number_within low high (word_after name.now line.now) }
 {
-    let word = word_behind(name, line)?;
+    let word = word_after(name, line)?;
     number_from(low, high, word)
 }

@@ -6,7 +6,7 @@ ghost use Rattle.trlab_diagram.specs.Flow.{IsMeasured};
 ghost use Rattle.trlab_road.specs.Cells.{Cells, cars, lane_of};
 ghost use Rattle.trlab_step.specs.declared.tally.StepTally.{StepTally};
 ghost use Rattle.trlab_campaign.specs.Counting.{IsStepsOn};
-ghost use Rattle.trlab_campaign.specs.SeriesOutput.{AreRoads, IsCourse, lane_count, roads_behind, window_of};
+ghost use Rattle.trlab_campaign.specs.SeriesOutput.{AreRoads, IsCourse, lane_count, roads_after, window_of};
 
 use crate::series::lanes::{count_lane, lane_sum, no_cars};
 use std::alloc::{AllocError, Global};
@@ -30,7 +30,7 @@ pub fn skip_steps<A: Asker>(
     Ok(())
 }
 
-/// Takes so many steps of a run, and tells what was counted on lane 0 and on lane 1 behind each.
+/// Takes so many steps of a run, and tells what was counted on lane 0 and on lane 1 after each.
 fn count_lanes<A: Asker>(
     asker: &A,
     alloc: Global,
@@ -42,9 +42,9 @@ fn count_lanes<A: Asker>(
     requires room { run.old.step + steps < 2 ^ 32 }
     ensures on { OnOk result (IsStepsOn steps run.old run.new) }
     ensures first { (roads : ℕ → Cells) → AreRoads run.old.seed run.old.sheet roads
-        → IfOk result (λ lanes. lanes.0 ≡ lane_count 0 (roads_behind roads run.old.step steps)) }
+        → IfOk result (λ lanes. lanes.0 ≡ lane_count 0 (roads_after roads run.old.step steps)) }
     ensures second { (roads : ℕ → Cells) → AreRoads run.old.seed run.old.sheet roads
-        → IfOk result (λ lanes. lanes.1 ≡ lane_count 1 (roads_behind roads run.old.step steps)) }
+        → IfOk result (λ lanes. lanes.1 ≡ lane_count 1 (roads_after roads run.old.step steps)) }
 {
     let mut first = no_cars();
     let mut second = no_cars();

@@ -16,7 +16,7 @@ pub struct Batch {
     pub is_rising: bool,
 }
 
-/// The number behind that of the last point of the batch that begins with this one.
+/// The number after that of the last point of the batch that begins with this one.
 fn end_of_batch(sweep: &Sweep, first: usize) -> usize
     requires { first < length sweep.now.cars }
     ensures { (first < result) × (result ≤ length sweep.now.cars) }

@@ -67,14 +67,14 @@ fn explained(what: Option<&str>, number: Option<u32>) -> Result<Explaining, Erro
     }
 }
 
-/// Why the first argument, or that with a number behind it or none, is refused.
+/// Why the first argument, or that with a number after it or none, is refused.
 fn refusal_text(alloc: Global, kind: ErrorKind, what: &str) -> Result<String, AllocError> {
     match kind {
         ErrorKind::UnknownArgument => {
-            format!(in alloc; "`explain {what}` takes no number behind it")
+            format!(in alloc; "`explain {what}` takes no number after it")
         }
         ErrorKind::MissingRequiredArgument => {
-            format!(in alloc; "`explain {what}` wants a number behind it")
+            format!(in alloc; "`explain {what}` wants a number after it")
         }
         _ => format!(in alloc;
             "`explain` takes no {what:?} here\n  [possible words: run, sweep, check, cause, reason]"

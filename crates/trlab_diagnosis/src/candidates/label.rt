@@ -11,7 +11,7 @@ use trlab_lines::{label_and_rest, next_line, without_comment};
 use trlab_repairs::{Place, Slip};
 
 /// A choice of labels once one more line was looked at, before which `at` bytes stand.
-fn choice_behind(
+fn choice_after(
     alloc: Global,
     word: &[u8],
     best: Choice,
@@ -40,7 +40,7 @@ fn nearest_label(alloc: Global, place: &Place<'_>, word: &[u8]) -> Result<Choice
         if at < place.start && is_program_head(line) {
             best = best.anew();
         }
-        best = choice_behind(alloc, word, best, line, at)?;
+        best = choice_after(alloc, word, best, line, at)?;
         left = rest;
     }
     Ok(best)

@@ -6,12 +6,12 @@ use crate::candidates::number::density_candidate;
 use crate::candidates::program::end_candidates;
 use crate::draft::{Put, has_odd_blanks};
 use crate::line_name::{CHECK_NAMES, LineName, is_name_of_line};
-use crate::rules::{RULES, behind_rule};
+use crate::rules::{RULES, after_rule};
 use std::alloc::AllocError;
 use trlab_asm::mnemonic_named;
 use trlab_lines::cut;
 use trlab_repairs::{Slip, Subject, is_named, name_and_operands, subject_of};
-use trlab_texts::word::{behind, head_word};
+use trlab_texts::word::{without_prefix, head_word};
 
 /// The longest line that is rewritten.
 const LONGEST_LINE: usize = 120;
@@ -54,7 +54,7 @@ fn end_of_words(line: &[u8]) -> usize {
     end
 }
 
-/// Adds a line without what stands behind the first such byte, and without the blanks before that.
+/// Adds a line without what stands after the first such byte, and without the blanks before that.
 fn comment_candidate(list: &mut Candidates<'_>, byte: u8) {
     let Some((front, _)) = cut(list.line, byte) else {
         return;
@@ -70,7 +70,7 @@ fn comment_candidate(list: &mut Candidates<'_>, byte: u8) {
 
 /// Adds what is odd about a line, whatever has to stand there.
 fn odd_candidates(list: &mut Candidates<'_>) {
-    if behind(b"\xef\xbb\xbf", list.line).is_some() {
+    if without_prefix(b"\xef\xbb\xbf", list.line).is_some() {
         list.in_line(Slip::ByteOrderMark, 0, 3, Put::Bytes(b""));
     }
     if list.line.is_empty() {
@@ -112,9 +112,9 @@ fn name_candidates(list: &mut Candidates<'_>, wanted: &[LineName]) -> Result<(),
     Ok(())
 }
 
-/// Adds the name of a rule that the word behind `rule` is spelled nearly as.
+/// Adds the name of a rule that the word after `rule` is spelled nearly as.
 fn rule_candidate(list: &mut Candidates<'_>) -> Result<(), AllocError> {
-    let Some(rest) = behind_rule(list.line) else {
+    let Some(rest) = after_rule(list.line) else {
         return Ok(());
     };
     let name = head_word(rest);
@@ -134,7 +134,7 @@ fn heading_candidates(list: &mut Candidates<'_>, wanted: &[LineName]) {
     }
 }
 
-/// Adds above the place each line that may stand there and needs no program behind it.
+/// Adds above the place each line that may stand there and needs no program after it.
 fn lone_candidates(list: &mut Candidates<'_>, slip: Slip, wanted: &[LineName]) {
     for line in wanted {
         if line.stands_alone() {

@@ -8,12 +8,12 @@ use trlab_bounds::programs::CERTAIN;
 use trlab_bounds::roads::{GREATEST_LENGTH, MOST_LANES};
 use trlab_lines::cut;
 use trlab_repairs::Slip;
-use trlab_texts::word::number_behind;
+use trlab_texts::word::number_after;
 
 /// The number of a line above the one at fault that is a name and a number, or 0.
 fn number_of_line(list: &Candidates<'_>, number: u32, name: &[u8], most: u32) -> u32 {
     let line = list.place.line_above(number).line.unwrap_or(b"");
-    number_behind(name, 1, most, line).unwrap_or(0)
+    number_after(name, 1, most, line).unwrap_or(0)
 }
 
 /// The line of a sweep text with the length of its roads.

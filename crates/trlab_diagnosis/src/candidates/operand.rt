@@ -10,16 +10,16 @@ use std::alloc::AllocError;
 use trlab_asm::{INPUTS, REGISTERS, Why};
 use trlab_lines::{is_numeral, without_indent};
 use trlab_repairs::{Slip, name_and_operands, start_of_name};
-use trlab_texts::word::behind;
+use trlab_texts::word::without_prefix;
 
-/// Adds the name of one of these that a word is spelled nearly as. A number is none, also behind an `r`.
+/// Adds the name of one of these that a word is spelled nearly as. A number is none, also after an `r`.
 fn name_candidate<T: Spelled>(
     list: &mut Candidates<'_>,
     names: &[T],
     at: usize,
     word: &[u8],
 ) -> Result<(), AllocError> {
-    if is_numeral(behind(b"r", word).unwrap_or(word)) {
+    if is_numeral(without_prefix(b"r", word).unwrap_or(word)) {
         return Ok(());
     }
     if let Some(meant) = nearest(list.alloc, word, names)? {
@@ -44,7 +44,7 @@ fn word_candidate(list: &mut Candidates<'_>, found: OperandWord<'_>) -> Result<(
     Ok(())
 }
 
-/// Adds a comma behind each operand of a line that has none behind it.
+/// Adds a comma after each operand of a line that has none after it.
 fn comma_candidate(list: &mut Candidates<'_>) {
     let (name, operands) = name_and_operands(list.line);
     let gone = without_indent(operands).len();

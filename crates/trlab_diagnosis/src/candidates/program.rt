@@ -10,10 +10,10 @@ use trlab_lines::{cut, label_and_rest, next_line, without_comment};
 use trlab_repairs::{Slip, Subject, name_and_operands, start_of_name};
 use trlab_texts::word::head_word;
 
-/// The first words of the lines behind which a program begins.
+/// The first words of the lines after which a program begins.
 const PROGRAM_HEADS: [&[u8]; 3] = [b"motion", b"change", b"notes"];
 
-/// Whether a program begins behind a line.
+/// Whether a program begins after a line.
 pub fn is_program_head(line: &[u8]) -> bool {
     is_spelled(&PROGRAM_HEADS, head_word(line))
 }
@@ -44,7 +44,7 @@ struct Ending {
 
 impl Ending {
     /// After one more line, before which `at` bytes stand.
-    fn behind(self, alloc: Global, at: usize, line: &[u8]) -> Result<Ending, AllocError> {
+    fn after(self, alloc: Global, at: usize, line: &[u8]) -> Result<Ending, AllocError> {
         let Ending { beside, next } = self;
         if is_program_head(line) {
             return Ok(Ending {
@@ -80,7 +80,7 @@ fn ending_of(alloc: Global, text: &[u8]) -> Result<Ending, AllocError> {
             break;
         };
         let at = text.len().saturating_sub(left.len());
-        ending = ending.behind(alloc, at, line)?;
+        ending = ending.after(alloc, at, line)?;
         left = rest;
     }
     Ok(ending)

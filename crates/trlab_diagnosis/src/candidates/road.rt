@@ -3,7 +3,7 @@
 use crate::candidates::Candidates;
 use crate::draft::Put;
 use trlab_repairs::{Place, Slip, Subject};
-use trlab_texts::word::behind;
+use trlab_texts::word::without_prefix;
 
 /// The longest lane beside which an empty one is put.
 const LONGEST_LANE: usize = 100;
@@ -31,7 +31,7 @@ pub fn cell_candidate(list: &mut Candidates<'_>, cell: u32) {
 /// Adds a second lane without cars beside the first.
 fn second_lane_candidate(list: &mut Candidates<'_>, place: Place<'_>) {
     let line = place.line.unwrap_or(b"");
-    if let Some(lane) = behind(b"lane ", line) {
+    if let Some(lane) = without_prefix(b"lane ", line) {
         if lane.len() <= LONGEST_LANE {
             let end = place.start.saturating_add(line.len());
             list.edit(Slip::Lanes, end.saturating_add(1), 0, Put::Lane(lane.len()));

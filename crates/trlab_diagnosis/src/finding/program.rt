@@ -16,7 +16,7 @@ fn label_finding(line: &[u8]) -> Option<Finding<'_>> {
     }
 }
 
-/// How many operands stand behind the name of an instruction, with commas or blanks between them.
+/// How many operands stand after the name of an instruction, with commas or blanks between them.
 fn count_operands(operands: &[u8]) -> u64 {
     let mut count = 0u64;
     let mut is_in_word = false;

@@ -4,7 +4,7 @@ use crate::candidates::{FRONT, LANE_LINE};
 use crate::finding::Finding;
 use trlab_bounds::roads::GREATEST_LIMIT;
 use trlab_repairs::Place;
-use trlab_texts::word::number_behind;
+use trlab_texts::word::number_after;
 
 /// The line of a job text with its limit.
 const LIMIT_LINE: u32 = 3;
@@ -36,7 +36,7 @@ fn speed_of(car: u8) -> u64 {
 pub fn speed_finding<'a>(place: &Place<'a>, cell: u32) -> Option<Finding<'a>> {
     let car = place.line?.get(FRONT.saturating_add(cell as usize))?;
     let line = place.line_above(LIMIT_LINE).line.unwrap_or(b"");
-    match number_behind(b"limit ", 1, GREATEST_LIMIT, line) {
+    match number_after(b"limit ", 1, GREATEST_LIMIT, line) {
         Ok(limit) => Some(Finding::Speed {
             speed: speed_of(*car),
             limit: u64::from(limit),

@@ -4,7 +4,7 @@ use crate::alike::is_spelled;
 use crate::finding::Finding;
 use crate::line_name::{LineName, is_name};
 use crate::numbers::{NumberWord, Range, first_wrong_number};
-use crate::rules::{behind_rule, rule_named};
+use crate::rules::{after_rule, rule_named};
 use trlab_lines::{cut, next_line};
 use trlab_repairs::{Place, oddity_of};
 use trlab_texts::word::{head_word, long_number};
@@ -22,7 +22,7 @@ fn count_words(text: &[u8]) -> u64 {
 
 /// How many chances the rule of a line has, where it needs more or fewer.
 fn rule_finding(line: &[u8]) -> Option<Finding<'_>> {
-    let words = behind_rule(line)?;
+    let words = after_rule(line)?;
     let found = count_words(words).saturating_sub(1);
     let wanted = rule_named(head_word(words))?.chances;
     if found == wanted {
@@ -70,18 +70,18 @@ pub fn wrong_number(line: &[u8]) -> Option<Finding<'_>> {
     Some(number_finding(word, range))
 }
 
-/// The number behind the name of a line.
+/// The number after the name of a line.
 fn number_of(line: &[u8]) -> Option<u64> {
-    let (_, behind) = cut(line, b' ')?;
-    long_number(head_word(behind)).ok()
+    let (_, after) = cut(line, b' ')?;
+    long_number(head_word(after)).ok()
 }
 
-/// The numbers of the last lines of a text with two names, and how many lines stand behind the second.
+/// The numbers of the last lines of a text with two names, and how many lines stand after the second.
 #[derive(Clone, Copy)]
 struct Last {
     first: Option<u64>,
     second: Option<u64>,
-    behind: u64,
+    after: u64,
 }
 
 /// The numbers of the last lines of a text with two names.
@@ -89,7 +89,7 @@ fn last_numbers(text: &[u8], first: &[u8], second: &[u8]) -> Last {
     let mut last = Last {
         first: None,
         second: None,
-        behind: 0,
+        after: 0,
     };
     let mut left = text;
     for _ in 0..text.len() {
@@ -97,12 +97,12 @@ fn last_numbers(text: &[u8], first: &[u8], second: &[u8]) -> Last {
             break;
         };
         let name = head_word(line);
-        last.behind = last.behind.saturating_add(1);
+        last.after = last.after.saturating_add(1);
         if name == first {
             last.first = number_of(line);
         } else if name == second {
             last.second = number_of(line);
-            last.behind = 0;
+            last.after = 0;
         }
         left = rest;
     }
@@ -127,7 +127,7 @@ pub fn work_finding<'a>(place: &Place<'a>) -> Option<Finding<'a>> {
         return None;
     };
     Some(Finding::Work {
-        points: last.behind.saturating_add(1),
+        points: last.after.saturating_add(1),
         steps: warm.saturating_add(measure),
     })
 }

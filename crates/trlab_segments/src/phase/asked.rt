@@ -48,7 +48,7 @@ pub trait Asked<A>: Sized {
     // No car answers nothing.
     ghost begins: { (program : Self) (dice : TheDice) (road : Cells) → answers program dice road 0 0 [] };
 
-    // The answers of a part and then those of the part behind it are the answers of both.
+    // The answers of a part and then those of the part after it are the answers of both.
     ghost joins: { (program : Self) (dice : TheDice) (road : Cells)
         → (from middle to : ℕ) (first second : List A)
         → answers program dice road from middle first → answers program dice road middle to second

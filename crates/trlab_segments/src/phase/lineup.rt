@@ -25,7 +25,7 @@ fn place_of<A>(parts: &[Part<A>], number: u32) -> usize
     unreachable!()
 }
 
-/// The answers of the parts of so many segments, one behind the other.
+/// The answers of the parts of so many segments, one after the other.
 ///
 /// # Errors
 ///

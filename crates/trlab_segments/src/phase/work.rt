@@ -10,7 +10,7 @@ use crate::segment::Segment;
 use crate::tickets::{Drawer, Tickets};
 use std::alloc::{AllocError, Global};
 
-/// Asks the cars of the segment with a number, of so many, and puts their part behind the others.
+/// Asks the cars of the segment with a number, of so many, and puts their part after the others.
 ///
 /// # Errors
 ///

@@ -32,7 +32,7 @@ fn operand_words(operand: Operand) -> &'static str {
         Operand::Chance => "`$` is no chance: one is a whole number, in parts of 2147483648.",
         Operand::Input => "`$` is no input.",
         Operand::Target =>
-            "`$` is no label, and no `@` with the number of an instruction behind it.",
+            "`$` is no label, and no `@` with the number of an instruction after it.",
     }
 }
 
@@ -44,7 +44,7 @@ fn words_of(finding: Finding<'_>) -> &'static str {
             "a line of this name stands elsewhere: one is missing above, or this is one too many.",
         Finding::Ended => "the text has ended, and a line is missing.",
         Finding::Endless => "the text has ended, and a program has no line `end`.",
-        Finding::Chances { .. } => "words behind the name of the rule: #; it wants #.",
+        Finding::Chances { .. } => "words after the name of the rule: #; it wants #.",
         Finding::NoNumber(_) =>
             "`$` is no number: one has 1 to 10 decimal digits and no needless 0.",
         Finding::Below(..) => "`$` is below #.",

@@ -11,7 +11,7 @@ const OF_NUMBERS: &str = "whether the number is in its range, and is 1 to 10 dec
 /// What to look at in a text with this fault, where no repair is likely.
 pub fn look_at(cause: Cause) -> Option<&'static str> {
     match cause {
-        Cause::Line => Some("the first word of the line, and how many words stand behind it."),
+        Cause::Line => Some("the first word of the line, and how many words stand after it."),
         Cause::Number => Some(OF_NUMBERS),
         Cause::Order => Some("the `at` line above this one, and the line `steps`."),
         Cause::TooMany => Some("what the text repeats: split it into several texts."),

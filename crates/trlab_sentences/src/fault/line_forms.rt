@@ -27,7 +27,7 @@ fn form_of_line(line: LineName) -> &'static str {
         LineName::Change =>
             "a change part: `change`, the lines of a program and `end`; or `code X`.",
         LineName::End =>
-            "a line of the program, or the line `end` and nothing else behind its last.",
+            "a line of the program, or the line `end` and nothing else after its last.",
         LineName::Length => "`length n`, the cells of a lane, n from 1 to 100000.",
         LineName::Lanes => "`lanes n`, n 1 or 2.",
         LineName::Steps => "`steps n`, n from 0 to 500000.",

@@ -13,7 +13,7 @@ pub struct NumberedLine<'a> {
     pub line: &'a [u8],
 }
 
-/// The lines with these numbers, which rise, each with its number behind so many lines.
+/// The lines with these numbers, which rise, each with its number after so many lines.
 fn lines_numbered<'a>(
     alloc: Global,
     above: u32,

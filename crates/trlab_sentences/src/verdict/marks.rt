@@ -76,7 +76,7 @@ fn push_orders(page: &mut Page, note: &Note, register: Register) -> Result<(), A
     Ok(())
 }
 
-/// Adds a line of what a note says of a register, behind this indent.
+/// Adds a line of what a note says of a register, after this indent.
 pub fn push_known(
     page: &mut Page,
     indent: &str,

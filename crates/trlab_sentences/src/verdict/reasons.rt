@@ -39,7 +39,7 @@ pub fn advice_on_reason(reason: Reason, kind: Kind) -> &'static str {
         Reason::WrongValue => "decide by a jump: `jfalse` goes past what is for a true flag.",
         Reason::JumpsBack => "write what is repeated one after the other.",
         Reason::JumpsOut =>
-            "name an instruction: behind a label at the end of a program none stands.",
+            "name an instruction: after a label at the end of a program there is none.",
         Reason::FallsOut => match kind {
             Kind::Motion => "let every way end in `go`.",
             Kind::Change => "let every way end in `cross` or `stay`.",

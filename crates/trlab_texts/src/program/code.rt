@@ -5,7 +5,7 @@ ghost use Rattle.trlab_texts.specs.Reading.{ReportsLine};
 ghost use Rattle.trlab_texts.specs.Programs.{BytesSay, code_line, code_line_of};
 
 use crate::fault::{Cause, LineFault};
-use crate::word::word_behind;
+use crate::word::word_after;
 use hex::FromHexError;
 use std::alloc::Global;
 use trlab_code::{Code, CodeFault, Kind, decode};
@@ -31,7 +31,7 @@ fn code_of_bytes(alloc: Global, bytes: &[u8]) -> Result<Code, LineFault>
 pub fn code_line(alloc: Global, line: &[u8]) -> Result<Code, LineFault>
     ensures { ReportsLine (code_line line.now) result }
 {
-    let digits = match word_behind(b"code ", line) {
+    let digits = match word_after(b"code ", line) {
         Ok(digits) => digits,
         Err(cause) => return Err(LineFault::Wrong(cause)),
     };

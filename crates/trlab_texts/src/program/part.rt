@@ -9,7 +9,7 @@ ghost use Rattle.trlab_verify.specs.CheckedProgram.{CheckedProgram};
 ghost use Rattle.trlab_verify.specs.Faults.{Tells};
 ghost use Rattle.trlab_lines.specs.Lines.{lines_of};
 ghost use Rattle.trlab_texts.specs.Reading.{Reports};
-ghost use Rattle.trlab_texts.specs.Programs.{VerdictSays, heading, part, program_behind, program_part};
+ghost use Rattle.trlab_texts.specs.Programs.{VerdictSays, heading, part, program_after, program_part};
 
 use crate::fault::{Cause, TextFault};
 use crate::program::code::code_line_of;
@@ -29,14 +29,14 @@ pub fn heads(kind: Kind, line: &[u8]) -> bool
     }
 }
 
-/// The program of a kind whose lines stand behind the line `first`.
+/// The program of a kind whose lines stand after the line `first`.
 ///
 /// # Errors
 ///
 /// The first fault of these lines, at its line of the whole text; or that memory ran out.
-pub fn program_behind(alloc: Global, kind: Kind, first: u32, text: &[u8]) -> Result<Code, TextFault>
+pub fn program_after(alloc: Global, kind: Kind, first: u32, text: &[u8]) -> Result<Code, TextFault>
     requires { first + length (lines_of text.now) < 2 ^ 32 }
-    ensures { Reports (λ says. says ≡ program_behind kind first (lines_of text.now)) result }
+    ensures { Reports (λ says. says ≡ program_after kind first (lines_of text.now)) result }
 {
     match assemble(alloc, kind, text) {
         Ok(code) => Ok(code),
@@ -58,7 +58,7 @@ fn program_part(alloc: Global, kind: Kind, rest: Rest<'_>) -> Result<(Code, Rest
     let (line, after) = rest.next_line()?;
     if heads(kind, line) {
         let (lines, after) = after.part()?;
-        let code = program_behind(alloc, kind, first, lines)?;
+        let code = program_after(alloc, kind, first, lines)?;
         return Ok((code, after));
     }
     match code_line_of(alloc, kind, line) {
@@ -96,7 +96,7 @@ fn accepted<K: ProgramKind>(
     }
 }
 
-/// The part of a program of the kind `K`, which the verifier accepts, and the rest behind it.
+/// The part of a program of the kind `K`, which the verifier accepts, and the rest after it.
 ///
 /// # Errors
 ///

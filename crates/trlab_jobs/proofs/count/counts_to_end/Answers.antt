@@ -15,7 +15,7 @@ pub loop-rest-preserved : goal.loop-rest-preserved
 loop-rest-preserved c =
     let pushed : c.push.new.self.items ≡ c.loop-rest.counts.items ++ (c.in_ok-count.count ∷ []) = grind (arith, common_steps) in
     record {
-      so_far = rw pushed (one_more c.args.cells c.args.steps c.args.rest c.loop-rest.counts.items c.loop-rest.point c.loop-rest.rest c.in_ok-count.behind c.in_ok-count.count
+      so_far = rw pushed (one_more c.args.cells c.args.steps c.args.rest c.loop-rest.counts.items c.loop-rest.point c.loop-rest.rest c.in_ok-count.after c.in_ok-count.count
           c.loop-rest.invariant.so_far c.in_ok-count.ensures.told);
       few = omega (arith, c.in_ok-count.ensures.room);
     }

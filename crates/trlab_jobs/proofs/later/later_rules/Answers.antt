@@ -14,7 +14,7 @@ pub loop-alloc-preserved : goal.loop-alloc-preserved
 loop-alloc-preserved c =
     let left : c.loop-alloc.room ≡ suc (c.loop-alloc.room - 1) = omega (arith, c.in_ok-from.ensures.room) in
     let pushed : c.push.new.self.items ≡ c.loop-alloc.later.items ++ ((c.in_ok-from.from, c.in_ok-from.rule) ∷ []) = grind (arith, common_steps) in
-    rw pushed (one_more c.args.lanes c.args.steps c.args.rest c.loop-alloc.later.items c.loop-alloc.room (c.loop-alloc.room - 1) c.loop-alloc.least c.loop-alloc.rest c.in_ok-from.behind c.in_ok-from.from c.in_ok-from.rule
+    rw pushed (one_more c.args.lanes c.args.steps c.args.rest c.loop-alloc.later.items c.loop-alloc.room (c.loop-alloc.room - 1) c.loop-alloc.least c.loop-alloc.rest c.in_ok-from.after c.in_ok-from.from c.in_ok-from.rule
     c.loop-alloc.invariant (some_left c.loop-alloc.rest c.is_end.result c.loop-alloc-test.true c.is_end.ensures) left
     c.in_ok-from.ensures.told c.in_ok-from.ensures.rises c.in_ok-from.ensures.within c.in_ok-from.ensures.suits)
 
