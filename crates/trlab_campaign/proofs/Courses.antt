@@ -193,10 +193,10 @@ point_is roads tallies first count road old new point here sum is =
 pub window_is : (roads : ℕ → Cells) (tallies : ℕ → StepTally) (first count step : ℕ) (road : Cells) (old new : StepTally) (point : Point) (one two : LaneCount) → step ≡ first + count
     → roads (first + count) ≡ road → IsSumSince (tallies_from tallies first count) old new → IsPointSince road count old new point
     → one ≡ lane_count 0 (roads_after roads first count) → two ≡ lane_count 1 (roads_after roads first count)
-    → record { step = step; point = point; first = one; second = two } ≡ window_of roads tallies first count
+    → record { step = step; point = point; lane0 = one; lane1 = two } ≡ window_of roads tallies first count
 window_is roads tallies first count step road old new point one two at here sum is a b =
     let same = point_is roads tallies first count road old new point here sum is in
-    let of : ℕ → Point → LaneCount → LaneCount → Window = λ s p x y. record { step = s; point = p; first = x; second = y } in
+    let of : ℕ → Point → LaneCount → LaneCount → Window = λ s p x y. record { step = s; point = p; lane0 = x; lane1 = y } in
     let all : of step point one two ≡ of (first + count) (window_of roads tallies first count).point (lane_count 0 (roads_after roads first count)) (lane_count 1 (roads_after roads first count)) = cc (at, same, a, b) in
     all
 

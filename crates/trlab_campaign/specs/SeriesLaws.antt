@@ -8,9 +8,9 @@ use Rattle.trlab_campaign.specs.SeriesOutput.{IsSeries, IsSeriesOutput}
 -- what was counted on the lanes of a window is together all cars in each of its steps, all cells that they
 -- went, and all that were stopped
 pub record LanesAddUp (window : Window) : Type 0 where
-  pub cars : window.first.cars + window.second.cars ≡ window.point.steps * window.point.cars
-  pub distance : window.first.distance + window.second.distance ≡ window.point.distance
-  pub stopped : window.first.stopped + window.second.stopped ≡ window.point.stopped
+  pub cars : window.lane0.cars + window.lane1.cars ≡ window.point.steps * window.point.cars
+  pub distance : window.lane0.distance + window.lane1.distance ≡ window.point.distance
+  pub stopped : window.lane0.stopped + window.lane1.stopped ≡ window.point.stopped
 
 -- so it is in each window of the series of a job text
 abbrev pub LanesOfSeriesAddUp : Type 0

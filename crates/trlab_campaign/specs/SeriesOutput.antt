@@ -81,8 +81,8 @@ abbrev pub window_of : (ℕ → Cells) → (ℕ → StepTally) → ℕ → ℕ �
 window_of roads tallies first count = record {
   step = first + count;
   point = sum_point (roads (first + count)) count (tallies_from tallies first count);
-  first = lane_count 0 (roads_after roads first count);
-  second = lane_count 1 (roads_after roads first count);
+  lane0 = lane_count 0 (roads_after roads first count);
+  lane1 = lane_count 1 (roads_after roads first count);
 }
 
 -- window k of a series, whose windows are so many steps each, from a step on

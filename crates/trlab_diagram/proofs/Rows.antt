@@ -105,4 +105,4 @@ plain_numbers a b ns small = plain_row (decimal a) (decimal b) (map decimal ns) 
 pub window_row : (w : Window) → AreSmall (window_numbers w) → row_text default_writer (map decimal (window_numbers w)) ≡ line_text (window_line w)
 window_row w small = plain_numbers w.step w.point.cars
     (w.point.cells ∷ w.point.steps ∷ w.point.distance ∷ w.point.stopped ∷ w.point.changes ∷ flow_of w.point
-    ∷ w.first.cars ∷ w.first.distance ∷ w.first.stopped ∷ w.second.cars ∷ w.second.distance ∷ w.second.stopped ∷ []) small
+    ∷ w.lane0.cars ∷ w.lane0.distance ∷ w.lane0.stopped ∷ w.lane1.cars ∷ w.lane1.distance ∷ w.lane1.stopped ∷ []) small

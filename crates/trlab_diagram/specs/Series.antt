@@ -17,7 +17,7 @@ lane_numbers lane = lane.cars ∷ lane.distance ∷ lane.stopped ∷ []
 -- what the columns have of a window: its step, the numbers of its point, and those of the two lanes
 abbrev pub window_numbers : Window → List ℕ
 window_numbers window =
-    window.step ∷ (numbers window.point ++ (lane_numbers window.first ++ lane_numbers window.second))
+    window.step ∷ (numbers window.point ++ (lane_numbers window.lane0 ++ lane_numbers window.lane1))
 
 -- the line of a window: these numbers in decimal digits, with a comma between each two
 abbrev pub window_line : Window → List ℕ

@@ -59,8 +59,8 @@ fn window_row(alloc: Global, window: &Window) -> Result<ByteRecord, DiagramFault
     let Window {
         step,
         point,
-        first,
-        second,
+        lane0,
+        lane1,
     } = *window;
     let road = [
         step,
@@ -72,12 +72,12 @@ fn window_row(alloc: Global, window: &Window) -> Result<ByteRecord, DiagramFault
         point.changes,
     ];
     let lanes = [
-        first.cars,
-        first.distance,
-        first.stopped,
-        second.cars,
-        second.distance,
-        second.stopped,
+        lane0.cars,
+        lane0.distance,
+        lane0.stopped,
+        lane1.cars,
+        lane1.distance,
+        lane1.stopped,
     ];
     let mut row = ByteRecord::new(alloc);
     push_counts(alloc, &mut row, &road)?;

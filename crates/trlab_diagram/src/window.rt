@@ -22,7 +22,7 @@ pub struct Window {
     /// What was counted on the road.
     pub point: Point,
     /// What was counted on lane 0.
-    pub first: LaneCount,
+    pub lane0: LaneCount,
     /// What was counted on lane 1, which is nothing where there is no such lane.
-    pub second: LaneCount,
+    pub lane1: LaneCount,
 }

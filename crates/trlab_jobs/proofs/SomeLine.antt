@@ -8,7 +8,7 @@ use Rattle.trlab_texts.specs.Words.{number_of, within}
 use Rattle.trlab_jobs.specs.declared.rule_line.RuleLine.{RuleLine}
 use Rattle.trlab_jobs.specs.declared.rule_line.RuleLine.TheVariants.{Nasch, Vdr, Rickert, Own}
 use Rattle.trlab_asm.specs.Results.{◌>>=◌}
-use Rattle.trlab_jobs.specs.RuleLines.{rule_words, chance_of, rule_numbers, rule_line, later_words, step_of, admit, later_line}
+use Rattle.trlab_jobs.specs.RuleLines.{rule_words, chance_of, rule_numbers, rule_line, later_words, step_of, admit_step, later_line}
 use Rattle.trlab_texts.proofs.SomeReading.{Anything, anything}
 
 -- the chances of a rule are such as a program may have
@@ -79,7 +79,7 @@ admit_if : (full : Bool) (steps least step : ℕ)
 admit_if true steps least step = tt
 admit_if false steps least step = order_if (nat_le least step) (nat_lt step steps) steps least step (leb-true least step) (ltb-true step steps)
 
-admit_keeps : (room steps least step : ℕ) → IfOk (admit room steps least step) (Admits steps least)
+admit_keeps : (room steps least step : ℕ) → IfOk (admit_step room steps least step) (Admits steps least)
 admit_keeps room steps least step = admit_if (room == 0) steps least step
 
 pub later_line_keeps : (room steps least : ℕ) (text : List ℕ) → IfOk (later_line room steps least text) (InOrder steps least)
@@ -87,5 +87,5 @@ later_line_keeps room steps least text =
     then_keeps Anything (InOrder steps least) (ok_or (later_words text) Line) _ (wanted_keeps (later_words text)) (λ words any.
     then_keeps Anything (InOrder steps least) (step_of words.0) _ (anything (step_of words.0)) (λ step any.
     then_keeps Chances (InOrder steps least) (rule_numbers words.1) _ (numbers_fit words.1) (λ rule fit.
-    then_keeps (Admits steps least) (InOrder steps least) (admit room steps least step) _ (admit_keeps room steps least step) (λ from in_order.
+    then_keeps (Admits steps least) (InOrder steps least) (admit_step room steps least step) _ (admit_keeps room steps least step) (λ from in_order.
     record { rises = in_order.0; below = in_order.1; chances = fit }))))

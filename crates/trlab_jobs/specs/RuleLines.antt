@@ -68,8 +68,8 @@ step_of word = within 0 LONGEST_NUMBER (number_of word)
 
 -- the step of a later rule, where there is room for the rule, and the step is from `least` on and below
 -- `steps`
-abbrev pub admit : ℕ → ℕ → ℕ → ℕ → Result ℕ Cause
-admit room steps least step =
+abbrev pub admit_step : ℕ → ℕ → ℕ → ℕ → Result ℕ Cause
+admit_step room steps least step =
     if room == 0 then Err TooMany
     else if nat_le least step && nat_lt step steps then Ok step
     else Err Order
@@ -81,7 +81,7 @@ later_line room steps least text =
     ok_or (later_words text) Line >>= λ words.
     step_of words.0 >>= λ step.
     rule_numbers words.1 >>= λ rule.
-    admit room steps least step >>= λ from.
+    admit_step room steps least step >>= λ from.
     Ok (from, rule)
 
 -- the words of a rule line, as the code keeps them by references

@@ -1,7 +1,7 @@
 //! Lines that state rules: words come before numbers, and these are read from left to right.
 
 ghost use Rattle.std.specs.Prelude.{◌≡◌, ◌<◌, ◌≤◌, IfOk, OnOk, option_map};
-ghost use Rattle.trlab_jobs.specs.RuleLines.{rule_words, chance_of, rule_numbers, rule_line, later_words, admit, later_line, stored_words, stored_later};
+ghost use Rattle.trlab_jobs.specs.RuleLines.{rule_words, chance_of, rule_numbers, rule_line, later_words, admit_step, later_line, stored_words, stored_later};
 
 use trlab_lines::cut;
 use trlab_texts::Cause;
@@ -105,8 +105,8 @@ fn later_words(line: &[u8]) -> Option<(&[u8], RuleLine<&[u8]>)>
 
 /// The step of a later rule, where there is room for the rule, and the step is from `least` on and below
 /// `steps`.
-fn admit(room: u32, steps: u32, least: u32, step: u64) -> Result<u32, Cause>
-    ensures value { result ≡ admit room steps least step }
+fn admit_step(room: u32, steps: u32, least: u32, step: u64) -> Result<u32, Cause>
+    ensures value { result ≡ admit_step room steps least step }
     ensures room { OnOk result (0 < room) }
     ensures rises { IfOk result (λ from. least ≤ from) }
     ensures within { IfOk result (λ from. from < steps) }
@@ -138,6 +138,6 @@ pub fn later_line(
     };
     let step = long_number(step)?;
     let rule = rule_numbers(rule)?;
-    let from = admit(room, steps, least, step)?;
+    let from = admit_step(room, steps, least, step)?;
     Ok((from, rule))
 }

@@ -41,19 +41,19 @@ fn count_lanes<A: Asker>(
     requires few { steps ≤ MOST_STEPS }
     requires room { run.old.step + steps < 2 ^ 32 }
     ensures on { OnOk result (IsStepsOn steps run.old run.new) }
-    ensures first { (roads : ℕ → Cells) → AreRoads run.old.seed run.old.sheet roads
+    ensures lane0 { (roads : ℕ → Cells) → AreRoads run.old.seed run.old.sheet roads
         → IfOk result (λ lanes. lanes.0 ≡ lane_count 0 (roads_after roads run.old.step steps)) }
-    ensures second { (roads : ℕ → Cells) → AreRoads run.old.seed run.old.sheet roads
+    ensures lane1 { (roads : ℕ → Cells) → AreRoads run.old.seed run.old.sheet roads
         → IfOk result (λ lanes. lanes.1 ≡ lane_count 1 (roads_after roads run.old.step steps)) }
 {
-    let mut first = no_cars();
-    let mut second = no_cars();
+    let mut lane0 = no_cars();
+    let mut lane1 = no_cars();
     for done in 0..steps {
         run.advance(asker, alloc)?;
-        first = lane_sum(first, count_lane(run.road(), 0));
-        second = lane_sum(second, count_lane(run.road(), 1));
+        lane0 = lane_sum(lane0, count_lane(run.road(), 0));
+        lane1 = lane_sum(lane1, count_lane(run.road(), 1));
     }
-    Ok((first, second))
+    Ok((lane0, lane1))
 }
 
 /// What a run has counted of its road since its sum of tallies was `before`, in so many steps.
@@ -100,11 +100,11 @@ pub fn take_window<A: Asker>(
     ensures measured { IfOk result (λ window. IsMeasured window.point) }
 {
     let before = run.tally();
-    let (first, second) = count_lanes(asker, alloc, run, every)?;
+    let (lane0, lane1) = count_lanes(asker, alloc, run, every)?;
     Ok(Window {
         step: u64::from(run.step()),
         point: point_since(run, before, every),
-        first,
-        second,
+        lane0,
+        lane1,
     })
 }
