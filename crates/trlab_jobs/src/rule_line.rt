@@ -5,7 +5,7 @@ ghost use Rattle.trlab_jobs.specs.RuleLines.{rule_words, chance_of, rule_numbers
 
 use trlab_lines::cut;
 use trlab_texts::Cause;
-use trlab_texts::word::{as_word, without_prefix, is_word, long_number, number_from, two_words};
+use trlab_texts::word::{as_word, is_word, long_number, number_from, two_words, without_prefix};
 use trlab_words::{CERTAIN, Chance};
 
 /// A rule as a line states it, by words or by the chances that they write.

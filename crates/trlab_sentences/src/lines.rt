@@ -14,12 +14,7 @@ use trlab_texts::word::head_word;
 /// # Errors
 ///
 /// Where memory ran out.
-pub fn push_count(
-    page: &mut Page,
-    front: &str,
-    count: u64,
-    after: &str,
-) -> Result<(), AllocError> {
+pub fn push_count(page: &mut Page, front: &str, count: u64, after: &str) -> Result<(), AllocError> {
     page.say(front)?;
     page.number(count)?;
     page.line(after)

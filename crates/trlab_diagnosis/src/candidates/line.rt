@@ -11,7 +11,7 @@ use std::alloc::AllocError;
 use trlab_asm::mnemonic_named;
 use trlab_lines::cut;
 use trlab_repairs::{Slip, Subject, is_named, name_and_operands, subject_of};
-use trlab_texts::word::{without_prefix, head_word};
+use trlab_texts::word::{head_word, without_prefix};
 
 /// The longest line that is rewritten.
 const LONGEST_LINE: usize = 120;
