@@ -40,7 +40,7 @@ pub enum Input {
     Gap,
     /// The empty cells ahead on the other lane.
     SideGap,
-    /// The empty cells after on the other lane.
+    /// The empty cells behind on the other lane.
     SideBack,
     /// The car's lane, 0 or 1.
     Lane,
