@@ -38,7 +38,7 @@ QUOTED = re.compile(r"`([^`]*)`")
 CODE = re.compile(r"[\w:.<>,&()?]+(?: \w+)*")
 NAME = re.compile(r"\b(?:[A-Z][a-z]\w*|[A-Za-z]\w*_\w*)")
 # Names that documents speak of, and no source uses.
-NOT_USED = {"ptr_eq"}
+NOT_USED = {"ptr_eq", "ord_max"}
 FENCED = re.compile(r"^```.*?^```$", re.M | re.S)
 LINK = re.compile(r"\]\(([^)\s]+)\)")
 # A function that a document names, and the clauses that it names right after it.
