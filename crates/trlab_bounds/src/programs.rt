@@ -3,7 +3,7 @@
 /// The most instructions of a program.
 pub const MOST_INSTRUCTIONS: usize = 128;
 
-/// The variables that hold values while a program runs: eight registers, and behind them seven inputs.
+/// The variables that hold values while a program runs: eight registers, and after them seven inputs.
 pub const VARIABLES: usize = 15;
 
 /// How many random words a program can draw on.
