@@ -60,7 +60,8 @@ step_and_rule parts =
 
 -- the words of the line `at s` with a rule after it
 abbrev pub later_words : List ℕ → Option (List ℕ × RuleLine (List ℕ))
-later_words text = option_and_then step_and_rule (option_and_then (cut 32) (without_prefix (codes "at ") text))
+later_words text =
+    option_and_then step_and_rule (option_and_then (cut 32) (without_prefix (codes "at ") text))
 
 -- the number of the step from which a later rule is in force: here it may be any number of ten digits
 abbrev pub step_of : List ℕ → Result ℕ Cause

@@ -103,8 +103,8 @@ impl Held {
         }
     }
 
-    /// Hands the lease of a place over to others, once it has come to a step, and says whether it is at their next place.
-    /// Where memory ran out it is tried once more.
+    /// Hands the lease of a place over to others, once it has come to a step, and says whether it is at their
+    /// next place. Where memory ran out it is tried once more.
     pub fn hand_over(&mut self, alloc: Global, place: usize, step: u32, other: &mut Held) -> bool {
         if self.bring(alloc, place, step).is_none() && self.bring(alloc, place, step).is_none() {
             return false;
