@@ -1,12 +1,11 @@
 -- Rules of texts say one thing only.
-use Rattle.std.proofs.Common.{◌≡◌, ℕ, zero, suc, ◌+◌, Bool, true, false, List, [], ◌∷◌, sym, ◌∙◌, ap, inl, inr}
+use Rattle.std.proofs.Common.{◌≡◌, ℕ, zero, suc, ◌+◌, Bool, true, false, List, [], ◌∷◌, sym, ◌∙◌, ap}
 use Rattle.std.specs.Prelude.{Option, None, Some, MatchOption, Result, Ok, Err, nat_eq}
 use Rattle.trlab_code.specs.declared.kind.Kind.{Kind}
 use Rattle.trlab_code.specs.declared.kind.Kind.TheVariants.{Motion, Change}
 use Rattle.trlab_code.specs.Program.{Program}
 use Rattle.trlab_verify.specs.CheckedProgram.{CheckedProgram}
 use Rattle.trlab_rules.specs.Rules.{Programs}
-use Rattle.trlab_rules.specs.StandardRules.{Refuses}
 use Rattle.trlab_rules.specs.Standard.{nasch_program, vdr_program, rickert_program}
 use Rattle.trlab_step.specs.Run.{Sheet}
 use Rattle.trlab_texts.specs.declared.fault.Cause.{Cause}
@@ -19,7 +18,7 @@ use Rattle.trlab_jobs.specs.RuleLines.{rule_line, later_line}
 use Rattle.trlab_jobs.specs.RuleParts.{Accepts, MotionSays, BothSay, ExchangeSays, change_by, next_is_change, change_part, own_rule, rule_from, rule}
 use Rattle.trlab_jobs.specs.Later.{later_rule, to_the_end, later_from, later_rules}
 use Rattle.trlab_texts.proofs.OneReading.{OneReading, exactly_one, line_one, then_one, said_one, perhaps_one}
-use Rattle.trlab_texts.proofs.OneProgram.{checked_one, not_refused, part_one}
+use Rattle.trlab_texts.proofs.OneProgram.{checked_one, part_one}
 
 -- what one line says is one thing
 abbrev SaysOne : {A : Type 0} → (Result A Cause → Type 0) → Type 0
@@ -37,14 +36,10 @@ programs_are rule other motion change =
 accepts_one : (kind : Kind) (program : Program) (checked other : CheckedProgram) → Accepts kind program checked → Accepts kind program other → checked ≡ other
 accepts_one kind program checked other p q = checked_one checked other (p.0 ∙ sym q.0) kind p.1.1 q.1.1
 
-not_both : (kind : Kind) (program : Program) (checked : CheckedProgram) → Accepts kind program checked → Refuses kind program → ⊥
-not_both kind program checked p q = not_refused kind program q.0 q.1 p.1.0 q.2
-
 motion_says_one : (motion : Program) → SaysOne (MotionSays motion)
 motion_says_one motion (Ok rule) (Ok other) p q = ap Ok (programs_are rule other (accepts_one Motion motion rule.motion other.motion p.0 q.0) (p.1 ∙ sym q.1))
-motion_says_one motion (Ok rule) (Err cause) p q = absurd (not_both Motion motion rule.motion p.0 q.0)
-motion_says_one motion (Err cause) (Ok rule) p q = absurd (not_both Motion motion rule.motion q.0 p.0)
-motion_says_one motion (Err cause) (Err other) p q = ap Err (p.1 ∙ sym q.1)
+motion_says_one motion (Ok rule) (Err cause) p q = absurd q
+motion_says_one motion (Err cause) other p q = absurd p
 
 -- a change program that must be there
 change_is : (change : Program) (found other : Option CheckedProgram) → MatchOption found ⊥ (Accepts Change change) → MatchOption other ⊥ (Accepts Change change) → found ≡ other
@@ -52,22 +47,11 @@ change_is change None other p q = absurd p
 change_is change (Some checked) None p q = absurd q
 change_is change (Some checked) (Some other) p q = ap Some (accepts_one Change change checked other p q)
 
-change_not_both : (change : Program) (found : Option CheckedProgram) → MatchOption found ⊥ (Accepts Change change) → Refuses Change change → ⊥
-change_not_both change None p q = p
-change_not_both change (Some checked) p q = not_both Change change checked p q
-
-neither : (motion change : Program) (rule : Programs) (cause : Cause) → BothSay motion change (Ok rule) → BothSay motion change (Err cause) → ⊥
-neither motion change rule cause p q = elim q.0 [
-  | inl refused ↦ not_both Motion motion rule.motion p.0 refused
-  | inr refused ↦ change_not_both change rule.change p.1 refused
-]
-
 both_say_one : (motion change : Program) → SaysOne (BothSay motion change)
 both_say_one motion change (Ok rule) (Ok other) p q =
     ap Ok (programs_are rule other (accepts_one Motion motion rule.motion other.motion p.0 q.0) (change_is change rule.change other.change p.1 q.1))
-both_say_one motion change (Ok rule) (Err cause) p q = absurd (neither motion change rule cause p q)
-both_say_one motion change (Err cause) (Ok rule) p q = absurd (neither motion change rule cause q p)
-both_say_one motion change (Err cause) (Err other) p q = ap Err (p.1 ∙ sym q.1)
+both_say_one motion change (Ok rule) (Err cause) p q = absurd q
+both_say_one motion change (Err cause) other p q = absurd p
 
 exchange_says_one : (one_lane : Bool) (motion change : Program) → SaysOne (ExchangeSays one_lane motion change)
 exchange_says_one true motion change a b p q = p ∙ sym q

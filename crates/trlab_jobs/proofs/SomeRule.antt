@@ -1,20 +1,21 @@
 -- Rules of texts say something: a rule for the lanes of the road, or a first fault.
-use Rattle.std.proofs.Common.{◌≡◌, ◌≢◌, ℕ, zero, suc, ◌+◌, ◌<◌, ◌≤◌, Bool, true, false, List, [], ◌∷◌, refl, inl, inr, arith}
+use Rattle.std.proofs.Common.{◌≡◌, ◌≢◌, ℕ, zero, suc, ◌+◌, ◌<◌, ◌≤◌, Bool, true, false, List, [], ◌∷◌, refl, arith}
 use Rattle.std.proofs.lemmas.Bool.{eqb-false}
-use Rattle.std.specs.Prelude.{◌⊎◌, Option, None, Some, IfSome, Result, Ok, Err, IfOk, nat_eq}
+use Rattle.std.specs.Prelude.{Option, None, Some, IfSome, Result, Ok, Err, IfOk, nat_eq}
 use Rattle.trlab_code.specs.declared.kind.Kind.{Kind}
 use Rattle.trlab_code.specs.declared.kind.Kind.TheVariants.{Motion, Change}
 use Rattle.trlab_code.specs.Program.{Program, IsProgram}
 use Rattle.trlab_verify.specs.CheckedProgram.{CheckedProgram, IsChecked}
-use Rattle.trlab_verify.proofs.Judged.{accepted_or_refused, some_budget}
+use Rattle.trlab_verify.specs.Verdict.{IsAccepted}
+use Rattle.trlab_verify.proofs.Judged.{some_budget}
 use Rattle.trlab_rules.specs.Rules.{Programs}
-use Rattle.trlab_rules.specs.StandardRules.{Refuses}
 use Rattle.trlab_rules.specs.Standard.{nasch_program, vdr_program, rickert_program}
 use Rattle.trlab_rules.proofs.StandardPrograms.{nasch_is_program, vdr_is_program, rickert_is_program}
+use Rattle.trlab_rules.proofs.Accepted.{nasch_accepted, vdr_accepted, rickert_accepted}
 use Rattle.trlab_step.specs.Laws.{IsRuleFor}
 use Rattle.trlab_step.specs.Run.{Sheet}
 use Rattle.trlab_texts.specs.declared.fault.Cause.{Cause}
-use Rattle.trlab_texts.specs.declared.fault.Cause.TheVariants.{OneLane, StandardRefused}
+use Rattle.trlab_texts.specs.declared.fault.Cause.TheVariants.{OneLane}
 use Rattle.trlab_bounds.specs.declared.runs.TheConstants.{MOST_LATER}
 use Rattle.trlab_jobs.specs.declared.rule_line.RuleLine.{RuleLine}
 use Rattle.trlab_jobs.specs.declared.rule_line.RuleLine.TheVariants.{Nasch, Vdr, Rickert, Own}
@@ -29,14 +30,11 @@ use Rattle.trlab_texts.proofs.SomeReading.{SomeReading, exactly_some, line_some,
 use Rattle.trlab_texts.proofs.SomeProgram.{part_some}
 use Rattle.trlab_jobs.proofs.SomeLine.{Chances, InOrder, rule_line_keeps, later_line_keeps}
 
--- the verifier accepts a program, or refuses it
-judged : (kind : Kind) (program : Program) → IsProgram program → ((checked : CheckedProgram) × Accepts kind program checked) ⊎ Refuses kind program
-judged kind program is = elim (accepted_or_refused kind program) [
-  | inl accepted ↦
-      let found = some_budget kind program is accepted in
-      inl (record { program = program; budget = found.0 }, (refl, (accepted, found.1)))
-  | inr refused ↦ inr refused
-]
+-- an accepted program has a budget
+budgeted : (kind : Kind) (program : Program) → IsProgram program → IsAccepted kind program → (checked : CheckedProgram) × Accepts kind program checked
+budgeted kind program is accepted =
+    let found = some_budget kind program is accepted in
+    (record { program = program; budget = found.0 }, (refl, (accepted, found.1)))
 
 -- a rule without a change program is one for any road
 motion_alone : (lanes : ℕ) (motion : CheckedProgram) → IsChecked Motion motion → IsRuleFor lanes (record { motion = motion; change = None })
@@ -47,28 +45,23 @@ with_change : (lanes : ℕ) (motion change : CheckedProgram) → IsChecked Motio
     → IsRuleFor lanes (record { motion = motion; change = Some change })
 with_change lanes motion change is changes two = record { motion = is; change = changes; two_lanes = λ some. two }
 
-motion_says_some : (lanes : ℕ) (motion : Program) → IsProgram motion
+motion_says_some : (lanes : ℕ) (motion : Program) → IsProgram motion → IsAccepted Motion motion
     → (says : Result Programs Cause) × (MotionSays motion says × IfOk says (IsRuleFor lanes))
-motion_says_some lanes motion is = elim (judged Motion motion is) [
-  | inl found ↦ (Ok (record { motion = found.0; change = None }), ((found.1, refl), motion_alone lanes found.0 found.1.1.1))
-  | inr refused ↦ (Err StandardRefused, ((refused, refl), tt))
-]
+motion_says_some lanes motion is accepted =
+    let found = budgeted Motion motion is accepted in
+    (Ok (record { motion = found.0; change = None }), ((found.1, refl), motion_alone lanes found.0 found.1.1.1))
 
-both_say_some : (lanes : ℕ) (motion change : Program) → IsProgram motion → IsProgram change → lanes ≡ 2
+both_say_some : (lanes : ℕ) (motion change : Program) → IsProgram motion → IsAccepted Motion motion → IsProgram change → IsAccepted Change change → lanes ≡ 2
     → (says : Result Programs Cause) × (BothSay motion change says × IfOk says (IsRuleFor lanes))
-both_say_some lanes motion change is changes two = elim (judged Motion motion is) [
-  | inl found ↦ elim (judged Change change changes) [
-    | inl other ↦
-        (Ok (record { motion = found.0; change = Some other.0 }), ((found.1, other.1), with_change lanes found.0 other.0 found.1.1.1 other.1.1.1 two))
-    | inr refused ↦ (Err StandardRefused, ((inr refused, refl), tt))
-  ]
-  | inr refused ↦ (Err StandardRefused, ((inl refused, refl), tt))
-]
+both_say_some lanes motion change is accepted changes also two =
+    let found = budgeted Motion motion is accepted in
+    let other = budgeted Change change changes also in
+    (Ok (record { motion = found.0; change = Some other.0 }), ((found.1, other.1), with_change lanes found.0 other.0 found.1.1.1 other.1.1.1 two))
 
-exchange_says_some : (one_lane : Bool) (lanes : ℕ) (motion change : Program) → IsProgram motion → IsProgram change → (one_lane ≡ false → lanes ≡ 2)
+exchange_says_some : (one_lane : Bool) (lanes : ℕ) (motion change : Program) → IsProgram motion → IsAccepted Motion motion → IsProgram change → IsAccepted Change change → (one_lane ≡ false → lanes ≡ 2)
     → (says : Result Programs Cause) × (ExchangeSays one_lane motion change says × IfOk says (IsRuleFor lanes))
-exchange_says_some true lanes motion change is changes two = (Err OneLane, (refl, tt))
-exchange_says_some false lanes motion change is changes two = both_say_some lanes motion change is changes (two refl)
+exchange_says_some true lanes motion change is accepted changes also two = (Err OneLane, (refl, tt))
+exchange_says_some false lanes motion change is accepted changes also two = both_say_some lanes motion change is accepted changes also (two refl)
 
 -- a change program for a road of so many lanes
 abbrev Changes : ℕ → CheckedProgram → Type 0
@@ -110,12 +103,12 @@ own_rule_some lanes few =
 
 rule_from_some : (lanes number : ℕ) (words : RuleLine ℕ) → FewLanes lanes → Chances words → SomeReading (IsRuleFor lanes) (rule_from lanes number words)
 rule_from_some lanes number (Nasch p) few fit =
-    of_line_some (IsRuleFor lanes) number (MotionSays (nasch_program p)) (motion_says_some lanes (nasch_program p) (nasch_is_program p fit))
+    of_line_some (IsRuleFor lanes) number (MotionSays (nasch_program p)) (motion_says_some lanes (nasch_program p) (nasch_is_program p fit) (nasch_accepted p))
 rule_from_some lanes number (Vdr p p0) few fit =
-    of_line_some (IsRuleFor lanes) number (MotionSays (vdr_program p p0)) (motion_says_some lanes (vdr_program p p0) (vdr_is_program p p0 fit.0 fit.1))
+    of_line_some (IsRuleFor lanes) number (MotionSays (vdr_program p p0)) (motion_says_some lanes (vdr_program p p0) (vdr_is_program p p0 fit.0 fit.1) (vdr_accepted p p0))
 rule_from_some lanes number (Rickert p c) few fit =
     of_line_some (IsRuleFor lanes) number (ExchangeSays (nat_eq lanes 1) (nasch_program p) (rickert_program c))
-    (exchange_says_some (nat_eq lanes 1) lanes (nasch_program p) (rickert_program c) (nasch_is_program p fit.0) (rickert_is_program c fit.1) (not_one lanes few))
+    (exchange_says_some (nat_eq lanes 1) lanes (nasch_program p) (rickert_program c) (nasch_is_program p fit.0) (nasch_accepted p) (rickert_is_program c fit.1) (rickert_accepted c) (not_one lanes few))
 rule_from_some lanes number Own few fit = own_rule_some lanes few
 
 pub rule_some : (lanes : ℕ) → FewLanes lanes → SomeReading (IsRuleFor lanes) (rule lanes)

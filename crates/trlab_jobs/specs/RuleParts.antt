@@ -1,5 +1,5 @@
 -- Rules in texts: a standard rule on one line, or own programs on the lines after.
-use Rattle.std.specs.Prelude.{◌≡◌, ◌⊎◌, ℕ, ◌+◌, ◌||◌, Bool, true, false, List, [], ◌∷◌, length, codes, nat_eq, Option, None, Some, MatchOption, Result, Ok, Err}
+use Rattle.std.specs.Prelude.{◌≡◌, ℕ, ◌+◌, ◌||◌, Bool, true, false, List, [], ◌∷◌, length, codes, nat_eq, Option, None, Some, MatchOption, Result, Ok, Err}
 use Rattle.std.specs.Str.{bytes_eq}
 use Rattle.hex.specs.Hex.{decode_of}
 use Rattle.hex.specs.declared.error.FromHexError.{FromHexError}
@@ -10,9 +10,8 @@ use Rattle.trlab_verify.specs.CheckedProgram.{CheckedProgram, IsChecked}
 use Rattle.trlab_verify.specs.Verdict.{IsAccepted}
 use Rattle.trlab_rules.specs.Rules.{Programs}
 use Rattle.trlab_rules.specs.Standard.{nasch_program, vdr_program, rickert_program}
-use Rattle.trlab_rules.specs.StandardRules.{Refuses}
 use Rattle.trlab_texts.specs.declared.fault.Cause.{Cause}
-use Rattle.trlab_texts.specs.declared.fault.Cause.TheVariants.{Line, Hex, OneLane, StandardRefused}
+use Rattle.trlab_texts.specs.declared.fault.Cause.TheVariants.{Line, Hex, OneLane}
 use Rattle.trlab_jobs.specs.declared.rule_line.RuleLine.{RuleLine}
 use Rattle.trlab_jobs.specs.declared.rule_line.RuleLine.TheVariants.{Nasch, Vdr, Rickert, Own}
 use Rattle.trlab_texts.specs.Words.{word_after, next_word_is}
@@ -25,18 +24,16 @@ abbrev pub Accepts : Kind → Program → CheckedProgram → Type 0
 Accepts kind program checked =
     (checked.program ≡ program) × (IsAccepted kind program × IsChecked kind checked)
 
--- what a standard rule of a motion program says: the rule, or that the program is refused
+-- what a standard rule of a motion program says: the rule, since its program is accepted
 abbrev pub MotionSays : Program → Result Programs Cause → Type 0
 MotionSays motion (Ok rule) = Accepts Motion motion rule.motion × (rule.change ≡ None)
-MotionSays motion (Err cause) = Refuses Motion motion × (cause ≡ StandardRefused)
+MotionSays motion (Err cause) = ⊥
 
--- what a standard rule of a motion program and a change program says: the rule, or that one of them is
--- refused
+-- what a standard rule of a motion program and a change program says: the rule, since both are accepted
 abbrev pub BothSay : Program → Program → Result Programs Cause → Type 0
 BothSay motion change (Ok rule) =
     Accepts Motion motion rule.motion × MatchOption rule.change ⊥ (Accepts Change change)
-BothSay motion change (Err cause) =
-    (Refuses Motion motion ⊎ Refuses Change change) × (cause ≡ StandardRefused)
+BothSay motion change (Err cause) = ⊥
 
 -- the same on a road that has one lane, where it is refused, or that has two
 abbrev pub ExchangeSays : Bool → Program → Program → Result Programs Cause → Type 0

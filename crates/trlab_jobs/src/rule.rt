@@ -14,7 +14,7 @@ use crate::rule_line::{RuleLine, rule_line};
 use hex::FromHexError;
 use std::alloc::Global;
 use trlab_code::Kind;
-use trlab_rules::{Rule, StandardFault, nasch, rickert, vdr};
+use trlab_rules::{Rule, nasch, rickert, vdr};
 use trlab_texts::word::word_after;
 use trlab_texts::{Cause, LineFault, Rest, TextFault, program};
 use trlab_verify::{Change, ChangeKind, MotionKind};
@@ -27,8 +27,7 @@ fn nasch_rule(alloc: Global, brake: Chance) -> Result<Rule, LineFault>
 {
     match nasch(alloc, brake) {
         Ok(rule) => Ok(rule),
-        Err(StandardFault::Memory) => Err(LineFault::Memory),
-        Err(StandardFault::Refused) => Err(LineFault::Wrong(Cause::StandardRefused)),
+        Err(_) => Err(LineFault::Memory),
     }
 }
 
@@ -39,8 +38,7 @@ fn vdr_rule(alloc: Global, moving: Chance, stopped: Chance) -> Result<Rule, Line
 {
     match vdr(alloc, moving, stopped) {
         Ok(rule) => Ok(rule),
-        Err(StandardFault::Memory) => Err(LineFault::Memory),
-        Err(StandardFault::Refused) => Err(LineFault::Wrong(Cause::StandardRefused)),
+        Err(_) => Err(LineFault::Memory),
     }
 }
 
@@ -62,8 +60,7 @@ fn rickert_rule(
     }
     match rickert(alloc, brake, crossing) {
         Ok(rule) => Ok(rule),
-        Err(StandardFault::Memory) => Err(LineFault::Memory),
-        Err(StandardFault::Refused) => Err(LineFault::Wrong(Cause::StandardRefused)),
+        Err(_) => Err(LineFault::Memory),
     }
 }
 

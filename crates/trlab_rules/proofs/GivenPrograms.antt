@@ -1,6 +1,6 @@
 -- Accepted programs that are the standard ones.
 use Rattle.std.proofs.Common.{◌≡◌, ℕ, List, Bool, sym, ap, subst, ◌∙◌}
-use Rattle.std.specs.Prelude.{Result, IfOk, IfErr}
+use Rattle.std.specs.Prelude.{Result, IfOk}
 use Rattle.std.proofs.lemmas.Result.{IfOk-weaker}
 use Rattle.trlab_code.specs.declared.kind.Kind.{Kind}
 use Rattle.trlab_code.specs.declared.kind.Kind.TheVariants.{Motion, Change}
@@ -9,15 +9,14 @@ use Rattle.trlab_code.specs.declared.view.View.{View}
 use Rattle.trlab_code.specs.Program.{Program}
 use Rattle.trlab_verify.specs.CheckedProgram.{CheckedProgram}
 use Rattle.trlab_verify.specs.Verdict.{IsAccepted}
-use Rattle.trlab_rules.specs.declared.fault.StandardFault.{StandardFault}
 use Rattle.trlab_rules.specs.Laws.{MovesBy, ChangesBy}
-use Rattle.trlab_rules.specs.StandardRules.{IsMotion, IsChange, Refuses, Tells}
+use Rattle.trlab_rules.specs.StandardRules.{IsMotion, IsChange}
 
 -- a program of these instructions
 abbrev pub program_of : Kind → List Instr → Program
 program_of kind instrs = record { kind = kind; instrs = instrs }
 
-module _ (result : Result CheckedProgram StandardFault) (instrs list : List Instr) (same : instrs ≡ list) where
+module _ {E : Type 0} (result : Result CheckedProgram E) (instrs list : List Instr) (same : instrs ≡ list) where
   -- what is accepted of such instructions is a motion that answers a rule's speed, where the program of the
   -- list does
   pub motion_given : (speed : View → List ℕ → ℕ) → MovesBy speed (program_of Motion list) →
@@ -34,7 +33,3 @@ module _ (result : Result CheckedProgram StandardFault) (instrs list : List Inst
       IfOk-weaker result _ _
       (λ change is. let program : change.program ≡ program_of Change list = is.0 ∙ ap (program_of Change) same in
       record { same = program; accepted = subst (λ z. IsAccepted Change (program_of Change z)) same is.1; changes = subst (ChangesBy crosses) (sym program) changes })
-
-  -- what is refused of such instructions is refused of the program of the list
-  pub refusal_given : (kind : Kind) → IfErr result (Tells (Refuses kind (program_of kind instrs))) → IfErr result (Tells (Refuses kind (program_of kind list)))
-  refusal_given kind = subst (λ z. IfErr result (Tells (Refuses kind (program_of kind z)))) same

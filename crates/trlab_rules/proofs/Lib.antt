@@ -4,3 +4,5 @@ pub mod VdrRuns
 pub mod RickertRuns
 pub mod GivenPrograms
 pub mod StandardPrograms
+pub mod KnownNotes
+pub mod Accepted

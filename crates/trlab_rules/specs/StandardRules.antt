@@ -1,13 +1,10 @@
--- The standard rules: what each of them is, and why there may be none.
+-- The standard rules: what each of them is.
 use Rattle.std.specs.Prelude.{◌≡◌, ℕ, Bool, List, None, MatchOption}
-use Rattle.trlab_code.specs.declared.kind.Kind.{Kind}
 use Rattle.trlab_code.specs.declared.kind.Kind.TheVariants.{Motion, Change}
 use Rattle.trlab_code.specs.declared.view.View.{View}
 use Rattle.trlab_code.specs.Program.{Program}
 use Rattle.trlab_verify.specs.CheckedProgram.{CheckedProgram}
-use Rattle.trlab_verify.specs.Verdict.{IsAccepted, IsRefused}
-use Rattle.trlab_rules.specs.declared.fault.StandardFault.{StandardFault}
-use Rattle.trlab_rules.specs.declared.fault.StandardFault.TheVariants.{Memory, Refused}
+use Rattle.trlab_verify.specs.Verdict.{IsAccepted}
 use Rattle.trlab_rules.specs.Rules.{Programs}
 use Rattle.trlab_rules.specs.Published.{nasch_speed, vdr_speed, rickert_crosses}
 use Rattle.trlab_rules.specs.Standard.{nasch_program, vdr_program, rickert_program}
@@ -40,12 +37,3 @@ pub record IsVdr (p p0 : ℕ) (rule : Programs) : Type 0 where
 pub record IsRickert (p c : ℕ) (rule : Programs) : Type 0 where
   pub motion : IsMotion (nasch_speed p) (nasch_program p) rule.motion
   pub change : MatchOption rule.change ⊥ (IsChange (rickert_crosses c) (rickert_program c))
-
--- the verifier refuses a program as one of this kind, at some instruction for some reason
-abbrev pub Refuses : Kind → Program → Type 0
-Refuses kind program = (at : ℕ) × (reason : ℕ) × IsRefused kind program at reason
-
--- the fault Refused tells that a program is refused; that memory ran out says nothing of any program
-abbrev pub Tells : Type 0 → StandardFault → Type 0
-Tells refused Refused = refused
-Tells refused Memory = Unit {0}

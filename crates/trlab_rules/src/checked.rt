@@ -1,42 +1,39 @@
 //! The programs of the standard rules, as the verifier accepts them.
 
-ghost use Rattle.std.specs.Prelude.{◌≡◌, IfOk, IfErr};
-ghost use Rattle.trlab_code.specs.declared.kind.Kind.TheVariants.{Motion as OfMotion, Change as OfChange};
+ghost use Rattle.std.specs.Prelude.{◌≡◌, IfOk};
 ghost use Rattle.trlab_code.specs.Program.{Program, IsProgram};
 ghost use Rattle.trlab_verify.specs.Verdict.{IsAccepted};
 ghost use Rattle.trlab_rules.specs.Published.{nasch_speed, vdr_speed, rickert_crosses};
 ghost use Rattle.trlab_rules.specs.Standard.{nasch_program, vdr_program, rickert_program};
-ghost use Rattle.trlab_rules.specs.StandardRules.{IsMotion, IsChange, Refuses, Tells};
+ghost use Rattle.trlab_rules.specs.StandardRules.{IsMotion, IsChange};
 
-use crate::fault::StandardFault;
 use crate::programs::{nasch_instrs, rickert_instrs, vdr_instrs};
-use std::alloc::Global;
+use std::alloc::{AllocError, Global};
 use trlab_code::{Code, Instr};
 use trlab_verify::{AcceptedProgram, Change, Motion, ProgramKind, VerifyFault, verify_as};
 use trlab_words::Chance;
 
-/// The program of the kind `K` with these instructions, as it is accepted.
+/// The program of the kind `K` with these instructions, which the verifier accepts.
 ///
 /// # Errors
 ///
-/// `Refused` where the verifier refuses it, and `Memory` where memory ran out.
+/// Where memory ran out.
 fn checked<K: ProgramKind>(
     alloc: Global,
     instrs: Vec<Instr>,
-) -> Result<AcceptedProgram<K>, StandardFault>
-    requires { IsProgram (record { kind = K.KIND; instrs = instrs.items }) }
-    ensures accepted { let program : Program = record { kind = K.KIND; instrs = instrs.items } in
+) -> Result<AcceptedProgram<K>, AllocError>
+    requires program { IsProgram (record { kind = K.KIND; instrs = instrs.items }) }
+    requires accepted { IsAccepted K.KIND (record { kind = K.KIND; instrs = instrs.items }) }
+    ensures { let program : Program = record { kind = K.KIND; instrs = instrs.items } in
         IfOk result (λ accepted. (accepted.program ≡ program) × IsAccepted K.KIND program) }
-    ensures refused { IfErr result
-        (Tells (Refuses K.KIND (record { kind = K.KIND; instrs = instrs.items }))) }
 {
     let Some(code) = Code::new(K::KIND, instrs) else {
         unreachable!()
     };
     match verify_as(alloc, code) {
         Ok(program) => Ok(program),
-        Err((_, VerifyFault::Why { .. })) => Err(StandardFault::Refused),
-        Err((_, VerifyFault::Memory)) => Err(StandardFault::Memory),
+        Err((_, VerifyFault::Why { .. })) => unreachable!(),
+        Err((_, VerifyFault::Memory)) => Err(AllocError),
     }
 }
 
@@ -44,10 +41,9 @@ fn checked<K: ProgramKind>(
 ///
 /// # Errors
 ///
-/// `Refused` where the verifier refuses it, and `Memory` where memory ran out.
-pub fn nasch_motion(alloc: Global, p: Chance) -> Result<Motion, StandardFault>
-    ensures motion { IfOk result (IsMotion (nasch_speed p) (nasch_program p)) }
-    ensures refused { IfErr result (Tells (Refuses OfMotion (nasch_program p))) }
+/// Where memory ran out.
+pub fn nasch_motion(alloc: Global, p: Chance) -> Result<Motion, AllocError>
+    ensures { IfOk result (IsMotion (nasch_speed p) (nasch_program p)) }
 {
     checked(alloc, nasch_instrs(alloc, p)?)
 }
@@ -57,10 +53,9 @@ pub fn nasch_motion(alloc: Global, p: Chance) -> Result<Motion, StandardFault>
 ///
 /// # Errors
 ///
-/// `Refused` where the verifier refuses it, and `Memory` where memory ran out.
-pub fn vdr_motion(alloc: Global, p: Chance, p0: Chance) -> Result<Motion, StandardFault>
-    ensures motion { IfOk result (IsMotion (vdr_speed p p0) (vdr_program p p0)) }
-    ensures refused { IfErr result (Tells (Refuses OfMotion (vdr_program p p0))) }
+/// Where memory ran out.
+pub fn vdr_motion(alloc: Global, p: Chance, p0: Chance) -> Result<Motion, AllocError>
+    ensures { IfOk result (IsMotion (vdr_speed p p0) (vdr_program p p0)) }
 {
     checked(alloc, vdr_instrs(alloc, p, p0)?)
 }
@@ -69,10 +64,9 @@ pub fn vdr_motion(alloc: Global, p: Chance, p0: Chance) -> Result<Motion, Standa
 ///
 /// # Errors
 ///
-/// `Refused` where the verifier refuses it, and `Memory` where memory ran out.
-pub fn rickert_change(alloc: Global, c: Chance) -> Result<Change, StandardFault>
-    ensures change { IfOk result (IsChange (rickert_crosses c) (rickert_program c)) }
-    ensures refused { IfErr result (Tells (Refuses OfChange (rickert_program c))) }
+/// Where memory ran out.
+pub fn rickert_change(alloc: Global, c: Chance) -> Result<Change, AllocError>
+    ensures { IfOk result (IsChange (rickert_crosses c) (rickert_program c)) }
 {
     checked(alloc, rickert_instrs(alloc, c)?)
 }

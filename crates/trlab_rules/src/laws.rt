@@ -1,9 +1,18 @@
-//! Laws of the standard rules: what their programs answer is what was published.
+//! Laws of the standard rules: their programs are accepted, and what they answer is what was published.
 
 ghost use Rattle.std.specs.Prelude.{◌≡◌, ◌≤◌, ℕ};
+ghost use Rattle.trlab_code.specs.declared.kind.Kind.TheVariants.{Motion as OfMotion, Change as OfChange};
+ghost use Rattle.trlab_verify.specs.Verdict.{IsAccepted};
 ghost use Rattle.trlab_rules.specs.Published.{safe_speed, wording_1992, nasch_speed, vdr_speed, rickert_crosses};
 ghost use Rattle.trlab_rules.specs.Standard.{nasch_program, vdr_program, rickert_program};
 ghost use Rattle.trlab_rules.specs.Laws.{MovesBy, ChangesBy, DrawsHappenAsChances};
+
+/// The verifier accepts the programs of the standard rules, whatever their chances.
+pub fn standard_programs_are_accepted()
+    ensures nasch { (p : ℕ) → IsAccepted OfMotion (nasch_program p) }
+    ensures vdr { (p p0 : ℕ) → IsAccepted OfMotion (vdr_program p p0) }
+    ensures rickert { (c : ℕ) → IsAccepted OfChange (rickert_program c) }
+{}
 
 /// A chance and a draw of a program happen on the same words.
 pub fn chances_are_those_of_draws()

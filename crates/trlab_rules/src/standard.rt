@@ -1,10 +1,9 @@
 //! The published rules, as rules of this laboratory: cars that drive by accepted programs.
 
-ghost use Rattle.std.specs.Prelude.{IfOk, IfErr, ◌⊎◌};
-ghost use Rattle.trlab_code.specs.declared.kind.Kind.TheVariants.{Motion as OfMotion, Change as OfChange};
-ghost use Rattle.trlab_rules.specs.Standard.{nasch_program, vdr_program, rickert_program};
+ghost use Rattle.std.specs.Prelude.{◌≡◌, IfOk, IfErr};
+ghost use Rattle.trlab_rules.specs.declared.fault.StandardFault.TheVariants.{Memory};
 ghost use Rattle.trlab_rules.specs.Rules.{IsRule};
-ghost use Rattle.trlab_rules.specs.StandardRules.{IsNasch, IsVdr, IsRickert, Refuses, Tells};
+ghost use Rattle.trlab_rules.specs.StandardRules.{IsNasch, IsVdr, IsRickert};
 
 use crate::checked::{nasch_motion, rickert_change, vdr_motion};
 use crate::fault::StandardFault;
@@ -19,11 +18,11 @@ use trlab_words::Chance;
 ///
 /// # Errors
 ///
-/// `Refused` exactly where the verifier refuses the program, and `Memory` where memory ran out.
+/// `Memory` where memory ran out; never `Refused`.
 pub fn nasch(alloc: Global, p: Chance) -> Result<Rule, StandardFault>
     ensures published { IfOk result (IsNasch p) }
     ensures rule { IfOk result IsRule }
-    ensures refused { IfErr result (Tells (Refuses OfMotion (nasch_program p))) }
+    ensures memory { IfErr result (λ fault. fault ≡ Memory) }
 {
     Ok(Rule::new(nasch_motion(alloc, p)?, None))
 }
@@ -35,11 +34,11 @@ pub fn nasch(alloc: Global, p: Chance) -> Result<Rule, StandardFault>
 ///
 /// # Errors
 ///
-/// `Refused` exactly where the verifier refuses the program, and `Memory` where memory ran out.
+/// `Memory` where memory ran out; never `Refused`.
 pub fn vdr(alloc: Global, p: Chance, p0: Chance) -> Result<Rule, StandardFault>
     ensures published { IfOk result (IsVdr p p0) }
     ensures rule { IfOk result IsRule }
-    ensures refused { IfErr result (Tells (Refuses OfMotion (vdr_program p p0))) }
+    ensures memory { IfErr result (λ fault. fault ≡ Memory) }
 {
     Ok(Rule::new(vdr_motion(alloc, p, p0)?, None))
 }
@@ -53,12 +52,11 @@ pub fn vdr(alloc: Global, p: Chance, p0: Chance) -> Result<Rule, StandardFault>
 ///
 /// # Errors
 ///
-/// `Refused` exactly where the verifier refuses one of the two programs, and `Memory` where memory ran
-/// out.
+/// `Memory` where memory ran out; never `Refused`.
 pub fn rickert(alloc: Global, p: Chance, c: Chance) -> Result<Rule, StandardFault>
     ensures published { IfOk result (IsRickert p c) }
     ensures rule { IfOk result IsRule }
-    ensures refused { IfErr result (Tells (Refuses OfMotion (nasch_program p) ⊎ Refuses OfChange (rickert_program c))) }
+    ensures memory { IfErr result (λ fault. fault ≡ Memory) }
 {
     let motion = nasch_motion(alloc, p)?;
     let change = rickert_change(alloc, c)?;

@@ -1,0 +1,131 @@
+-- The verifier accepts the programs of the standard rules, whatever their chances: a table of notes checks for
+-- each, and it names no chance.
+use Rattle.std.proofs.Common.{ℕ, ◌+◌, refl, List, [], ◌∷◌, true, false}
+use Rattle.trlab_bounds.specs.declared.roads.TheConstants.{GREATEST_LIMIT, GREATEST_GAP}
+use Rattle.trlab_code.specs.declared.kind.Kind.TheVariants.{Motion, Change}
+use Rattle.trlab_code.specs.declared.instruction.Register.{Register}
+use Rattle.trlab_code.specs.declared.instruction.Register.TheVariants.{R0, R1, R2}
+use Rattle.trlab_code.specs.declared.instruction.Input.{Input}
+use Rattle.trlab_code.specs.declared.instruction.Input.TheVariants.{Limit, Gap}
+use Rattle.trlab_code.specs.declared.instruction.Variable.TheVariants as variable
+use Rattle.trlab_code.specs.Machine.{update}
+use Rattle.trlab_notes.specs.declared.note.Said.{Said}
+use Rattle.trlab_notes.specs.declared.note.Said.TheVariants.{Nothing, Between, Implies}
+use Rattle.trlab_notes.specs.Notes.{said_with_side, known_level, entry}
+use Rattle.trlab_notes.specs.Transfer.{assign, refine_order, refine_flag}
+use Rattle.trlab_verify.specs.Verdict.{IsAccepted}
+use Rattle.trlab_rules.specs.Standard.{nasch_program, vdr_program, rickert_program}
+use Rattle.trlab_rules.proofs.KnownNotes.{Fact, Known, accepted_by}
+
+-- a register is at most what a car sees by an input
+abbrev within : Register → Input → Fact
+within r k = record { one = variable.Register r; other = variable.Input k; level = 1 }
+
+-- what is said of the first registers, and no more
+abbrev saying : List Said → Known
+saying said = record { said = said; facts = []; side = false }
+
+-- the same, and facts
+abbrev knowing : List Said → List Fact → Known
+knowing said facts = record { said = said; facts = facts; side = false }
+
+-- the same where the side cell is empty
+abbrev beside_empty : List Said → Known
+beside_empty said = record { said = said; facts = []; side = true }
+
+abbrev speed : Said
+speed = Between 0 GREATEST_LIMIT
+
+abbrev one_more : Said
+one_more = Between 0 (GREATEST_LIMIT + 1)
+
+abbrev limit : Said
+limit = Between 1 GREATEST_LIMIT
+
+abbrev gap : Said
+gap = Between 0 GREATEST_GAP
+
+abbrev one : Said
+one = Between 1 1
+
+abbrev flag : Said
+flag = Implies false
+
+-- 1, where it is no more than the speed in R0
+abbrev some_one : Said
+some_one = Between 0 1
+
+-- the speed in R0 is within the limit and the gap
+abbrev safe : List Fact
+safe = within R0 Limit ∷ within R0 Gap ∷ []
+
+-- and the number in R1 is at most that speed
+abbrev safe_less : List Fact
+safe_less = record { one = variable.Register R1; other = variable.Register R0; level = 1 } ∷ safe
+
+abbrev nasch_table : List Known
+nasch_table =
+    saying []
+    ∷ saying (speed ∷ [])
+    ∷ saying (speed ∷ one ∷ [])
+    ∷ saying (one_more ∷ one ∷ [])
+    ∷ knowing (one_more ∷ one ∷ limit ∷ []) (within R2 Limit ∷ [])
+    ∷ knowing (speed ∷ one ∷ []) (within R0 Limit ∷ [])
+    ∷ knowing (speed ∷ one ∷ gap ∷ []) (within R0 Limit ∷ within R2 Gap ∷ [])
+    ∷ knowing (speed ∷ one ∷ []) safe
+    ∷ knowing (speed ∷ one ∷ Nothing ∷ flag ∷ []) safe
+    ∷ knowing (speed ∷ one ∷ []) safe
+    ∷ knowing (speed ∷ some_one ∷ []) safe_less
+    ∷ knowing (speed ∷ []) safe
+    ∷ []
+
+pub nasch_accepted : (p : ℕ) → IsAccepted Motion (nasch_program p)
+unfolding said_with_side known_level entry assign refine_order refine_flag update
+nasch_accepted p = accepted_by Motion (nasch_program p) nasch_table refl refl
+
+abbrev vdr_table : List Known
+vdr_table =
+    saying []
+    ∷ saying (speed ∷ [])
+    ∷ saying (speed ∷ one ∷ [])
+    ∷ saying (speed ∷ one ∷ [])
+    ∷ saying (speed ∷ one ∷ Nothing ∷ flag ∷ [])
+    ∷ saying (speed ∷ one ∷ [])
+    ∷ saying (speed ∷ one ∷ Nothing ∷ flag ∷ [])
+    ∷ saying (one_more ∷ one ∷ Nothing ∷ flag ∷ [])
+    ∷ knowing (one_more ∷ one ∷ limit ∷ flag ∷ []) (within R2 Limit ∷ [])
+    ∷ knowing (speed ∷ one ∷ Nothing ∷ flag ∷ []) (within R0 Limit ∷ [])
+    ∷ knowing (speed ∷ one ∷ gap ∷ flag ∷ []) (within R0 Limit ∷ within R2 Gap ∷ [])
+    ∷ knowing (speed ∷ one ∷ Nothing ∷ flag ∷ []) safe
+    ∷ knowing (speed ∷ one ∷ []) safe
+    ∷ knowing (speed ∷ some_one ∷ []) safe_less
+    ∷ knowing (speed ∷ []) safe
+    ∷ []
+
+pub vdr_accepted : (p p0 : ℕ) → IsAccepted Motion (vdr_program p p0)
+unfolding said_with_side known_level entry assign refine_order refine_flag update
+vdr_accepted p p0 = accepted_by Motion (vdr_program p p0) vdr_table refl refl
+
+abbrev rickert_table : List Known
+rickert_table =
+    saying []
+    ∷ saying (Implies true ∷ [])
+    ∷ beside_empty []
+    ∷ beside_empty (Nothing ∷ speed ∷ [])
+    ∷ beside_empty (Nothing ∷ speed ∷ one ∷ [])
+    ∷ beside_empty (Nothing ∷ one_more ∷ [])
+    ∷ beside_empty (Nothing ∷ one_more ∷ gap ∷ [])
+    ∷ beside_empty (Nothing ∷ one_more ∷ [])
+    ∷ beside_empty (Nothing ∷ one_more ∷ gap ∷ [])
+    ∷ beside_empty []
+    ∷ beside_empty (Nothing ∷ Nothing ∷ gap ∷ [])
+    ∷ beside_empty (Nothing ∷ Nothing ∷ gap ∷ limit ∷ [])
+    ∷ beside_empty []
+    ∷ beside_empty (Nothing ∷ Nothing ∷ Nothing ∷ flag ∷ [])
+    ∷ beside_empty []
+    ∷ saying []
+    ∷ []
+
+pub rickert_accepted : (c : ℕ) → IsAccepted Change (rickert_program c)
+unfolding said_with_side known_level entry assign refine_order refine_flag update
+rickert_accepted c = accepted_by Change (rickert_program c) rickert_table refl refl
