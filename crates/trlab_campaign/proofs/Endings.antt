@@ -1,5 +1,5 @@
 -- How runs end, by what was written.
-use Rattle.std.proofs.Common.{ℕ, ◌<◌, List, length, refl, subst, Bool, true, false, inl, inr}
+use Rattle.std.proofs.Common.{◌≡◌, ℕ, zero, suc, ◌+◌, ◌-◌, ◌<◌, ◌≤◌, List, [], ◌∷◌, length, refl, ap, arith, subst, Bool, true, false, inl, inr}
 use Rattle.std.specs.Prelude.{Option, None, Some, IfSome, Ok, Err}
 use Rattle.std.specs.Io.KnownBytes.{Keeps}
 use Rattle.trlab_campaign.specs.declared.end.End.{End}
@@ -72,3 +72,26 @@ pub too_big_ends : (IsWhole : List ℕ → Outputs) (e : End) (left old new : Op
     → IfSome left (λ all. TEXT_LIMIT < length all) → IfSome left (λ text. EndsSo (IsWhole text) e old new)
 too_big_ends IsWhole e None old new ends big = tt
 too_big_ends IsWhole e (Some all) old new ends big = ends all big
+
+-- some text has so many bytes
+some_text : (count : ℕ) → (text : List ℕ) × (length text ≡ count)
+some_text zero = ([], refl)
+some_text (suc count) = let rest = some_text count in (0 ∷ rest.0, ap suc rest.1)
+
+-- what holds of each text of so many bytes holds of one
+pub of_some_text : (P : List ℕ → Type 0) (before after : ℕ) → before ≤ after → ((text : List ℕ) → after ≡ before + length text → P text)
+    → (text : List ℕ) × ((after ≡ before + length text) × P text)
+of_some_text P before after rises holds =
+    let found = some_text (after - before) in
+    let count : after ≡ before + length found.0 = omega (arith, found.1) in
+    (found.0, (count, holds found.0 count))
+
+-- a writer that was not called keeps its bytes
+pub kept : (written : Option (List ℕ)) → Keeps written written
+kept None = tt
+kept (Some bytes) = refl
+
+-- what holds of each text holds of the one that is told, if one is
+pub if_told : (P : List ℕ → Type 0) (left : Option (List ℕ)) → ((text : List ℕ) → P text) → IfSome left P
+if_told P None holds = tt
+if_told P (Some text) holds = holds text

@@ -74,6 +74,11 @@ abbrev pub EndsTooBig : (List ℕ → Outputs) → End → Option (List ℕ) →
 EndsTooBig outputs end old new =
     (text : List ℕ) → TEXT_LIMIT < length text → EndsSo (outputs text) end old new
 
+-- what was written is for some text of as many bytes as a reader gave
+abbrev pub EndsForSomeText : (List ℕ → Outputs) → End → ℕ → ℕ → Option (List ℕ) → Option (List ℕ) → Type 0
+EndsForSomeText outputs end before after old new =
+    (text : List ℕ) × ((after ≡ before + length text) × EndsSo (outputs text) end old new)
+
 -- an engine ended so, which reads a text and writes one of the outputs that there may be for it: `before` and
 -- `after` are its reader, `old` and `new` its writer
 pub record EngineEnds {S K : Type 0} (source : Source.Ghosts S) (sink : Sink.Ghosts K)
@@ -81,6 +86,9 @@ pub record EngineEnds {S K : Type 0} (source : Source.Ghosts S) (sink : Sink.Gho
   -- where the reader tells its bytes, and the writer those that it has
   pub answer : IfSome (source.left before)
       (λ text. EndsSo (outputs text) end (sink.written old) (sink.written new))
+  -- whatever the reader tells: what was written is for some text of as many bytes as it gave
+  pub some_text : EndsForSomeText outputs end (source.taken before) (source.taken after)
+      (sink.written old) (sink.written new)
   -- nothing was written where the text was not read, also by a reader that does not tell its bytes
   pub silent : source.failed after ≡ true → Keeps (sink.written old) (sink.written new)
   pub handed : HandsOn end (sink.handed_on new) (sink.flushes old) (sink.flushes new)

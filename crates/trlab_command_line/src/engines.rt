@@ -3,7 +3,7 @@
 ghost use Rattle.std.specs.Prelude.{◌≡◌, ◌+◌, ◌≤◌, ◌||◌, ◌↔◌, true, false, IfSome};
 ghost use Rattle.std.specs.Io.KnownBytes.{Keeps};
 ghost use Rattle.trlab_campaign.specs.Device.{ConsumesUpTo};
-ghost use Rattle.trlab_campaign.specs.Ending.{EndsSo, HandsOn};
+ghost use Rattle.trlab_campaign.specs.Ending.{EndsForSomeText, EndsSo, HandsOn};
 ghost use Rattle.trlab_campaign.specs.declared.end.End.TheVariants.{DeviceFault};
 ghost use Rattle.trlab_bounds.specs.declared.texts.TheConstants.{TEXT_LIMIT};
 ghost use Rattle.trlab_command_line.specs.Requests.{HasCounts};
@@ -34,6 +34,9 @@ pub fn carry_out<R: AllocGlobal + Threads + Wait + Sync, S: Source, K: Sink, O: 
     // Where the reader tells its bytes, and the writer those that it has.
     ensures answer { IfSome (S.left reader.old)
         (λ text. EndsSo (output_of request text) result (K.written writer.old) (K.written writer.new)) }
+    // Whatever the reader tells: for some text of as many bytes as it gave.
+    ensures some_text { EndsForSomeText (output_of request) result
+        (S.taken reader.old) (S.taken reader.new) (K.written writer.old) (K.written writer.new) }
     ensures silent { S.failed reader.new ≡ true → Keeps (K.written writer.old) (K.written writer.new) }
     ensures handed { HandsOn result
         (K.handed_on writer.new) (K.flushes writer.old) (K.flushes writer.new) }

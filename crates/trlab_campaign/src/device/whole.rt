@@ -37,6 +37,11 @@ pub fn read_text<S: Source>(alloc: Global, reader: &mut S) -> Result<Vec<u8>, Re
         → IfSome (S.left reader.old) (λ all. TEXT_LIMIT < length all)) }
     ensures read { ConsumesUpTo (TEXT_LIMIT + 1) (S.left reader.old) (S.left reader.new) }
     ensures stops { S.taken reader.new ≤ S.taken reader.old + (TEXT_LIMIT + 1) }
+    ensures rises { S.taken reader.old ≤ S.taken reader.new }
+    ensures counted { IfOk result
+        (λ text. S.taken reader.new ≡ S.taken reader.old + length text.items) }
+    ensures over { IfErr result (λ fault. fault ≡ TooBig
+        → S.taken reader.new ≡ S.taken reader.old + (TEXT_LIMIT + 1)) }
     ensures fails { IfErr result (λ fault. (S.failed reader.new ≡ true) ↔ (fault ≡ Device)) }
     ensures works { OnOk result (S.failed reader.new ≡ false) }
 {

@@ -1,7 +1,8 @@
-use Rattle.std.proofs.Common.{◌≡◌, ℕ, List, Bool, true, false, refl, sym, ◌∙◌}
+use Rattle.std.proofs.Common.{◌≡◌, ℕ, List, Bool, true, false, refl, sym, ◌∙◌, arith, inl}
 use Rattle.std.proofs.lemmas.Bool.{false≢true}
+use Rattle.trlab_campaign.specs.declared.end.End.TheVariants.{Memory, DeviceFault}
 use Rattle.trlab_campaign.specs.Ending.{EndsSo}
-use Rattle.trlab_campaign.proofs.Endings.{too_big_ends}
+use Rattle.trlab_campaign.proofs.Endings.{too_big_ends, of_some_text, kept, if_told}
 use Rattle.trlab_campaign.proofs.KnownBytes.{consumes_whole}
 use Rattle.trlab_campaign.proofs.engine.run_engine.Goals as goal
 
@@ -9,6 +10,9 @@ use Rattle.trlab_campaign.proofs.engine.run_engine.Goals as goal
 not_true : (b : Bool) → (b ≡ true → ⊥) → b ≡ false
 not_true true never = absurd (never refl)
 not_true false never = refl
+
+memory≢device : Memory ≡ DeviceFault → ⊥
+memory≢device e = cc e
 
 pub returns-in-Ok : goal.returns-in-Ok
 returns-in-Ok g c =
@@ -18,6 +22,7 @@ returns-in-Ok g c =
       answer =
           consumes_whole (λ (text : List ℕ). EndsSo (g.E.Engine.outputs c.args.engine text) c.write.result (g.K.Sink.written c.args.writer.now) (g.K.Sink.written c.write.new.writer))
           _ _ c.in-Ok.text.items read.text read.whole ends.answer;
+      some_text = (c.in-Ok.text.items, (read.counted, ends.answer));
       silent = λ failed. absurd (false≢true (sym read.works ∙ failed));
       handed = ends.handed;
       device = rw read.works ends.device;
@@ -31,11 +36,49 @@ returns-in-Err-TooBig g c =
     let fault = rw c.in-Err-TooBig.field-0-is at read.fails in
     let works : g.S.Source.failed c.read_text.new.reader ≡ false = not_true _ (λ failed. cc (fault.0 failed)) in
     let ends = c.write_too_big.ensures in
+    let over = rw c.in-Err-TooBig.field-0-is at read.over refl in
     record {
       answer = too_big_ends (g.E.Engine.outputs c.args.engine) _ _ _ _ ends.answer (rw c.in-Err-TooBig.field-0-is at read.big refl);
+      some_text =
+          of_some_text (λ (text : List ℕ). EndsSo (g.E.Engine.outputs c.args.engine text) c.write_too_big.result (g.K.Sink.written c.args.writer.now) (g.K.Sink.written c.write_too_big.new.writer))
+          _ _ read.rises (λ text count. ends.answer text (omega (arith, over, count)));
       silent = λ failed. absurd (false≢true (sym works ∙ failed));
       handed = ends.handed;
       device = rw works ends.device;
+      read = read.read;
+      stops = read.stops;
+    }
+
+pub returns-in-Err-Memory : goal.returns-in-Err-Memory
+returns-in-Err-Memory g c =
+    let read = c.in-Err-Memory.ensures in
+    let fault = rw c.in-Err-Memory.field-0-is at read.fails in
+    let works : g.S.Source.failed c.read_text.new.reader ≡ false = not_true _ (λ failed. cc (fault.0 failed)) in
+    record {
+      answer = if_told (λ (text : List ℕ). EndsSo (g.E.Engine.outputs c.args.engine text) Memory (g.K.Sink.written c.args.writer.now) (g.K.Sink.written c.args.writer.now)) _ (λ text. inl (kept _));
+      some_text =
+          of_some_text (λ (text : List ℕ). EndsSo (g.E.Engine.outputs c.args.engine text) Memory (g.K.Sink.written c.args.writer.now) (g.K.Sink.written c.args.writer.now))
+          _ _ read.rises (λ text count. inl (kept _));
+      silent = λ failed. kept _;
+      handed = refl;
+      device = rw (works, c.requires.writer_works) (λ e. absurd (memory≢device e), λ e. absurd (false≢true e));
+      read = read.read;
+      stops = read.stops;
+    }
+
+pub returns-in-Err-Device : goal.returns-in-Err-Device
+returns-in-Err-Device g c =
+    let read = c.in-Err-Device.ensures in
+    let fault = rw c.in-Err-Device.field-0-is at read.fails in
+    let failed : g.S.Source.failed c.read_text.new.reader ≡ true = fault.1 refl in
+    record {
+      answer = if_told (λ (text : List ℕ). EndsSo (g.E.Engine.outputs c.args.engine text) DeviceFault (g.K.Sink.written c.args.writer.now) (g.K.Sink.written c.args.writer.now)) _ (λ text. inl (kept _));
+      some_text =
+          of_some_text (λ (text : List ℕ). EndsSo (g.E.Engine.outputs c.args.engine text) DeviceFault (g.K.Sink.written c.args.writer.now) (g.K.Sink.written c.args.writer.now))
+          _ _ read.rises (λ text count. inl (kept _));
+      silent = λ failed. kept _;
+      handed = inl refl;
+      device = rw failed (λ e. refl, λ e. refl);
       read = read.read;
       stops = read.stops;
     }

@@ -119,3 +119,39 @@ returns-then-count-eq0-clause-big g c = tt
 
 pub returns-then-count-eq0-clause-fails : goal.returns-then-count-eq0-clause-fails
 returns-then-count-eq0-clause-fails g c = tt
+
+pub returns-clause-rises : goal.returns-clause-rises
+returns-clause-rises g c = omega (arith, c.loop-piece.invariant.taken)
+
+pub returns-clause-counted : goal.returns-clause-counted
+returns-clause-counted g c = tt
+
+pub returns-clause-over : goal.returns-clause-over
+returns-clause-over g c = λ _. omega (arith, c.loop-piece.invariant.small, c.loop-piece.invariant.taken)
+
+pub returns-in-Err-clause-rises : goal.returns-in-Err-clause-rises
+returns-in-Err-clause-rises g c = omega (arith, c.in-Err.ensures.counted, c.loop-piece.invariant.taken)
+
+pub returns-in-Err-clause-counted : goal.returns-in-Err-clause-counted
+returns-in-Err-clause-counted g c = tt
+
+pub returns-in-Err-clause-over : goal.returns-in-Err-clause-over
+returns-in-Err-clause-over g c = λ e. absurd (cc)
+
+pub returns-then-is_err-clause-rises : goal.returns-then-is_err-clause-rises
+returns-then-is_err-clause-rises g c = omega (arith, c.in-Ok.ensures.counted, c.loop-piece.invariant.taken)
+
+pub returns-then-is_err-clause-counted : goal.returns-then-is_err-clause-counted
+returns-then-is_err-clause-counted g c = tt
+
+pub returns-then-is_err-clause-over : goal.returns-then-is_err-clause-over
+returns-then-is_err-clause-over g c = λ e. absurd (cc)
+
+pub returns-then-count-eq0-clause-rises : goal.returns-then-count-eq0-clause-rises
+returns-then-count-eq0-clause-rises g c = omega (arith, c.in-Ok.ensures.counted, c.loop-piece.invariant.taken)
+
+pub returns-then-count-eq0-clause-counted : goal.returns-then-count-eq0-clause-counted
+returns-then-count-eq0-clause-counted g c = omega (arith, c.if-count-eq0.true, c.in-Ok.ensures.counted, c.loop-piece.invariant.taken)
+
+pub returns-then-count-eq0-clause-over : goal.returns-then-count-eq0-clause-over
+returns-then-count-eq0-clause-over g c = tt
