@@ -25,7 +25,7 @@ pub output_ends : (IsWhole : Outputs) (refused : Bool) (out : List ℕ) (e : End
     → OutputEnds refused out e old new → EndsSo IsWhole e old new
 output_ends IsWhole refused out Done old new whole ends = (out, (subst (λ (r : Bool). IsWhole r out) ends.0 whole, ends.1))
 output_ends IsWhole refused out Refused old new whole ends = (out, (subst (λ (r : Bool). IsWhole r out) ends.0 whole, ends.1))
-output_ends IsWhole refused out Memory old new whole ends = inr (refused, (out, (whole, ends)))
+output_ends IsWhole refused out Memory old new whole ends = inl ends
 output_ends IsWhole refused out DeviceFault old new whole ends = inr (refused, (out, (whole, ends)))
 
 -- whoever ended so by some outputs ended so by all that these are among
@@ -95,3 +95,10 @@ kept (Some bytes) = refl
 pub if_told : (P : List ℕ → Type 0) (left : Option (List ℕ)) → ((text : List ℕ) → P text) → IfSome left P
 if_told P None holds = tt
 if_told P (Some text) holds = holds text
+
+-- where memory ran out, the writing of one whole output wrote nothing
+pub kept_at_memory : (refused : Bool) (out : List ℕ) (e : End) (old new : Option (List ℕ)) → OutputEnds refused out e old new → e ≡ Memory → Keeps old new
+kept_at_memory refused out Memory old new ends is = ends
+kept_at_memory refused out Done old new ends is = absurd (cc is)
+kept_at_memory refused out Refused old new ends is = absurd (cc is)
+kept_at_memory refused out DeviceFault old new ends is = absurd (cc is)

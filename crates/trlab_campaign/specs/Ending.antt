@@ -49,7 +49,7 @@ HandsOn DeviceFault handed_on old new = AtMostOnce old new
 abbrev pub OutputEnds : Bool → List ℕ → End → Option (List ℕ) → Option (List ℕ) → Type 0
 OutputEnds refused out Done old new = (refused ≡ false) × Appends old new out
 OutputEnds refused out Refused old new = (refused ≡ true) × Appends old new out
-OutputEnds refused out Memory old new = AppendsPrefix old new out
+OutputEnds refused out Memory old new = Keeps old new
 OutputEnds refused out DeviceFault old new = AppendsPrefix old new out
 
 -- a writing that hands nothing on yet left its writer so: it works where all was written, it has failed

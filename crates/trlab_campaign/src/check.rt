@@ -1,6 +1,8 @@
 //! The engine of checks: check texts in, verdicts out. The verifier judges the one program of a text.
 
-ghost use Rattle.std.specs.Prelude.{◌≡◌, false};
+ghost use Rattle.std.specs.Prelude.{◌≡◌, true, false};
+ghost use Rattle.std.specs.Io.KnownBytes.{Keeps};
+ghost use Rattle.trlab_campaign.specs.declared.end.End.TheVariants.{Memory};
 ghost use Rattle.trlab_campaign.specs.CheckOutput.{IsCheckOutput};
 ghost use Rattle.trlab_campaign.specs.Ending.{EngineEnds};
 
@@ -21,6 +23,8 @@ impl Engine for Judge {
     ghost is_ready = { λ _. Unit {0} };
 
     ghost outputs = { λ _ text. IsCheckOutput text };
+
+    ghost at_once = { true };
 
     fn write<K: Sink>(self, alloc: Global, text: &[u8], writer: &mut K) -> End {
         let check = match read_check(alloc, text) {
@@ -43,13 +47,14 @@ impl Engine for Judge {
 /// canonical text of an accepted one, or where and why it is refused; or the line of the text's
 /// first fault.
 ///
-/// The whole text is read and judged before a byte is written. Where memory runs out or a call of
-/// the reader or writer fails, what was written is a prefix of the whole output.
+/// The whole text is read and judged before a byte is written. Where memory runs out nothing is written,
+/// and where a call of the reader or writer fails, a prefix of the whole output.
 pub fn check_text<R: AllocGlobal, S: Source, K: Sink>(rt: &R, reader: &mut S, writer: &mut K) -> End
     requires reader_works { S.failed reader.old ≡ false }
     requires writer_works { K.failed writer.old ≡ false }
-    ensures { EngineEnds S.Source K.Sink IsCheckOutput result
+    ensures ends { EngineEnds S.Source K.Sink IsCheckOutput result
         reader.old reader.new writer.old writer.new }
+    ensures kept { result ≡ Memory → Keeps (K.written writer.old) (K.written writer.new) }
 {
     run_engine(rt.alloc(), Judge, reader, writer)
 }

@@ -1,6 +1,8 @@
 //! Engines: each makes the output of a text, which is read whole before its engine begins.
 
-ghost use Rattle.std.specs.Prelude.{◌≡◌, ℕ, List, false};
+ghost use Rattle.std.specs.Prelude.{◌≡◌, ℕ, List, Bool, true, false};
+ghost use Rattle.std.specs.Io.KnownBytes.{Keeps};
+ghost use Rattle.trlab_campaign.specs.declared.end.End.TheVariants.{Memory};
 ghost use Rattle.trlab_campaign.specs.Ending.{EndsSo, EndsTooBig, EngineEnds, LeavesWriter};
 ghost use Rattle.trlab_campaign.specs.Refusal.{Outputs};
 
@@ -16,16 +18,23 @@ pub trait Engine: Drop {
     // The whole outputs that there may be for a text.
     ghost outputs: { Self → List ℕ → Outputs };
 
+    // Whether it has a whole output before it writes any of it.
+    ghost at_once: { Bool };
+
     /// Writes the output of a text, and hands it on.
     fn write<K: Sink>(self, alloc: Global, text: &[u8], writer: &mut K) -> End
         requires ready { is_ready self }
         requires works { K.failed writer.old ≡ false }
-        ensures { LeavesWriter K.Sink (EndsSo (outputs self text.now)) result writer.old writer.new };
+        ensures ends { LeavesWriter K.Sink (EndsSo (outputs self text.now)) result writer.old writer.new }
+        ensures kept { at_once ≡ true → result ≡ Memory
+            → Keeps (K.written writer.old) (K.written writer.new) };
 
     /// Writes the output of a text that is too long, of which no more is known, and hands it on.
     fn write_too_big<K: Sink>(self, alloc: Global, writer: &mut K) -> End
         requires works { K.failed writer.old ≡ false }
-        ensures { LeavesWriter K.Sink (EndsTooBig (outputs self)) result writer.old writer.new };
+        ensures ends { LeavesWriter K.Sink (EndsTooBig (outputs self)) result writer.old writer.new }
+        ensures kept { at_once ≡ true → result ≡ Memory
+            → Keeps (K.written writer.old) (K.written writer.new) };
 }
 
 /// Reads a text, and lets an engine write its output.
@@ -38,8 +47,10 @@ pub fn run_engine<E: Engine, S: Source, K: Sink>(
     requires engine_ready { E.is_ready engine }
     requires reader_works { S.failed reader.old ≡ false }
     requires writer_works { K.failed writer.old ≡ false }
-    ensures { EngineEnds S.Source K.Sink (E.outputs engine) result
+    ensures ends { EngineEnds S.Source K.Sink (E.outputs engine) result
         reader.old reader.new writer.old writer.new }
+    ensures kept { E.at_once ≡ true → result ≡ Memory
+        → Keeps (K.written writer.old) (K.written writer.new) }
 {
     match read_text(alloc, reader) {
         Ok(text) => engine.write(alloc, &text, writer),

@@ -89,6 +89,8 @@ impl<'a, C: Account, A: Asker, O: Observer> Engine for Driver<'a, C, A, O> {
 
     ghost outputs = { λ driver text. IsOutputOf (C.outputs driver.account.now) text };
 
+    ghost at_once = { false };
+
     fn write<K: Sink>(self, alloc: Global, text: &[u8], writer: &mut K) -> End {
         match read_job(alloc, text) {
             Ok(job) => {

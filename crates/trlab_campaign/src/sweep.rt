@@ -9,7 +9,9 @@ mod snapshots;
 mod table;
 mod work;
 
-ghost use Rattle.std.specs.Prelude.{◌≡◌, ◌<◌, ◌≤◌, false, IfOk};
+ghost use Rattle.std.specs.Prelude.{◌≡◌, ◌<◌, ◌≤◌, true, false, IfOk};
+ghost use Rattle.std.specs.Io.KnownBytes.{Keeps};
+ghost use Rattle.trlab_campaign.specs.declared.end.End.TheVariants.{Memory};
 ghost use Rattle.trlab_bounds.specs.declared.runs.TheConstants.{MOST_RUNNERS, MOST_WORKERS};
 ghost use Rattle.trlab_campaign.specs.Ending.{EndsSo, EngineEnds, LeavesWriter};
 ghost use Rattle.trlab_campaign.specs.SweepOutput.{IsSweepOutput, SweepOutput, TellsTable};
@@ -37,7 +39,8 @@ struct Surveyor<T> {
 fn write_table<K: Sink>(sweep: &Sweep, table: Result<Vec<u8>, AllocError>, writer: &mut K) -> End
     requires made { IfOk table (λ table. SweepOutput sweep.now false table.items) }
     requires works { K.failed writer.old ≡ false }
-    ensures { LeavesWriter K.Sink (EndsSo (SweepOutput sweep.now)) result writer.old writer.new }
+    ensures ends { LeavesWriter K.Sink (EndsSo (SweepOutput sweep.now)) result writer.old writer.new }
+    ensures kept { result ≡ Memory → Keeps (K.written writer.old) (K.written writer.new) }
 {
     match table {
         Ok(table) => write_output(false, &table, writer),
@@ -49,6 +52,8 @@ impl<T: Fn(Global, &Sweep) -> Result<Vec<u8>, AllocError> + Drop> Engine for Sur
     ghost is_ready = { λ surveyor. TellsTable (T.pre surveyor.table) (T.post surveyor.table) };
 
     ghost outputs = { λ _ text. IsSweepOutput text };
+
+    ghost at_once = { true };
 
     fn write<K: Sink>(self, alloc: Global, text: &[u8], writer: &mut K) -> End {
         let sweep = match read_sweep(alloc, text) {
@@ -70,8 +75,8 @@ impl<T: Fn(Global, &Sweep) -> Result<Vec<u8>, AllocError> + Drop> Engine for Sur
 /// Reads a sweep text, and writes the table of its points, or the line of the text's first fault.
 ///
 /// The whole text is read and judged, and all points are there, before a byte is written. Where
-/// memory runs out or a call of the reader or writer fails, what was written is a prefix of the
-/// whole output. The roads are the jobs of a book, which so many runners take, each with so many
+/// memory runs out nothing is written, and where a call of the reader or writer fails, a prefix of
+/// the whole output. The roads are the jobs of a book, which so many runners take, each with so many
 /// workers, 1 to 16; the output depends on neither number.
 pub fn run_sweep_text<R: AllocGlobal + Threads + Wait + Sync, S: Source, K: Sink>(
     rt: &R,
@@ -86,8 +91,9 @@ pub fn run_sweep_text<R: AllocGlobal + Threads + Wait + Sync, S: Source, K: Sink
     requires few_runners { runners ≤ MOST_RUNNERS }
     requires some_worker { 1 ≤ workers }
     requires few_workers { workers ≤ MOST_WORKERS }
-    ensures { EngineEnds S.Source K.Sink IsSweepOutput result
+    ensures ends { EngineEnds S.Source K.Sink IsSweepOutput result
         reader.old reader.new writer.old writer.new }
+    ensures kept { result ≡ Memory → Keeps (K.written writer.old) (K.written writer.new) }
 {
     run_sweep_text_observed(rt, reader, writer, runners, workers, &Unobserved)
 }
@@ -105,8 +111,9 @@ pub fn run_sweep_text_observed<
     requires few_runners { runners ≤ MOST_RUNNERS }
     requires some_worker { 1 ≤ workers }
     requires few_workers { workers ≤ MOST_WORKERS }
-    ensures { EngineEnds S.Source K.Sink IsSweepOutput result
+    ensures ends { EngineEnds S.Source K.Sink IsSweepOutput result
         reader.old reader.new writer.old writer.new }
+    ensures kept { result ≡ Memory → Keeps (K.written writer.old) (K.written writer.new) }
 {
     let surveyor = Surveyor {
         table: |alloc: Global, sweep: &Sweep| -> Result<Vec<u8>, AllocError>

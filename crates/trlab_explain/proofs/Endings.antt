@@ -11,7 +11,7 @@ use Rattle.trlab_campaign.specs.declared.end.End.{End}
 use Rattle.trlab_campaign.specs.declared.end.End.TheVariants.{Memory}
 use Rattle.trlab_campaign.specs.Ending.{EndsSo, OutputEnds}
 use Rattle.trlab_campaign.specs.Refusal.{too_big_line}
-use Rattle.trlab_campaign.proofs.Endings.{output_ends}
+use Rattle.trlab_campaign.proofs.Endings.{output_ends, kept_at_memory}
 use Rattle.trlab_pages.specs.Plain.{IsPlain}
 use Rattle.trlab_repairs.specs.Subjects.{subject_of}
 use Rattle.trlab_repairs.specs.declared.subject.Subject.{Subject}
@@ -64,3 +64,9 @@ pub number_ends : {E : Type 0} (topic : Topic) (number : ℕ) (told : Result (Bo
 number_ends topic number (Ok t) e old new told ends =
     output_ends (TellsNumber topic number) t.0 t.1 e old new (told, ends.0) ends.1
 number_ends topic number (Err x) e old new told ends = rw ends.0 (inl ends.1)
+
+-- where memory ran out, nothing was written
+pub told_kept : {E : Type 0} (told : Result (Bool × List ℕ) E) (e : End) (old new : Option (List ℕ))
+    → MatchResult told (λ t. All IsPlain t.1 × OutputEnds t.0 t.1 e old new) (λ _. (e ≡ Memory) × Keeps old new) → e ≡ Memory → Keeps old new
+told_kept (Ok t) e old new ends is = kept_at_memory t.0 t.1 e old new ends.1 is
+told_kept (Err x) e old new ends is = ends.1

@@ -50,6 +50,8 @@ impl Engine for Explainer {
 
     ghost outputs = { λ engine text. Explains engine.subject text };
 
+    ghost at_once = { true };
+
     fn write<K: Sink>(self, alloc: Global, text: &[u8], writer: &mut K) -> End {
         let subject = self.subject.unwrap_or(subject_of(text));
         write_told(explain_as(alloc, subject, text), writer)
@@ -63,8 +65,8 @@ impl Engine for Explainer {
 /// Reads a text, and writes what is wrong with it and how it may be mended, or what it will do: as
 /// the text that it is wanted to be, or else as what its first word says.
 ///
-/// The whole text is read and judged before a byte is written. Where memory runs out or a call of
-/// the reader or writer fails, what was written is a prefix of the whole output.
+/// The whole text is read and judged before a byte is written. Where memory runs out nothing is written,
+/// and where a call of the reader or writer fails, a prefix of the whole output.
 pub fn explain_text<R: AllocGlobal, S: Source, K: Sink>(
     rt: &R,
     subject: Option<Subject>,
@@ -73,8 +75,9 @@ pub fn explain_text<R: AllocGlobal, S: Source, K: Sink>(
 ) -> End
     requires reader_works { S.failed reader.old ≡ false }
     requires writer_works { K.failed writer.old ≡ false }
-    ensures { EngineEnds S.Source K.Sink (Explains subject) result
+    ensures ends { EngineEnds S.Source K.Sink (Explains subject) result
         reader.old reader.new writer.old writer.new }
+    ensures kept { result ≡ Memory → Keeps (K.written writer.old) (K.written writer.new) }
 {
     run_engine(rt.alloc(), Explainer { subject }, reader, writer)
 }

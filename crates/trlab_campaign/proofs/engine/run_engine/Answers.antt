@@ -14,10 +14,10 @@ not_true false never = refl
 memory≢device : Memory ≡ DeviceFault → ⊥
 memory≢device e = cc e
 
-pub returns-in-Ok : goal.returns-in-Ok
-returns-in-Ok g c =
+pub returns-in-Ok-clause-ends : goal.returns-in-Ok-clause-ends
+returns-in-Ok-clause-ends g c =
     let read = c.in-Ok.ensures in
-    let ends = rw c.deref.ensures.value at c.write.ensures in
+    let ends = rw c.deref.ensures.value at c.write.ensures.ends in
     record {
       answer =
           consumes_whole (λ (text : List ℕ). EndsSo (g.E.Engine.outputs c.args.engine text) c.write.result (g.K.Sink.written c.args.writer.now) (g.K.Sink.written c.write.new.writer))
@@ -30,12 +30,12 @@ returns-in-Ok g c =
       stops = read.stops;
     }
 
-pub returns-in-Err-TooBig : goal.returns-in-Err-TooBig
-returns-in-Err-TooBig g c =
+pub returns-in-Err-TooBig-clause-ends : goal.returns-in-Err-TooBig-clause-ends
+returns-in-Err-TooBig-clause-ends g c =
     let read = c.in-Err-TooBig.ensures in
     let fault = rw c.in-Err-TooBig.field-0-is at read.fails in
     let works : g.S.Source.failed c.read_text.new.reader ≡ false = not_true _ (λ failed. cc (fault.0 failed)) in
-    let ends = c.write_too_big.ensures in
+    let ends = c.write_too_big.ensures.ends in
     let over = rw c.in-Err-TooBig.field-0-is at read.over refl in
     record {
       answer = too_big_ends (g.E.Engine.outputs c.args.engine) _ _ _ _ ends.answer (rw c.in-Err-TooBig.field-0-is at read.big refl);
@@ -49,8 +49,8 @@ returns-in-Err-TooBig g c =
       stops = read.stops;
     }
 
-pub returns-in-Err-Memory : goal.returns-in-Err-Memory
-returns-in-Err-Memory g c =
+pub returns-in-Err-Memory-clause-ends : goal.returns-in-Err-Memory-clause-ends
+returns-in-Err-Memory-clause-ends g c =
     let read = c.in-Err-Memory.ensures in
     let fault = rw c.in-Err-Memory.field-0-is at read.fails in
     let works : g.S.Source.failed c.read_text.new.reader ≡ false = not_true _ (λ failed. cc (fault.0 failed)) in
@@ -66,8 +66,8 @@ returns-in-Err-Memory g c =
       stops = read.stops;
     }
 
-pub returns-in-Err-Device : goal.returns-in-Err-Device
-returns-in-Err-Device g c =
+pub returns-in-Err-Device-clause-ends : goal.returns-in-Err-Device-clause-ends
+returns-in-Err-Device-clause-ends g c =
     let read = c.in-Err-Device.ensures in
     let fault = rw c.in-Err-Device.field-0-is at read.fails in
     let failed : g.S.Source.failed c.read_text.new.reader ≡ true = fault.1 refl in
@@ -82,3 +82,9 @@ returns-in-Err-Device g c =
       read = read.read;
       stops = read.stops;
     }
+
+pub returns-in-Err-Memory-clause-kept : goal.returns-in-Err-Memory-clause-kept
+returns-in-Err-Memory-clause-kept g c = λ at_once is. kept _
+
+pub returns-in-Err-Device-clause-kept : goal.returns-in-Err-Device-clause-kept
+returns-in-Err-Device-clause-kept g c = λ at_once is. kept _

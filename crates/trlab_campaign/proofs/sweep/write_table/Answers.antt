@@ -1,10 +1,10 @@
 use Rattle.std.proofs.Common.{false}
 use Rattle.trlab_campaign.specs.SweepOutput.{SweepOutput}
-use Rattle.trlab_campaign.proofs.Endings.{output_ends}
+use Rattle.trlab_campaign.proofs.Endings.{output_ends, kept_at_memory, kept}
 use Rattle.trlab_campaign.proofs.sweep.write_table.Goals as goal
 
-pub returns-in-Ok : goal.returns-in-Ok
-returns-in-Ok g c =
+pub returns-in-Ok-clause-ends : goal.returns-in-Ok-clause-ends
+returns-in-Ok-clause-ends g c =
     let ends = rw c.deref.ensures.value at c.write_output.ensures.answer in
     let made = rw c.in-Ok.is at c.requires.made in
     record {
@@ -12,3 +12,9 @@ returns-in-Ok g c =
       handed = c.write_output.ensures.handed;
       device = c.write_output.ensures.device;
     }
+
+pub returns-in-Ok-clause-kept : goal.returns-in-Ok-clause-kept
+returns-in-Ok-clause-kept g c = λ is. kept_at_memory false _ c.write_output.result _ _ c.write_output.ensures.answer is
+
+pub returns-in-Err-clause-kept : goal.returns-in-Err-clause-kept
+returns-in-Err-clause-kept g c = λ is. kept _

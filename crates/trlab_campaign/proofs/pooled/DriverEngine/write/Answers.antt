@@ -1,8 +1,8 @@
 use Rattle.trlab_campaign.proofs.Endings.{refusal_ends, text_ends}
 use Rattle.trlab_campaign.proofs.pooled.DriverEngine.write.Goals as goal
 
-pub returns-in-Err-At : goal.returns-in-Err-At
-returns-in-Err-At g c =
+pub returns-in-Err-At-clause-ends : goal.returns-in-Err-At-clause-ends
+returns-in-Err-At-clause-ends g c =
     let told = rw c.in-Err-At.field-0-is at c.in-Err-At.ensures.told in
     let output = g.C.Account.outputs c.args.self.account.now in
     record {
@@ -11,8 +11,8 @@ returns-in-Err-At g c =
       device = c.refuse.ensures.device;
     }
 
-pub returns-in-Ok : goal.returns-in-Ok
-returns-in-Ok g c =
+pub returns-in-Ok-clause-ends : goal.returns-in-Ok-clause-ends
+returns-in-Ok-clause-ends g c =
     let output = g.C.Account.outputs c.args.self.account.now in
     let ends = c.write_account-end.ensures in
     record {
