@@ -14,7 +14,8 @@ use Rattle.trlab_strands.specs.declared.knowledge.Noted.{Noted}
 use Rattle.trlab_strands.specs.Knowledge.{noted, number_of}
 use Rattle.trlab_strands.specs.Tokens as strand
 use Rattle.trlab_book.specs.declared.desk.Desk.{Desk}
-use Rattle.trlab_book.specs.Desks.{AreOfRunners, GoesOn, IsOneEvent, MakesOf, subhistory_of, is_of_runner, least_of, parts_of}
+use Rattle.trlab_book.specs.Desks.{AreOfRunners, GoesOn, HasSeen, IsNoEvent, IsOneEvent, MakesOf, subhistory_of, is_of_runner, least_of, parts_of, tells_full}
+use Rattle.trlab_sequential_book.specs.declared.limits.TheConstants.{MOST_EVENTS}
 
 -- calls within a span are within a wider one
 wider : (from to below above : ℕ) (numbered : List (Noted Event)) → below ≤ from → to ≤ above → AreOfRunners from to numbered → AreOfRunners below above numbered
@@ -41,12 +42,30 @@ module _ {L : Type 0} {ledger : Ghosts L} where
         (wider (least_of b) (least_of c) (least_of a) (least_of c) second.more first.least (omega arith) second.runners);
   }
 
+  -- a call that is no event leaves a desk with its calls, and its clock does not fall
+  is_none : (a b : Desk L ledger) (told : Reply) → IsNoEvent a told b → (subhistory_of b ≡ subhistory_of a) × (least_of a ≤ least_of b)
+  is_none a b told none = by_full (tells_full told) none
+    where
+      by_full : (whole : Bool) → MatchBool whole (HasSeen a MOST_EVENTS b) (strand.IsSame a.strand b.strand) → (subhistory_of b ≡ subhistory_of a) × (least_of a ≤ least_of b)
+      by_full true seen = (seen.1, seen.2)
+      by_full false kept = let q = kept.2 in (kept.1, omega arith)
+
+  -- a desk with the same calls goes on
+  stays : (a b : Desk L ledger) → parts_of b ≡ parts_of a → (subhistory_of b ≡ subhistory_of a) × (least_of a ≤ least_of b) → GoesOn a b
+  stays a b same kept = record {
+    parts = same;
+    least = kept.1;
+    more = [];
+    subhistory = kept.0 ∙ sym (append-nil (subhistory_of a));
+    runners = All-nil _;
+  }
+
   -- a call of a runner goes on
   pub makes_goes : (Holds : State → Type 0) (a b : Desk L ledger) (call : Call) (told : Reply) → MakesOf Holds a call told b → is_of_runner call ≡ true → GoesOn a b
   makes_goes Holds a b call told made of_runner = by_event (is_event told) made.0 made.1
     where
       by_event : (one : Bool) → parts_of b ≡ parts_of a
-          → MatchBool one ((book : State) × IsOneEvent a call told b book × Holds book) (strand.IsSame a.strand b.strand) → GoesOn a b
+          → MatchBool one ((book : State) × IsOneEvent a call told b book × Holds book) (IsNoEvent a told b) → GoesOn a b
       by_event true same one =
           let before = one.1.before in
           let adds = one.1.noted in
@@ -58,13 +77,7 @@ module _ {L : Type 0} {ledger : Ghosts L} where
             runners = All-push (λ (x : Noted Event). (least_of a ≤ number_of x) × (number_of x < least_of b) × (is_of_runner x.event.call ≡ true)) [] (noted before (event call told)) (All-nil _)
                 (adds.1, omega (arith, adds.3), of_runner);
           }
-      by_event false same kept = record {
-        parts = same;
-        least = let q = kept.2 in omega arith;
-        more = [];
-        subhistory = kept.1 ∙ sym (append-nil (subhistory_of a));
-        runners = All-nil _;
-      }
+      by_event false same none = stays a b same (is_none a b told none)
 
   -- so does an order, whatever is said of its lease
   pub orders_on : (Holds : Bool → State → Type 0) (a b c : Desk L ledger) (lease : LeaseState) (told : Reply) → GoesOn a b

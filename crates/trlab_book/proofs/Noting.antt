@@ -1,17 +1,23 @@
 -- What is noted at a desk is the last event of the history.
-use Rattle.std.proofs.Common.{◌≡◌, Bool, true, false, List, [], ◌∷◌, ◌++◌, refl, sym, ap, ◌∙◌, subst, MatchBool}
+use denote.Struct.Props.{props}
+use Rattle.std.proofs.Math.Logic.{∥∥₁_elim}
+use Rattle.std.proofs.lemmas.Bool.{ltb-false, not-true}
+use Rattle.std.proofs.Common.{◌≡◌, ◌≤◌, length, arith, Bool, true, false, List, [], ◌∷◌, ◌++◌, refl, sym, ap, ◌∙◌, subst, MatchBool}
 use Rattle.trlab_sequential_book.specs.declared.event.Call.{Call}
 use Rattle.trlab_sequential_book.specs.declared.event.Event.{Event}
 use Rattle.trlab_sequential_book.specs.declared.event.Reply.{Reply}
 use Rattle.trlab_sequential_book.specs.Answers.{is_event}
-use Rattle.trlab_sequential_book.specs.Machine.{State}
+use Rattle.trlab_sequential_book.specs.Machine.{State, is_full}
+use Rattle.trlab_sequential_book.specs.declared.fault.BookFault.TheVariants.{HistoryFull}
+use Rattle.trlab_sequential_book.specs.declared.event.Reply.TheVariants.{Refused}
+use Rattle.trlab_sequential_book.specs.declared.limits.TheConstants.{MOST_EVENTS}
 use Rattle.trlab_sequential_book.specs.Replay.{Replays, event}
 use Rattle.trlab_strands.specs.declared.ledger.Ledger.{Ghosts}
 use Rattle.trlab_strands.specs.Tokens as strand
 use Rattle.trlab_book.specs.declared.desk.Desk.{Desk}
 use Rattle.trlab_book.specs.declared.kept.Kept.{Kept}
-use Rattle.trlab_book.specs.Desks.{IsOneEvent, MakesOf, PutsDown}
-use Rattle.trlab_book.specs.Events.{Appends, IsUnchanged, Makes}
+use Rattle.trlab_book.specs.Desks.{IsNoEvent, IsOneEvent, MakesOf, PutsDown, least_of, parts_of, tells_full}
+use Rattle.trlab_book.specs.Events.{Appends, IsUnchanged, Makes, TellsFull}
 
 appended : (old new : Kept) (call : Call) (told : Reply) (one : Bool) → MatchBool one (Appends old call told new) (IsUnchanged old new)
     → MatchBool one (new.history.items ≡ old.history.items ++ event call told ∷ []) (new.history.items ≡ old.history.items)
@@ -26,18 +32,41 @@ next_event old new call told reply list made same was =
     let here : P told old.history.items = appended old new call told (is_event told) made in
     subst (λ (l : List Event). P reply l) was (subst (λ (r : Reply). P r old.history.items) (sym same) here)
 
+-- a full book has had the most events
+history_is_full : (kept : Kept) → is_full kept.book ≡ true → MOST_EVENTS ≤ length kept.history.items
+history_is_full kept full =
+    let most : MOST_EVENTS ≤ kept.book.count = ltb-false kept.book.count MOST_EVENTS (not-true _ full) in
+    ∥∥₁_elim kept.replays (hlevel props) (λ (r : Replays kept.history.items kept.book). omega (arith, r.count_is, most))
+
+full_reply : (told : Reply) → tells_full told ≡ true → told ≡ Refused HistoryFull
+full_reply (Refused HistoryFull) is = refl
+full_reply told is = absurd (cc is)
+
 module _ {L : Type 0} {ledger : Ghosts L} where
+  -- a call that is no event
+  pub is_none : (old : Kept) (told : Reply) (list : List Event) (from to : Desk L ledger) → parts_of to ≡ parts_of from → old.history.items ≡ list → TellsFull old told
+      → MatchBool (tells_full told) (strand.HasSeen from.strand (length list) to.strand) (strand.IsSame from.strand to.strand) → IsNoEvent from told to
+  is_none old told list from to parts was full down = by_full (tells_full told) refl down
+    where
+      by_full : (whole : Bool) → tells_full told ≡ whole → MatchBool whole (strand.HasSeen from.strand (length list) to.strand) (strand.IsSame from.strand to.strand)
+          → MatchBool whole ((parts_of to ≡ parts_of from) × (strand.subhistory_of to.strand ≡ strand.subhistory_of from.strand) × (least_of from ≤ least_of to) × (MOST_EVENTS ≤ least_of to)) (strand.IsSame from.strand to.strand)
+      by_full true is seen =
+          let most = history_is_full old (full.0 (full_reply told is)) in
+          let long : length old.history.items ≡ length list = ap length was in
+          (parts, seen.1, omega (arith, seen.2, seen.3), omega (arith, seen.3, most, long))
+      by_full false is same = same
+
   -- a call that is made under the lock, and put down at a desk, is one of this desk
   pub is_made : (Holds : State → Type 0) (old new : Kept) (call : Call) (told reply : Reply) (list : List Event) (from to : Desk L ledger)
-      → Makes old call told new → reply ≡ told → old.history.items ≡ list → (is_event told ≡ true → Holds old.book)
+      → Makes old call told new → reply ≡ told → old.history.items ≡ list → (is_event told ≡ true → Holds old.book) → TellsFull old told
       → PutsDown from list call reply to → MakesOf Holds from call told to
-  is_made Holds old new call told reply list from to made same was holds noted =
+  is_made Holds old new call told reply list from to made same was holds full noted =
       let down : PutsDown from list call told to = subst (λ (r : Reply). PutsDown from list call r to) same noted in
       (down.0, by_event (is_event told) refl made down.1)
     where
       by_event : (one : Bool) → is_event told ≡ one → MatchBool one (Appends old call told new) (IsUnchanged old new)
-          → MatchBool one (strand.Adds from.strand list (event call told) to.strand) (strand.IsSame from.strand to.strand)
-          → MatchBool one ((book : State) × IsOneEvent from call told to book × Holds book) (strand.IsSame from.strand to.strand)
+          → MatchBool one (strand.Adds from.strand list (event call told) to.strand) (MatchBool (tells_full told) (strand.HasSeen from.strand (length list) to.strand) (strand.IsSame from.strand to.strand))
+          → MatchBool one ((book : State) × IsOneEvent from call told to book × Holds book) (IsNoEvent from told to)
       by_event true is appends adds = (
         old.book,
         record {
@@ -48,4 +77,4 @@ module _ {L : Type 0} {ledger : Ghosts L} where
         },
         holds is,
       )
-      by_event false is unchanged kept = kept
+      by_event false is unchanged put = is_none old told list from to noted.0 was full put

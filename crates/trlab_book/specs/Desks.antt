@@ -1,8 +1,10 @@
 -- What callers see of a desk: the calls that were made through it, each with all that stood before it in the
 -- history.
-use Rattle.std.specs.Prelude.{◌≡◌, ◌↔◌, ℕ, ◌<◌, ◌≤◌, Bool, true, false, IsTrue, Result, Option, IfOk, List, ◌++◌, All, MatchBool}
+use Rattle.std.specs.Prelude.{◌≡◌, ◌↔◌, ℕ, ◌+◌, ◌<◌, ◌≤◌, Bool, true, false, IsTrue, Result, Option, IfOk, List, length, ◌++◌, All, MatchBool}
 use Rattle.trlab_step.specs.Progress.{Progress}
 use Rattle.trlab_sequential_book.specs.declared.fault.BookFault.{BookFault}
+use Rattle.trlab_sequential_book.specs.declared.fault.BookFault.TheVariants.{HistoryFull}
+use Rattle.trlab_sequential_book.specs.declared.limits.TheConstants.{MOST_EVENTS}
 use Rattle.trlab_sequential_book.specs.declared.order.Order.{Order}
 use Rattle.trlab_sequential_book.specs.Leases.{LeaseState}
 use Rattle.trlab_sequential_book.specs.Comparison.{IsLent, IsRuleAt, IsSeen}
@@ -11,6 +13,7 @@ use Rattle.trlab_sequential_book.specs.declared.event.Call.{Call}
 use Rattle.trlab_sequential_book.specs.declared.event.Call.TheVariants as call
 use Rattle.trlab_sequential_book.specs.declared.event.Event.{Event}
 use Rattle.trlab_sequential_book.specs.declared.event.Reply.{Reply}
+use Rattle.trlab_sequential_book.specs.declared.event.Reply.TheVariants.{Refused}
 use Rattle.trlab_sequential_book.specs.Machine.{State, reply_of}
 use Rattle.trlab_sequential_book.specs.Answers.{is_event}
 use Rattle.trlab_sequential_book.specs.Replay.{Replays, event}
@@ -33,9 +36,25 @@ subhistory_of d = strand.subhistory_of d.strand
 abbrev pub least_of : {L : Type 0} {ledger : Ghosts L} → Desk L ledger → ℕ
 least_of d = strand.least_of d.strand
 
--- a desk as it was
-abbrev pub IsSame : {L : Type 0} {ledger : Ghosts L} → Desk L ledger → Desk L ledger → Type 0
-IsSame old new = (parts_of new ≡ parts_of old) × strand.IsSame old.strand new.strand
+-- a desk that has seen at least so many events, and else is as it was
+abbrev pub HasSeen : {L : Type 0} {ledger : Ghosts L} → Desk L ledger → ℕ → Desk L ledger → Type 0
+HasSeen old count new =
+    (parts_of new ≡ parts_of old) × (subhistory_of new ≡ subhistory_of old)
+    × (least_of old ≤ least_of new) × (count ≤ least_of new)
+
+-- a desk that lacks some event of the history: it has seen more events than are its own, and else is as it was
+abbrev pub LacksSome : {L : Type 0} {ledger : Ghosts L} → Desk L ledger → Desk L ledger → Type 0
+LacksSome old new = HasSeen old (length (subhistory_of old) + 1) new
+
+-- the reply says that the history is full
+abbrev pub tells_full : Reply → Bool
+tells_full (Refused HistoryFull) = true
+tells_full _ = false
+
+-- a call that is no event leaves a desk as it was; where the history was full, it has seen all of it
+abbrev pub IsNoEvent : {L : Type 0} {ledger : Ghosts L} → Desk L ledger → Reply → Desk L ledger → Type 0
+IsNoEvent old told new =
+    MatchBool (tells_full told) (HasSeen old MOST_EVENTS new) (strand.IsSame old.strand new.strand)
 
 -- a call is one event: the book, as all events before replay to it, gave this reply, and the desk has noted
 -- the event after them
@@ -47,28 +66,31 @@ pub record IsOneEvent {L : Type 0} {ledger : Ghosts L} (old : Desk L ledger) (ca
   pub noted : strand.Adds old.strand before (event call told) new.strand
 
 -- what a call does to the desk through which it is made: the same parts, and, where the reply to it is an
--- event, just this event more, of a book of which something holds; else nothing
+-- event, just this event more, of a book of which something holds; else nothing, but that a full history is seen
 abbrev pub MakesOf : {L : Type 0} {ledger : Ghosts L} → (State → Type 0)
     → Desk L ledger → Call → Reply → Desk L ledger → Type 0
 MakesOf Holds old call told new =
     (parts_of new ≡ parts_of old)
     × MatchBool (is_event told)
     ((book : State) × IsOneEvent old call told new book × Holds book)
-    (strand.IsSame old.strand new.strand)
+    (IsNoEvent old told new)
 
 -- the same, of whatever book
 abbrev pub Makes : {L : Type 0} {ledger : Ghosts L}
     → Desk L ledger → Call → Reply → Desk L ledger → Type 0
 Makes old call told new = MakesOf (λ book. Unit {0}) old call told new
 
--- what is put down at a desk after these events: the call, where its reply is an event, else nothing
+-- what is put down at a desk after these events: the call, where its reply is an event, else nothing; where
+-- the reply says that they are all that there can be, the desk has seen them
 abbrev pub PutsDown : {L : Type 0} {ledger : Ghosts L} → Desk L ledger → List Event → Call → Reply
     → Desk L ledger → Type 0
 PutsDown old before call told new =
     (parts_of new ≡ parts_of old)
     × MatchBool (is_event told)
     (strand.Adds old.strand before (event call told) new.strand)
-    (strand.IsSame old.strand new.strand)
+    (MatchBool (tells_full told)
+    (strand.HasSeen old.strand (length before) new.strand)
+    (strand.IsSame old.strand new.strand))
 
 -- it is told whether the lease runs its job's road
 abbrev pub TellsSame : LeaseState → Bool → State → Type 0

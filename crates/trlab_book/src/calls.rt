@@ -1,7 +1,7 @@
 //! Calls of a shared book through a desk: each takes the lock once, and is one event of the desk's
 //! subhistory: this call, as it was made, with the reply that its caller has.
 
-ghost use Rattle.std.specs.Prelude.{◌≡◌, ◌++◌, ◌∷◌, [], Bool, IfErr, MatchBool};
+ghost use Rattle.std.specs.Prelude.{◌≡◌, ◌++◌, ◌∷◌, [], Bool, false, IfErr, MatchBool};
 ghost use Rattle.trlab_sequential_book.specs.Answers.{back_reply, done_reply, is_event, lease_reply};
 ghost use Rattle.trlab_sequential_book.specs.Answers.{number_reply, order_reply, seen_reply};
 ghost use Rattle.trlab_sequential_book.specs.Comparison.{LeaseCall, OrderCall, offered};
@@ -9,14 +9,16 @@ ghost use Rattle.trlab_sequential_book.specs.Replay.{event};
 ghost use Rattle.trlab_sequential_book.specs.declared.event.Call.{Call};
 ghost use Rattle.trlab_sequential_book.specs.declared.event.Call.TheVariants.{Cancel, GiveBack, Read};
 ghost use Rattle.trlab_sequential_book.specs.declared.event.Call.TheVariants.{Replace, Revoke, Submit};
-ghost use Rattle.trlab_book.specs.Desks.{IsOfLease, IsOfOrder, IsOfRead, Makes, MakesOf, PutsDown, TellsSame};
+ghost use Rattle.trlab_sequential_book.specs.declared.event.Reply.TheVariants.{Refused};
+ghost use Rattle.trlab_book.specs.Desks.{IsNoEvent, IsOfLease, IsOfOrder, IsOfRead, Makes, MakesOf};
+ghost use Rattle.trlab_book.specs.Desks.{PutsDown, TellsSame, parts_of};
 ghost use Rattle.trlab_strands.specs.Tokens.{list_of};
 
 use crate::desk::{Desk, Locked, SharedBook};
 use crate::events::{copied_replace, copied_submit};
 use crate::replies::{
     is_event, reply_to_back, reply_to_done, reply_to_lease, reply_to_number, reply_to_order,
-    reply_to_read,
+    reply_to_read, tells_full,
 };
 use std::alloc::Global;
 use std::sync::Wait;
@@ -43,7 +45,7 @@ impl<L: Ledger> SharedBook<L> {
         ensures { Makes desk.old (Submit seed rule steps) (number_reply result) desk.new }
     {
         let Ok(boxed) = BoxedSeed::new(alloc, seed) else {
-            return Err(self.lock.lock(rt).kept.fault_without_memory());
+            return Err(self.refuse_without_memory(rt, desk));
         };
         let copied = copied_submit(alloc, &boxed, &rule, steps);
         let mut guard = self.lock.lock(rt);
@@ -52,6 +54,24 @@ impl<L: Ledger> SharedBook<L> {
         let reply = reply_to_number(&answer);
         note_event(keeper, &self.strands, desk, &kept.history, reply);
         answer
+    }
+
+    /// How a call is refused where memory ran out before it was made.
+    fn refuse_without_memory<R: Wait>(&self, rt: &R, desk: &mut Desk<L>) -> BookFault
+        ensures none { is_event (Refused result) ≡ false }
+        ensures desk { (parts_of desk.new ≡ parts_of desk.old) × IsNoEvent desk.old (Refused result) desk.new }
+    {
+        let mut guard = self.lock.lock(rt);
+        let Locked { kept, keeper } = &mut *guard;
+        let fault = kept.fault_without_memory();
+        note_event(
+            keeper,
+            &self.strands,
+            desk,
+            &kept.history,
+            Reply::Refused(fault),
+        );
+        fault
     }
 
     /// Puts a rule in force from the first step on that was never ordered, and answers that step.
@@ -202,7 +222,8 @@ impl<L: Ledger> SharedBook<L> {
     }
 }
 
-/// Puts the last event of the history into the desk's subhistory, where this reply is of an event. A call
+/// Puts the last event of the history into the desk's subhistory, where this reply is of an event; where it
+/// says that the history is full, the desk sees it. A call
 /// breaks the invariant of `Locked`, and this restores it, so its parts are handed in one by one.
 fn note_event<L: Ledger>(
     keeper: &mut Keeper<L, Event>,
@@ -219,6 +240,9 @@ fn note_event<L: Ledger>(
         × PutsDown desk.old (list_of keeper.old) call reply desk.new }
 {
     if !is_event(reply) {
+        if tells_full(reply) {
+            keeper.look(strands, &mut desk.strand);
+        }
         return;
     }
     if let Some(event) = history.last() {

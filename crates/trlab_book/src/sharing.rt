@@ -3,7 +3,7 @@
 
 ghost use Rattle.std.specs.Prelude.{◌≡◌, ◌+◌, ◌<◌, ◌++◌, [], max, IfOk, IfErr, IsOk};
 ghost use Rattle.trlab_sequential_book.specs.Replay.{Replays};
-ghost use Rattle.trlab_book.specs.Desks.{IsSame, subhistory_of, least_of, parts_of};
+ghost use Rattle.trlab_book.specs.Desks.{LacksSome, subhistory_of, least_of, parts_of};
 ghost use Rattle.trlab_strands.specs.Knowledge.{IsLinearization};
 ghost use Rattle.trlab_strands.specs.Tokens.{name_of};
 ghost use Rattle.trlab_strands.specs.declared.limits.TheConstants.{ALL_PARTS};
@@ -40,11 +40,12 @@ impl<L: Ledger> SharedBook<L> {
     /// # Errors
     ///
     /// Where events were made at other desks, which were not gathered into this one: the book with its
-    /// history and the desk come back as they were. With all parts it never fails.
+    /// history comes back, and the desk, which has then seen how many they are. With all parts it never
+    /// fails.
     pub fn close(self, desk: Desk<L>) -> Result<(Book, Vec<Event>), (SharedBook<L>, Desk<L>)>
         ensures order { IfOk result (λ r. IsLinearization r.1.items (subhistory_of desk)) }
         ensures replays { IfOk result (λ r. ∥ Replays r.1.items r.0 ∥₁) }
-        ensures err { IfErr result (λ r. IsSame desk r.1) }
+        ensures err { IfErr result (λ r. LacksSome desk r.1) }
         ensures whole { parts_of desk ≡ ALL_PARTS → IsOk result }
     {
         let SharedBook { lock, strands } = self;
@@ -55,6 +56,7 @@ impl<L: Ledger> SharedBook<L> {
             let Kept { book, history } = kept;
             return Ok((book, history));
         }
+        keeper.look(&strands, &mut desk.strand);
         let lock = Mutex::new(Locked { kept, keeper });
         Err((SharedBook { lock, strands }, desk))
     }

@@ -12,8 +12,8 @@ use Rattle.atomic_table.specs.Table.{State, Me, step, keeps, Allows, Splits, Joi
 use Rattle.atomic_table.proofs.Lists.{at_set, at_snoc, set_again, set_else}
 use Rattle.trlab_strands.specs.declared.knowledge.Noted.{Noted}
 use Rattle.trlab_strands.specs.declared.knowledge.Knowledge.{Knowledge}
-use Rattle.trlab_strands.specs.Knowledge.{noted, number_of, times, once_below, StandsIn, StandIn, knowledge, nothing, without_list, list_alone, less_a_part, one_part, union, with_event}
-use Rattle.trlab_strands.specs.Rule.{IsSound, AreSound, KeepsStrands, NotesEvent, Learns, Looks}
+use Rattle.trlab_strands.specs.Knowledge.{noted, number_of, times, once_below, StandsIn, StandIn, knowledge, nothing, without_list, list_alone, less_a_part, one_part, union, up_to_date, with_event}
+use Rattle.trlab_strands.specs.Rule.{IsSound, AreSound, KeepsStrands, NotesEvent, Learns, Looks, Sees}
 
 off : false ≡ true → ⊥
 off e = true≢false (sym e)
@@ -119,6 +119,21 @@ module _ {E : Type 0} where
             (λ j u apart there. later events e u (λ theirs. one_keeper events views id j v u r apart at there keeping theirs) (r.each j u there));
       }
 
+  -- a strand that keeps the list sees all of it
+  sees_all : (events : List E) (views : List (Knowledge E)) (id : ℕ) (v : Knowledge E) → get_elem? views id ≡ some v → v.keeps ≡ true
+      → AreSound events views → AreSound events (set views id (up_to_date v))
+  sees_all events views id v at keeping r =
+      let w = up_to_date v in
+      let mine = r.each id v at in
+      let long : length v.all ≡ length events = ap length (mine.list keeping) in
+      record {
+        parts = let t = total_set (λ u. u.parts) views id v w at in let p = r.parts in omega arith;
+        keepers = let t = total_set (λ u. cond u.keeps 1 0) views id v w at in let p = r.keepers in omega arith;
+        count = let t = total_set (λ u. length u.own) views id v w at in let p = r.count in omega arith;
+        once = λ k. let t = total_set (λ u. times k u.own) views id v w at in let p = r.once k in omega arith;
+        each = each_set events views id w (record { idle = mine.idle; rises = omega arith; stand = mine.stand; list = mine.list }) (λ j u _ there. r.each j u there);
+      }
+
   -- the list leaves a strand
   pub apart : (id : ℕ) (v : Knowledge E) → Splits KeepsStrands id v (without_list v) (list_alone v)
   apart id v s r at =
@@ -214,6 +229,11 @@ module _ {E : Type 0} where
       record {
         few = let t = total_set (λ u. u.parts) s.views id v nothing at in let p = k.parts in omega arith;
         stand = λ has. subst (λ (l : List E). StandIn l v.own) (sym (mine.list has)) mine.stand;
+        most = λ has.
+            let t = total_set (λ u. length u.own) s.views id v nothing at in
+            let p = k.count in
+            let long = ap length (mine.list has) in
+            omega arith;
         whole = λ has every.
             let a = alone (λ u. u.parts) (λ u. length u.own) refl refl s.views id v at (λ j u e z. ap length ((k.each j u e).idle z)) (k.parts ∙ sym every) in
             let p = k.count in
@@ -246,6 +266,13 @@ module _ {E : Type 0} where
         λ f same. (ap (λ (x : E). (with_event me.0 x, me.1)) (some-injective e f same), low),
       )
 
+  pub sees : (slots id : ℕ) (me : Me E (Knowledge E)) → me.0.keeps ≡ true → Allows KeepsStrands slots id me 0 (λ n. n) (Sees (step slots 0 0 0 none) me)
+  sees slots id me keeping s r _ at _ =
+      let mine = r.1.each id me.0 at in
+      let long : length me.0.all ≡ length r.0 = ap length (mine.list keeping) in
+      let low : me.0.least ≤ length me.0.all = let p = mine.rises in omega arith in
+      (up_to_date me.0, keeps, tt, (r.0, sees_all r.0 s.views id me.0 at keeping r.1), (refl, low))
+
   -- a strand that meets the list
   pub meets : (v k : Knowledge E) → k.keeps ≡ true → union v (list_alone k) ≡ knowledge v.parts v.own v.least true k.all
   meets v k keeping =
@@ -253,6 +280,19 @@ module _ {E : Type 0} where
       let b : v.own ++ [] ≡ v.own = append-nil v.own in
       let c : max v.least 0 ≡ v.least = omega arith in
       λ i. knowledge (a i) (b i) (c i) (keeping i) k.all
+
+-- a strand that has seen the list, and the list after it
+pub record HasLooked {E : Type 0} (v k : Knowledge E) (left right : Me E (Knowledge E)) : Type 0 where
+  pub left_slot : left.1 ≡ []
+  pub left_list : left.0.keeps ≡ false
+  pub left_some : 0 < left.0.parts
+  pub right_slot : right.1 ≡ []
+  pub right_list : right.0.keeps ≡ true
+  pub all : right.0.all ≡ k.all
+  pub parts : left.0.parts ≡ v.parts
+  pub own : left.0.own ≡ v.own
+  pub least : v.least ≤ length k.all
+  pub next : left.0.least ≡ length k.all
 
 -- a strand that has noted an event, and the list after it
 pub record HasNoted {E : Type 0} (v k : Knowledge E) (e : E) (left right : Me E (Knowledge E)) : Type 0 where
@@ -286,6 +326,29 @@ module _ {E : Type 0} where
         parts = ap (λ (m : M). m.0.parts) l;
         least = subst (λ (m : M). m.0.least ≤ length m.0.all) both noted.1;
         own = ap (λ (m : M). m.0.own) l;
+        next = ap (λ (m : M). m.0.least) l;
+      }
+
+  -- a strand meets the list, sees it, and the list leaves it again
+  pub looking : (v k : Knowledge E) (c : List (ℕ × E)) (list met new left right : Me E (Knowledge E)) → k.keeps ≡ true → c ≡ [] → 0 < v.parts
+      → list ≡ (list_alone k, []) → met ≡ (union v list.0, c) → (new ≡ (up_to_date met.0, met.1)) × (met.0.least ≤ length met.0.all)
+      → left ≡ (without_list new.0, new.1) → right ≡ (list_alone new.0, []) → HasLooked v k left right
+  looking v k c list met new left right keeping free some_part from joined seen left_is right_is =
+      let M : Type 0 = Me E (Knowledge E) in
+      let both : met ≡ (knowledge v.parts v.own v.least true k.all, c) = joined ∙ (ap (λ (l : M). (union v l.0, c)) from ∙ ap (λ (u : Knowledge E). (u, c)) (meets v k keeping)) in
+      let now : new ≡ (knowledge v.parts v.own (length k.all) true k.all, c) = seen.0 ∙ ap (λ (m : M). (up_to_date m.0, m.1)) both in
+      let l : left ≡ (knowledge v.parts v.own (length k.all) false [], c) = left_is ∙ ap (λ (m : M). (without_list m.0, m.1)) now in
+      let r : right ≡ (knowledge 0 [] 0 true k.all, []) = right_is ∙ ap (λ (m : M). (list_alone m.0, [])) now in
+      record {
+        left_slot = ap (λ (m : M). m.1) l ∙ free;
+        left_list = ap (λ (m : M). m.0.keeps) l;
+        left_some = subst (λ (m : M). 0 < m.0.parts) (sym l) some_part;
+        right_slot = ap (λ (m : M). m.1) r;
+        right_list = ap (λ (m : M). m.0.keeps) r;
+        all = ap (λ (m : M). m.0.all) r;
+        parts = ap (λ (m : M). m.0.parts) l;
+        own = ap (λ (m : M). m.0.own) l;
+        least = subst (λ (m : M). m.0.least ≤ length m.0.all) both seen.1;
         next = ap (λ (m : M). m.0.least) l;
       }
 

@@ -71,6 +71,10 @@ one_part k = knowledge 1 [] k.least false []
 abbrev pub union : {E : Type 0} → Knowledge E → Knowledge E → Knowledge E
 union k l = knowledge (k.parts + l.parts) (k.own ++ l.own) (max k.least l.least) l.keeps l.all
 
+-- a strand that has seen the whole list
+abbrev pub up_to_date : {E : Type 0} → Knowledge E → Knowledge E
+up_to_date k = knowledge k.parts k.own (length k.all) k.keeps k.all
+
 -- one event more, after the list
 abbrev pub with_event : {E : Type 0} → Knowledge E → E → Knowledge E
 with_event k e =

@@ -6,7 +6,7 @@ use lib.ListN.{get_elem?}
 use Rattle.atomic_table.specs.Table.{State, Step, Me}
 use Rattle.trlab_strands.specs.declared.limits.TheConstants.{ALL_PARTS}
 use Rattle.trlab_strands.specs.declared.knowledge.Knowledge.{Knowledge}
-use Rattle.trlab_strands.specs.Knowledge.{times, once_below, StandIn, with_event}
+use Rattle.trlab_strands.specs.Knowledge.{times, once_below, StandIn, up_to_date, with_event}
 
 -- whoever has no part has no event; nobody's clock is ahead of the list, each own event stands in the list,
 -- and whoever keeps a list keeps this one
@@ -37,6 +37,7 @@ NotesEvent {E} s old found new =
 pub record Learns {E : Type 0} (k : Knowledge E) : Type 0 where
   pub few : k.parts ≤ ALL_PARTS
   pub stand : k.keeps ≡ true → StandIn k.all k.own
+  pub most : k.keeps ≡ true → length k.own ≤ length k.all
   pub whole : k.keeps ≡ true → k.parts ≡ ALL_PARTS → length k.own ≡ length k.all
   pub once : k.keeps ≡ true → length k.own ≡ length k.all
       → (n : ℕ) → times n k.own ≡ once_below n (length k.all)
@@ -44,3 +45,7 @@ pub record Learns {E : Type 0} (k : Knowledge E) : Type 0 where
 -- to look: nothing changes
 abbrev pub Looks : {E : Type 0} → Step E → Me E (Knowledge E) → ℕ → Me E (Knowledge E) → Type 0
 Looks s old found new = (new ≡ old) × Learns old.0
+
+-- to see the list: the clock, which is not ahead of it, rises to its length
+abbrev pub Sees : {E : Type 0} → Step E → Me E (Knowledge E) → ℕ → Me E (Knowledge E) → Type 0
+Sees s old found new = (new ≡ (up_to_date old.0, old.1)) × (old.0.least ≤ length old.0.all)

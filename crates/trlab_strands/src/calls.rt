@@ -3,10 +3,10 @@
 
 ghost use Rattle.std.specs.Prelude.{◌≡◌, ◌<◌, ◌≤◌, ◌+◌, max, [], ◌∷◌, ◌++◌, length};
 ghost use Rattle.trlab_strands.specs.Knowledge.{IsLinearization, StandIn};
-ghost use Rattle.trlab_strands.specs.Tokens.{Adds, IsSame, subhistory_of, least_of, list_of, parts_of};
+ghost use Rattle.trlab_strands.specs.Tokens.{Adds, HasSeen, IsSame, subhistory_of, least_of, list_of, parts_of};
 ghost use Rattle.trlab_strands.specs.declared.limits.TheConstants.{ALL_PARTS};
 
-use crate::knowledge::{Apart, Look, NoteEvent, OnePart, Together};
+use crate::knowledge::{Apart, Look, NoteEvent, OnePart, See, Together};
 use crate::ledger::Ledger;
 use crate::tokens::{Keeper, Strand, Strands};
 use std::marker::PhantomData;
@@ -24,6 +24,18 @@ impl<L: Ledger, E: Drop> Keeper<L, E> {
         self.seat = shared.split_seat::<Apart>(&mut strand.seat);
     }
 
+    /// Has a strand see the whole list, and changes nothing else.
+    pub fn look(&mut self, strands: &Strands<L, E>, strand: &mut Strand<L, E>)
+        ensures list { list_of self.new ≡ list_of self.old }
+        ensures strand { HasSeen strand.old (length (list_of self.old)) strand.new }
+    {
+        let shared = &strands.table.shared;
+        let list = shared.split_seat::<Apart>(&mut self.seat);
+        shared.join_seat::<Together>(&mut strand.seat, list);
+        shared.load::<See>(&mut strand.seat, 0);
+        self.seat = shared.split_seat::<Apart>(&mut strand.seat);
+    }
+
     /// Changes nothing, and tells how the list and a strand agree: each event of the strand stands in the
     /// list after what stood before it; with all parts the strand has as many events as the list; and where
     /// it has as many, the list is a linearization of them.
@@ -31,6 +43,7 @@ impl<L: Ledger, E: Drop> Keeper<L, E> {
         ensures same { (list_of self.new ≡ list_of self.old) × IsSame strand.old strand.new }
         ensures few { parts_of strand.old ≤ ALL_PARTS }
         ensures stand { StandIn (list_of self.old) (subhistory_of strand.old) }
+        ensures most { length (subhistory_of strand.old) ≤ length (list_of self.old) }
         ensures whole { parts_of strand.old ≡ ALL_PARTS
             → length (subhistory_of strand.old) ≡ length (list_of self.old) }
         ensures all { length (subhistory_of strand.old) ≡ length (list_of self.old)

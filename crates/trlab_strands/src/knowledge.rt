@@ -53,6 +53,15 @@ impl<E> Play<E, Knowledge<E>> for Look {
     ghost then = { Looks };
 }
 
+/// The step after which a strand has seen the whole list.
+pub struct See;
+
+impl<E> Play<E, Knowledge<E>> for See {
+    ghost use Rattle.trlab_strands.specs.Rule.{Sees};
+
+    ghost then = { Sees };
+}
+
 /// The list leaves a strand.
 pub struct Apart;
 

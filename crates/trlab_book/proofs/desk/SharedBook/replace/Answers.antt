@@ -15,5 +15,5 @@ returns g c =
     let kept = c.deref_mut.result.now.kept in
     let call = Replace c.args.job c.args.rule in
     let told = number_reply c.replace_copied-answer.result in
-    is_made (λ book. Unit {0}) kept c.replace_copied-answer.new.self call told c.reply_to_number-reply.result _ c.args.desk.now c.note_event.new.desk c.replace_copied-answer.ensures.made c.reply_to_number-reply.ensures c.deref_mut.result.now.noted (λ is. tt)
+    is_made (λ book. Unit {0}) kept c.replace_copied-answer.new.self call told c.reply_to_number-reply.result _ c.args.desk.now c.note_event.new.desk c.replace_copied-answer.ensures.made c.reply_to_number-reply.ensures c.deref_mut.result.now.noted (λ is. tt) c.replace_copied-answer.ensures.full
     (c.note_event.ensures call (next_event kept c.replace_copied-answer.new.self call told c.reply_to_number-reply.result _ c.replace_copied-answer.ensures.made c.reply_to_number-reply.ensures c.deref_mut.result.now.noted)).1

@@ -15,5 +15,5 @@ returns g c =
     let kept = c.deref_mut.result.now.kept in
     let call = Submit c.in-Ok.boxed c.args.rule c.args.steps in
     let told = number_reply c.submit_copied-answer.result in
-    rw (← c.in-Ok.ensures) (is_made (λ book. Unit {0}) kept c.submit_copied-answer.new.self call told c.reply_to_number-reply.result _ c.args.desk.now c.note_event.new.desk c.submit_copied-answer.ensures.made c.reply_to_number-reply.ensures c.deref_mut.result.now.noted (λ is. tt)
+    rw (← c.in-Ok.ensures) (is_made (λ book. Unit {0}) kept c.submit_copied-answer.new.self call told c.reply_to_number-reply.result _ c.args.desk.now c.note_event.new.desk c.submit_copied-answer.ensures.made c.reply_to_number-reply.ensures c.deref_mut.result.now.noted (λ is. tt) c.submit_copied-answer.ensures.full
     (c.note_event.ensures call (next_event kept c.submit_copied-answer.new.self call told c.reply_to_number-reply.result _ c.submit_copied-answer.ensures.made c.reply_to_number-reply.ensures c.deref_mut.result.now.noted)).1)
