@@ -1,6 +1,6 @@
 -- What callers see of a desk: the calls that were made through it, each with all that stood before it in the
 -- history.
-use Rattle.std.specs.Prelude.{◌≡◌, ◌↔◌, ℕ, ◌+◌, ◌<◌, ◌≤◌, Bool, true, false, IsTrue, Result, Option, IfOk, List, length, ◌++◌, All, MatchBool}
+use Rattle.std.specs.Prelude.{◌≡◌, ◌↔◌, ℕ, ◌+◌, ◌<◌, ◌≤◌, Bool, true, false, ◌&&◌, IsTrue, Result, Err, Option, IfOk, OnOk, count_by, List, length, ◌++◌, All, MatchBool}
 use Rattle.trlab_step.specs.Progress.{Progress}
 use Rattle.trlab_sequential_book.specs.declared.fault.BookFault.{BookFault}
 use Rattle.trlab_sequential_book.specs.declared.fault.BookFault.TheVariants.{HistoryFull}
@@ -13,7 +13,7 @@ use Rattle.trlab_sequential_book.specs.declared.event.Call.{Call}
 use Rattle.trlab_sequential_book.specs.declared.event.Call.TheVariants as call
 use Rattle.trlab_sequential_book.specs.declared.event.Event.{Event}
 use Rattle.trlab_sequential_book.specs.declared.event.Reply.{Reply}
-use Rattle.trlab_sequential_book.specs.declared.event.Reply.TheVariants.{Refused}
+use Rattle.trlab_sequential_book.specs.declared.event.Reply.TheVariants.{NoLease, Refused}
 use Rattle.trlab_sequential_book.specs.Machine.{State, reply_of}
 use Rattle.trlab_sequential_book.specs.Answers.{is_event}
 use Rattle.trlab_sequential_book.specs.Replay.{Replays, event}
@@ -22,6 +22,8 @@ use Rattle.trlab_strands.specs.Knowledge.{number_of}
 use Rattle.trlab_strands.specs.declared.ledger.Ledger.{Ghosts}
 use Rattle.trlab_strands.specs.Tokens as strand
 use Rattle.trlab_book.specs.declared.desk.Desk.{Desk}
+use Rattle.trlab_book.specs.declared.fault.RunFault.{RunFault}
+use Rattle.trlab_book.specs.declared.fault.RunFault.TheVariants as run
 
 -- how many parts of the right to call it has
 abbrev pub parts_of : {L : Type 0} {ledger : Ghosts L} → Desk L ledger → ℕ
@@ -130,3 +132,24 @@ pub record GoesOn {L : Type 0} {ledger : Ghosts L} (old new : Desk L ledger) : T
   pub more : List (Noted Event)
   pub subhistory : subhistory_of new ≡ subhistory_of old ++ more
   pub runners : AreOfRunners (least_of old) (least_of new) more
+
+-- the call of a runner that wants a job, and the reply where none is free
+abbrev pub is_lease : Call → Bool
+is_lease call.Lease = true
+is_lease _ = false
+
+abbrev pub is_no_lease : Reply → Bool
+is_no_lease NoLease = true
+is_no_lease _ = false
+
+-- how many of these events found no job free
+abbrev pub none_count : List (Noted Event) → ℕ
+none_count events = count_by (λ n. is_lease n.event.call && is_no_lease n.event.reply) events
+
+-- so many runners have called through a desk, and ended so: well, each by a call that found no job free; or by a
+-- full history, all of which the desk has seen; or for want of memory
+pub record HasEnded {L : Type 0} {ledger : Ghosts L} (runners : ℕ) (ended : Result (Unit {0}) RunFault)
+    (old new : Desk L ledger) : Type 0 where
+  pub on : GoesOn old new
+  pub out : OnOk ended (none_count (subhistory_of old) + runners ≤ none_count (subhistory_of new))
+  pub full : ended ≡ Err run.HistoryFull → MOST_EVENTS ≤ least_of new

@@ -1,9 +1,9 @@
 //! Runners that share a book.
 
-ghost use Rattle.std.specs.Prelude.{◌<◌, ◌≤◌, MatchResult};
+ghost use Rattle.std.specs.Prelude.{◌<◌, ◌≤◌, Ok, Err, MatchResult};
 ghost use Rattle.std.specs.Thread.{IsSend, IsSync};
 ghost use Rattle.trlab_bounds.specs.declared.runs.TheConstants.{MOST_RUNNERS, MOST_WORKERS};
-ghost use Rattle.trlab_book.specs.Desks.{GoesOn, parts_of};
+ghost use Rattle.trlab_book.specs.Desks.{HasEnded, parts_of};
 
 use crate::desk::{Desk, SharedBook};
 use crate::fault::{RunFault, first_fault};
@@ -35,7 +35,7 @@ pub fn run_jobs<L: Ledger + Send + Sync, R: Threads + Wait + Sync, G: Gate + Syn
 ) -> Result<Desk<L>, (Desk<L>, RunFault)>
     requires workers { (0 < workers) × (workers ≤ MOST_WORKERS) }
     requires runners { (0 < runners) × (runners ≤ MOST_RUNNERS) × (runners ≤ parts_of desk) }
-    ensures { MatchResult result (λ d. GoesOn desk d) (λ e. GoesOn desk e.0) }
+    ensures { MatchResult result (λ d. HasEnded runners (Ok tt) desk d) (λ e. HasEnded runners (Err e.1) desk e.0) }
 {
     let (desk, ended) = run_all(rt, alloc, book, desk, runners, workers, gate);
     match ended {
@@ -56,7 +56,7 @@ fn run_all<L: Ledger + Send + Sync, R: Threads + Wait + Sync, G: Gate + Sync>(
 ) -> (Desk<L>, Result<(), RunFault>)
     requires workers { (0 < workers) × (workers ≤ MOST_WORKERS) }
     requires runners { (0 < runners) × (runners ≤ parts_of desk) }
-    ensures { GoesOn desk result.0 }
+    ensures { HasEnded runners result.1 desk result.0 }
 {
     let mut desk = desk;
     let others = runners - 1;
@@ -69,7 +69,7 @@ fn run_all<L: Ledger + Send + Sync, R: Threads + Wait + Sync, G: Gate + Sync>(
         rt,
         move || -> (Desk<L>, Result<(), RunFault>)
             requires { IsSync R.row × IsSync G.row × (0 < workers) × (workers ≤ MOST_WORKERS) }
-            ensures { GoesOn theirs result.0 }
+            ensures { HasEnded 1 result.1 theirs result.0 }
         {
             let ended = run_one(rt, alloc, book, &mut theirs, workers, gate);
             (theirs, ended)
@@ -77,7 +77,7 @@ fn run_all<L: Ledger + Send + Sync, R: Threads + Wait + Sync, G: Gate + Sync>(
         move || -> (Desk<L>, Result<(), RunFault>)
             requires { IsSync R.row × IsSync G.row × IsSend L.row × IsSync L.row
                 × (0 < workers) × (workers ≤ MOST_WORKERS) × (0 < others) × (others ≤ parts_of desk) }
-            ensures { GoesOn desk result.0 }
+            ensures { HasEnded others result.1 desk result.0 }
         { run_all(rt, alloc, book, desk, others, workers, gate) },
     );
     (book.gather(mine, theirs), first_fault(one, other))

@@ -1,8 +1,10 @@
 //! What one runner does: it takes jobs from the book, one lease after the other.
 
-ghost use Rattle.std.specs.Prelude.{◌≡◌, ◌<◌, ◌≤◌};
+ghost use Rattle.std.specs.Prelude.{◌≡◌, ◌<◌, ◌≤◌, Err, MatchOption};
 ghost use Rattle.trlab_bounds.specs.declared.runs.TheConstants.{MOST_WORKERS};
-ghost use Rattle.trlab_book.specs.Desks.{GoesOn};
+ghost use Rattle.trlab_sequential_book.specs.declared.fault.BookFault.TheVariants.{HistoryFull};
+ghost use Rattle.trlab_sequential_book.specs.declared.limits.TheConstants.{MOST_EVENTS};
+ghost use Rattle.trlab_book.specs.Desks.{GoesOn, HasEnded, least_of};
 
 use crate::desk::{Desk, SharedBook};
 use crate::fault::RunFault;
@@ -27,7 +29,7 @@ pub fn run_one<L: Ledger, R: Threads + Wait + Sync, G: Gate + Sync>(
     gate: &G,
 ) -> Result<(), RunFault>
     requires { (0 < workers) × (workers ≤ MOST_WORKERS) }
-    ensures { GoesOn desk.old desk.new }
+    ensures { HasEnded 1 result desk.old desk.new }
 {
     let runner = Runner {
         rt,
@@ -38,7 +40,7 @@ pub fn run_one<L: Ledger, R: Threads + Wait + Sync, G: Gate + Sync>(
     runner.team.pool.run(
         alloc,
         &mut || -> Result<(), RunFault>
-            ensures { GoesOn desk.entry.now desk.exit.now }
+            ensures { HasEnded 1 result desk.entry.now desk.exit.now }
         { runner.take_leases(desk) },
     )
 }
@@ -55,7 +57,7 @@ struct Runner<'a, L: Ledger, R, G> {
 impl<'a, L: Ledger, R: Threads + Wait + Sync, G: Gate + Sync> Runner<'a, L, R, G> {
     /// Takes leases until no job is free.
     fn take_leases(&self, desk: &mut Desk<L>) -> Result<(), RunFault>
-        ensures { GoesOn desk.old desk.new }
+        ensures { HasEnded 1 result desk.old desk.new }
     {
         for _ in self.rt.forever() {
             if let Some(ended) = self.take_free(desk) {
@@ -67,7 +69,7 @@ impl<'a, L: Ledger, R: Threads + Wait + Sync, G: Gate + Sync> Runner<'a, L, R, G
 
     /// Leases a free job for one turn. Where none is free, or after a fault, it answers how the runner ends.
     fn take_free(&self, desk: &mut Desk<L>) -> Option<Result<(), RunFault>>
-        ensures { GoesOn desk.old desk.new }
+        ensures { MatchOption result (GoesOn desk.old desk.new) (λ ended. HasEnded 1 ended desk.old desk.new) }
     {
         match self.book.lease(self.rt, self.alloc, desk) {
             Ok(Some(lease)) => match self.take_turn(desk, lease) {
@@ -82,7 +84,7 @@ impl<'a, L: Ledger, R: Threads + Wait + Sync, G: Gate + Sync> Runner<'a, L, R, G
 
     /// Runs a lease for some steps and gives it back.
     fn take_turn(&self, desk: &mut Desk<L>, lease: Lease) -> Result<(), RunFault>
-        ensures { GoesOn desk.old desk.new }
+        ensures { HasEnded 0 result desk.old desk.new }
     {
         let mut lease = lease;
         match self.run_steps(desk, &mut lease) {
@@ -96,7 +98,8 @@ impl<'a, L: Ledger, R: Threads + Wait + Sync, G: Gate + Sync> Runner<'a, L, R, G
 
     /// Orders a step and runs it, over and over. The lock is free while it runs.
     fn run_steps(&self, desk: &mut Desk<L>, lease: &mut Lease) -> Result<(), BookFault>
-        ensures { GoesOn desk.old desk.new }
+        ensures on { GoesOn desk.old desk.new }
+        ensures full { result ≡ Err HistoryFull → MOST_EVENTS ≤ least_of desk.new }
     {
         for _ in 0..STEPS_A_TURN {
             if lease.step() >= lease.steps() {
@@ -117,7 +120,8 @@ impl<'a, L: Ledger, R: Threads + Wait + Sync, G: Gate + Sync> Runner<'a, L, R, G
     /// Drops a lease after a fault. Where memory ran out it is revoked, so that others can take the job;
     /// where the book no longer takes it, the runner goes on.
     fn end_lease(&self, desk: &mut Desk<L>, lease: Lease, fault: BookFault) -> Result<(), RunFault>
-        ensures { GoesOn desk.old desk.new }
+        requires seen { fault ≡ HistoryFull → MOST_EVENTS ≤ least_of desk.old }
+        ensures { HasEnded 0 result desk.old desk.new }
     {
         let job = lease.job();
         drop(lease);

@@ -3,14 +3,14 @@ use Rattle.trlab_book.specs.Desks.{IsOfOrder}
 use Rattle.trlab_book.proofs.GoingOn.{orders_on}
 use Rattle.trlab_book.proofs.turn.Runner.run_steps.Goals as goal
 
-pub returns-in_err-order : goal.returns-in_err-order
-returns-in_err-order g c = orders_on (λ same. IsOfOrder c.loop.lease same c.order.result) c.args.desk.now c.loop.desk c.order.new.desk c.loop.lease (order_reply c.order.result) c.loop.invariant c.order.ensures
+pub returns-in_err-order-clause-on : goal.returns-in_err-order-clause-on
+returns-in_err-order-clause-on g c = orders_on (λ same. IsOfOrder c.loop.lease same c.order.result) c.args.desk.now c.loop.desk c.order.new.desk c.loop.lease (order_reply c.order.result) c.loop.invariant c.order.ensures
 
-pub returns-in-Err-WrongOrder : goal.returns-in-Err-WrongOrder
-returns-in-Err-WrongOrder g c = orders_on (λ same. IsOfOrder c.loop.lease same c.order.result) c.args.desk.now c.loop.desk c.order.new.desk c.loop.lease (order_reply c.order.result) c.loop.invariant c.order.ensures
+pub returns-in-Err-WrongOrder-clause-on : goal.returns-in-Err-WrongOrder-clause-on
+returns-in-Err-WrongOrder-clause-on g c = orders_on (λ same. IsOfOrder c.loop.lease same c.order.result) c.args.desk.now c.loop.desk c.order.new.desk c.loop.lease (order_reply c.order.result) c.loop.invariant c.order.ensures
 
-pub returns-in-Err-Memory : goal.returns-in-Err-Memory
-returns-in-Err-Memory g c = orders_on (λ same. IsOfOrder c.loop.lease same c.order.result) c.args.desk.now c.loop.desk c.order.new.desk c.loop.lease (order_reply c.order.result) c.loop.invariant c.order.ensures
+pub returns-in-Err-Memory-clause-on : goal.returns-in-Err-Memory-clause-on
+returns-in-Err-Memory-clause-on g c = orders_on (λ same. IsOfOrder c.loop.lease same c.order.result) c.args.desk.now c.loop.desk c.order.new.desk c.loop.lease (order_reply c.order.result) c.loop.invariant c.order.ensures
 
 pub loop-preserved : goal.loop-preserved
 loop-preserved g c = orders_on (λ same. IsOfOrder c.loop.lease same c.order.result) c.args.desk.now c.loop.desk c.order.new.desk c.loop.lease (order_reply c.order.result) c.loop.invariant c.order.ensures
