@@ -1,6 +1,6 @@
 //! The windows of a series, by the steps that each has and the step from which they are counted.
 
-ghost use Rattle.std.specs.Prelude.{◌≡◌, ◌↔◌, ◌+◌, ◌*◌, ◌<◌, ◌≤◌, ℕ};
+ghost use Rattle.std.specs.Prelude.{◌≡◌, ◌↔◌, ◌+◌, ◌*◌, ◌<◌, ◌≤◌, ℕ, nat_eq, if◌then◌else◌};
 ghost use Rattle.trlab_bounds.specs.declared.runs.TheConstants.{MOST_STEPS};
 
 /// The windows of a series: window k has the steps from `from` + k * `every` on, `every` of them.
@@ -34,7 +34,10 @@ impl Windows {
 
     /// How many steps these windows take, with those before the first: none where there is no window.
     pub fn steps(&self, steps: u32) -> u32
-        ensures { result ≤ steps }
+        ensures within { result ≤ steps }
+        ensures all { (count : ℕ)
+            × ((k : ℕ) → (k < count) ↔ (self.now.from + (k + 1) * self.now.every ≤ steps))
+            × (result ≡ if nat_eq count 0 then 0 else self.now.from + count * self.now.every) }
     {
         match self.count(steps) {
             0 => 0,
