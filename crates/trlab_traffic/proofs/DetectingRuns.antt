@@ -1,10 +1,10 @@
 -- What detectors count in runs.
-use Rattle.std.proofs.Common.{◌≡◌, ℕ, zero, suc, ◌+◌, ◌<◌, ◌≤◌, Bool, true, false, cond, length, refl, sym, ◌∙◌, ap, subst, arith, ◌-◌, ◌*◌, inl, inr, if◌then◌else◌}
+use Rattle.std.proofs.Common.{◌≡◌, ℕ, zero, suc, ◌+◌, ◌<◌, ◌≤◌, Bool, true, false, cond, length, min, refl, sym, ◌∙◌, ap, subst, arith, ◌-◌, ◌*◌, inl, inr, if◌then◌else◌}
 use Rattle.std.specs.Prelude.{nat_le, sum_by}
 use Rattle.std.specs.List.{range_with_len}
 use Rattle.std.proofs.lemmas.Bool.{le-leb, cases_lt, lt-leb}
 use Rattle.std.proofs.lemmas.List.Sums.{sum_by-cons}
-use Rattle.trlab_road.specs.Cells.{Cells, Lane, lane_of}
+use Rattle.trlab_road.specs.Cells.{Cells, Lane, lane_cars, lane_of}
 use Rattle.trlab_road.specs.Gaps.{ahead}
 use Rattle.trlab_rules.specs.Rules.{Programs}
 use Rattle.trlab_machine.specs.declared.dice.Dice.{Dice}
@@ -12,12 +12,14 @@ use Rattle.trlab_step.specs.declared.tally.StepTally.{StepTally}
 use Rattle.trlab_step.specs.Next.{IsNext}
 use Rattle.trlab_step.specs.Run.{ComesTo, Seed, Sheet, dice_at, IsRoadAt}
 use Rattle.trlab_step.proofs.RunLaws.{force_all, road_at_is_one}
+use Rattle.trlab_traffic.specs.Capacity.{lane_empty_cells}
 use Rattle.trlab_traffic.specs.Detector.{all_passages, cars_ahead_of, passages, way}
-use Rattle.trlab_traffic.specs.DetectorRuns.{AreWithin, CountExists, Counts, DetectorMeasuresFlow, DetectorsAgree, DetectorsCountRun, RunIsContinuous}
+use Rattle.trlab_traffic.specs.DetectorRuns.{AreWithin, CountExists, Counts, DetectorMeasuresFlow, DetectorsAgree, DetectorsAgreeByCars, DetectorsCountRun, RunIsContinuous, scarcer}
 use Rattle.trlab_traffic.specs.Rule184.{is_taken}
 use Rattle.trlab_traffic.specs.Runs.{EachRule, StaysInLane}
 use Rattle.trlab_traffic.proofs.Capacities.{distance_counted, distance_uncounted}
 use Rattle.trlab_traffic.proofs.Detecting.{detectors_count_distance, step_is_continuous, way_reaches}
+use Rattle.trlab_traffic.proofs.FewCars.{empty_too, few, run_cars}
 use Rattle.trlab_traffic.proofs.Places.{ahead_below}
 use Rattle.trlab_traffic.proofs.LanesApart.{any_lane}
 use Rattle.trlab_traffic.proofs.NaschMoves.{motion_alone}
@@ -33,29 +35,29 @@ count_exists seed sheet (suc step) road sum l x comes =
     (count, (road, before.0, (sum, comes), before.1, refl))
 
 -- what a detector counts in one step more
-counts_on : (seed : Seed) (sheet : Sheet) (step : ℕ) (road : Cells) (l x count : ℕ) → IsRoadAt seed sheet (suc step) road → Counts seed sheet l x (suc step) count
+pub counts_on : (seed : Seed) (sheet : Sheet) (step : ℕ) (road : Cells) (l x count : ℕ) → IsRoadAt seed sheet (suc step) road → Counts seed sheet l x (suc step) count
     → (before : ℕ) × (Counts seed sheet l x step before × (count ≡ (if nat_le seed.warm step then before + passages (lane_of road l) x else before)))
 counts_on seed sheet step road l x count here counts =
     let same = road_at_is_one seed sheet (suc step) counts.0 road counts.2 here in
     (counts.1, (counts.3, counts.4 ∙ ap (λ (r : Cells). if nat_le seed.warm step then counts.1 + passages (lane_of r l) x else counts.1) same))
 
-counted_so : (b : Bool) (count before p : ℕ) → count ≡ (if b then before + p else before) → b ≡ true → count ≡ before + p
+pub counted_so : (b : Bool) (count before p : ℕ) → count ≡ (if b then before + p else before) → b ≡ true → count ≡ before + p
 counted_so true count before p is so = is
 counted_so false count before p is so = absurd (cc so)
 
-uncounted_so : (b : Bool) (count before p : ℕ) → count ≡ (if b then before + p else before) → b ≡ false → count ≡ before
+pub uncounted_so : (b : Bool) (count before p : ℕ) → count ≡ (if b then before + p else before) → b ≡ false → count ≡ before
 uncounted_so true count before p is so = absurd (cc so)
 uncounted_so false count before p is so = is
 
 -- nothing is counted before the count begins
-none_counted : (seed : Seed) (sheet : Sheet) (l x step count : ℕ) → step ≤ seed.warm → Counts seed sheet l x step count → count ≡ 0
+pub none_counted : (seed : Seed) (sheet : Sheet) (l x step count : ℕ) → step ≤ seed.warm → Counts seed sheet l x step count → count ≡ 0
 none_counted seed sheet l x zero count early counts = counts
 none_counted seed sheet l x (suc step) count early counts =
     uncounted_so (nat_le seed.warm step) count counts.1 (passages (lane_of counts.0 l) x) counts.4 (lt-leb seed.warm step (omega (arith, early)))
     ∙ none_counted seed sheet l x step counts.1 (omega (arith, early)) counts.3
 
 -- a run has a road at each step before
-road_before : (seed : Seed) (sheet : Sheet) (at step : ℕ) (road : Cells) → at ≤ step → IsRoadAt seed sheet step road → (start : Cells) × IsRoadAt seed sheet at start
+pub road_before : (seed : Seed) (sheet : Sheet) (at step : ℕ) (road : Cells) → at ≤ step → IsRoadAt seed sheet step road → (start : Cells) × IsRoadAt seed sheet at start
 road_before seed sheet at zero road early here = let e : 0 ≡ at = omega (arith, early) in (road, subst (λ k. IsRoadAt seed sheet k road) e here)
 road_before seed sheet at (suc step) road early here =
     elim (cases_lt step at) [
@@ -127,7 +129,7 @@ one_most : (b : Bool) → cond b 1 0 ≤ 1
 one_most true = omega arith
 one_most false = omega arith
 
-few_cars : (lane : Lane) (x k : ℕ) → cars_ahead_of lane x k ≤ k
+pub few_cars : (lane : Lane) (x k : ℕ) → cars_ahead_of lane x k ≤ k
 few_cars lane x k = digit_most (λ j. cond (is_taken lane (ahead (length lane) x j)) 1 0) 1 k (λ j. one_most (is_taken lane (ahead (length lane) x j)))
 
 pub detectors_agree : DetectorsAgree
@@ -144,6 +146,38 @@ detectors_agree seed sheet step road sum l x k first second nobody comes both =
           let a = few_cars (lane_of road l) x k in
           let b = few_cars (lane_of start.0 l) x k in
           record { no_less = omega (arith, all, a, b); no_more = omega (arith, all, a, b) }
+    ]
+
+pub detectors_agree_by_cars : DetectorsAgreeByCars
+detectors_agree_by_cars seed sheet step road sum l x k first second nobody comes round both =
+    let n = length (lane_of seed.road l) in
+    elim (cases_lt step seed.warm) [
+      | inl early ↦
+          let a = none_counted seed sheet l x step first (omega (arith, early)) both.here in
+          let b = none_counted seed sheet l (ahead n x k) step second (omega (arith, early)) both.there in
+          record { no_less = omega (arith, a, b); no_more = omega (arith, a, b) }
+      | inr late ↦
+          let start = road_before seed sheet seed.warm step road late (sum, comes) in
+          let all = run_is_continuous seed sheet step start.0 road l x k first second nobody late start.1 (sum, comes) both in
+          let keeps = run_cars seed sheet step road sum l nobody comes in
+          let kept = run_cars seed sheet seed.warm start.0 start.1.0 l nobody start.1.1 in
+          let size = keeps.size in
+          let first_size = kept.size in
+          let now = few (lane_of road l) x k (omega (arith, round, size)) in
+          let before = few (lane_of start.0 l) x k (omega (arith, round, first_size)) in
+          let a = now.most in
+          let b = now.least in
+          let c = before.most in
+          let d = before.least in
+          let e = few_cars (lane_of road l) x k in
+          let f = few_cars (lane_of start.0 l) x k in
+          let count = keeps.count in
+          let first_count = kept.count in
+          let free = empty_too seed.road road l keeps in
+          let first_free = empty_too seed.road start.0 l kept in
+          let no_less : first ≤ second + min (lane_cars (lane_of seed.road l)) (lane_empty_cells (lane_of seed.road l)) = omega (arith, all, a, b, c, d, e, f, count, first_count, free, first_free) in
+          let no_more : second ≤ first + min (lane_cars (lane_of seed.road l)) (lane_empty_cells (lane_of seed.road l)) = omega (arith, all, a, b, c, d, e, f, count, first_count, free, first_free) in
+          record { no_less = no_less; no_more = no_more }
     ]
 
 -- sums of what detectors count
@@ -207,18 +241,21 @@ sum_no_less f c d s (suc k) each =
     let a = sum_by-cons f s (range_with_len (s + 1) k) in
     omega (arith, first, rest, a)
 
+measured : (n count apart distance total : ℕ) → total ≡ distance → total ≤ n * count + n * apart → n * count ≤ total + n * apart → AreWithin (n * apart) (n * count) distance
+measured n count apart distance total all most least = record { no_less = omega (arith, least, all); no_more = omega (arith, most, all) }
+
 pub detector_measures_flow : DetectorMeasuresFlow
 detector_measures_flow seed sheet step road sum x count nobody one comes low counted =
     let n = length (lane_of seed.road 0) in
     let counts : (y : ℕ) → (c : ℕ) × Counts seed sheet 0 y step c = λ y. count_exists seed sheet step road sum 0 y comes in
     let all = detectors_count_run seed sheet step road sum (λ y. (counts y).0) one comes (λ y. (counts y).1) in
-    let near : (y : ℕ) → y < n → AreWithin (way n x y) count (counts y).0 = λ y high.
-    detectors_agree seed sheet step road sum 0 x (way n x y) count (counts y).0 nobody comes (record {
+    let near : (y : ℕ) → y < n → AreWithin (scarcer (lane_of seed.road 0)) count (counts y).0 = λ y high.
+    let short : way n x y < n = ahead_below n y (n - x) (omega (arith, low)) in
+    detectors_agree_by_cars seed sheet step road sum 0 x (way n x y) count (counts y).0 nobody comes (let k : way n x y ≤ n = omega (arith, short) in k) (record {
       is_cell = low;
       here = counted;
       there = subst (λ z. Counts seed sheet 0 z step (counts y).0) (sym (way_reaches n x y low high)) (counts y).1;
     }) in
-    let short : (y : ℕ) → way n x y < n = λ y. ahead_below n y (n - x) (omega (arith, low)) in
-    let most = sum_no_more (λ y. (counts y).0) count n 0 n (λ y high. let a = (near y (omega (arith, high))).no_more in let b = short y in omega (arith, a, b)) in
-    let least = sum_no_less (λ y. (counts y).0) count n 0 n (λ y high. let a = (near y (omega (arith, high))).no_less in let b = short y in omega (arith, a, b)) in
-    record { no_less = omega (arith, least, all); no_more = omega (arith, most, all) }
+    let most = sum_no_more (λ y. (counts y).0) count (scarcer (lane_of seed.road 0)) 0 n (λ y high. (near y (omega (arith, high))).no_more) in
+    let least = sum_no_less (λ y. (counts y).0) count (scarcer (lane_of seed.road 0)) 0 n (λ y high. (near y (omega (arith, high))).no_less) in
+    measured n count (scarcer (lane_of seed.road 0)) sum.distance (sum_by (λ y. (counts y).0) (range_with_len 0 n)) all most least

@@ -12,7 +12,7 @@ abbrev pub digit_at : Lane → ℕ → ℕ
 digit_at lane p = digit (is_taken lane (p % length lane))
 
 -- as many digits as cars
-taken_total : (lane : Lane) → total (λ x. digit (is_taken lane x)) (length lane) ≡ lane_cars lane
+pub taken_total : (lane : Lane) → total (λ x. digit (is_taken lane x)) (length lane) ≡ lane_cars lane
 taken_total [] = refl
 taken_total (None ∷ cells) =
     let rest = taken_total cells in

@@ -9,6 +9,8 @@ pub mod NaschMoves
 -- how far cars go
 pub mod RoomAhead
 pub mod Capacities
+pub mod Moving
+pub mod Changing
 pub mod Freely
 pub mod SlowStarts
 pub mod Slower
@@ -16,6 +18,12 @@ pub mod Slower
 pub mod GapsAfter
 pub mod Jamming
 pub mod NextCars
+-- runs that are compared, car by car
+pub mod Numbering
+pub mod Going
+pub mod Courses
+pub mod Races
+pub mod Fastest
 -- what makes no difference
 pub mod Turning
 pub mod TurnedSums
@@ -30,6 +38,7 @@ pub mod Wolfram
 -- the fundamental diagram without randomization
 pub mod EvenGaps
 pub mod EvenFlows
+pub mod Speeding
 pub mod Digits
 pub mod Heights
 pub mod Leaping
@@ -37,4 +46,7 @@ pub mod Readiness
 -- what detectors count
 pub mod Detecting
 pub mod OnePassage
+pub mod FewCars
 pub mod DetectingRuns
+pub mod Headways
+pub mod Rows

@@ -57,7 +57,7 @@ brakes_by true false speed so = let e = so refl in absurd cc
 brakes_by false true speed so = (omega arith, omega arith)
 brakes_by false false speed so = (omega arith, omega arith)
 
-more_happens : (p q word : ℕ) → p ≤ q → happens_on p word ≡ true → happens_on q word ≡ true
+pub more_happens : (p q word : ℕ) → p ≤ q → happens_on p word ≡ true → happens_on q word ≡ true
 more_happens p q word more is =
     elim (cases_lt (word / 2) p) [
       | inl below ↦ lt-ltb (word / 2) q (omega (arith, below, more))

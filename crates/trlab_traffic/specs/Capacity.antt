@@ -58,3 +58,10 @@ RunKeepsToCapacity =
     (seed : Seed) (sheet : Sheet) (step : ℕ) (road : Cells) (sum : StepTally)
     → IsLegal seed.road → ComesTo seed sheet step road sum
     → IsWithinCapacity seed.road (counted_steps seed step) sum.distance
+
+-- so no flow is above the peak of the triangle, the limit over one more than the limit
+abbrev pub RunKeepsBelowPeak : Type 0
+RunKeepsBelowPeak =
+    (seed : Seed) (sheet : Sheet) (step : ℕ) (road : Cells) (sum : StepTally)
+    → IsLegal seed.road → ComesTo seed sheet step road sum
+    → (seed.road.limit + 1) * sum.distance ≤ counted_steps seed step * (seed.road.limit * all_cells seed.road)

@@ -1,10 +1,12 @@
 -- What detectors count in the steps of a run, from the step on from which its tally counts.
-use Rattle.std.specs.Prelude.{◌≡◌, ℕ, zero, suc, ◌+◌, ◌*◌, ◌<◌, ◌≤◌, if◌then◌else◌, length, nat_le, sum_by}
+use Rattle.std.specs.Prelude.{◌≡◌, ℕ, zero, suc, ◌+◌, ◌*◌, ◌<◌, ◌≤◌, if◌then◌else◌, length, min, nat_le, sum_by}
 use Rattle.std.specs.List.{range_with_len}
-use Rattle.trlab_road.specs.Cells.{Cells, lane_of}
+use Rattle.trlab_road.specs.Cells.{Cells, Lane, lane_cars, lane_of}
 use Rattle.trlab_road.specs.Gaps.{ahead}
+use Rattle.trlab_road.specs.Legal.{IsLegal}
 use Rattle.trlab_step.specs.declared.tally.StepTally.{StepTally}
 use Rattle.trlab_step.specs.Run.{Seed, Sheet, ComesTo, IsRoadAt}
+use Rattle.trlab_traffic.specs.Capacity.{lane_empty_cells}
 use Rattle.trlab_traffic.specs.Detector.{IsContinuous, passages}
 use Rattle.trlab_traffic.specs.Runs.{EachRule, StaysInLane}
 
@@ -48,6 +50,17 @@ DetectorsAgree =
     → EachRule StaysInLane sheet → ComesTo seed sheet step road sum
     → CountBoth seed sheet step l x k first second → AreWithin k first second
 
+-- the lesser of the cars of a lane and its empty cells
+abbrev pub scarcer : Lane → ℕ
+scarcer lane = min (lane_cars lane) (lane_empty_cells lane)
+
+-- nor, within a round, by more than the cars of the lane, or its empty cells
+abbrev pub DetectorsAgreeByCars : Type 0
+DetectorsAgreeByCars =
+    (seed : Seed) (sheet : Sheet) (step : ℕ) (road : Cells) (sum : StepTally) (l x k first second : ℕ)
+    → EachRule StaysInLane sheet → ComesTo seed sheet step road sum → k ≤ length (lane_of seed.road l)
+    → CountBoth seed sheet step l x k first second → AreWithin (scarcer (lane_of seed.road l)) first second
+
 -- the detectors of a run on one lane together count its distance, under any sheet of rules
 abbrev pub DetectorsCountRun : Type 0
 DetectorsCountRun =
@@ -57,9 +70,9 @@ DetectorsCountRun =
     → sum_by count (range_with_len 0 (length (lane_of seed.road 0))) ≡ sum.distance
 
 -- the count of one detector of a ring, taken once for each cell, differs from the distance by no more than
--- the square of the cells
-abbrev pub Measures : ℕ → ℕ → ℕ → Type 0
-Measures cells count distance = AreWithin (cells * cells) (cells * count) distance
+-- the lesser of its cars and its empty cells, taken once for each cell too
+abbrev pub Measures : Lane → ℕ → ℕ → Type 0
+Measures lane count distance = AreWithin (length lane * scarcer lane) (length lane * count) distance
 
 -- so in a run on one lane, under any sheet of rules without lane changes, each detector by itself measures
 -- the flow: the more steps, the better
@@ -68,4 +81,12 @@ DetectorMeasuresFlow =
     (seed : Seed) (sheet : Sheet) (step : ℕ) (road : Cells) (sum : StepTally) (x count : ℕ)
     → EachRule StaysInLane sheet → length seed.road.lanes ≡ 1 → ComesTo seed sheet step road sum
     → x < length (lane_of seed.road 0) → Counts seed sheet 0 x step count
-    → Measures (length (lane_of seed.road 0)) count sum.distance
+    → Measures (lane_of seed.road 0) count sum.distance
+
+-- in no more steps in a row than one more than the limit a detector counts no more cars than the limit, under
+-- any sheet of rules without lane changes
+abbrev pub DetectorCountsBelowPeak : Type 0
+DetectorCountsBelowPeak =
+    (seed : Seed) (sheet : Sheet) (step l x count : ℕ)
+    → EachRule StaysInLane sheet → IsLegal seed.road → x < length (lane_of seed.road l)
+    → step ≤ seed.warm + seed.road.limit + 1 → Counts seed sheet l x step count → count ≤ seed.road.limit

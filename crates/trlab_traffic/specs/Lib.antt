@@ -2,6 +2,8 @@
 pub mod Runs
 -- how far cars go
 pub mod Capacity
+pub mod Moving
+pub mod Changing
 pub mod FreeFlow
 pub mod Metastable
 pub mod Randomization
@@ -9,6 +11,9 @@ pub mod Randomization
 pub mod Following
 pub mod Jams
 pub mod Overtaking
+-- runs that are compared, car by car
+pub mod Gone
+pub mod Fastest
 -- what makes no difference
 pub mod Homogeneity
 pub mod Symmetry
@@ -22,3 +27,4 @@ pub mod Diagram
 -- what detectors count
 pub mod Detector
 pub mod DetectorRuns
+pub mod Rows

@@ -1,17 +1,19 @@
 -- Slow starts make free flow metastable (Barlovic and others 1998). Where cars that move never brake by
 -- chance, free flow goes on for ever; where cars that are stopped always do, a road of stopped cars stays so
 -- for ever, however few they are. So at one density there are two flows, and the start decides which.
-use Rattle.std.specs.Prelude.{◌≡◌, ℕ}
+use Rattle.std.specs.Prelude.{◌≡◌, ℕ, ◌+◌, ◌*◌, ◌≤◌, length}
 use Rattle.trlab_bounds.specs.declared.programs.TheConstants.{CERTAIN}
 use Rattle.trlab_road.specs.declared.car.Car.{Car}
-use Rattle.trlab_road.specs.Cells.{Cells, IsAt}
+use Rattle.trlab_road.specs.Cells.{Cells, IsAt, cars}
 use Rattle.trlab_road.specs.Legal.{IsLegal}
+use Rattle.trlab_road.specs.Spreading.{CanSpread}
 use Rattle.trlab_rules.specs.Rules.{Programs}
 use Rattle.trlab_rules.specs.StandardRules.{IsVdr}
 use Rattle.trlab_step.specs.declared.tally.StepTally.{StepTally}
 use Rattle.trlab_step.specs.Run.{Seed, ComesTo}
+use Rattle.trlab_traffic.specs.Capacity.{all_cells}
 use Rattle.trlab_traffic.specs.FreeFlow.{FlowsFreely, IsFree}
-use Rattle.trlab_traffic.specs.Runs.{always}
+use Rattle.trlab_traffic.specs.Runs.{always, counted_steps}
 
 -- a road whose cars are all stopped
 pub record IsStopped (road : Cells) : Type 0 where
@@ -30,3 +32,31 @@ SlowStartsKeepJams =
     (p : ℕ) (rule : Programs) (seed : Seed) (step : ℕ) (road : Cells) (sum : StepTally)
     → IsVdr p CERTAIN rule → IsLegal seed.road → IsStopped seed.road
     → ComesTo seed (always rule) step road sum → (road ≡ seed.road) × (sum.distance ≡ 0)
+
+-- a legal road of one lane with so many cells, this limit and n cars
+pub record IsRing (cells limit n : ℕ) (road : Cells) : Type 0 where
+  pub legal : IsLegal road
+  pub one_lane : length road.lanes ≡ 1
+  pub same_cells : all_cells road ≡ cells
+  pub same_limit : road.limit ≡ limit
+  pub same_cars : cars road ≡ n
+
+-- two such roads: under a rule the cars of one go by the limit in each step that is counted, and those of the
+-- other never go
+pub record HasTwoFlows (cells limit n : ℕ) (rule : Programs) : Type 0 where
+  pub free : Cells
+  pub jam : Cells
+  pub free_ring : IsRing cells limit n free
+  pub jam_ring : IsRing cells limit n jam
+  pub flows : (seed : Seed) (step : ℕ) (road : Cells) (sum : StepTally) → seed.road ≡ free
+      → ComesTo seed (always rule) step road sum → sum.distance ≡ counted_steps seed step * (limit * n)
+  pub stands : (seed : Seed) (step : ℕ) (road : Cells) (sum : StepTally) → seed.road ≡ jam
+      → ComesTo seed (always rule) step road sum → sum.distance ≡ 0
+
+-- with the chance 0 for cars that move, and certainty for those that are stopped, there are such two at each
+-- density that leaves room for the limit
+abbrev pub TwoFlowsAtOneDensity : Type 0
+TwoFlowsAtOneDensity =
+    (cells limit n : ℕ) (rule : Programs)
+    → IsVdr 0 CERTAIN rule → CanSpread 1 cells limit n → n * (limit + 1) ≤ cells
+    → HasTwoFlows cells limit n rule

@@ -4,19 +4,29 @@
 
 ghost use Rattle.trlab_traffic.specs.Apart.{RunKeepsLanesApart, StepKeepsLanesApart};
 ghost use Rattle.trlab_traffic.specs.Capacity.{CellsAreTakenOrEmpty, RunKeepsToCapacity, StepKeepsToCapacity};
+ghost use Rattle.trlab_traffic.specs.Capacity.{RunKeepsBelowPeak};
 ghost use Rattle.trlab_traffic.specs.Certainty.{NaschWithoutRandomization, RunIsDeterministic, StepIsDeterministic};
+ghost use Rattle.trlab_traffic.specs.Changing.{RunChangesFew, StepChangesFew};
 ghost use Rattle.trlab_traffic.specs.Detector.{DetectorCountsOne, DetectorsCountDistance, StepIsContinuous};
 ghost use Rattle.trlab_traffic.specs.DetectorRuns.{CountExists, DetectorMeasuresFlow, DetectorsAgree};
+ghost use Rattle.trlab_traffic.specs.DetectorRuns.{DetectorCountsBelowPeak, DetectorsAgreeByCars};
 ghost use Rattle.trlab_traffic.specs.DetectorRuns.{DetectorsCountRun, RunIsContinuous};
 ghost use Rattle.trlab_traffic.specs.Diagram.{EvenCarsFlowAtCapacity, NaschComesToCapacity, Rule184ComesToCapacity};
+ghost use Rattle.trlab_traffic.specs.Fastest.{GapProgramGoesAtOnce, NaschSpeedsUpByOne, NobodyBeatsGap};
+ghost use Rattle.trlab_traffic.specs.Fastest.{NobodyBeatsNasch, RandomizationSlowsRuns, SlowStartsSlowRuns};
+ghost use Rattle.trlab_traffic.specs.Fastest.{VdrSpeedsUpByOne};
 ghost use Rattle.trlab_traffic.specs.Following.{GapsFollow};
 ghost use Rattle.trlab_traffic.specs.FreeFlow.{FreeFlowGoesOn, FreeFlowStaysFree};
+ghost use Rattle.trlab_traffic.specs.Gone.{CarsGoDistance, EachCarHasGone, GoneIsOne};
 ghost use Rattle.trlab_traffic.specs.Homogeneity.{RunIsHomogeneous, StepIsHomogeneous};
 ghost use Rattle.trlab_traffic.specs.Jams.{CarWithoutGapStops};
-ghost use Rattle.trlab_traffic.specs.Metastable.{SlowStartsKeepFreeFlow, SlowStartsKeepJams};
+ghost use Rattle.trlab_traffic.specs.Metastable.{SlowStartsKeepFreeFlow, SlowStartsKeepJams, TwoFlowsAtOneDensity};
+ghost use Rattle.trlab_traffic.specs.Moving.{RunGoesByMovingCars, StepGoesByMovingCars};
 ghost use Rattle.trlab_traffic.specs.Overtaking.{EachCarHasNext, NextCarIsOne, RunKeepsNextCar, StepKeepsNextCar};
 ghost use Rattle.trlab_traffic.specs.Randomization.{RandomizationSlows, SlowStartsSlow};
 ghost use Rattle.trlab_traffic.specs.Reduction.{RickertWithoutChange, RunsAlike, VdrOfOneChance};
+ghost use Rattle.trlab_traffic.specs.Rows.{RowMeasuresFlow, RowsAgree};
+ghost use Rattle.trlab_traffic.specs.Rows.{RunIsContinuousByRows, StepIsContinuousByRows};
 ghost use Rattle.trlab_traffic.specs.Rule184.{EmptyCellsGoBack, NaschIsRule184};
 ghost use Rattle.trlab_traffic.specs.Symmetry.{RickertIgnoresLane, RunIsSymmetric, StepIsSymmetric};
 
@@ -33,6 +43,25 @@ pub fn run_keeps_to_capacity()
     ensures run { RunKeepsToCapacity }
 {}
 
+/// No flow is above the peak of the triangle, the limit over one more than the limit, whatever the density and the
+/// rules.
+pub fn run_keeps_below_peak()
+    ensures { RunKeepsBelowPeak }
+{}
+
+/// Cars that are not stopped go a cell at least in a step, and no further than the limit: so distances and stops bound
+/// each other, in steps and runs.
+pub fn moving_cars_go()
+    ensures step { StepGoesByMovingCars }
+    ensures run { RunGoesByMovingCars }
+{}
+
+/// In a step no more cars change lanes than there are empty cells, under any rule; and so in each step of a run.
+pub fn few_cars_change_lanes()
+    ensures step { StepChangesFew }
+    ensures run { RunChangesFew }
+{}
+
 /// Free flow stays free for ever under the rule of 1992 without randomization: all cars go by the limit (Nagel and
 /// Schreckenberg 1992, J. Phys. I France 2, 2221).
 pub fn free_flow_stays_free()
@@ -45,6 +74,13 @@ pub fn free_flow_stays_free()
 pub fn slow_starts_are_metastable()
     ensures free { SlowStartsKeepFreeFlow }
     ensures jam { SlowStartsKeepJams }
+{}
+
+/// So at each density that leaves room for the limit there are two roads of as many cars and cells: under a rule by
+/// which stopped cars alone brake by chance, and always, the cars of one go by the limit for ever, and those of the
+/// other never go.
+pub fn two_flows_at_one_density()
+    ensures { TwoFlowsAtOneDensity }
 {}
 
 /// With a greater chance of braking the cars of a road go less far in a step, by a cell each at most, and no fewer of
@@ -72,6 +108,34 @@ pub fn nobody_overtakes()
     ensures one { NextCarIsOne }
     ensures step { StepKeepsNextCar }
     ensures run { RunKeepsNextCar }
+{}
+
+/// How far the cars of a run have gone: each some way, and one only; together the distance of the run.
+pub fn cars_go_distance()
+    ensures each { EachCarHasGone }
+    ensures one { GoneIsOne }
+    ensures all { CarsGoDistance }
+{}
+
+/// Nobody beats the rule of 1992 without randomization, car by car and step by step of runs from one start without
+/// lane changes, under rules that speed up by one at most; those of 1992 and 1998 do.
+pub fn nobody_beats_nasch()
+    ensures run { NobodyBeatsNasch }
+    ensures nasch { NaschSpeedsUpByOne }
+    ensures vdr { VdrSpeedsUpByOne }
+{}
+
+/// Nobody at all beats cars that come to their speed at once (Fukui and Ishibashi 1996, J. Phys. Soc. Japan 65, 1868).
+pub fn nobody_beats_gap()
+    ensures run { NobodyBeatsGap }
+    ensures program { GapProgramGoesAtOnce }
+{}
+
+/// With the limit 1 a greater chance of braking slows whole runs, car by car: under the rules of 1992 and of 1998, each
+/// beside that of 1992 with no greater chance.
+pub fn randomization_slows_runs()
+    ensures nasch { RandomizationSlowsRuns }
+    ensures vdr { SlowStartsSlowRuns }
 {}
 
 /// No place of a ring differs from the others: under any rule a legal road that is turned goes on to its next road,
@@ -147,11 +211,29 @@ pub fn detectors_count_flow()
 {}
 
 /// So it is in the steps of a run that are counted, and the counts of two detectors never differ by more than the cells
-/// between them. On one lane all detectors together count the distance, and each by itself measures the flow.
+/// between them, nor than the cars of their lane, or its empty cells. On one lane all detectors together count the
+/// distance, and each by itself measures the flow.
 pub fn detectors_count_runs()
     ensures exists { CountExists }
     ensures run { RunIsContinuous }
     ensures agree { DetectorsAgree }
+    ensures by_cars { DetectorsAgreeByCars }
     ensures distance { DetectorsCountRun }
     ensures flow { DetectorMeasuresFlow }
+{}
+
+/// In no more steps in a row than one more than the limit a detector counts no more cars than the limit: between
+/// passages there is room, where nobody changes lanes.
+pub fn detector_counts_below_peak()
+    ensures { DetectorCountsBelowPeak }
+{}
+
+/// Where cars change lanes too, no car is lost or made between the detectors of two places, on all lanes together: so
+/// the counts of two rows of detectors, one on each lane, never differ by more than all cars, or all empty cells, and
+/// each row by itself measures the flow.
+pub fn rows_of_detectors_count()
+    ensures step { StepIsContinuousByRows }
+    ensures run { RunIsContinuousByRows }
+    ensures agree { RowsAgree }
+    ensures flow { RowMeasuresFlow }
 {}

@@ -1,0 +1,30 @@
+-- Cars that move: each goes a cell at least in a step, and no further than the limit.
+use Rattle.std.specs.Prelude.{ℕ, ◌+◌, ◌*◌, ◌≤◌}
+use Rattle.trlab_road.specs.Cells.{Cells, cars}
+use Rattle.trlab_road.specs.Legal.{IsLegal}
+use Rattle.trlab_rules.specs.Rules.{Programs}
+use Rattle.trlab_machine.specs.declared.dice.Dice.{Dice}
+use Rattle.trlab_step.specs.declared.tally.StepTally.{StepTally}
+use Rattle.trlab_step.specs.Next.{IsNext}
+use Rattle.trlab_step.specs.Run.{Seed, Sheet, ComesTo}
+use Rattle.trlab_traffic.specs.Capacity.{distance_at_limit}
+use Rattle.trlab_traffic.specs.Runs.{counted_steps}
+
+-- the cars of so many steps, but for those that were stopped, have gone a cell each at least, and the limit
+-- each at most
+pub record GoesByMovingCars (road : Cells) (steps : ℕ) (sum : StepTally) : Type 0 where
+  pub cell_each : steps * cars road ≤ sum.distance + sum.stopped
+  pub limit_each : sum.distance + road.limit * sum.stopped ≤ steps * distance_at_limit road
+
+-- in a step, under any rule
+abbrev pub StepGoesByMovingCars : Type 0
+StepGoesByMovingCars =
+    (rule : Programs) (dice : Dice) (road next : Cells) (tally : StepTally)
+    → IsLegal road → IsNext rule dice road next tally → GoesByMovingCars road 1 tally
+
+-- and in the steps of a run that are counted, under any sheet of rules
+abbrev pub RunGoesByMovingCars : Type 0
+RunGoesByMovingCars =
+    (seed : Seed) (sheet : Sheet) (step : ℕ) (road : Cells) (sum : StepTally)
+    → IsLegal seed.road → ComesTo seed sheet step road sum
+    → GoesByMovingCars seed.road (counted_steps seed step) sum

@@ -1,0 +1,64 @@
+-- Rows of detectors, one on each lane at a place: what they say of the cars between two of them, where cars change
+-- lanes too.
+use Rattle.std.specs.Prelude.{◌≡◌, ℕ, ◌+◌, ◌*◌, ◌<◌, ◌≤◌, length, min, sum_by}
+use Rattle.std.specs.List.{range_with_len}
+use Rattle.trlab_road.specs.Cells.{Cells, Lane, cars, lane_of}
+use Rattle.trlab_road.specs.Gaps.{ahead}
+use Rattle.trlab_road.specs.Legal.{IsLegal}
+use Rattle.trlab_rules.specs.Rules.{Programs}
+use Rattle.trlab_machine.specs.declared.dice.Dice.{Dice}
+use Rattle.trlab_step.specs.declared.tally.StepTally.{StepTally}
+use Rattle.trlab_step.specs.Next.{IsNext}
+use Rattle.trlab_step.specs.Run.{Seed, Sheet, ComesTo, IsRoadAt}
+use Rattle.trlab_traffic.specs.Capacity.{empty_cells}
+use Rattle.trlab_traffic.specs.Detector.{cars_ahead_of, passages}
+use Rattle.trlab_traffic.specs.DetectorRuns.{AreWithin, Counts}
+
+-- how many cars stand in the k cells ahead of a place, on all lanes together
+abbrev pub cars_ahead_of_row : Cells → ℕ → ℕ → ℕ
+cars_ahead_of_row road x k = sum_by (λ (lane : Lane). cars_ahead_of lane x k) road.lanes
+
+-- the passages at the detectors of a place, one on each lane, together
+abbrev pub row_passages : Cells → ℕ → ℕ
+row_passages road x = sum_by (λ (lane : Lane). passages lane x) road.lanes
+
+-- continuity of all lanes together, under any rule: cars that change lanes stay between two places
+abbrev pub StepIsContinuousByRows : Type 0
+StepIsContinuousByRows =
+    (rule : Programs) (dice : Dice) (old new : Cells) (tally : StepTally) (x k : ℕ)
+    → IsLegal old → IsNext rule dice old new tally → x < length (lane_of old 0)
+    → let end = ahead (length (lane_of old 0)) x k in
+    cars_ahead_of_row new x k + row_passages new end ≡ cars_ahead_of_row old x k + row_passages new x
+
+-- and so are the steps of a run, from the road on at which the counts of its detectors begin
+abbrev pub RunIsContinuousByRows : Type 0
+RunIsContinuousByRows =
+    (seed : Seed) (sheet : Sheet) (step : ℕ) (start road : Cells) (x k : ℕ) (first second : ℕ → ℕ)
+    → IsLegal seed.road → x < length (lane_of seed.road 0) → seed.warm ≤ step
+    → IsRoadAt seed sheet seed.warm start → IsRoadAt seed sheet step road
+    → ((l : ℕ) → Counts seed sheet l x step (first l))
+    → ((l : ℕ) → Counts seed sheet l (ahead (length (lane_of seed.road 0)) x k) step (second l))
+    → let lanes = range_with_len 0 (length seed.road.lanes) in
+    cars_ahead_of_row road x k + sum_by second lanes ≡ cars_ahead_of_row start x k + sum_by first lanes
+
+-- so the counts of two rows of detectors, one on each lane, differ within a round by no more than all cars, or
+-- all empty cells, whatever lanes cars change to
+abbrev pub RowsAgree : Type 0
+RowsAgree =
+    (seed : Seed) (sheet : Sheet) (step : ℕ) (road : Cells) (sum : StepTally) (x k : ℕ) (first second : ℕ → ℕ)
+    → IsLegal seed.road → ComesTo seed sheet step road sum
+    → x < length (lane_of seed.road 0) → k ≤ length (lane_of seed.road 0)
+    → ((l : ℕ) → Counts seed sheet l x step (first l))
+    → ((l : ℕ) → Counts seed sheet l (ahead (length (lane_of seed.road 0)) x k) step (second l))
+    → let lanes = range_with_len 0 (length seed.road.lanes) in
+    AreWithin (min (cars seed.road) (empty_cells seed.road)) (sum_by first lanes) (sum_by second lanes)
+
+-- and each row by itself measures the flow of a run, under any sheet of rules
+abbrev pub RowMeasuresFlow : Type 0
+RowMeasuresFlow =
+    (seed : Seed) (sheet : Sheet) (step : ℕ) (road : Cells) (sum : StepTally) (x : ℕ) (count : ℕ → ℕ)
+    → IsLegal seed.road → ComesTo seed sheet step road sum → x < length (lane_of seed.road 0)
+    → ((l : ℕ) → Counts seed sheet l x step (count l))
+    → let cells = length (lane_of seed.road 0) in
+    let row = sum_by count (range_with_len 0 (length seed.road.lanes)) in
+    AreWithin (cells * min (cars seed.road) (empty_cells seed.road)) (cells * row) sum.distance
