@@ -15,7 +15,7 @@ below_four P p0 p1 p2 p3 (suc (suc (suc zero))) h = p3
 below_four P p0 p1 p2 p3 (suc (suc (suc (suc n)))) h = absurd (omega arith)
 
 -- what holds of each of the sixteen words
-below_sixteen : (P : ℕ → Type 0) → P 0 → P 1 → P 2 → P 3 → P 4 → P 5 → P 6 → P 7
+pub below_sixteen : (P : ℕ → Type 0) → P 0 → P 1 → P 2 → P 3 → P 4 → P 5 → P 6 → P 7
     → P 8 → P 9 → P 10 → P 11 → P 12 → P 13 → P 14 → P 15 → (k : ℕ) → k < 16 → P k
 below_sixteen P a0 a1 a2 a3 b0 b1 b2 b3 c0 c1 c2 c3 d0 d1 d2 d3 k h =
     let place : 4 * (k / 4) + k % 4 ≡ k = omega arith in

@@ -1,3 +1,4 @@
 pub mod RandomWords
 pub mod LaneLemmas
 pub mod KeyBytes
+pub mod FirstRounds

@@ -3,16 +3,19 @@
 ghost use Rattle.std.specs.Prelude.{◌≡◌, ℕ, ◌<◌, ◌^◌, List, All, length, slice_index};
 ghost use Rattle.rand_chacha.specs.ChaCha.{seed_of};
 ghost use Rattle.trlab_words.specs.Words.{random_word};
+ghost use Rattle.trlab_words.specs.FirstRound.{step_state, other_columns};
 
 use crate::Key;
-use crate::block::block_word_of_cars;
+use crate::block::{StepBlock, block_word_of_cars};
 use rand_core::utils::read_u32;
 use std::marker::Model;
 
-/// A key as eight words of 32 bits, read once for many calls.
+/// A key as eight words of 32 bits, read once for many calls. It has what the blocks of one step have in
+/// common: words of that step take less time, and no contract tells of it.
 #[derive(Drop)]
 pub struct KeyWords {
     words: [u32; 8],
+    of_step: StepBlock,
 }
 
 impl Model for KeyWords {
@@ -20,7 +23,9 @@ impl Model for KeyWords {
 
     ghost view = { λ key. seed_of key.words };
 
-    ghost invariant = { λ key. All (λ word. word < 2 ^ 32) key.words };
+    ghost invariant = { λ key. All (λ word. word < 2 ^ 32) key.words
+        × key.of_step.start ≡ step_state key.words key.of_step.road key.of_step.step
+        × key.of_step.begun ≡ other_columns (step_state key.words key.of_step.road key.of_step.step) };
 }
 
 impl KeyWords {
@@ -28,7 +33,10 @@ impl KeyWords {
     pub fn copy(&self) -> KeyWords
         ensures { result ≡ self.now }
     {
-        KeyWords { words: self.words }
+        KeyWords {
+            words: self.words,
+            of_step: self.of_step,
+        }
     }
 }
 
@@ -37,27 +45,37 @@ impl Key {
     pub fn words(&self) -> KeyWords
         ensures { result ≡ self.now.0 }
     {
-        read_words(&self.0)
+        self.words_for(0, 0)
+    }
+
+    /// The key's eight words, for many words of one step of a road.
+    pub fn words_for(&self, road: u32, step: u32) -> KeyWords
+        ensures { result ≡ self.now.0 }
+    {
+        let words = read_words(&self.0);
+        KeyWords {
+            words,
+            of_step: StepBlock::new(&words, road, step),
+        }
     }
 }
 
 // The words of a key's bytes: each of four bytes, the low byte first.
-fn read_words(bytes: &[u8]) -> KeyWords
+fn read_words(bytes: &[u8]) -> [u32; 8]
     requires { length bytes.now ≡ 32 }
-    ensures { result ≡ bytes.now }
+    ensures bytes { seed_of result ≡ bytes.now }
+    ensures small { All (λ word. word < 2 ^ 32) result }
 {
-    KeyWords {
-        words: [
-            read_u32(bytes, 0),
-            read_u32(bytes, 1),
-            read_u32(bytes, 2),
-            read_u32(bytes, 3),
-            read_u32(bytes, 4),
-            read_u32(bytes, 5),
-            read_u32(bytes, 6),
-            read_u32(bytes, 7),
-        ],
-    }
+    [
+        read_u32(bytes, 0),
+        read_u32(bytes, 1),
+        read_u32(bytes, 2),
+        read_u32(bytes, 3),
+        read_u32(bytes, 4),
+        read_u32(bytes, 5),
+        read_u32(bytes, 6),
+        read_u32(bytes, 7),
+    ]
 }
 
 /// Word k, below 16, of each of eight cars in a step of a road: what `words` has at k for that car.
@@ -65,5 +83,9 @@ pub fn word_of_cars(key: &KeyWords, road: u32, cars: [u32; 8], step: u32, k: usi
     requires { k < 16 }
     ensures { (j : ℕ) → j < 8 → slice_index result j ≡ random_word key.now road (slice_index cars j) step k }
 {
-    block_word_of_cars(&key.words, road, cars, step, k)
+    if key.of_step.road == road && key.of_step.step == step {
+        block_word_of_cars(&key.of_step, cars, k)
+    } else {
+        block_word_of_cars(&StepBlock::new(&key.words, road, step), cars, k)
+    }
 }

@@ -1,17 +1,20 @@
-use Rattle.std.proofs.Common.{◌≡◌, ℕ, suc, List, refl, sym, ap, ap₂, slice_index, ◌∙◌, arith, add-one}
-use Rattle.rand_chacha.specs.Block.{add32, column_round, diagonal_round, double_rounds, block_word}
-use Rattle.trlab_words.proofs.LaneLemmas.{slice_index-lane}
+use Rattle.std.proofs.Common.{◌≡◌, ℕ, suc, ◌+◌, ◌*◌, ◌^◌, ◌<◌, List, refl, sym, ap, ap₂, slice_index, ◌∙◌, arith, add-one}
+use Rattle.rand_chacha.specs.Block.{add32, column_round, diagonal_round, double_rounds, block_word, initial_state}
+use Rattle.trlab_words.specs.FirstRound.{with_car, third_column}
+use Rattle.trlab_words.proofs.FirstRounds.{started, both_parts}
 use Rattle.trlab_words.proofs.block.block_word_of_cars.Goals as goal
 
 pub rounds-init : goal.rounds-init
 unfolding double_rounds
-rounds-init c j h = refl
+rounds-init c j h first is_first =
+    c.diagonal_round-x.ensures j h
+    ∙ ap diagonal_round (c.third_column.ensures j h ∙ ap third_column (c.states_of_cars.ensures.states j h) ∙ sym is_first)
 
 pub rounds-preserved : goal.rounds-preserved
 unfolding double_rounds
-rounds-preserved c j h =
-    rw add-one (c.diagonal_round-x.ensures j h
-    ∙ ap diagonal_round (c.column_round.ensures j h ∙ ap column_round (c.rounds.invariant j h)))
+rounds-preserved c j h first is_first =
+    rw add-one (c.diagonal_round-x-in-rounds.ensures j h
+    ∙ ap diagonal_round (c.column_round.ensures j h ∙ ap column_round (c.rounds.invariant j h first is_first)))
 
 -- the last double round
 one_more_round : (n : ℕ) (x : List ℕ) → diagonal_round (column_round (double_rounds n x)) ≡ double_rounds (suc n) x
@@ -20,14 +23,18 @@ one_more_round n x = refl
 
 pub returns : goal.returns
 unfolding block_word
-returns c j lane =
+returns c j lane key start begun =
     let k = c.args.k in
-    let word = c.requires in
+    let road = c.args.of_step.now.road in
+    let step = c.args.of_step.now.step in
+    let car = slice_index c.args.cars j in
+    let small : car < 2 ^ 32 = c.states_of_cars.ensures.cars j lane in
+    let first = initial_state key step (road * 2 ^ 32 + car) in
+    let is_first = sym (ap (λ x. third_column (with_car x car)) begun ∙ both_parts key road step car small) in
     let done : c.rounds._round ≡ 9 = omega arith in
-    let first = c.initial_states-first.ensures j lane in
-    let before = c.rounds.invariant j lane ∙ ap₂ double_rounds done first in
+    let before = c.rounds.invariant j lane first is_first ∙ ap (λ n. double_rounds n first) done in
     let last = c.column_round-2.ensures j lane ∙ ap column_round before in
     c.add.ensures j lane
     ∙ ap₂ add32
     (c.diagonal_word.ensures j lane ∙ ap (λ x. slice_index x k) (ap diagonal_round last ∙ one_more_round 9 _))
-    (sym (slice_index-lane c.initial_states-first.result j k word) ∙ ap (λ x. slice_index x k) first)
+    (c.first_word.ensures j lane ∙ ap (λ x. slice_index x k) (ap (λ x. with_car x car) start ∙ started key road step car small))

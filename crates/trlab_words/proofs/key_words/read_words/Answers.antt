@@ -1,8 +1,8 @@
 use Rattle.trlab_words.proofs.KeyBytes.{seed_of-key_of}
 use Rattle.trlab_words.proofs.key_words.read_words.Goals as goal
 
-pub returns : goal.returns
-returns c =
+pub returns-clause-bytes : goal.returns-clause-bytes
+returns-clause-bytes c =
     rw (
       c.read_u32.ensures,
       c.read_u32-2.ensures,
