@@ -15,6 +15,6 @@ mod window;
 
 pub use fault::DiagramFault;
 pub use point::{Point, flow};
-pub use series::{series_heading, window_text};
+pub use series::{SeriesLines, series_heading};
 pub use table::points_text;
 pub use window::{LaneCount, Window};

@@ -1,6 +1,7 @@
 //! The table of a series, line by line, as comma-separated values (RFC 4180, with LF for CRLF).
 
 ghost use Rattle.std.specs.Prelude.{◌≡◌, ◌++◌, ◌<◌, ◌^◌, [], All, map, decimal, IfOk, OnOk};
+ghost use Rattle.trlab_diagram.specs.Lines.{IsAtLine};
 ghost use Rattle.csv.specs.Records.{fields_of, partial_of};
 ghost use Rattle.csv.specs.Writing.{default_writer, row_text};
 ghost use Rattle.trlab_diagram.specs.Flow.{IsMeasured};
@@ -9,7 +10,12 @@ ghost use Rattle.trlab_diagram.specs.Table.{line_text};
 
 use crate::{DiagramFault, Window, flow};
 use csv::{ByteRecord, Writer};
+use itoa::Buffer;
 use std::alloc::{AllocError, Global};
+use std::marker::Model;
+
+/// How many lines go through one writer: it keeps the text of all of them.
+const LINES: u32 = 256;
 
 /// The fields of the first line.
 fn heading_row(alloc: Global) -> Result<ByteRecord, AllocError>
@@ -38,23 +44,23 @@ fn heading_row(alloc: Global) -> Result<ByteRecord, AllocError>
 }
 
 /// Adds a field for each count.
-fn push_counts(alloc: Global, row: &mut ByteRecord, counts: &[u64]) -> Result<(), DiagramFault>
+fn push_counts(row: &mut ByteRecord, counts: &[u64]) -> Result<(), DiagramFault>
     requires { partial_of row.old ≡ [] }
     ensures fields { OnOk result (fields_of row.new ≡ fields_of row.old ++ map decimal counts.now) }
     ensures whole { OnOk result (partial_of row.new ≡ []) }
     ensures small { All (λ count. count < 2 ^ 64) counts.now }
 {
+    let mut digits = Buffer::new();
     for count in counts {
-        row.push_field(count.to_string(alloc)?.as_bytes())?;
+        row.push_field(digits.format(*count).as_bytes())?;
     }
     Ok(())
 }
 
-/// The fields of a window's line.
-fn window_row(alloc: Global, window: &Window) -> Result<ByteRecord, DiagramFault>
+/// Puts the fields of a window's line in place of those that a row had.
+fn put_window(row: &mut ByteRecord, window: &Window) -> Result<(), DiagramFault>
     requires { IsMeasured window.now.point }
-    ensures { IfOk result (λ row.
-        row_text default_writer (fields_of row) ≡ line_text (window_line window.now)) }
+    ensures { OnOk result (row_text default_writer (fields_of row.new) ≡ line_text (window_line window.now)) }
 {
     let Window {
         step,
@@ -79,11 +85,11 @@ fn window_row(alloc: Global, window: &Window) -> Result<ByteRecord, DiagramFault
         lane1.distance,
         lane1.stopped,
     ];
-    let mut row = ByteRecord::new(alloc);
-    push_counts(alloc, &mut row, &road)?;
-    row.push_field(flow(&point).to_string(alloc)?.as_bytes())?;
-    push_counts(alloc, &mut row, &lanes)?;
-    Ok(row)
+    row.clear();
+    push_counts(row, &road)?;
+    row.push_field(Buffer::new().format(flow(&point)).as_bytes())?;
+    push_counts(row, &lanes)?;
+    Ok(())
 }
 
 /// The text of a line with these fields.
@@ -111,16 +117,68 @@ pub fn series_heading(alloc: Global) -> Result<Vec<u8>, DiagramFault>
     row_bytes(alloc, &heading_row(alloc)?)
 }
 
-/// The line of a window, in bytes: these numbers of it in decimal digits, and an LF.
-///
-/// It must have at least one cell and one step.
-///
-/// # Errors
-///
-/// `Memory` where memory runs out.
-pub fn window_text(alloc: Global, window: &Window) -> Result<Vec<u8>, DiagramFault>
-    requires { IsMeasured window.now.point }
-    ensures { IfOk result (λ text. text.items ≡ window_text window.now) }
+/// The text of a line with these fields, which a writer of lines adds to its own.
+fn added_line(
+    alloc: Global,
+    writer: &mut Writer<Vec<u8>>,
+    row: &ByteRecord,
+) -> Result<Vec<u8>, DiagramFault>
+    requires { IsAtLine writer.old }
+    ensures text { IfOk result (λ text. text.items ≡ row_text default_writer (fields_of row.now)) }
+    ensures ready { OnOk result (IsAtLine writer.new) }
 {
-    row_bytes(alloc, &window_row(alloc, window)?)
+    let before = writer.get_ref().len();
+    writer.write_byte_record(row)?;
+    writer.flush()?;
+    Ok(Vec::from_slice(alloc, &writer.get_ref()[before..])?)
+}
+
+/// The lines of windows, one after another, in memory that is kept from line to line.
+#[derive(Drop)]
+pub struct SeriesLines {
+    writer: Writer<Vec<u8>>,
+    row: ByteRecord,
+    /// How many lines the writer has.
+    count: u32,
+}
+
+impl Model for SeriesLines {
+    ghost Value = { Unit {0} };
+
+    ghost view = { λ _. tt };
+
+    ghost invariant = { λ lines. IsAtLine lines.writer };
+}
+
+impl SeriesLines {
+    /// No line so far.
+    pub fn new(alloc: Global) -> SeriesLines {
+        SeriesLines {
+            writer: Writer::from_writer(Vec::new(alloc)),
+            row: ByteRecord::new(alloc),
+            count: 0,
+        }
+    }
+
+    /// The line of a window, in bytes: these numbers of it in decimal digits, and an LF.
+    ///
+    /// It must have at least one cell and one step.
+    ///
+    /// # Errors
+    ///
+    /// `Memory` where memory runs out.
+    pub fn window_text(&mut self, alloc: Global, window: &Window) -> Result<Vec<u8>, DiagramFault>
+        requires { IsMeasured window.now.point }
+        ensures { IfOk result (λ text. text.items ≡ window_text window.now) }
+    {
+        put_window(&mut self.row, window)?;
+        let line = added_line(alloc, &mut self.writer, &self.row);
+        if line.is_err() || self.count >= LINES {
+            self.writer = Writer::from_writer(Vec::new(alloc));
+            self.count = 0;
+        } else {
+            self.count += 1;
+        }
+        line
+    }
 }

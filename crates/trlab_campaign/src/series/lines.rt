@@ -15,7 +15,7 @@ use crate::pooled::{WriteFault, run_of};
 use crate::series::counting::{skip_steps, take_window};
 use crate::series::windows::Windows;
 use std::alloc::Global;
-use trlab_diagram::{DiagramFault, series_heading, window_text};
+use trlab_diagram::{DiagramFault, SeriesLines, series_heading};
 use trlab_jobs::Job;
 use trlab_step::{Asker, Run};
 
@@ -25,6 +25,7 @@ fn next_line<A: Asker>(
     alloc: Global,
     run: &mut Run,
     every: u32,
+    lines: &mut SeriesLines,
 ) -> Result<Vec<u8>, DiagramFault>
     requires ready { A.is_ready asker.now }
     requires some { 1 ≤ every }
@@ -37,7 +38,7 @@ fn next_line<A: Asker>(
         → IfOk result (λ line. line.items ≡ window_text (window_of roads tallies run.old.step every)) }
 {
     let window = take_window(asker, alloc, run, every)?;
-    window_text(alloc, &window)
+    lines.window_text(alloc, &window)
 }
 
 /// Writes a line, where there was memory for it.
@@ -66,6 +67,7 @@ fn write_window<A: Asker, K: Sink>(
     alloc: Global,
     run: &mut Run,
     every: u32,
+    lines: &mut SeriesLines,
     writer: &mut K,
 ) -> Result<(), WriteFault>
     requires ready { A.is_ready asker.now }
@@ -81,7 +83,7 @@ fn write_window<A: Asker, K: Sink>(
     ensures on { OnOk result (IsStepsOn every run.old run.new) }
     ensures writer { WritesOn K.Sink result writer.old writer.new }
 {
-    let line = next_line(asker, alloc, run, every);
+    let line = next_line(asker, alloc, run, every, lines);
     write_line(line, writer)
 }
 
@@ -111,8 +113,9 @@ fn write_windows<A: Asker, K: Sink>(
     if skip_steps(asker, alloc, run, windows.from).is_err() {
         return Err(WriteFault::Memory);
     }
+    let mut lines = SeriesLines::new(alloc);
     for _ in 0..count {
-        write_window(asker, alloc, run, windows.every, writer)?;
+        write_window(asker, alloc, run, windows.every, &mut lines, writer)?;
     }
     Ok(())
 }

@@ -3,7 +3,7 @@ use Rattle.csv.specs.Records.{fields_of}
 use Rattle.trlab_diagram.specs.Flow.{flow_of}
 use Rattle.trlab_diagram.specs.Series.{window_numbers}
 use Rattle.trlab_diagram.proofs.Rows.{AreSmall, window_row}
-use Rattle.trlab_diagram.proofs.series.window_row.Goals as goal
+use Rattle.trlab_diagram.proofs.series.put_window.Goals as goal
 
 -- a number of 64 bits is one of 128
 fits : (n : ℕ) → n < 2 ^ 64 → n < 2 ^ 128

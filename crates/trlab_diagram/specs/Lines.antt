@@ -1,0 +1,12 @@
+-- Writers of lines, between two lines.
+use Rattle.std.specs.Prelude.{◌≡◌, [], false}
+use Rattle.csv.specs.declared.writer.Writer.{Writer}
+use Rattle.csv.specs.Writing.{default_writer, writer_setup, writer_pending, fields_written, has_written}
+
+-- a writer of plain lines that has handed on all that was written, and stands at the start of a line
+abbrev pub IsAtLine : {W : Type 0} → Writer W → Type 0
+IsAtLine writer =
+    (writer_setup writer ≡ default_writer)
+    × (fields_written writer ≡ 0)
+    × (has_written writer ≡ false)
+    × (writer_pending writer ≡ [])
