@@ -1,38 +1,10 @@
 -- What a comparison of lists of cars tells.
-use Rattle.std.proofs.Common.{◌≡◌, ℕ, Bool, List, [], ◌∷◌, Vec, Global, length, get_or, drop, map, refl, sym, ◌∙◌, ap, arith}
-use Rattle.std.specs.Bool.{Decides}
-use Rattle.std.specs.Cmp.Lexicographic.{pointwise}
-use Rattle.std.specs.Cmp.Derive.Mapped.{pointwise-map}
-use Rattle.std.specs.Prelude.{nat_eq, ◌&&◌}
+use Rattle.std.proofs.Common.{◌≡◌, ℕ, List, [], ◌∷◌, Vec, Global, length, get_or, drop, map, refl, sym, ◌∙◌, ap, arith}
 use Rattle.std.proofs.lemmas.List.{length-map}
-use Rattle.std.proofs.lemmas.Bool.Decides.{Decides-eqb, Decides-and, Decides-like}
-use Rattle.std.proofs.lemmas.Slice.Eq.{slice_eq-Decides}
 use Rattle.trlab_road.specs.LaneCars.{LaneCar}
 use Rattle.trlab_road.specs.Cells.{Cells, Lane}
 use Rattle.trlab_road.specs.Stored.{IsStored, AreSorted, cells_of, lanes_from, lists_of}
 use Rattle.trlab_road.proofs.ListRoads.{list_told, sorted_rest, length_first}
-
--- the comparison of two cars tells whether they are the same
-same_parts : {a b x y u v : ℕ} → a ≡ b → x ≡ y → u ≡ v
-    → ◌≡◌ {A = LaneCar} (record { number = a; place = x; speed = u }) (record { number = b; place = y; speed = v })
-same_parts e f g = cc
-
-pub tells_same_car : (a b : LaneCar) → Decides (nat_eq a.number b.number && (nat_eq a.place b.place && nat_eq a.speed b.speed)) (a ≡ b)
-tells_same_car a b =
-    Decides-like (nat_eq a.number b.number && (nat_eq a.place b.place && nat_eq a.speed b.speed))
-    (λ p. same_parts p.0 p.1.0 p.1.1) (λ e. (ap (λ (c : LaneCar). c.number) e, (ap (λ (c : LaneCar). c.place) e, ap (λ (c : LaneCar). c.speed) e)))
-    (Decides-and (nat_eq a.number b.number) (nat_eq a.place b.place && nat_eq a.speed b.speed) (Decides-eqb a.number b.number)
-    (Decides-and (nat_eq a.place b.place) (nat_eq a.speed b.speed) (Decides-eqb a.place b.place) (Decides-eqb a.speed b.speed)))
-
--- the comparison of lanes tells whether they have the same lists of cars
-pub tells_same_lists : {E : LaneCar → LaneCar → Bool} → ((a b : LaneCar) → Decides (E a b) (a ≡ b))
-    → (lists others : List (Vec LaneCar Global)) (r : Bool)
-    → r ≡ pointwise (λ v w. pointwise E v.items w.items) lists others
-    → Decides r (lists_of lists ≡ lists_of others)
-tells_same_lists {E = E} same lists others r is =
-    slice_eq-Decides {E = pointwise E} (λ xs ys. slice_eq-Decides {E = E} same xs ys (pointwise E xs ys) refl)
-    (lists_of lists) (lists_of others) r
-    (is ∙ sym (pointwise-map (λ v. v.items) (pointwise E) lists others))
 
 -- the same lists make the same lanes, and are sorted where the others are
 by_lists : (n : ℕ) (lists : List (Vec LaneCar Global)) → lanes_from n lists ≡ map (cells_of n) (lists_of lists)

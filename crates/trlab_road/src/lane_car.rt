@@ -1,6 +1,6 @@
 //! Cars as lanes keep them: the lane is that of the list in which a car stands.
 
-ghost use Rattle.std.specs.Prelude.{◌≡◌, ◌<◌, ◌≤◌, ◌&&◌, length, nat_eq, slice_index_or};
+ghost use Rattle.std.specs.Prelude.{◌≡◌, ◌<◌, ◌≤◌, ◌&&◌, ◌↔◌, length, nat_eq, slice_index_or};
 ghost use Rattle.trlab_bounds.specs.declared.roads.TheConstants.{GREATEST_LENGTH, GREATEST_LIMIT};
 ghost use Rattle.trlab_road.specs.Stored.{no_car, place_of};
 
@@ -39,21 +39,6 @@ impl Model for LaneCar {
     } };
 }
 
-impl PartialEq for LaneCar {
-    ghost use Rattle.std.proofs.Common.{rules};
-    ghost use Rattle.std.specs.Cmp.Rules.{comparing};
-
-    ghost eq = { λ a b. nat_eq a.number b.number && (nat_eq a.place b.place && nat_eq a.speed b.speed) };
-
-    ghost laws = { Prim.search (comparing, rules) };
-
-    fn eq(&self, other: &LaneCar) -> bool {
-        self.number == other.number
-            && self.place() == other.place()
-            && self.speed() == other.speed()
-    }
-}
-
 impl LaneCar {
     /// A car of a number, which stands at a place, in cells, with a speed, in cells a step.
     #[inline(always)]
@@ -66,6 +51,17 @@ impl LaneCar {
             number,
             place_and_speed: place * 64 + speed,
         }
+    }
+
+    /// A number that is 0 where this is the other car, made without branches, so that many cars are compared
+    /// at a time.
+    #[inline(always)]
+    pub fn difference(self, other: LaneCar) -> u32
+        ensures { (result ≡ 0) ↔ (self ≡ other) }
+    {
+        let number = self.number.wrapping_sub(other.number);
+        let rest = self.place_and_speed.wrapping_sub(other.place_and_speed);
+        if number < rest { rest } else { number }
     }
 
     /// The number of the car.

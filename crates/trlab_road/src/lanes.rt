@@ -84,9 +84,36 @@ pub fn copy_lanes(alloc: Global, lanes: &[Vec<LaneCar>]) -> Result<Vec<Vec<LaneC
     Ok(copies)
 }
 
+/// Have two lists the same cars?
+fn same_cars(cars: &[LaneCar], others: &[LaneCar]) -> bool
+    ensures { IsTrue result ↔ (cars.now ≡ others.now) }
+{
+    if cars.len() != others.len() {
+        return false;
+    }
+    let mut greatest = 0;
+    for k in 0..cars.len() {
+        let difference = cars[k].difference(others[k]);
+        greatest = if greatest < difference {
+            difference
+        } else {
+            greatest
+        };
+    }
+    greatest == 0
+}
+
 /// Have two lists of lanes the same cars?
 pub fn same_lanes(lanes: &[Vec<LaneCar>], others: &[Vec<LaneCar>]) -> bool
     ensures { IsTrue result ↔ (lists_of lanes.now ≡ lists_of others.now) }
 {
-    lanes == others
+    if lanes.len() != others.len() {
+        return false;
+    }
+    for k in 0..lanes.len() {
+        if !same_cars(&lanes[k], &others[k]) {
+            return false;
+        }
+    }
+    true
 }
