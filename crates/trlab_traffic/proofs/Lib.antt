@@ -18,6 +18,7 @@ pub mod Slower
 pub mod GapsAfter
 pub mod Jamming
 pub mod NextCars
+pub mod Queues
 -- runs that are compared, car by car
 pub mod Numbering
 pub mod Going

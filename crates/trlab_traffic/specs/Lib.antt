@@ -10,6 +10,7 @@ pub mod Randomization
 -- cars that follow one another
 pub mod Following
 pub mod Jams
+pub mod Queues
 pub mod Overtaking
 -- runs that are compared, car by car
 pub mod Gone

@@ -23,6 +23,7 @@ ghost use Rattle.trlab_traffic.specs.Jams.{CarWithoutGapStops};
 ghost use Rattle.trlab_traffic.specs.Metastable.{SlowStartsKeepFreeFlow, SlowStartsKeepJams, TwoFlowsAtOneDensity};
 ghost use Rattle.trlab_traffic.specs.Moving.{RunGoesByMovingCars, StepGoesByMovingCars};
 ghost use Rattle.trlab_traffic.specs.Overtaking.{EachCarHasNext, NextCarIsOne, RunKeepsNextCar, StepKeepsNextCar};
+ghost use Rattle.trlab_traffic.specs.Queues.{QueueStarts, QueueWaits};
 ghost use Rattle.trlab_traffic.specs.Randomization.{RandomizationSlows, SlowStartsSlow};
 ghost use Rattle.trlab_traffic.specs.Reduction.{RickertWithoutChange, RunsAlike, VdrOfOneChance};
 ghost use Rattle.trlab_traffic.specs.Rows.{RowMeasuresFlow, RowsAgree};
@@ -99,6 +100,14 @@ pub fn gaps_follow()
 /// A car that has no gap stops, under any rule without lane changes.
 pub fn car_without_gap_stops()
     ensures { CarWithoutGapStops }
+{}
+
+/// A queue dissolves at its front, by one car per step. Under any rules without lane changes the car j places behind the
+/// head stays stopped in its cell for j steps; under the rule of 1992 without randomization it starts in the next one, if
+/// the head has a gap.
+pub fn queue_dissolves_from_front()
+    ensures waits { QueueWaits }
+    ensures starts { QueueStarts }
 {}
 
 /// Nobody overtakes on a lane: each car has one next car ahead, and keeps it in each step and run without lane
