@@ -33,6 +33,8 @@ pub mod LaneUnread
 pub mod Exchanging
 pub mod LanesApart
 pub mod Certainties
+pub mod Pigeonhole
+pub mod Periods
 -- rules that go as others
 pub mod Reductions
 pub mod Wolfram

@@ -20,6 +20,7 @@ pub mod Homogeneity
 pub mod Symmetry
 pub mod Apart
 pub mod Certainty
+pub mod Periods
 -- rules that go as others
 pub mod Reduction
 pub mod Rule184

@@ -23,6 +23,7 @@ ghost use Rattle.trlab_traffic.specs.Jams.{CarWithoutGapStops};
 ghost use Rattle.trlab_traffic.specs.Metastable.{SlowStartsKeepFreeFlow, SlowStartsKeepJams, TwoFlowsAtOneDensity};
 ghost use Rattle.trlab_traffic.specs.Moving.{RunGoesByMovingCars, StepGoesByMovingCars};
 ghost use Rattle.trlab_traffic.specs.Overtaking.{EachCarHasNext, NextCarIsOne, RunKeepsNextCar, StepKeepsNextCar};
+ghost use Rattle.trlab_traffic.specs.Periods.{CertainRulesBecomePeriodic};
 ghost use Rattle.trlab_traffic.specs.Queues.{QueueStarts, QueueWaits};
 ghost use Rattle.trlab_traffic.specs.Randomization.{RandomizationSlows, SlowStartsSlow};
 ghost use Rattle.trlab_traffic.specs.Reduction.{RickertWithoutChange, RunsAlike, VdrOfOneChance};
@@ -174,6 +175,12 @@ pub fn certain_rules_are_deterministic()
     ensures nasch { NaschWithoutRandomization }
     ensures step { StepIsDeterministic }
     ensures run { RunIsDeterministic }
+{}
+
+/// Each run under one such rule becomes periodic: after some steps its roads repeat for ever. First step and period
+/// together are at most as many as the states that the cars can be in.
+pub fn certain_rules_become_periodic()
+    ensures { CertainRulesBecomePeriodic }
 {}
 
 /// Two rules go as that of Nagel and Schreckenberg (1992): that of 1998 where a car that is stopped brakes with the
