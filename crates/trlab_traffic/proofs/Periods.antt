@@ -1,4 +1,4 @@
--- Under rules that leave nothing to chance runs become periodic: there are only so many states of a road.
+-- Under rules that leave nothing to chance runs become periodic, since a road has only so many states.
 use Rattle.std.proofs.Common.{◌≡◌, ℕ, zero, suc, ◌+◌, ◌-◌, ◌*◌, ◌^◌, ◌<◌, Some, None, List, [], ◌∷◌, length, get_or, refl, sym, ◌∙◌, ap, subst, arith}
 use Rattle.std.specs.Prelude.{sum_by}
 use Rattle.std.proofs.lemmas.List.{ext_get_or}
@@ -40,7 +40,7 @@ one_car e f = cc
 abbrev made : ℕ → List Lane → Cells
 made limit lanes = record { limit = limit; lanes = lanes }
 
--- roads of one shape: of so many lanes of so many cells, one limit and one count of cars
+-- a legal road with these numbers of lanes, cells per lane and cars, and this limit
 pub record IsOf (lanes cells limit n : ℕ) (road : Cells) : Type 0 where
   legal : IsLegal road
   count : length road.lanes ≡ lanes
@@ -49,15 +49,15 @@ pub record IsOf (lanes cells limit n : ℕ) (road : Cells) : Type 0 where
   same_cars : cars road ≡ n
 
 module _ (lanes cells limit n : ℕ) where
-  -- where a car is, and how fast it is, as one number
+  -- the cell and the speed of a car as one number
   abbrev state : Car → ℕ
   state car = (car.lane * cells + car.place) * (limit + 1) + car.speed
 
-  -- how many states of a car there are
+  -- the number of states of a car
   abbrev base : ℕ
   base = lanes * cells * (limit + 1)
 
-  -- the place and the speed of a car are in range
+  -- the lane, the place and the speed of a car are in range
   record InRange (car : Car) : Type 0 where
     on : car.lane < lanes
     low : car.place < cells
@@ -80,7 +80,7 @@ module _ (lanes cells limit n : ℕ) where
       let e : (limit + 1) * (cells * lanes) ≡ base = omega arith in
       subst (λ k. state car < k) e all
 
-  -- one state is one place and one speed
+  -- cars of one state are in one cell, at one speed
   record SamePlace (car other : Car) : Type 0 where
     lane : car.lane ≡ other.lane
     place : car.place ≡ other.place
@@ -92,7 +92,7 @@ module _ (lanes cells limit n : ℕ) where
       let places = same_from_place car.lane car.place other.lane other.place cells a.low b.low parts.0 in
       record { lane = places.0; place = places.1; speed = parts.1 }
 
-  -- the state of a road, the states of its cars as digits
+  -- the state of a road: the states of its cars as digits
   abbrev state_of : (road : Cells) → IsLegal road → ℕ
   state_of road legal = number base n (λ i. state ((started road legal).car i))
 
@@ -106,7 +106,7 @@ module _ (lanes cells limit n : ℕ) where
   state_low road is = number_below base n (λ i. state ((started road is.legal).car i)) (λ i low. state_below ((started road is.legal).car i) (car_range road is i low))
 
   module _ (road other : Cells) (a : IsOf lanes cells limit n road) (b : IsOf lanes cells limit n other) (same : state_of road a.legal ≡ state_of other b.legal) where
-    -- a car of one road is on the other
+    -- of two roads of one state the second has each car of the first
     kept : (l x number speed : ℕ) → at (lane_of road l) x ≡ Some (number, speed) → at (lane_of other l) x ≡ Some (number, speed)
     kept l x number speed here =
         let mine = started road a.legal in
@@ -131,7 +131,7 @@ module _ (lanes cells limit n : ℕ) where
         let same_speed : two.speed ≡ speed = sym (pair.1 ∙ place.speed) in
         at_two ∙ is_two ∙ one_car named same_speed
 
-  -- one state is one road
+  -- roads of one state are one road
   same_road : (road other : Cells) (a : IsOf lanes cells limit n road) (b : IsOf lanes cells limit n other) → state_of road a.legal ≡ state_of other b.legal → road ≡ other
   same_road road other a b same =
       let cells_same : road.lanes ≡ other.lanes = ext_get_or [] road.lanes other.lanes (a.count ∙ sym b.count) (λ l low.
@@ -176,7 +176,7 @@ module _ (rule : Programs) (seed : Seed) (certain : IsCertain rule) (is : IsRule
         };
       }
 
-  -- from a road that comes again all later roads do
+  -- if a road comes again, so do all later ones
   module _ (early late : ℕ) (same : (road_of early).road ≡ (road_of late).road) where
     again : (k step last : ℕ) (road later : Cells) → step ≡ k + early → last ≡ k + late → IsRoadAt seed (always rule) step road → IsRoadAt seed (always rule) last later → later ≡ road
     again zero step last road later e f a b =

@@ -1,4 +1,4 @@
--- More steps than states: two steps have one state. And states as numbers, a digit for each car.
+-- The pigeonhole principle: among more numbers than values two have one value. And numbers made of digits.
 use Rattle.std.proofs.Common.{◌≡◌, ◌≢◌, ℕ, zero, suc, ◌+◌, ◌-◌, ◌*◌, ◌^◌, ◌<◌, ◌≤◌, ◌⊎◌, cond, ltb, sym, ◌∙◌, ap, subst, inl, inr, arith}
 use Rattle.std.proofs.Math.Nat.{pow-succ', pow-zero}
 use Rattle.std.proofs.lemmas.Bool.{cases_eq, cases_lt, cond-false, cond-true, le-ltb, lt-ltb}
@@ -18,7 +18,7 @@ record Found (f : ℕ → ℕ) (bound value : ℕ) : Type 0 where
   low : index < bound
   is : f index ≡ value
 
--- there is one, or there is none
+-- there is one, or none
 look : (f : ℕ → ℕ) (bound value : ℕ) → Found f bound value ⊎ ((i : ℕ) → i < bound → f i ≢ value)
 look f zero value = inr (λ i low. absurd (omega (arith, low)))
 look f (suc n) value =
@@ -33,7 +33,7 @@ look f (suc n) value =
       ]
     ]
 
--- the values without one of them, those above it one less
+-- values without one of them: those above it are one less
 abbrev closed : ℕ → ℕ → ℕ
 closed gone v = cond (ltb v gone) v (v - 1)
 
@@ -63,7 +63,7 @@ closed_same gone v w a b same =
       ]
     ]
 
--- one more number than values
+-- with n values, two of the numbers 0 to n have the same one
 pub pigeonhole : (n : ℕ) (f : ℕ → ℕ) → ((i : ℕ) → i ≤ n → f i < n) → Twice f n
 pigeonhole zero f below = let h = below 0 (omega arith) in absurd (omega (arith, h))
 pigeonhole (suc n) f below =
@@ -84,7 +84,7 @@ pigeonhole (suc n) f below =
           }
     ]
 
--- the number with these digits, the first the lowest
+-- the number with these digits, the lowest first
 abbrev pub number : (base : ℕ) → ℕ → (ℕ → ℕ) → ℕ
 number base zero digit = 0
 number base (suc n) digit = number base n (λ i. digit (suc i)) * base + digit 0
@@ -95,7 +95,7 @@ number_below base (suc n) digit low =
     let rest = number_below base n (λ i. digit (suc i)) (λ i h. low (suc i) (omega (arith, h))) in
     subst (λ k. number base (suc n) digit < k) (sym (pow-succ' base n)) (mul-add-lt (number base n (λ i. digit (suc i))) base (digit 0) (base ^ n) rest (low 0 (omega arith)))
 
--- numbers of one value have one first digit, and the others make one number
+-- equal numbers have the same first digit, and the same number of the others
 same_parts : (base n : ℕ) (digit other : ℕ → ℕ) → digit 0 < base → other 0 < base → number base (suc n) digit ≡ number base (suc n) other
     → (number base n (λ i. digit (suc i)) ≡ number base n (λ i. other (suc i))) × (digit 0 ≡ other 0)
 same_parts base n digit other low high same =

@@ -1,4 +1,4 @@
--- Queues: each car waits for the one ahead of it.
+-- Queues: each car waits for the next car ahead.
 use Rattle.std.proofs.Common.{◌≡◌, ℕ, zero, suc, ◌+◌, ◌-◌, ◌%◌, ◌<◌, ◌≤◌, true, Some, None, length, refl, sym, ◌∙◌, ap, subst, inl, inr, arith}
 use Rattle.std.specs.Prelude.{is_some}
 use Rattle.std.proofs.Math.Nat.{add-mod-mod, add-mod_right, mod-lt}
@@ -35,7 +35,7 @@ taken_car (Some car) h = (car, refl)
 abbrev Row : Lane → ℕ → ℕ → Type 0
 Row lane p j = (i : ℕ) → i ≤ j → is_taken lane (ahead (length lane) p i) ≡ true
 
--- a queue that is as long as its lane takes each of its cells
+-- a queue as long as its lane has a car in every cell
 whole : (lane : Lane) (x n k : ℕ) → IsQueue lane x n → length lane ≤ n → is_taken lane (ahead (length lane) x k) ≡ true
 whole lane x n k queue round =
     let m = length lane in
@@ -46,7 +46,7 @@ whole lane x n k queue round =
     let same : behind m x (m - k % m) ≡ ahead m x k = ap (λ i. (x + i) % m) e ∙ add-mod-mod x k m in
     ap (is_taken lane) (sym same) ∙ queue (m - k % m) (omega (arith, round))
 
--- a car of a queue and those ahead of it, up to the head
+-- from a car of a queue to the head all cells are taken
 row_of : (lane : Lane) (x n j : ℕ) → IsQueue lane x n → j ≤ n → Row lane (behind (length lane) x j) j
 row_of lane x n j queue within i most =
     let m = length lane in
@@ -68,7 +68,7 @@ no_gap lane p next there =
     let low = inside lane (ahead (length lane) p 1) next there in
     ends_before lane (ahead (length lane) p) 0 (omega (arith, low)) refl (ap is_some there)
 
--- a car that is still in its cell, and since the first step stopped
+-- a car is still in its cell, and stopped from step 1 on
 pub record Waits (lane : Lane) (p number step : ℕ) : Type 0 where
   speed : ℕ
   here : at lane p ≡ Some (number, speed)
@@ -78,7 +78,7 @@ module _ (seed : Seed) (sheet : Sheet) (nobody : EachRule StaysInLane sheet) (l 
   abbrev start : Lane
   start = lane_of seed.road l
 
-  -- each car waits as many steps as there are taken cells ahead of it
+  -- with j taken cells directly ahead a car waits for j steps
   waits : (step : ℕ) (road : Cells) (p j number speed : ℕ) → Row start p j → at start p ≡ Some (number, speed) → step ≤ j → IsRoadAt seed sheet step road → Waits (lane_of road l) p number step
   waits zero road p j number speed row here most is = record {
     speed = speed;
@@ -112,11 +112,11 @@ queue_waits seed sheet step road x n j car nobody queued some most is =
     let now = waits seed sheet nobody l step road car.place j car.number car.speed row queued.stands most is in
     subst (λ v. at (lane_of road l) car.place ≡ Some (car.number, v)) (now.stopped some) now.here
 
--- a car with a gap goes, whatever its speed and the limit
+-- a car with a gap moves, whatever its speed and the limit
 goes : (speed limit gap : ℕ) → 1 ≤ limit → 1 ≤ gap → 1 ≤ safe_speed speed limit gap
 goes speed limit gap some room = omega (arith, some, room)
 
--- and by one cell from a stop
+-- by one cell, if it was stopped
 goes_one : (limit gap : ℕ) → 1 ≤ limit → 1 ≤ gap → safe_speed 0 limit gap ≡ 1
 goes_one limit gap some room = omega (arith, some, room)
 
@@ -148,7 +148,7 @@ module _ (seed : Seed) (rule : Programs) (nasch : IsNasch 0 rule) (legal : IsLeg
         motion = safe_motion rule (dice_at seed step) before road comes.3 nasch like.legal next;
       }
 
-  -- a car behind a row whose head has a gap at the start has one itself, as soon as it has waited for all of the row
+  -- if the head of its row has a gap at the start, a car has a gap after these steps
   ready : (j : ℕ) (road : Cells) (p number speed : ℕ) → Row first p j → at first p ≡ Some (number, speed) → 1 ≤ gap first (ahead (length first) p j) → IsRoadAt seed (always rule) j road → 1 ≤ gap (lane_of road l) p
   ready zero road p number speed row here room is =
       let e = ahead_none (length first) p (inside first p (number, speed) here) in
@@ -181,7 +181,7 @@ module _ (seed : Seed) (rule : Programs) (nasch : IsNasch 0 rule) (legal : IsLeg
       let same = ap (gap (lane_of road l)) there in
       omega (arith, same, after, follows, safe, gone)
 
--- the head of a queue with a gap, as the last of the row ahead of a car
+-- if the head of a queue has a gap, so has the last car of the row from the j-th car on
 head_room : (lane : Lane) (x n j : ℕ) → IsQueue lane x n → j ≤ n → 1 ≤ gap lane x → 1 ≤ gap lane (ahead (length lane) (behind (length lane) x j) j)
 head_room lane x n j queue within room =
     let m = length lane in

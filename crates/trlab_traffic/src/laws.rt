@@ -103,9 +103,9 @@ pub fn car_without_gap_stops()
     ensures { CarWithoutGapStops }
 {}
 
-/// A queue dissolves at its front, by one car per step. Under any rules without lane changes the car j places behind the
-/// head stays stopped in its cell for j steps; under the rule of 1992 without randomization it starts in the next one, if
-/// the head has a gap.
+/// A queue dissolves from its front, one car per step. Under any rules without lane changes the j-th car behind the
+/// head is stopped in its cell for j steps. Under the rule of 1992 without randomization it moves by one cell in the
+/// next step, if the head has a gap at the start.
 pub fn queue_dissolves_from_front()
     ensures waits { QueueWaits }
     ensures starts { QueueStarts }
@@ -177,8 +177,8 @@ pub fn certain_rules_are_deterministic()
     ensures run { RunIsDeterministic }
 {}
 
-/// Each run under one such rule becomes periodic: after some steps its roads repeat for ever. First step and period
-/// together are at most as many as the states that the cars can be in.
+/// A run under such a rule becomes periodic: from some step on its roads repeat for ever. This step and the period
+/// together are at most the number of states of the cars.
 pub fn certain_rules_become_periodic()
     ensures { CertainRulesBecomePeriodic }
 {}
