@@ -10,7 +10,7 @@ use Rattle.trlab_road.specs.Legal.{IsLegal}
 use Rattle.trlab_road.specs.Motion.{LaneFits, LaneMoves}
 use Rattle.trlab_road.specs.Standing.{standing_from}
 use Rattle.trlab_road.proofs.EvenRoads.{even_count, even_legal}
-use Rattle.trlab_road.proofs.Ring.{car_in, clear_within_gap}
+use Rattle.trlab_road.proofs.Ring.{car_in}
 use Rattle.trlab_road.proofs.StandingOrder.{length-standing_from}
 use Rattle.trlab_rules.specs.Rules.{Programs}
 use Rattle.trlab_rules.specs.StandardRules.{IsNasch}
@@ -26,10 +26,11 @@ use Rattle.trlab_traffic.proofs.Capacities.{distance_counted, distance_uncounted
 use Rattle.trlab_traffic.proofs.EvenGaps.{gap_high, gap_low, who}
 use Rattle.trlab_traffic.proofs.Freely.{one_more, one_rule, sum_by-same}
 use Rattle.trlab_traffic.proofs.GapsAfter.{gap_after, next_taken}
+use Rattle.trlab_traffic.proofs.LaneGaps.{gaps_total}
 use Rattle.trlab_traffic.proofs.NaschMoves.{safe_motion}
-use Rattle.trlab_traffic.proofs.Places.{clear_is_gap, gap_below}
+use Rattle.trlab_traffic.proofs.Places.{gap_below}
 use Rattle.trlab_traffic.proofs.OneLane.{one_standing, one_sum}
-use Rattle.trlab_traffic.proofs.RoomAhead.{lane_filled, lane_room, lane_taken_or_empty}
+use Rattle.trlab_traffic.proofs.RoomAhead.{lane_taken_or_empty}
 
 -- sums over the cars of a lane by what agrees at them
 pub sum_at_cars : (f g : Car → ℕ) (l s : ℕ) (lane : Lane) → ((x number speed : ℕ) → at lane x ≡ Some (number, speed) → f (car_in l (s + x) number speed) ≡ g (car_in l (s + x) number speed))
@@ -46,13 +47,6 @@ sum_at_cars f g l s (Some car ∷ cells) same =
     let a = sum_by-cons f (car_in l s car.0 car.1) (standing_from l (suc s) cells) in
     let b = sum_by-cons g (car_in l s car.0 car.1) (standing_from l (suc s) cells) in
     omega (arith, first, rest, a, b)
-
--- the gaps of a lane that has a car are its empty cells
-pub gaps_total : (l : ℕ) (lane : Lane) → 0 < lane_cars lane → sum_by (λ (car : Car). gap lane car.place) (standing_from l 0 lane) ≡ lane_empty_cells lane
-gaps_total l lane some =
-    let most = lane_room (λ (car : Car). gap lane car.place) l lane (λ x number speed here. clear_within_gap lane x (gap lane x) (omega arith)) in
-    let least = lane_filled (λ (car : Car). gap lane car.place) l lane some (λ x number speed g here low clear. clear_is_gap lane x g low clear) in
-    omega (arith, most, least)
 
 -- cars of one speed, whose gaps are within bounds
 record Cruise (lane : Lane) (s low high : ℕ) : Type 0 where

@@ -16,6 +16,7 @@ pub mod SlowStarts
 pub mod Slower
 -- cars that follow one another
 pub mod GapsAfter
+pub mod LaneGaps
 pub mod Jamming
 pub mod NextCars
 -- runs that are compared, car by car

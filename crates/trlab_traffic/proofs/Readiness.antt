@@ -15,9 +15,10 @@ use Rattle.trlab_road.proofs.StandingOrder.{length-standing_from, rank_below}
 use Rattle.trlab_traffic.specs.Capacity.{empty_cells, lane_cells, lane_empty_cells}
 use Rattle.trlab_traffic.specs.Diagram.{NaschComesToCapacity, Rule184ComesToCapacity}
 use Rattle.trlab_traffic.specs.Rule184.{digit, is_taken}
-use Rattle.trlab_traffic.proofs.EvenFlows.{Regime, flows, gaps_total, sum_at_cars}
+use Rattle.trlab_traffic.proofs.EvenFlows.{Regime, flows, sum_at_cars}
 use Rattle.trlab_traffic.proofs.Freely.{sum_by-same}
 use Rattle.trlab_traffic.proofs.GapsAfter.{gap_after, next_taken}
+use Rattle.trlab_traffic.proofs.LaneGaps.{gaps_total}
 use Rattle.trlab_traffic.proofs.Digits.{digit_at}
 use Rattle.trlab_traffic.proofs.Leaping.{Leaps, few_near, leaps_itself, leaps_more, none_is_empty, one_is_car, some_near}
 use Rattle.trlab_traffic.proofs.Heights.{last_of, window, window_has, window_last, window_slides}

@@ -20,6 +20,7 @@ ghost use Rattle.trlab_traffic.specs.FreeFlow.{FreeFlowGoesOn, FreeFlowStaysFree
 ghost use Rattle.trlab_traffic.specs.Gone.{CarsGoDistance, EachCarHasGone, GoneIsOne};
 ghost use Rattle.trlab_traffic.specs.Homogeneity.{RunIsHomogeneous, StepIsHomogeneous};
 ghost use Rattle.trlab_traffic.specs.Jams.{CarWithoutGapStops};
+ghost use Rattle.trlab_traffic.specs.LaneGaps.{GapsFillLane, RunKeepsLaneCars};
 ghost use Rattle.trlab_traffic.specs.Metastable.{SlowStartsKeepFreeFlow, SlowStartsKeepJams, TwoFlowsAtOneDensity};
 ghost use Rattle.trlab_traffic.specs.Moving.{RunGoesByMovingCars, StepGoesByMovingCars};
 ghost use Rattle.trlab_traffic.specs.Overtaking.{EachCarHasNext, NextCarIsOne, RunKeepsNextCar, StepKeepsNextCar};
@@ -94,6 +95,13 @@ pub fn randomization_slows()
 /// changes.
 pub fn gaps_follow()
     ensures { GapsFollow }
+{}
+
+/// The gaps of a lane with a car add up to its empty cells, so the mean gap is the number of empty cells per car; and
+/// without lane changes each lane of a run keeps its number of cars.
+pub fn gaps_fill_lanes()
+    ensures gaps { GapsFillLane }
+    ensures cars { RunKeepsLaneCars }
 {}
 
 /// A car that has no gap stops, under any rule without lane changes.
