@@ -16,12 +16,13 @@ ghost use Rattle.trlab_traffic.specs.Fastest.{GapProgramGoesAtOnce, NaschSpeedsU
 ghost use Rattle.trlab_traffic.specs.Fastest.{NobodyBeatsNasch, RandomizationSlowsRuns, SlowStartsSlowRuns};
 ghost use Rattle.trlab_traffic.specs.Fastest.{VdrSpeedsUpByOne};
 ghost use Rattle.trlab_traffic.specs.Following.{GapsFollow};
-ghost use Rattle.trlab_traffic.specs.FreeFlow.{FreeFlowGoesOn, FreeFlowStaysFree};
+ghost use Rattle.trlab_traffic.specs.FreeFlow.{FreeFlowGoesOn, FreeFlowStaysFree, FreeFlowTurns};
 ghost use Rattle.trlab_traffic.specs.Gone.{CarsGoDistance, EachCarHasGone, GoneIsOne};
 ghost use Rattle.trlab_traffic.specs.Homogeneity.{RunIsHomogeneous, StepIsHomogeneous};
 ghost use Rattle.trlab_traffic.specs.Jams.{CarWithoutGapStops};
 ghost use Rattle.trlab_traffic.specs.LaneGaps.{GapsFillLane, RunKeepsLaneCars};
-ghost use Rattle.trlab_traffic.specs.Metastable.{SlowStartsKeepFreeFlow, SlowStartsKeepJams, TwoFlowsAtOneDensity};
+ghost use Rattle.trlab_traffic.specs.Metastable.{SlowStartsKeepFreeFlow, SlowStartsKeepJams};
+ghost use Rattle.trlab_traffic.specs.Metastable.{SlowStartsTurnFreeFlow, TwoFlowsAtOneDensity};
 ghost use Rattle.trlab_traffic.specs.Moving.{RunGoesByMovingCars, StepGoesByMovingCars};
 ghost use Rattle.trlab_traffic.specs.Overtaking.{EachCarHasNext, NextCarIsOne, RunKeepsNextCar, StepKeepsNextCar};
 ghost use Rattle.trlab_traffic.specs.Randomization.{RandomizationSlows, SlowStartsSlow};
@@ -63,17 +64,19 @@ pub fn few_cars_change_lanes()
     ensures run { RunChangesFew }
 {}
 
-/// Free flow stays free for ever under the rule of 1992 without randomization: all cars go by the limit (Nagel and
-/// Schreckenberg 1992, J. Phys. I France 2, 2221).
+/// Free flow stays free for ever under the rule of 1992 without randomization: all cars go by the limit, so the road
+/// moves as one (Nagel and Schreckenberg 1992, J. Phys. I France 2, 2221).
 pub fn free_flow_stays_free()
     ensures step { FreeFlowGoesOn }
     ensures run { FreeFlowStaysFree }
+    ensures turned { FreeFlowTurns }
 {}
 
 /// Slow starts make free flow metastable: at one density free flow goes on for ever, and so does a jam (Barlovic,
 /// Santen, Schadschneider and Schreckenberg 1998, Eur. Phys. J. B 5, 793).
 pub fn slow_starts_are_metastable()
     ensures free { SlowStartsKeepFreeFlow }
+    ensures turned { SlowStartsTurnFreeFlow }
     ensures jam { SlowStartsKeepJams }
 {}
 
