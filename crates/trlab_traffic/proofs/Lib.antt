@@ -37,6 +37,7 @@ pub mod Certainties
 pub mod Reductions
 pub mod Wolfram
 -- the fundamental diagram without randomization
+pub mod Regimes
 pub mod EvenGaps
 pub mod EvenFlows
 pub mod Speeding

@@ -11,7 +11,8 @@ ghost use Rattle.trlab_traffic.specs.Detector.{DetectorCountsOne, DetectorsCount
 ghost use Rattle.trlab_traffic.specs.DetectorRuns.{CountExists, DetectorMeasuresFlow, DetectorsAgree};
 ghost use Rattle.trlab_traffic.specs.DetectorRuns.{DetectorCountsBelowPeak, DetectorsAgreeByCars};
 ghost use Rattle.trlab_traffic.specs.DetectorRuns.{DetectorsCountRun, RunIsContinuous};
-ghost use Rattle.trlab_traffic.specs.Diagram.{EvenCarsFlowAtCapacity, NaschComesToCapacity, Rule184ComesToCapacity};
+ghost use Rattle.trlab_traffic.specs.Diagram.{EvenCarsFlowAtCapacity, NaschComesToCapacity};
+ghost use Rattle.trlab_traffic.specs.Diagram.{NaschComesToCapacityByLane, Rule184ComesToCapacity};
 ghost use Rattle.trlab_traffic.specs.Fastest.{GapProgramGoesAtOnce, NaschSpeedsUpByOne, NobodyBeatsGap};
 ghost use Rattle.trlab_traffic.specs.Fastest.{NobodyBeatsNasch, RandomizationSlowsRuns, SlowStartsSlowRuns};
 ghost use Rattle.trlab_traffic.specs.Fastest.{VdrSpeedsUpByOne};
@@ -196,9 +197,10 @@ pub fn nasch_is_rule_184()
 
 /// Without randomization a run on one lane comes to the capacity of its road from any start, whatever the limit: the
 /// fundamental diagram is a triangle (Fukui and Ishibashi 1996, J. Phys. Soc. Japan 65, 1868, of cars that come to
-/// their speed at once).
+/// their speed at once). On several lanes each comes to its own capacity.
 pub fn nasch_comes_to_capacity()
-    ensures { NaschComesToCapacity }
+    ensures one_lane { NaschComesToCapacity }
+    ensures by_lane { NaschComesToCapacityByLane }
 {}
 
 /// With the limit 1 it does so a step sooner: rule 184 relaxes while a run goes round the ring (Krug and Spohn 1988,
