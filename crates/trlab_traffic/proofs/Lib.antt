@@ -16,6 +16,7 @@ pub mod SlowStarts
 pub mod Slower
 -- cars that follow one another
 pub mod GapsAfter
+pub mod LaneGaps
 pub mod Jamming
 pub mod NextCars
 pub mod Queues
@@ -39,6 +40,7 @@ pub mod Periods
 pub mod Reductions
 pub mod Wolfram
 -- the fundamental diagram without randomization
+pub mod Regimes
 pub mod EvenGaps
 pub mod EvenFlows
 pub mod Speeding
