@@ -20,16 +20,15 @@ use Rattle.trlab_sequential_book.specs.Replay.{Replays, event}
 use Rattle.trlab_strands.specs.declared.knowledge.Noted.{Noted}
 use Rattle.trlab_strands.specs.Knowledge.{number_of}
 use Rattle.trlab_strands.specs.declared.ledger.Ledger.{Ghosts}
-use Rattle.atomic_table.specs.Seated.{TableId}
 use Rattle.trlab_strands.specs.Tokens as strand
 use Rattle.trlab_book.specs.declared.desk.Desk.{Desk}
 use Rattle.trlab_book.specs.declared.desk.SharedBook.{SharedBook}
 use Rattle.trlab_book.specs.declared.fault.RunFault.{RunFault}
 use Rattle.trlab_book.specs.declared.fault.RunFault.TheVariants as run
 
--- which book it is: the name of its list of events, which no other book has
-abbrev pub book_name : {L : Type 0} {ledger : Ghosts L} → SharedBook L ledger → TableId
-book_name book = book.strands.table.shared.table_id
+-- it is the same book: no other book shares its list of events
+abbrev pub IsSameBook : {L : Type 0} {ledger : Ghosts L} → SharedBook L ledger → SharedBook L ledger → Type 0
+IsSameBook old new = new.strands.table.shared.table_id ≡ old.strands.table.shared.table_id
 
 -- how many parts of the right to call it has
 abbrev pub parts_of : {L : Type 0} {ledger : Ghosts L} → Desk L ledger → ℕ

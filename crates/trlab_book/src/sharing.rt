@@ -3,7 +3,7 @@
 
 ghost use Rattle.std.specs.Prelude.{◌≡◌, ◌+◌, ◌<◌, ◌++◌, [], max, IfOk, IfErr, IsOk};
 ghost use Rattle.trlab_sequential_book.specs.Replay.{Replays};
-ghost use Rattle.trlab_book.specs.Desks.{LacksSome, book_name, subhistory_of, least_of, parts_of};
+ghost use Rattle.trlab_book.specs.Desks.{IsSameBook, LacksSome, subhistory_of, least_of, parts_of};
 ghost use Rattle.trlab_strands.specs.Knowledge.{IsLinearization};
 ghost use Rattle.trlab_strands.specs.Tokens.{name_of};
 ghost use Rattle.trlab_strands.specs.declared.limits.TheConstants.{ALL_PARTS};
@@ -46,7 +46,7 @@ impl<L: Ledger> SharedBook<L> {
         ensures order { IfOk result (λ r. IsLinearization r.1.items (subhistory_of desk)) }
         ensures replays { IfOk result (λ r. ∥ Replays r.1.items r.0 ∥₁) }
         ensures err { IfErr result (λ r. LacksSome desk r.1) }
-        ensures back { IfErr result (λ r. book_name r.0 ≡ book_name self) }
+        ensures book { IfErr result (λ r. IsSameBook self r.0) }
         ensures whole { parts_of desk ≡ ALL_PARTS → IsOk result }
     {
         let SharedBook { lock, strands } = self;
