@@ -22,8 +22,13 @@ use Rattle.trlab_strands.specs.Knowledge.{number_of}
 use Rattle.trlab_strands.specs.declared.ledger.Ledger.{Ghosts}
 use Rattle.trlab_strands.specs.Tokens as strand
 use Rattle.trlab_book.specs.declared.desk.Desk.{Desk}
+use Rattle.trlab_book.specs.declared.desk.SharedBook.{SharedBook}
 use Rattle.trlab_book.specs.declared.fault.RunFault.{RunFault}
 use Rattle.trlab_book.specs.declared.fault.RunFault.TheVariants as run
+
+-- it is the same book: no other book shares its list of events
+abbrev pub IsSameBook : {L : Type 0} {ledger : Ghosts L} → SharedBook L ledger → SharedBook L ledger → Type 0
+IsSameBook old new = new.strands.table.shared.table_id ≡ old.strands.table.shared.table_id
 
 -- how many parts of the right to call it has
 abbrev pub parts_of : {L : Type 0} {ledger : Ghosts L} → Desk L ledger → ℕ

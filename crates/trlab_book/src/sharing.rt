@@ -3,7 +3,7 @@
 
 ghost use Rattle.std.specs.Prelude.{◌≡◌, ◌+◌, ◌<◌, ◌++◌, [], max, IfOk, IfErr, IsOk};
 ghost use Rattle.trlab_sequential_book.specs.Replay.{Replays};
-ghost use Rattle.trlab_book.specs.Desks.{LacksSome, subhistory_of, least_of, parts_of};
+ghost use Rattle.trlab_book.specs.Desks.{IsSameBook, LacksSome, subhistory_of, least_of, parts_of};
 ghost use Rattle.trlab_strands.specs.Knowledge.{IsLinearization};
 ghost use Rattle.trlab_strands.specs.Tokens.{name_of};
 ghost use Rattle.trlab_strands.specs.declared.limits.TheConstants.{ALL_PARTS};
@@ -39,13 +39,14 @@ impl<L: Ledger> SharedBook<L> {
     ///
     /// # Errors
     ///
-    /// Where events were made at other desks, which were not gathered into this one: the book with its
-    /// history comes back, and the desk, which has then seen how many they are. With all parts it never
-    /// fails.
+    /// If other desks made events and were not gathered into this one: this book comes back with its
+    /// history, and so does the desk, which by then has seen how many events there are. A desk with all
+    /// parts always closes the book.
     pub fn close(self, desk: Desk<L>) -> Result<(Book, Vec<Event>), (SharedBook<L>, Desk<L>)>
         ensures order { IfOk result (λ r. IsLinearization r.1.items (subhistory_of desk)) }
         ensures replays { IfOk result (λ r. ∥ Replays r.1.items r.0 ∥₁) }
         ensures err { IfErr result (λ r. LacksSome desk r.1) }
+        ensures book { IfErr result (λ r. IsSameBook self r.0) }
         ensures whole { parts_of desk ≡ ALL_PARTS → IsOk result }
     {
         let SharedBook { lock, strands } = self;

@@ -21,3 +21,6 @@ pub mod SomeCounts
 pub mod SomeSweep
 pub mod SweepLines
 pub mod SweepCounts
+pub mod ReasonNumbers
+pub mod LineCauses
+pub mod NeverRefused

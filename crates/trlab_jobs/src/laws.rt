@@ -4,7 +4,7 @@
 
 ghost use Rattle.trlab_jobs.specs.Check.{CheckText};
 ghost use Rattle.trlab_jobs.specs.Job.{JobText};
-ghost use Rattle.trlab_jobs.specs.Laws.{SaysOneThing, SaysSomething};
+ghost use Rattle.trlab_jobs.specs.Laws.{NeverRefusesStandardRules, SaysOneThing, SaysSomething};
 ghost use Rattle.trlab_jobs.specs.Sweep.{SweepText};
 
 /// Any job text says just one thing: a job, or its first fault.
@@ -23,4 +23,11 @@ pub fn check_says_one_thing()
 pub fn sweep_says_one_thing()
     ensures something { SaysSomething SweepText }
     ensures one_thing { SaysOneThing SweepText }
+{}
+
+/// No text is ever rejected because the verifier refuses a program of a standard rule: it accepts all of them.
+pub fn standard_rules_are_never_refused()
+    ensures job { NeverRefusesStandardRules JobText }
+    ensures sweep { NeverRefusesStandardRules SweepText }
+    ensures check { NeverRefusesStandardRules CheckText }
 {}
