@@ -39,9 +39,8 @@ impl<L: Ledger> SharedBook<L> {
     ///
     /// # Errors
     ///
-    /// Where events were made at other desks, which were not gathered into this one: the book with its
-    /// history comes back, and the desk, which has then seen how many they are. With all parts it never
-    /// fails.
+    /// If events were made at other desks that were not gathered into this one. The book then comes back with
+    /// its history, and the desk has seen how many events there are. A desk with all parts never fails.
     pub fn close(self, desk: Desk<L>) -> Result<(Book, Vec<Event>), (SharedBook<L>, Desk<L>)>
         ensures order { IfOk result (λ r. IsLinearization r.1.items (subhistory_of desk)) }
         ensures replays { IfOk result (λ r. ∥ Replays r.1.items r.0 ∥₁) }
