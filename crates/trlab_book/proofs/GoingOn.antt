@@ -1,5 +1,5 @@
 -- A desk goes on from call to call of its runners.
-use Rattle.std.specs.Prelude.{Result, Ok, Err, OnOk, IsOk, ◌↔◌, ◌⊎◌, ◌&&◌}
+use Rattle.std.specs.Prelude.{Result, Ok, Err, OnOk, IsOk, ◌↔◌, ◌⊎◌}
 use Rattle.std.proofs.Common.{◌≡◌, cond, subst, inl, inr, ℕ, ◌+◌, ◌<◌, ◌≤◌, max, Bool, true, false, List, [], ◌∷◌, ◌++◌, refl, sym, ap, ◌∙◌, arith, append_assoc, append-nil, MatchBool}
 use Rattle.std.proofs.lemmas.List.Sums.{sum_by-append}
 use Rattle.std.proofs.lemmas.List.Elements.{All-nil, All-push, All-append, All-weaker}
@@ -21,7 +21,7 @@ use Rattle.trlab_strands.specs.declared.knowledge.Noted.{Noted}
 use Rattle.trlab_strands.specs.Knowledge.{noted, number_of}
 use Rattle.trlab_strands.specs.Tokens as strand
 use Rattle.trlab_book.specs.declared.desk.Desk.{Desk}
-use Rattle.trlab_book.specs.Desks.{AreOfRunners, GoesOn, HasEnded, HasSeen, IsNoEvent, IsOneEvent, MakesOf, subhistory_of, is_of_runner, is_lease, is_no_lease, least_of, none_count, parts_of, tells_full}
+use Rattle.trlab_book.specs.Desks.{AreOfRunners, GoesOn, HasEnded, HasSeen, IsNoEvent, IsOneEvent, MakesOf, subhistory_of, is_of_runner, finds_no_job, least_of, no_job_count, parts_of, tells_full}
 use Rattle.trlab_sequential_book.specs.declared.limits.TheConstants.{MOST_EVENTS}
 
 -- calls within a span are within a wider one
@@ -49,7 +49,7 @@ module _ {L : Type 0} {ledger : Ghosts L} where
         (wider (least_of b) (least_of c) (least_of a) (least_of c) second.more first.least (omega arith) second.runners);
   }
 
-  -- a call that is no event leaves a desk with its calls, and its clock does not fall
+  -- a call that is not an event adds nothing to the desk's calls, and the clock does not go back
   is_none : (a b : Desk L ledger) (told : Reply) → IsNoEvent a told b → (subhistory_of b ≡ subhistory_of a) × (least_of a ≤ least_of b)
   is_none a b told none = by_full (tells_full told) none
     where
@@ -114,29 +114,29 @@ module _ {L : Type 0} {ledger : Ghosts L} where
       }
 
 -- the calls of two lists that found no job free
-none_append : (xs ys : List (Noted Event)) → none_count (xs ++ ys) ≡ none_count xs + none_count ys
-none_append xs ys = sum_by-append (λ (n : Noted Event). cond (is_lease n.event.call && is_no_lease n.event.reply) 1 0) xs ys
+none_append : (xs ys : List (Noted Event)) → no_job_count (xs ++ ys) ≡ no_job_count xs + no_job_count ys
+none_append xs ys = sum_by-append (λ (n : Noted Event). cond (finds_no_job n.event) 1 0) xs ys
 
 module _ {L : Type 0} {ledger : Ghosts L} where
   -- a desk that goes on loses no such call
-  none_rises : (a b : Desk L ledger) → GoesOn a b → none_count (subhistory_of a) ≤ none_count (subhistory_of b)
+  none_rises : (a b : Desk L ledger) → GoesOn a b → no_job_count (subhistory_of a) ≤ no_job_count (subhistory_of b)
   none_rises a b on =
-      let all = ap none_count on.subhistory ∙ none_append (subhistory_of a) on.more in
+      let all = ap no_job_count on.subhistory ∙ none_append (subhistory_of a) on.more in
       omega arith
 
   -- runners end after other calls
   pub ended_after : (runners : ℕ) (ended : Result (Unit {0}) RunFault) (a b c : Desk L ledger) → GoesOn a b → HasEnded runners ended b c → HasEnded runners ended a c
-  ended_after runners ended a b c on end = record { on = goes_on a b c on end.on; out = by_end ended end.out; full = end.full }
+  ended_after runners ended a b c on end = record { on = goes_on a b c on end.on; no_job = by_end ended end.no_job; full = end.full }
     where
-      by_end : (e : Result (Unit {0}) RunFault) → OnOk e (none_count (subhistory_of b) + runners ≤ none_count (subhistory_of c)) → OnOk e (none_count (subhistory_of a) + runners ≤ none_count (subhistory_of c))
+      by_end : (e : Result (Unit {0}) RunFault) → OnOk e (no_job_count (subhistory_of b) + runners ≤ no_job_count (subhistory_of c)) → OnOk e (no_job_count (subhistory_of a) + runners ≤ no_job_count (subhistory_of c))
       by_end (Ok done) out = let rises = none_rises a b on in omega arith
       by_end (Err fault) out = tt
 
-  -- a runner that goes on has not ended by anything
+  -- a runner that goes on has not ended with a fault
   pub ended_none : (a b : Desk L ledger) → GoesOn a b → HasEnded 0 (Ok tt) a b
-  ended_none a b on = let rises = none_rises a b on in record { on = on; out = omega arith; full = λ e. absurd (cc e) }
+  ended_none a b on = let rises = none_rises a b on in record { on = on; no_job = omega arith; full = λ e. absurd (cc e) }
 
-  -- a call that is answered by a full history has seen all of it
+  -- after a call that answers HistoryFull its desk has seen the whole history
   pub full_seen : (Holds : State → Type 0) (a b : Desk L ledger) (call : Call) (fault : BookFault) → MakesOf Holds a call (Refused fault) b → fault ≡ HistoryFull → MOST_EVENTS ≤ least_of b
   full_seen Holds a b call HistoryFull made is = made.1.3
   full_seen Holds a b call Memory made is = absurd (cc is)
@@ -147,7 +147,7 @@ module _ {L : Type 0} {ledger : Ghosts L} where
   full_seen Holds a b call SheetFull made is = absurd (cc is)
   full_seen Holds a b call StrangerLease made is = absurd (cc is)
 
-  -- what two of them tell, told as one
+  -- the ends of two runners, combined into one
   pub ended_both : (one others : ℕ) (first second told : Result (Unit {0}) RunFault) (old kept given mine theirs new : Desk L ledger)
       → parts_of kept + 1 ≡ parts_of old → parts_of given ≡ 1
       → subhistory_of kept ≡ subhistory_of old → subhistory_of given ≡ [] → least_of kept ≡ least_of old → least_of given ≡ least_of old
@@ -157,24 +157,24 @@ module _ {L : Type 0} {ledger : Ghosts L} where
       → HasEnded (one + others) told old new
   ended_both one others first second told old kept given mine theirs new fewer part was free low least second_end first_end parts joined greater fine full = record {
     on = gathers old kept given mine theirs new fewer part was free low least second_end.on first_end.on parts joined greater;
-    out = by_told told refl;
+    no_job = by_told told refl;
     full = λ e. elim (full.0 e) [
       | inl is ↦ let p = first_end.full is in omega arith
       | inr is ↦ let p = second_end.full is in omega arith
     ];
   }
     where
-      out_of : (n : ℕ) (e : Result (Unit {0}) RunFault) (a b : Desk L ledger) → HasEnded n e a b → IsOk e → none_count (subhistory_of a) + n ≤ none_count (subhistory_of b)
-      out_of n (Ok done) a b end is = end.out
+      out_of : (n : ℕ) (e : Result (Unit {0}) RunFault) (a b : Desk L ledger) → HasEnded n e a b → IsOk e → no_job_count (subhistory_of a) + n ≤ no_job_count (subhistory_of b)
+      out_of n (Ok done) a b end is = end.no_job
       out_of n (Err fault) a b end is = absurd (cc is)
 
-      by_told : (e : Result (Unit {0}) RunFault) → told ≡ e → OnOk e (none_count (subhistory_of old) + (one + others) ≤ none_count (subhistory_of new))
+      by_told : (e : Result (Unit {0}) RunFault) → told ≡ e → OnOk e (no_job_count (subhistory_of old) + (one + others) ≤ no_job_count (subhistory_of new))
       by_told (Err fault) e = tt
       by_told (Ok done) e =
           let both = fine.0 (subst IsOk (sym e) refl) in
           let a = out_of one first given theirs first_end both.0 in
           let b = out_of others second kept mine second_end both.1 in
-          let c : none_count (subhistory_of kept) ≡ none_count (subhistory_of old) = ap none_count was in
-          let d : none_count (subhistory_of given) ≡ 0 = ap none_count free in
-          let f : none_count (subhistory_of new) ≡ none_count (subhistory_of mine) + none_count (subhistory_of theirs) = ap none_count joined ∙ none_append (subhistory_of mine) (subhistory_of theirs) in
+          let c : no_job_count (subhistory_of kept) ≡ no_job_count (subhistory_of old) = ap no_job_count was in
+          let d : no_job_count (subhistory_of given) ≡ 0 = ap no_job_count free in
+          let f : no_job_count (subhistory_of new) ≡ no_job_count (subhistory_of mine) + no_job_count (subhistory_of theirs) = ap no_job_count joined ∙ none_append (subhistory_of mine) (subhistory_of theirs) in
           omega arith

@@ -32,7 +32,7 @@ next_event old new call told reply list made same was =
     let here : P told old.history.items = appended old new call told (is_event told) made in
     subst (λ (l : List Event). P reply l) was (subst (λ (r : Reply). P r old.history.items) (sym same) here)
 
--- a full book has had the most events
+-- a full book has had MOST_EVENTS events
 history_is_full : (kept : Kept) → is_full kept.book ≡ true → MOST_EVENTS ≤ length kept.history.items
 history_is_full kept full =
     let most : MOST_EVENTS ≤ kept.book.count = ltb-false kept.book.count MOST_EVENTS (not-true _ full) in

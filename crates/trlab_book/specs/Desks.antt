@@ -43,22 +43,23 @@ subhistory_of d = strand.subhistory_of d.strand
 abbrev pub least_of : {L : Type 0} {ledger : Ghosts L} → Desk L ledger → ℕ
 least_of d = strand.least_of d.strand
 
--- a desk that has seen at least so many events, and else is as it was
+-- the desk has now seen at least this many events; otherwise it is as it was
 abbrev pub HasSeen : {L : Type 0} {ledger : Ghosts L} → Desk L ledger → ℕ → Desk L ledger → Type 0
 HasSeen old count new =
     (parts_of new ≡ parts_of old) × (subhistory_of new ≡ subhistory_of old)
     × (least_of old ≤ least_of new) × (count ≤ least_of new)
 
--- a desk that lacks some event of the history: it has seen more events than are its own, and else is as it was
+-- the desk lacks some event of the history: it has now seen more events than its own
 abbrev pub LacksSome : {L : Type 0} {ledger : Ghosts L} → Desk L ledger → Desk L ledger → Type 0
 LacksSome old new = HasSeen old (length (subhistory_of old) + 1) new
 
--- the reply says that the history is full
+-- whether the reply says that the history is full
 abbrev pub tells_full : Reply → Bool
 tells_full (Refused HistoryFull) = true
 tells_full _ = false
 
--- a call that is no event leaves a desk as it was; where the history was full, it has seen all of it
+-- a call that is not an event leaves the desk as it was; but if the history was full, the desk has now seen
+-- all of it
 abbrev pub IsNoEvent : {L : Type 0} {ledger : Ghosts L} → Desk L ledger → Reply → Desk L ledger → Type 0
 IsNoEvent old told new =
     MatchBool (tells_full told) (HasSeen old MOST_EVENTS new) (strand.IsSame old.strand new.strand)
@@ -72,8 +73,9 @@ pub record IsOneEvent {L : Type 0} {ledger : Ghosts L} (old : Desk L ledger) (ca
   pub reply : told ≡ reply_of book call
   pub noted : strand.Adds old.strand before (event call told) new.strand
 
--- what a call does to the desk through which it is made: the same parts, and, where the reply to it is an
--- event, just this event more, of a book of which something holds; else nothing, but that a full history is seen
+-- what a call does to its desk. The desk keeps its parts. If the reply makes the call an event, the desk has
+-- exactly this event more, of a book for which `Holds` is true. If not, nothing changes, except that the desk
+-- sees a full history
 abbrev pub MakesOf : {L : Type 0} {ledger : Ghosts L} → (State → Type 0)
     → Desk L ledger → Call → Reply → Desk L ledger → Type 0
 MakesOf Holds old call told new =
@@ -87,8 +89,8 @@ abbrev pub Makes : {L : Type 0} {ledger : Ghosts L}
     → Desk L ledger → Call → Reply → Desk L ledger → Type 0
 Makes old call told new = MakesOf (λ book. Unit {0}) old call told new
 
--- what is put down at a desk after these events: the call, where its reply is an event, else nothing; where
--- the reply says that they are all that there can be, the desk has seen them
+-- what is noted at a desk after the events `before`: the call, if its reply makes it an event, and otherwise
+-- nothing; but if the reply says that the history is full, the desk has seen all of `before`
 abbrev pub PutsDown : {L : Type 0} {ledger : Ghosts L} → Desk L ledger → List Event → Call → Reply
     → Desk L ledger → Type 0
 PutsDown old before call told new =
@@ -138,7 +140,7 @@ pub record GoesOn {L : Type 0} {ledger : Ghosts L} (old new : Desk L ledger) : T
   pub subhistory : subhistory_of new ≡ subhistory_of old ++ more
   pub runners : AreOfRunners (least_of old) (least_of new) more
 
--- the call of a runner that wants a job, and the reply where none is free
+-- whether a call asks for a lease, and whether a reply says that no job is free
 abbrev pub is_lease : Call → Bool
 is_lease call.Lease = true
 is_lease _ = false
@@ -147,14 +149,19 @@ abbrev pub is_no_lease : Reply → Bool
 is_no_lease NoLease = true
 is_no_lease _ = false
 
--- how many of these events found no job free
-abbrev pub none_count : List (Noted Event) → ℕ
-none_count events = count_by (λ n. is_lease n.event.call && is_no_lease n.event.reply) events
+-- whether an event is a lease call that found no free job
+abbrev pub finds_no_job : Event → Bool
+finds_no_job e = is_lease e.call && is_no_lease e.reply
 
--- so many runners have called through a desk, and ended so: well, each by a call that found no job free; or by a
--- full history, all of which the desk has seen; or for want of memory
+-- how many of these events are lease calls that found no free job
+abbrev pub no_job_count : List (Noted Event) → ℕ
+no_job_count events = count_by (λ n. finds_no_job n.event) events
+
+-- so many runners have called through a desk and ended. If they ended well, at least as many of their lease
+-- calls found no free job; if by a full history, the desk has seen all of it; if memory ran out, nothing more
+-- is said
 pub record HasEnded {L : Type 0} {ledger : Ghosts L} (runners : ℕ) (ended : Result (Unit {0}) RunFault)
     (old new : Desk L ledger) : Type 0 where
   pub on : GoesOn old new
-  pub out : OnOk ended (none_count (subhistory_of old) + runners ≤ none_count (subhistory_of new))
+  pub no_job : OnOk ended (no_job_count (subhistory_of old) + runners ≤ no_job_count (subhistory_of new))
   pub full : ended ≡ Err run.HistoryFull → MOST_EVENTS ≤ least_of new

@@ -56,7 +56,7 @@ impl<L: Ledger> SharedBook<L> {
         answer
     }
 
-    /// How a call is refused where memory ran out before it was made.
+    /// The fault with which a call is refused if memory ran out before it was made.
     fn refuse_without_memory<R: Wait>(&self, rt: &R, desk: &mut Desk<L>) -> BookFault
         ensures none { is_event (Refused result) ≡ false }
         ensures desk { (parts_of desk.new ≡ parts_of desk.old) × IsNoEvent desk.old (Refused result) desk.new }
@@ -222,9 +222,9 @@ impl<L: Ledger> SharedBook<L> {
     }
 }
 
-/// Puts the last event of the history into the desk's subhistory, where this reply is of an event; where it
-/// says that the history is full, the desk sees it. A call
-/// breaks the invariant of `Locked`, and this restores it, so its parts are handed in one by one.
+/// If the reply makes a call an event, adds the last event of the history to the desk's subhistory; if it says
+/// that the history is full, lets the desk see the history. A call breaks the invariant of `Locked` and this
+/// restores it, so it takes the parts of `Locked` one by one.
 fn note_event<L: Ledger>(
     keeper: &mut Keeper<L, Event>,
     strands: &Strands<L, Event>,

@@ -14,9 +14,9 @@ use std::thread::{Threads, join};
 use trlab_segments::Gate;
 use trlab_strands::Ledger;
 
-/// Runs the jobs of a book by 1 to 16 runners, until none is free, and gives the desk back, with all their
-/// calls after its own, those of one runner after those of another. Each step is taken by 1 to 16 workers,
-/// who pass the gate.
+/// Runs the jobs of a book by 1 to 16 runners, each until it finds no job free, and gives the desk back, with
+/// all their calls after its own, those of one runner after those of another. Each step is taken by 1 to 16
+/// workers, who pass the gate.
 ///
 /// The desk has a part for each runner. The calling thread is runner 0; it begins once the others were
 /// started, and does the work of those that can't be started.
@@ -35,7 +35,9 @@ pub fn run_jobs<L: Ledger + Send + Sync, R: Threads + Wait + Sync, G: Gate + Syn
 ) -> Result<Desk<L>, (Desk<L>, RunFault)>
     requires workers { (0 < workers) × (workers ≤ MOST_WORKERS) }
     requires runners { (0 < runners) × (runners ≤ MOST_RUNNERS) × (runners ≤ parts_of desk) }
-    ensures { MatchResult result (λ d. HasEnded runners (Ok tt) desk d) (λ e. HasEnded runners (Err e.1) desk e.0) }
+    ensures { MatchResult result
+        (λ d. HasEnded runners (Ok tt) desk d)
+        (λ e. HasEnded runners (Err e.1) desk e.0) }
 {
     let (desk, ended) = run_all(rt, alloc, book, desk, runners, workers, gate);
     match ended {

@@ -24,12 +24,13 @@ abbrev pub Accepts : Kind → Program → CheckedProgram → Type 0
 Accepts kind program checked =
     (checked.program ≡ program) × (IsAccepted kind program × IsChecked kind checked)
 
--- what a standard rule of a motion program says: the rule, since its program is accepted
+-- what a rule line with this standard motion program says: always the rule, because the verifier accepts the
+-- program
 abbrev pub MotionSays : Program → Result Programs Cause → Type 0
 MotionSays motion (Ok rule) = Accepts Motion motion rule.motion × (rule.change ≡ None)
 MotionSays motion (Err cause) = ⊥
 
--- what a standard rule of a motion program and a change program says: the rule, since both are accepted
+-- the same for a motion and a change program, both of which the verifier accepts
 abbrev pub BothSay : Program → Program → Result Programs Cause → Type 0
 BothSay motion change (Ok rule) =
     Accepts Motion motion rule.motion × MatchOption rule.change ⊥ (Accepts Change change)

@@ -1,15 +1,16 @@
--- Cars that follow on each other in the list of their lane.
+-- Lines of cars, as parts of the list of their lane.
 use Rattle.std.proofs.Common.{◌≡◌, ◌∙◌, ℕ, ◌+◌, ◌-◌, ◌<◌, List, [], Vec, Global, length, get_or, drop, sym, ap, subst, arith}
 use Rattle.std.proofs.lemmas.List.{get_or-drop, length-drop}
 use Rattle.trlab_road.specs.LaneCars.{LaneCar}
 use Rattle.trlab_road.specs.Cells.{Cells, Lane}
 use Rattle.trlab_road.specs.Gaps.{gap, headspeed}
-use Rattle.trlab_road.specs.InLine.{IsFollowed}
-use Rattle.trlab_road.specs.Stored.{AreSorted, IsFoundAt, lanes_from, list_at, no_car, place_of}
+use Rattle.trlab_road.specs.InLine.{IsFollowed, IsLineFrom}
+use Rattle.trlab_road.specs.Standing.{IsStanding}
+use Rattle.trlab_road.specs.Stored.{AreSorted, IsFoundAt, car_on, lanes_from, list_at, no_car, place_of}
 use Rattle.trlab_road.proofs.Headspeeds.{next_headspeed}
 use Rattle.trlab_road.proofs.ListGaps.{gap_next}
 use Rattle.trlab_road.proofs.ListMotion.{parted_kth}
-use Rattle.trlab_road.proofs.ListRoads.{found_by, found_cell, found_in_order, found_standing, lane_from}
+use Rattle.trlab_road.proofs.ListRoads.{counted_before, found_by, found_cell, found_in_order, found_standing, lane_from, list_counted}
 use Rattle.trlab_road.proofs.Lists.{rises_high, rises_order}
 
 module _ (n : ℕ) (lists : List (Vec LaneCar Global)) (limit k l i : ℕ) (s : AreSorted n lists) (f : IsFoundAt lists k l i) where
@@ -52,3 +53,20 @@ module _ (n : ℕ) (lists : List (Vec LaneCar Global)) (limit k l i : ℕ) (s : 
       let next : get_or line (j + 1) no_car ≡ get_or cars (i + j + 1) no_car = ap (λ (xs : List LaneCar). get_or xs (j + 1) no_car) is ∙ get_or-drop i cars (j + 1) no_car ∙ ap (λ m. get_or cars m no_car) (omega arith) in
       subst (λ (next : LaneCar). IsFollowed road (k + j) (get_or line j no_car) next) (sym next)
       (subst (λ (car : LaneCar). IsFollowed road (k + j) car (get_or cars (i + j + 1) no_car)) (sym here) (followed j (omega (arith, size, more))))
+
+  -- they are the line from the car at this index
+  pub line_from : (line : List LaneCar) → line ≡ drop i cars → IsLineFrom road k line
+  line_from line is =
+      let size : length line ≡ length cars - i = ap length is ∙ length-drop i cars in
+      let low = f.low in
+      let order = f.order in
+      let before = counted_before n lists l s in
+      let whole = list_counted n lists l s f.on_lane in
+      record {
+        lane = l;
+        some = omega (arith, size, low);
+        standing = λ j inside.
+            subst (λ (car : LaneCar). IsStanding road (k + j) (car_on l car)) (sym (ap (λ (xs : List LaneCar). get_or xs j no_car) is ∙ get_or-drop i cars j no_car))
+            (found_standing n lists limit (k + j) l (i + j) s (found_later_on j (omega (arith, size, inside))));
+        whole = omega (arith, size, low, order, before, whole);
+      }

@@ -1,11 +1,25 @@
--- Cars that follow on each other on their lane.
-use Rattle.std.specs.Prelude.{◌≡◌, ℕ, ◌-◌, ◌<◌, slice_index}
+-- Lines of cars: cars of one lane by rising place, each but the last followed by the next car ahead of it.
+use Rattle.std.specs.Prelude.{◌≡◌, ℕ, ◌+◌, ◌-◌, ◌<◌, slice_index, slice_index_or}
+use Rattle.std.specs.Prelude.{List, length, map, sum_by, take}
 use Rattle.trlab_road.specs.LaneCars.{LaneCar}
-use Rattle.trlab_road.specs.Cells.{Cells, IsAt}
+use Rattle.trlab_road.specs.Cells.{Cells, IsAt, lane_cars, lane_of}
 use Rattle.trlab_road.specs.Gaps.{gap, headspeed}
 use Rattle.trlab_road.specs.Motion.{IsOnLane, gaps}
-use Rattle.trlab_road.specs.Standing.{IsStanding}
-use Rattle.trlab_road.specs.Stored.{car_on}
+use Rattle.trlab_road.specs.Standing.{IsStanding, standing_from}
+use Rattle.trlab_road.specs.Stored.{car_on, no_car}
+
+-- the line of a lane: all its cars, by rising place
+abbrev pub IsLineOf : Cells → ℕ → List LaneCar → Type 0
+IsLineOf road lane line = map (car_on lane) line ≡ standing_from lane 0 (lane_of road lane)
+
+-- the line from the k-th car in standing order on to the last car of its lane: its cars are the next ones in
+-- standing order, and they end with the last car of the lanes up to this one
+pub record IsLineFrom (road : Cells) (k : ℕ) (line : List LaneCar) : Type 0 where
+  pub lane : ℕ
+  pub some : 0 < length line
+  pub standing : (j : ℕ) → j < length line
+      → IsStanding road (k + j) (car_on lane (slice_index_or line j no_car))
+  pub whole : k + length line ≡ sum_by lane_cars (take (lane + 1) road.lanes)
 
 -- the k-th car in standing order, as its lane keeps it, and the next car ahead of it, which stands further on
 -- that lane

@@ -1,5 +1,5 @@
--- The verifier accepts the programs of the standard rules, whatever their chances: a table of notes checks for
--- each, and it names no chance.
+-- The verifier accepts the programs of the standard rules for every probability: a table of notes checks for
+-- each program, and no note depends on a probability.
 use Rattle.std.proofs.Common.{ℕ, ◌+◌, refl, List, [], ◌∷◌, true, false}
 use Rattle.trlab_bounds.specs.declared.roads.TheConstants.{GREATEST_LIMIT, GREATEST_GAP}
 use Rattle.trlab_code.specs.declared.kind.Kind.TheVariants.{Motion, Change}
@@ -17,19 +17,19 @@ use Rattle.trlab_verify.specs.Verdict.{IsAccepted}
 use Rattle.trlab_rules.specs.Standard.{nasch_program, vdr_program, rickert_program}
 use Rattle.trlab_rules.proofs.KnownNotes.{Fact, Known, accepted_by}
 
--- a register is at most what a car sees by an input
+-- the register is at most the input
 abbrev within : Register → Input → Fact
 within r k = record { one = variable.Register r; other = variable.Input k; level = 1 }
 
--- what is said of the first registers, and no more
+-- notes about the first registers only
 abbrev saying : List Said → Known
 saying said = record { said = said; facts = []; side = false }
 
--- the same, and facts
+-- the same, with facts about the order
 abbrev knowing : List Said → List Fact → Known
 knowing said facts = record { said = said; facts = facts; side = false }
 
--- the same where the side cell is empty
+-- the same, and the side cell is empty
 abbrev beside_empty : List Said → Known
 beside_empty said = record { said = said; facts = []; side = true }
 
@@ -51,7 +51,7 @@ one = Between 1 1
 abbrev flag : Said
 flag = Implies false
 
--- 1, where it is no more than the speed in R0
+-- 0 or 1: the smaller of 1 and the speed in R0
 abbrev some_one : Said
 some_one = Between 0 1
 

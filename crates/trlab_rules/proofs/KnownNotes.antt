@@ -1,4 +1,5 @@
--- Notes that are known by ranges and a few facts on the order, and a test whether a table of them checks.
+-- Notes that are given by ranges and a few facts about the order, and a test of whether a table of them
+-- checks.
 use Rattle.std.proofs.Common.{◌≡◌, ℕ, zero, suc, ◌+◌, ◌<◌, ◌≤◌, ◌&&◌, ◌||◌, not, refl, sym, subst, arith, inl, inr, List, [], ◌∷◌, length, Bool, true, false, IsTrue, Option, Some, None, nat_eq, nat_le, cond, get_or}
 use Rattle.std.specs.Prelude.{slice_get, IfSome}
 use Rattle.std.specs.List.{list_all}
@@ -31,8 +32,8 @@ pub record Fact : Type 0 where
   pub other : Variable
   pub level : ℕ
 
--- what is known before an instruction: what is said of the first registers, facts on the order, and whether
--- the side cell is empty
+-- a row of such a table: what is known of the first registers, facts about the order, and whether the side
+-- cell is empty
 pub record Known : Type 0 where
   pub said : List Said
   pub facts : List Fact
@@ -46,15 +47,15 @@ abbrev said_by : Kind → List Said → Variable → Said
 said_by kind said (variable.Register r) = get_or said (register_number r) Nothing
 said_by kind said (variable.Input k) = entry_said kind (variable.Input k)
 
--- the note of what is known
+-- the note that a row stands for
 abbrev note_of : Kind → Known → Note
 note_of kind known = record { said = said_by kind known.said; level = level_by known.facts; side = known.side }
 
--- what is known where a table has no more
+-- the row past the end of a table: nothing is known
 abbrev unknown : Known
 unknown = record { said = []; facts = []; side = false }
 
--- no more is said of a variable than elsewhere
+-- the first says no more of a variable than the second
 abbrev says_no_more : Said → Said → Bool
 says_no_more Nothing t = true
 says_no_more (Between a b) (Between c d) = nat_le a c && nat_le d b
@@ -74,7 +75,7 @@ no_more (Implies p) (Implies q) h = implied p q h
 no_more (Implies p) Nothing h = absurd (cc h)
 no_more (Implies p) (Between c d) h = absurd (cc h)
 
--- what a test finds of all variables holds of each
+-- a test that passes for all variables passes for each
 in_list : (f : Variable → Bool) (xs : List Variable) (k : ℕ) → k < length xs → list_all f xs ≡ true → f (get_or xs k (variable.Register R0)) ≡ true
 in_list f [] k lt h = absurd (omega arith)
 in_list f (x ∷ xs) zero lt h = (and_parts (f x) (list_all f xs) h).0
@@ -83,7 +84,7 @@ in_list f (x ∷ xs) (suc k) lt h = in_list f xs k (omega arith) (and_parts (f x
 of_each : (f : Variable → Bool) → list_all f variables ≡ true → (x : Variable) → f x ≡ true
 of_each f h x = subst (λ z. f z ≡ true) (back x) (in_list f variables (variable_number x) (below x) h)
 
--- the facts are known of a note
+-- a note knows all of these facts
 abbrev are_known : Note → List Fact → Bool
 are_known n facts = list_all (λ fact. nat_le fact.level (known_level n fact.one fact.other)) facts
 
@@ -102,7 +103,7 @@ facts_hold n (fact ∷ facts) h x y =
     fact_holds n fact facts x y (same_variable x fact.one) (same_variable y fact.other) refl refl
     (leb-true fact.level (known_level n fact.one fact.other) both.0) (facts_hold n facts both.1 x y)
 
--- what is known is no stronger than a note
+-- a row is no stronger than a note
 abbrev is_no_stronger : Kind → Known → Note → Bool
 is_no_stronger kind known n =
     list_all (λ x. says_no_more (said_with_side (note_of kind known) x) (said_with_side n x)) variables
@@ -122,7 +123,7 @@ no_stronger kind known n h =
       beside = implied known.side n.side second.1;
     }
 
--- there is no reason
+-- there is no reason to refuse
 abbrev none_stands : Option Reason → Bool
 none_stands None = true
 none_stands (Some reason) = false
@@ -136,7 +137,7 @@ abbrev leads : Option Instr → ℕ → ℕ → Bool
 leads None p q = false
 leads (Some i) p q = (falls i && nat_eq q (suc p)) || on_target (nat_eq q) (target i)
 
--- one of the first n does
+-- one of the first n instructions leads to q
 abbrev some_leads : List Instr → ℕ → ℕ → Bool
 some_leads code zero q = false
 some_leads code (suc n) q = leads (slice_get code n) n q || some_leads code n q
@@ -152,7 +153,7 @@ follows code (suc n) q h = elim (or_cases (leads (slice_get code n) n q) (some_l
     at None e l = absurd (cc l)
     at (Some i) e l = (n, (i, e, l))
 
--- what is known is no stronger than the note that is sent, if one is
+-- a row is no stronger than the note that is sent to it, if there is one
 abbrev suits : Kind → Known → Option Note → Bool
 suits kind known None = true
 suits kind known (Some n) = is_no_stronger kind known n
@@ -172,14 +173,14 @@ module _ (kind : Kind) (program : Program) (table : List Known) where
   suits_target n None = true
   suits_target n (Some t) = is_no_stronger kind (at_pc t) n
 
-  -- all is well at the instruction i, which stands at pc
+  -- the table checks at pc, where the instruction is i
   abbrev passes : ℕ → Instr → Bool
   passes pc i =
       (nat_eq pc 0 || some_leads program.instrs pc pc)
       && (none_stands (reason_against kind program.kind (length program.instrs) pc (note pc) i)
       && (suits kind (at_pc (suc pc)) (next_note (note pc) i) && suits_target (jump_note (note pc) i) (target i)))
 
-  -- and at those after it
+  -- and at all instructions from pc on
   abbrev all_pass : ℕ → List Instr → Bool
   all_pass pc [] = true
   all_pass pc (i ∷ rest) = passes pc i && all_pass (suc pc) rest

@@ -1,4 +1,4 @@
--- The standard rules: what each of them is.
+-- Definitions of the standard rules.
 use Rattle.std.specs.Prelude.{◌≡◌, ℕ, Bool, List, None, MatchOption}
 use Rattle.trlab_code.specs.declared.kind.Kind.TheVariants.{Motion, Change}
 use Rattle.trlab_code.specs.declared.view.View.{View}

@@ -17,7 +17,7 @@ use trlab_words::Chance;
 ///
 /// # Errors
 ///
-/// Where memory ran out.
+/// If memory runs out.
 fn checked<K: ProgramKind>(
     alloc: Global,
     instrs: Vec<Instr>,
@@ -41,7 +41,7 @@ fn checked<K: ProgramKind>(
 ///
 /// # Errors
 ///
-/// Where memory ran out.
+/// If memory runs out.
 pub fn nasch_motion(alloc: Global, p: Chance) -> Result<Motion, AllocError>
     ensures { IfOk result (IsMotion (nasch_speed p) (nasch_program p)) }
 {
@@ -53,7 +53,7 @@ pub fn nasch_motion(alloc: Global, p: Chance) -> Result<Motion, AllocError>
 ///
 /// # Errors
 ///
-/// Where memory ran out.
+/// If memory runs out.
 pub fn vdr_motion(alloc: Global, p: Chance, p0: Chance) -> Result<Motion, AllocError>
     ensures { IfOk result (IsMotion (vdr_speed p p0) (vdr_program p p0)) }
 {
@@ -64,7 +64,7 @@ pub fn vdr_motion(alloc: Global, p: Chance, p0: Chance) -> Result<Motion, AllocE
 ///
 /// # Errors
 ///
-/// Where memory ran out.
+/// If memory runs out.
 pub fn rickert_change(alloc: Global, c: Chance) -> Result<Change, AllocError>
     ensures { IfOk result (IsChange (rickert_crosses c) (rickert_program c)) }
 {

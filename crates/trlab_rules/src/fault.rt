@@ -1,4 +1,4 @@
-//! There is no standard rule where memory ran out. The verifier refuses no program of one.
+//! Why there may be no standard rule: memory ran out. The verifier accepts the programs of all of them.
 
 ghost use Rattle.std.specs.Prelude.{◌≡◌};
 ghost use Rattle.trlab_rules.specs.declared.fault.StandardFault.TheVariants.{Memory};
@@ -12,8 +12,8 @@ pub enum StandardFault {
     /// Memory ran out.
     #[error("memory ran out")]
     Memory,
-    /// The verifier refuses a program of the rule. No call answers it: the law `standard_programs_are_accepted`
-    /// says that these programs are accepted.
+    /// The verifier refuses a program of the rule. No call returns this, because the verifier accepts these
+    /// programs (law `standard_programs_are_accepted`).
     #[error("a program of the rule is refused")]
     Refused,
 }

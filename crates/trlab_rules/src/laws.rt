@@ -1,4 +1,4 @@
-//! Laws of the standard rules: their programs are accepted, and what they answer is what was published.
+//! Laws of the standard rules: the verifier accepts their programs, and they compute the published rules.
 
 ghost use Rattle.std.specs.Prelude.{◌≡◌, ◌≤◌, ℕ};
 ghost use Rattle.trlab_code.specs.declared.kind.Kind.TheVariants.{Motion as OfMotion, Change as OfChange};
@@ -7,7 +7,7 @@ ghost use Rattle.trlab_rules.specs.Published.{safe_speed, wording_1992, nasch_sp
 ghost use Rattle.trlab_rules.specs.Standard.{nasch_program, vdr_program, rickert_program};
 ghost use Rattle.trlab_rules.specs.Laws.{MovesBy, ChangesBy, DrawsHappenAsChances};
 
-/// The verifier accepts the programs of the standard rules, whatever their chances.
+/// The verifier accepts the programs of the standard rules for every probability.
 pub fn standard_programs_are_accepted()
     ensures nasch { (p : ℕ) → IsAccepted OfMotion (nasch_program p) }
     ensures vdr { (p p0 : ℕ) → IsAccepted OfMotion (vdr_program p p0) }

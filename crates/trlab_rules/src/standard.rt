@@ -18,7 +18,7 @@ use trlab_words::Chance;
 ///
 /// # Errors
 ///
-/// `Memory` where memory ran out; never `Refused`.
+/// `Memory` if memory runs out; never `Refused`.
 pub fn nasch(alloc: Global, p: Chance) -> Result<Rule, StandardFault>
     ensures published { IfOk result (IsNasch p) }
     ensures rule { IfOk result IsRule }
@@ -34,7 +34,7 @@ pub fn nasch(alloc: Global, p: Chance) -> Result<Rule, StandardFault>
 ///
 /// # Errors
 ///
-/// `Memory` where memory ran out; never `Refused`.
+/// `Memory` if memory runs out; never `Refused`.
 pub fn vdr(alloc: Global, p: Chance, p0: Chance) -> Result<Rule, StandardFault>
     ensures published { IfOk result (IsVdr p p0) }
     ensures rule { IfOk result IsRule }
@@ -52,7 +52,7 @@ pub fn vdr(alloc: Global, p: Chance, p0: Chance) -> Result<Rule, StandardFault>
 ///
 /// # Errors
 ///
-/// `Memory` where memory ran out; never `Refused`.
+/// `Memory` if memory runs out; never `Refused`.
 pub fn rickert(alloc: Global, p: Chance, c: Chance) -> Result<Rule, StandardFault>
     ensures published { IfOk result (IsRickert p c) }
     ensures rule { IfOk result IsRule }

@@ -7,3 +7,4 @@ pub mod Answered
 pub mod Joined
 pub mod KeyedLocks
 pub mod Results
+pub mod Workers

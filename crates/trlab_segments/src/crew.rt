@@ -1,6 +1,7 @@
 //! The workers of a step, who ask the cars of a road together.
 
 mod calls;
+mod opening;
 mod sharing;
 mod step;
 
@@ -36,14 +37,6 @@ pub struct Crew<'a, R, G> {
 }
 
 impl<'a, R: Threads + Sync, G: Gate + Sync> Crew<'a, R, G> {
-    /// So many workers, each of whom passes the gate before each segment.
-    pub fn new(rt: &'a R, workers: u32, gate: &'a G) -> Crew<'a, R, G>
-        requires some { 0 < workers }
-        requires few { workers ≤ MOST_WORKERS }
-    {
-        Crew { rt, gate, workers }
-    }
-
     /// The answers of all cars of a phase, in standing order.
     ///
     /// # Errors

@@ -4,6 +4,7 @@ mod ask;
 mod asker;
 mod brief;
 mod keyed_lock;
+mod opening;
 mod rendezvous;
 mod results;
 mod task;
@@ -16,7 +17,6 @@ use crate::gate::Gate;
 use crate::pool::rendezvous::{Rendezvous, help_all};
 use std::alloc::Global;
 use std::sync::Wait;
-use std::thread;
 use std::thread::{Threads, join_mut};
 
 /// How many cars keep a worker busy for longer than it takes to wake one.
@@ -36,51 +36,7 @@ pub struct Pool<'a, R, G> {
     ghost few: { workers ≤ MOST_WORKERS },
 }
 
-/// As many of these workers as there are processors; one where their count is not told.
-fn within_processors<R: Threads>(rt: &R, workers: u32) -> u32
-    requires { 0 < workers }
-    ensures some { 0 < result }
-    ensures few { result ≤ workers }
-{
-    let processors = match thread::available_parallelism(rt) {
-        Ok(count) => count.get(),
-        Err(_) => 1,
-    };
-    if processors < workers as usize {
-        processors as u32
-    } else {
-        workers
-    }
-}
-
 impl<'a, R: Threads + Wait + Sync, G: Gate + Sync> Pool<'a, R, G> {
-    /// So many workers, each of whom passes the gate before each segment. One alone asks all cars at
-    /// once, and passes no gate.
-    pub fn new(rt: &'a R, workers: u32, gate: &'a G) -> Pool<'a, R, G>
-        requires some { 0 < workers }
-        requires few { workers ≤ MOST_WORKERS }
-    {
-        Pool {
-            rt,
-            gate,
-            rendezvous: Rendezvous::new(),
-            workers,
-            is_sparing: false,
-        }
-    }
-
-    /// As many of these workers as make the work faster: no more than there are processors, and one for
-    /// every 1000 cars of a road. Between two phases that are close they stay awake.
-    pub fn sparing(self) -> Pool<'a, R, G> {
-        Pool {
-            rt: self.rt,
-            gate: self.gate,
-            rendezvous: Rendezvous::watchful(),
-            workers: within_processors(self.rt, self.workers),
-            is_sparing: true,
-        }
-    }
-
     /// Drives a run, while helpers wait for its phases. All have gone home when it ends, and a second run
     /// finds none. Where no thread can be started the run goes on without.
     pub fn run<T, D: FnMut() -> T>(&self, alloc: Global, drive: &mut D) -> T

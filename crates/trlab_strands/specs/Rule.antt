@@ -46,6 +46,6 @@ pub record Learns {E : Type 0} (k : Knowledge E) : Type 0 where
 abbrev pub Looks : {E : Type 0} → Step E → Me E (Knowledge E) → ℕ → Me E (Knowledge E) → Type 0
 Looks s old found new = (new ≡ old) × Learns old.0
 
--- to see the list: the clock, which is not ahead of it, rises to its length
+-- to see the list: the clock, which was not ahead of it, rises to its length
 abbrev pub Sees : {E : Type 0} → Step E → Me E (Knowledge E) → ℕ → Me E (Knowledge E) → Type 0
 Sees s old found new = (new ≡ (up_to_date old.0, old.1)) × (old.0.least ≤ length old.0.all)

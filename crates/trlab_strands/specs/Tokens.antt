@@ -41,7 +41,7 @@ abbrev pub IsSame : {L E : Type 0} {ledger : Ghosts L} → Strand L E ledger →
 IsSame old new =
     (parts_of new ≡ parts_of old) × (subhistory_of new ≡ subhistory_of old) × (least_of new ≡ least_of old)
 
--- a strand that has seen so many events, and was not ahead of them: else as it was
+-- the strand has now seen this many events, and had seen no more before; otherwise it is as it was
 abbrev pub HasSeen : {L E : Type 0} {ledger : Ghosts L} → Strand L E ledger → ℕ → Strand L E ledger → Type 0
 HasSeen old count new =
     (parts_of new ≡ parts_of old) × (subhistory_of new ≡ subhistory_of old)

@@ -24,7 +24,7 @@ impl<L: Ledger, E: Drop> Keeper<L, E> {
         self.seat = shared.split_seat::<Apart>(&mut strand.seat);
     }
 
-    /// Has a strand see the whole list, and changes nothing else.
+    /// Lets a strand see the whole list: its clock rises to the length of the list. Nothing else changes.
     pub fn look(&mut self, strands: &Strands<L, E>, strand: &mut Strand<L, E>)
         ensures list { list_of self.new ≡ list_of self.old }
         ensures strand { HasSeen strand.old (length (list_of self.old)) strand.new }
@@ -37,8 +37,8 @@ impl<L: Ledger, E: Drop> Keeper<L, E> {
     }
 
     /// Changes nothing, and tells how the list and a strand agree: each event of the strand stands in the
-    /// list after what stood before it; with all parts the strand has as many events as the list; and where
-    /// it has as many, the list is a linearization of them.
+    /// list after what stood before it; the strand has at most as many events as the list, and exactly as many
+    /// if it has all parts; and if it has as many, the list is a linearization of them.
     pub fn audit(&mut self, strands: &Strands<L, E>, strand: &mut Strand<L, E>)
         ensures same { (list_of self.new ≡ list_of self.old) × IsSame strand.old strand.new }
         ensures few { parts_of strand.old ≤ ALL_PARTS }

@@ -53,7 +53,7 @@ impl<E> Play<E, Knowledge<E>> for Look {
     ghost then = { Looks };
 }
 
-/// The step after which a strand has seen the whole list.
+/// The step by which a strand sees the whole list.
 pub struct See;
 
 impl<E> Play<E, Knowledge<E>> for See {

@@ -48,7 +48,8 @@ pub enum Cause {
     /// The lanes show no road.
     #[error("no road: {0}")]
     Road(RoadFault),
-    /// The verifier refuses a program of a standard rule.
+    /// The verifier refuses a program of a standard rule. No text has this cause, because the verifier accepts
+    /// these programs (law `standard_programs_are_accepted` of `trlab_rules`).
     #[error("a program of the standard rule is refused")]
     StandardRefused,
     /// The verifier refuses the program, for this reason.

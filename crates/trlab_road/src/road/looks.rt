@@ -2,11 +2,11 @@
 //! beside it.
 
 ghost use Rattle.std.specs.Prelude.{◌≡◌, ◌+◌, ◌*◌, ◌<◌, ◌≤◌, ℕ, length, slice_index, slice_index_or, false};
-ghost use Rattle.trlab_bounds.specs.declared.roads.TheConstants.{GREATEST_LENGTH, MOST_LANES};
+ghost use Rattle.trlab_bounds.specs.declared.roads.TheConstants.{GREATEST_LENGTH, GREATEST_LIMIT, MOST_LANES};
 ghost use Rattle.trlab_road.specs.declared.car.Car.{Car};
 ghost use Rattle.trlab_road.specs.Cells.{IsAt, cars, cars_before, lane_of};
 ghost use Rattle.trlab_road.specs.Gaps.{gap, headspeed, side, sideback, sidegap};
-ghost use Rattle.trlab_road.specs.InLine.{IsFollowed};
+ghost use Rattle.trlab_road.specs.InLine.{IsFollowed, IsLineFrom, IsLineOf};
 ghost use Rattle.trlab_road.specs.Standing.{IsStanding};
 ghost use Rattle.trlab_road.specs.Stored.{no_car};
 ghost use Rattle.trlab_road.specs.Legal.{IsLegal};
@@ -100,16 +100,28 @@ impl Road {
         look_ahead(list_of(&self.lanes, lane), self.cells as usize, index)
     }
 
-    /// The line from the k-th car in standing order on to the last one of its lane, as the lane keeps it:
-    /// each car but that last one is followed by the next car ahead of it.
+    /// The line from the k-th car in standing order on to the last car of its lane, as the lane keeps it:
+    /// each car but the last is followed by the next car ahead of it.
     pub fn line_from(&self, k: u32) -> &[LaneCar]
         requires { k < cars self.now }
-        ensures { (j : ℕ) → j + 1 < length result.now → IsFollowed self.now (k + j)
+        ensures line { IsLineFrom self.now k result.now }
+        ensures followed { (j : ℕ) → j + 1 < length result.now → IsFollowed self.now (k + j)
             (slice_index_or result.now j no_car) (slice_index_or result.now (j + 1) no_car) }
     {
         let (lane, index) = find(&self.lanes, k);
         let (_, line) = list_of(&self.lanes, lane).split_at(index);
         line
+    }
+
+    /// The line of a lane: all its cars by rising place, as the lane keeps them.
+    pub fn line_of(&self, lane: u32) -> &[LaneCar]
+        requires { lane < length self.now.lanes }
+        ensures line { IsLineOf self.now lane result.now }
+        ensures few { length result.now ≤ GREATEST_LENGTH }
+        ensures slow { (k : ℕ) → k < length result.now
+            → (slice_index_or result.now k no_car).speed ≤ GREATEST_LIMIT }
+    {
+        list_of(&self.lanes, lane)
     }
 
     /// Is the side cell of the k-th car in standing order, the cell beside it on the other lane,

@@ -1,5 +1,5 @@
 use Rattle.std.proofs.Common.{arith}
-use Rattle.trlab_segments.proofs.pool.within_processors.Goals as goal
+use Rattle.trlab_segments.proofs.pool.opening.within_processors.Goals as goal
 
 pub overflow_cast-result : goal.overflow_cast-result
 overflow_cast-result g c = omega (arith, c.if-processors-workers.true, c.ranges.workers)
