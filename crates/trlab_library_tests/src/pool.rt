@@ -83,7 +83,7 @@ pub fn sparing_pool_as_one<G: Gate + Sync>(
     cars: u32,
     gate: &G,
 ) -> bool {
-    let pool = Pool::new(rt, 4, gate).sparing();
+    let pool = Pool::new(rt, 4, gate).sparing(cars);
     runs_as_one(&pool, rt.alloc(), 4000, cars, 20)
 }
 

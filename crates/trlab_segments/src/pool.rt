@@ -19,9 +19,6 @@ use std::alloc::Global;
 use std::sync::Wait;
 use std::thread::{Threads, join_mut};
 
-/// How many cars keep a worker busy for longer than it takes to wake one.
-const CARS_A_WORKER: u32 = 1000;
-
 /// 1 to 16 workers and their gate. The calling thread is worker 0; the others are started once, for a
 /// whole run, and help with its phases.
 #[derive(Drop)]
@@ -30,15 +27,13 @@ pub struct Pool<'a, R, G> {
     gate: &'a G,
     rendezvous: Rendezvous,
     workers: u32,
-    /// Whether only those help that make the work faster.
-    is_sparing: bool,
     ghost some: { 0 < workers },
     ghost few: { workers ≤ MOST_WORKERS },
 }
 
 impl<'a, R: Threads + Wait + Sync, G: Gate + Sync> Pool<'a, R, G> {
-    /// Drives a run, while helpers wait for its phases. All have gone home when it ends, and a second run
-    /// finds none. Where no thread can be started the run goes on without.
+    /// Drives a run, while helpers wait for its phases. All helpers have ended when it returns, and a second run starts
+    /// none. If no thread can be started, the run goes on without helpers.
     pub fn run<T, D: FnMut() -> T>(&self, alloc: Global, drive: &mut D) -> T
         requires { D.pre drive.old }
         ensures { D.step drive.old result drive.new }
@@ -63,30 +58,5 @@ impl<'a, R: Threads + Wait + Sync, G: Gate + Sync> Pool<'a, R, G> {
             },
         );
         told
-    }
-}
-
-impl<'a, R: Wait, G: Gate> Pool<'a, R, G> {
-    /// How many workers ask so many cars.
-    fn workers_for(&self, cars: u32) -> u32
-        ensures some { 0 < result }
-        ensures few { result ≤ MOST_WORKERS }
-    {
-        if self.is_sparing {
-            self.workers.min((cars / CARS_A_WORKER).max(1))
-        } else {
-            self.workers
-        }
-    }
-
-    /// Wakes the helpers of so many workers, of whom the calling thread is one.
-    fn wake(&self, workers: u32)
-        requires { 0 < workers }
-    {
-        if workers == self.workers {
-            self.rendezvous.wake_all();
-        } else {
-            self.rendezvous.wake(workers - 1);
-        }
     }
 }

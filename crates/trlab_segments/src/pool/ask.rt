@@ -70,20 +70,18 @@ fn shared_task<A: Copy + Drop, P: Asked<A> + Drop>(
 }
 
 impl<'a, R: Wait, G: Gate> Pool<'a, R, G> {
-    /// Opens a phase to the helpers of so many workers, and shows its road to an onlooker.
+    /// Opens a phase to the helpers, and shows its road to an onlooker.
     fn open<A: Copy + Drop, P: Asked<A> + Drop, O: Onlooker>(
         &self,
         slot: &TaskSlot<A, P>,
         task: &Arc<Task<A, P>, Global>,
-        workers: u32,
         onlooker: &mut O,
     )
-        requires { 0 < workers }
         ensures { O.sees onlooker.old (arc_value task.now).brief.road onlooker.new }
     {
         if let Ok(shared) = Arc::try_clone(task) {
             slot.publish(self.rt, shared);
-            self.wake(workers);
+            self.rendezvous.wake();
         }
         onlooker.see(&task.brief.road);
     }
@@ -110,7 +108,6 @@ impl<'a, R: Wait, G: Gate> Pool<'a, R, G> {
         ensures seen { O.sees onlooker.old brief.road onlooker.new }
         ensures answers { IfOk result.1 (λ answers. AnswersAll P.answers brief answers.items) }
     {
-        let workers = drawer.passes();
         let (reserve, mut mine) = split_pass(&brief.tickets, drawer);
         let task = match shared_task(alloc, brief, reserve) {
             Ok(task) => task,
@@ -119,7 +116,7 @@ impl<'a, R: Wait, G: Gate> Pool<'a, R, G> {
                 return (road, Err(AllocError));
             }
         };
-        self.open(slot, &task, workers, onlooker);
+        self.open(slot, &task, onlooker);
         let parts = draw_all(alloc, &task.brief, &mut mine, 0, self.gate);
         slot.withdraw(self.rt);
         alone(self.rt, task).settle(self.rt, alloc, mine, parts)
@@ -146,8 +143,7 @@ impl<'a, R: Wait, G: Gate> Pool<'a, R, G> {
         ensures answers { IfOk result (λ answers.
             P.answers program.now dice.now road.old 0 (cars road.old) answers.items) }
     {
-        let workers = self.workers_for(road.cars());
-        let Ok((brief, drawer)) = brief_of::<A, P>(alloc, program, dice, road, workers) else {
+        let Ok((brief, drawer)) = brief_of::<A, P>(alloc, program, dice, road, self.workers) else {
             onlooker.see(road);
             return Err(AllocError);
         };

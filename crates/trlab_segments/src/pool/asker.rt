@@ -21,7 +21,7 @@ impl<'a, R: Wait, G: Gate> Asker for Pool<'a, R, G> {
         dice: &Dice,
         onlooker: &mut O,
     ) -> Result<(), AllocError> {
-        if self.workers_for(road.cars()) == 1 {
+        if self.workers == 1 {
             return Caller.speeds(alloc, answers, road, motion, dice, onlooker);
         }
         *answers = self.answers_of(
@@ -44,7 +44,7 @@ impl<'a, R: Wait, G: Gate> Asker for Pool<'a, R, G> {
         dice: &Dice,
         onlooker: &mut O,
     ) -> Result<(), AllocError> {
-        if self.workers_for(road.cars()) == 1 {
+        if self.workers == 1 {
             return Caller.crossings(alloc, answers, road, change, dice, onlooker);
         }
         *answers = self.answers_of(

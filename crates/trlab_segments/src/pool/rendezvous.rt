@@ -9,11 +9,7 @@ use std::hint;
 use std::sync::Wait;
 use std::sync::atomic::{AtomicBool, AtomicU64, Ordering};
 use std::thread::{Threads, join};
-use std::time::Duration;
 use trlab_verify::{Change, Motion};
-
-/// How long a helper sleeps at most before it looks for a phase, in microseconds.
-const NAP: u64 = 1000;
 
 /// How often a watchful helper looks for the next phase before it sleeps: for some longer than the calling
 /// thread is alone between two phases of a road of some ten thousand cars.
@@ -54,39 +50,32 @@ impl Rendezvous {
         }
     }
 
-    /// Wakes so many helpers, since a phase was opened; the others see it when they look.
-    pub fn wake(&self, helpers: u32) {
-        self.turn.fetch_add(1, Ordering::SeqCst);
-        for _ in 0..helpers {
-            self.turn.wake_one();
-        }
-    }
-
-    /// Wakes all helpers, which takes one call of the system and not one for each.
-    pub fn wake_all(&self) {
+    /// Wakes all helpers, because a phase is open or the run has ended.
+    pub fn wake(&self) {
         self.turn.fetch_add(1, Ordering::SeqCst);
         self.turn.wake_all();
     }
 
-    /// Sends all helpers home.
+    /// Shuts down all helpers.
     pub fn close(&self) {
         self.closed.store(true, Ordering::SeqCst);
-        self.wake_all();
+        self.wake();
     }
 
-    /// Whether helpers are sent home.
+    /// Whether helpers are to end.
     fn is_closed(&self) -> bool {
         self.closed.load(Ordering::SeqCst)
     }
 
-    /// The number, once it is not this one.
+    /// The number, once it is not this one. Until then the helper sleeps: the system lets nobody sleep who comes after
+    /// the number has changed, so no wake-up is missed.
     fn next<R: Wait>(&self, rt: &R, seen: u64) -> u64 {
         for _ in rt.forever() {
             let now = self.turn.load(Ordering::SeqCst);
             if now != seen {
                 return now;
             }
-            self.turn.park_timeout(rt, (seen & 0xffff_ffff) as u32, Duration::from_micros(NAP));
+            self.turn.park(rt, (seen & 0xffff_ffff) as u32);
         }
         unreachable!()
     }

@@ -1,4 +1,4 @@
-use Rattle.std.proofs.Common.{◌≡◌, IfOk, ap, subst, sym, ◌∙◌, arith}
+use Rattle.std.proofs.Common.{◌≡◌, IfOk, ap, subst, sym, ◌∙◌}
 use Rattle.trlab_segments.specs.Drawers.{IsNew}
 use Rattle.trlab_segments.specs.Results.{AnswersAll, IsCutWhole, TellsDone}
 use Rattle.trlab_segments.specs.declared.pool.brief.Brief.{Brief}
@@ -8,9 +8,6 @@ use Rattle.trlab_segments.proofs.pool.Pool.carry_out.Goals as goal
 -- what is asked in a task
 abbrev asked : {A P : Type 0} → Task A P → Brief P
 asked task = task.brief
-
-pub open-requires : goal.open-requires
-open-requires g c = omega (arith, c.args.drawer.some, c.passes-workers.ensures)
 
 pub draw_all-parts-requires : goal.draw_all-parts-requires
 draw_all-parts-requires g c =
