@@ -1,4 +1,5 @@
 pub mod RandomWords
 pub mod LaneLemmas
+pub mod ByteLemmas
 pub mod KeyBytes
 pub mod FirstRounds

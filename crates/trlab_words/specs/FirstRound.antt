@@ -1,8 +1,9 @@
--- The first column round of a block, in two parts: that of a step, and that of a car.
-use Rattle.std.specs.Prelude.{ℕ, ◌*◌, ◌^◌, List, [], ◌∷◌, slice_index}
+-- The first column round of the blocks of a step, in two parts: the three columns that are the same for all
+-- cars, and the column with the number of the car.
+use Rattle.std.specs.Prelude.{◌≡◌, ℕ, ◌*◌, ◌^◌, List, [], ◌∷◌, slice_index}
 use Rattle.rand_chacha.specs.Block.{quarter_round_at, initial_state}
 
--- a state with the word of a car in its place
+-- a state with the number of a car as word 14
 abbrev pub with_car : List ℕ → ℕ → List ℕ
 with_car x car =
     slice_index x 0 ∷ slice_index x 1 ∷ slice_index x 2 ∷ slice_index x 3
@@ -10,11 +11,11 @@ with_car x car =
     ∷ slice_index x 8 ∷ slice_index x 9 ∷ slice_index x 10 ∷ slice_index x 11
     ∷ slice_index x 12 ∷ slice_index x 13 ∷ car ∷ slice_index x 15 ∷ []
 
--- the state that the blocks of a step of a road begin with, but for the word of the car
+-- the initial state of the blocks of a step of a road, with 0 for the number of the car
 abbrev pub step_state : List ℕ → ℕ → ℕ → List ℕ
 step_state key road step = initial_state key step (road * 2 ^ 32)
 
--- the quarter round on each column but the third, in which the word of the car is
+-- the quarter round on each column but the third, which is the column of word 14
 unfoldable pub other_columns : List ℕ → List ℕ
 other_columns x =
     let q0 = quarter_round_at x 0 4 8 12 in
@@ -26,10 +27,15 @@ other_columns x =
     ∷ q0.3 ∷ q1.3 ∷ slice_index x 14 ∷ q3.3 ∷ []
 
 -- the quarter round on the third column
-unfoldable pub third_column : List ℕ → List ℕ
-third_column x =
+unfoldable pub car_column : List ℕ → List ℕ
+car_column x =
     let q = quarter_round_at x 2 6 10 14 in
     slice_index x 0 ∷ slice_index x 1 ∷ q.0 ∷ slice_index x 3
     ∷ slice_index x 4 ∷ slice_index x 5 ∷ q.1 ∷ slice_index x 7
     ∷ slice_index x 8 ∷ slice_index x 9 ∷ q.2 ∷ slice_index x 11
     ∷ slice_index x 12 ∷ slice_index x 13 ∷ q.3 ∷ slice_index x 15 ∷ []
+
+-- the initial state of a step, and the same after three columns of its first round
+abbrev pub StartsStep : List ℕ → ℕ → ℕ → List ℕ → List ℕ → Type 0
+StartsStep key road step initial columns =
+    (initial ≡ step_state key road step) × (columns ≡ other_columns (step_state key road step))

@@ -1,3 +1,4 @@
 pub mod Words
 pub mod Chances
 pub mod FirstRound
+pub mod States

@@ -1,295 +1,243 @@
-//! The block function of ChaCha20, for eight cars of one step at a time: each word of the state is
-//! a vector, with one lane for each car. What does not depend on the car is done once for a step.
+//! The block function of ChaCha20 (RFC 8439, 2.3) for eight cars of one step at a time. Each word of the state
+//! is a vector with one lane for each car.
 
-ghost use Rattle.std.specs.Prelude.{◌≡◌, ℕ, ◌+◌, ◌*◌, ◌/◌, ◌%◌, ◌^◌, ◌<◌, List, slice_index};
-ghost use Rattle.rand_chacha.specs.Block.{add32, xor_rotate, quarter_round, column_round, diagonal_round, initial_state, block_word};
-ghost use Rattle.rand_chacha.specs.Lanes.{lane};
-ghost use Rattle.trlab_words.specs.FirstRound.{with_car, step_state, other_columns, third_column};
+ghost use Rattle.std.specs.Prelude.{◌≡◌, ℕ, ◌+◌, ◌*◌, ◌^◌, ◌<◌, List, slice_index};
+ghost use Rattle.rand_core.specs.Steps.{u32_at};
+ghost use Rattle.rand_chacha.specs.Block.{quarter_round, column_round, diagonal_round, block_word};
+ghost use Rattle.trlab_words.specs.FirstRound.{with_car, car_column, StartsStep};
+ghost use Rattle.trlab_words.specs.States.{words_in, state_in};
 
-use std::simd::u32x8;
+use crate::lanes::{add, bytes_of, rotate_by_8, rotate_by_16, words_of, xor, xor_rotate};
+use crate::step_start::StepStart;
+use std::simd::{u8x32, u32x8};
 
 // The double rounds of ChaCha20.
 const DOUBLE_ROUNDS: u32 = 10;
 
-// The sums of two words, lane by lane, with the carries dropped.
-#[inline(always)]
-fn add(a: u32x8, b: u32x8) -> u32x8
-    ensures { (j : ℕ) → j < 8 → slice_index result j ≡ add32 (slice_index a j) (slice_index b j) }
-{
-    a + b
+// Four words of the states: a column or a diagonal. The quarter round rotates the last of them only by 16 and
+// by 8 bits, which moves whole bytes. So this word is kept as bytes, and each of its rotations is one shuffle.
+#[derive(Clone, Copy)]
+struct Quarter {
+    a: u32x8,
+    b: u32x8,
+    c: u32x8,
+    d: u8x32,
 }
 
-// a ^ b, rotated by k to the left, lane by lane.
-#[inline(always)]
-fn xor_rotate(a: u32x8, b: u32x8, k: u32) -> u32x8
-    requires { (0 < k) × (k < 32) }
-    ensures { (j : ℕ) → j < 8 → slice_index result j ≡ xor_rotate (slice_index a j) (slice_index b j) k }
-{
-    let x = a ^ b;
-    (x << u32x8::splat(k)) | (x >> u32x8::splat(32 - k))
+// The states of eight blocks, by their columns.
+#[derive(Clone, Copy)]
+struct States {
+    first: Quarter,
+    second: Quarter,
+    third: Quarter,
+    fourth: Quarter,
 }
 
 // The quarter round (RFC 8439, 2.1), lane by lane.
 #[inline(always)]
-fn quarter_round(a: u32x8, b: u32x8, c: u32x8, d: u32x8) -> (u32x8, u32x8, u32x8, u32x8)
-    ensures { (j : ℕ) → j < 8
-        → (slice_index result.0 j, slice_index result.1 j, slice_index result.2 j, slice_index result.3 j)
-        ≡ quarter_round (slice_index a j) (slice_index b j) (slice_index c j) (slice_index d j) }
+fn quarter_round(a: u32x8, b: u32x8, c: u32x8, d: u8x32) -> Quarter
+    ensures { (j : ℕ) → j < 8 → words_in j result
+        ≡ quarter_round (slice_index a j) (slice_index b j) (slice_index c j) (u32_at d j) }
 {
     let a1 = add(a, b);
-    let d1 = xor_rotate(d, a1, 16);
-    let c1 = add(c, d1);
+    let d1 = rotate_by_16(xor(d, bytes_of(a1)));
+    let c1 = add(c, words_of(d1));
     let b1 = xor_rotate(b, c1, 12);
     let a2 = add(a1, b1);
-    let d2 = xor_rotate(d1, a2, 8);
-    let c2 = add(c1, d2);
+    let d2 = rotate_by_8(xor(d1, bytes_of(a2)));
+    let c2 = add(c1, words_of(d2));
     let b2 = xor_rotate(b1, c2, 7);
-    (a2, b2, c2, d2)
+    Quarter {
+        a: a2,
+        b: b2,
+        c: c2,
+        d: d2,
+    }
 }
 
-// The quarter round on each column of the states, read as four rows of four words.
+// The quarter round on a column of the states.
 #[inline(always)]
-fn column_round(x: [u32x8; 16]) -> [u32x8; 16]
-    ensures { (j : ℕ) → j < 8 → lane j result ≡ column_round (lane j x) }
+fn quarter_round_on(x: Quarter) -> Quarter
+    ensures { (j : ℕ) → j < 8 → words_in j result
+        ≡ quarter_round (slice_index x.a j) (slice_index x.b j) (slice_index x.c j) (u32_at x.d j) }
 {
-    let [
-        x0,
-        x1,
-        x2,
-        x3,
-        x4,
-        x5,
-        x6,
-        x7,
-        x8,
-        x9,
-        x10,
-        x11,
-        x12,
-        x13,
-        x14,
-        x15,
-    ] = x;
-    let (x0, x4, x8, x12) = quarter_round(x0, x4, x8, x12);
-    let (x1, x5, x9, x13) = quarter_round(x1, x5, x9, x13);
-    let (x2, x6, x10, x14) = quarter_round(x2, x6, x10, x14);
-    let (x3, x7, x11, x15) = quarter_round(x3, x7, x11, x15);
-    [
-        x0, x1, x2, x3, x4, x5, x6, x7, x8, x9, x10, x11, x12, x13, x14, x15,
-    ]
+    quarter_round(x.a, x.b, x.c, x.d)
+}
+
+// The quarter round on each column of the states.
+#[inline(always)]
+fn column_round(x: States) -> States
+    ensures { (j : ℕ) → j < 8 → state_in j result ≡ column_round (state_in j x) }
+{
+    States {
+        first: quarter_round_on(x.first),
+        second: quarter_round_on(x.second),
+        third: quarter_round_on(x.third),
+        fourth: quarter_round_on(x.fourth),
+    }
+}
+
+// The quarter round on the third column of the states, which has the number of the car.
+#[inline(always)]
+fn car_column(x: States) -> States
+    ensures { (j : ℕ) → j < 8 → state_in j result ≡ car_column (state_in j x) }
+{
+    States {
+        first: x.first,
+        second: x.second,
+        third: quarter_round_on(x.third),
+        fourth: x.fourth,
+    }
 }
 
 // The quarter round on each diagonal of the states.
 #[inline(always)]
-fn diagonal_round(x: [u32x8; 16]) -> [u32x8; 16]
-    ensures { (j : ℕ) → j < 8 → lane j result ≡ diagonal_round (lane j x) }
+fn diagonal_round(x: States) -> States
+    ensures { (j : ℕ) → j < 8 → state_in j result ≡ diagonal_round (state_in j x) }
 {
-    let [
-        x0,
-        x1,
-        x2,
-        x3,
-        x4,
-        x5,
-        x6,
-        x7,
-        x8,
-        x9,
-        x10,
-        x11,
-        x12,
-        x13,
-        x14,
-        x15,
-    ] = x;
-    let (x0, x5, x10, x15) = quarter_round(x0, x5, x10, x15);
-    let (x1, x6, x11, x12) = quarter_round(x1, x6, x11, x12);
-    let (x2, x7, x8, x13) = quarter_round(x2, x7, x8, x13);
-    let (x3, x4, x9, x14) = quarter_round(x3, x4, x9, x14);
-    [
-        x0, x1, x2, x3, x4, x5, x6, x7, x8, x9, x10, x11, x12, x13, x14, x15,
-    ]
+    let p = quarter_round(x.first.a, x.second.b, x.third.c, x.fourth.d);
+    let q = quarter_round(x.second.a, x.third.b, x.fourth.c, x.first.d);
+    let r = quarter_round(x.third.a, x.fourth.b, x.first.c, x.second.d);
+    let s = quarter_round(x.fourth.a, x.first.b, x.second.c, x.third.d);
+    States {
+        first: Quarter {
+            a: p.a,
+            b: s.b,
+            c: r.c,
+            d: q.d,
+        },
+        second: Quarter {
+            a: q.a,
+            b: p.b,
+            c: s.c,
+            d: r.d,
+        },
+        third: Quarter {
+            a: r.a,
+            b: q.b,
+            c: p.c,
+            d: s.d,
+        },
+        fourth: Quarter {
+            a: s.a,
+            b: r.b,
+            c: q.c,
+            d: p.d,
+        },
+    }
 }
 
-// Word k after the quarter round on each diagonal of the states. The words that the standard rules
-// draw on, 0 and 1, need one diagonal only.
+// Word k of the states.
 #[inline(always)]
-fn diagonal_word(x: [u32x8; 16], k: usize) -> u32x8
+fn word_of(x: States, k: usize) -> u32x8
     requires { k < 16 }
-    ensures { (j : ℕ) → j < 8 → slice_index result j ≡ slice_index (diagonal_round (lane j x)) k }
+    ensures { (j : ℕ) → j < 8 → slice_index result j ≡ slice_index (state_in j x) k }
+{
+    let words = [
+        x.first.a,
+        x.second.a,
+        x.third.a,
+        x.fourth.a,
+        x.first.b,
+        x.second.b,
+        x.third.b,
+        x.fourth.b,
+        x.first.c,
+        x.second.c,
+        x.third.c,
+        x.fourth.c,
+        words_of(x.first.d),
+        words_of(x.second.d),
+        words_of(x.third.d),
+        words_of(x.fourth.d),
+    ];
+    words[k]
+}
+
+// Word k after the quarter round on each diagonal of the states. The standard rules draw on words 0 and 1,
+// which need one diagonal only.
+#[inline(always)]
+fn diagonal_word(x: States, k: usize) -> u32x8
+    requires { k < 16 }
+    ensures { (j : ℕ) → j < 8 → slice_index result j ≡ slice_index (diagonal_round (state_in j x)) k }
 {
     match k {
-        0 => quarter_round(x[0], x[5], x[10], x[15]).0,
-        1 => quarter_round(x[1], x[6], x[11], x[12]).0,
-        _ => diagonal_round(x)[k],
+        0 => quarter_round(x.first.a, x.second.b, x.third.c, x.fourth.d).a,
+        1 => quarter_round(x.second.a, x.third.b, x.fourth.c, x.first.d).a,
+        _ => word_of(diagonal_round(x), k),
     }
 }
 
-// The quarter round on four words.
-fn quarter_round_of_words(a: u32, b: u32, c: u32, d: u32) -> (u32, u32, u32, u32)
-    ensures { result ≡ quarter_round a b c d }
-{
-    let a1 = a.wrapping_add(b);
-    let d1 = (d ^ a1).rotate_left(16);
-    let c1 = c.wrapping_add(d1);
-    let b1 = (b ^ c1).rotate_left(12);
-    let a2 = a1.wrapping_add(b1);
-    let d2 = (d1 ^ a2).rotate_left(8);
-    let c2 = c1.wrapping_add(d2);
-    let b2 = (b1 ^ c2).rotate_left(7);
-    (a2, b2, c2, d2)
-}
-
-// What the blocks of all cars in one step of a road have in common.
-#[derive(Clone, Copy)]
-pub(crate) struct StepBlock {
-    // The number of the road, and that of the step.
-    pub(crate) road: u32,
-    pub(crate) step: u32,
-    // The state that the blocks begin with, with 0 for the word of the car.
-    pub(crate) start: [u32; 16],
-    // That state after the quarter round on each column but the third, which has the word of the car.
-    pub(crate) begun: [u32; 16],
-}
-
-// The words of a step's state, with 0 for that of the car.
-fn start_of(key: &[u32; 8], road: u32, step: u32) -> [u32; 16]
-    ensures { result ≡ step_state key.now road step }
-{
-    [
-        0x6170_7865,
-        0x3320_646e,
-        0x7962_2d32,
-        0x6b20_6574,
-        key[0],
-        key[1],
-        key[2],
-        key[3],
-        key[4],
-        key[5],
-        key[6],
-        key[7],
-        step,
-        0,
-        0,
-        road,
-    ]
-}
-
-// The quarter round on each column but the third.
-fn other_columns(x: &[u32; 16]) -> [u32; 16]
-    ensures { result ≡ other_columns x.now }
-{
-    let (x0, x4, x8, x12) = quarter_round_of_words(x[0], x[4], x[8], x[12]);
-    let (x1, x5, x9, x13) = quarter_round_of_words(x[1], x[5], x[9], x[13]);
-    let (x3, x7, x11, x15) = quarter_round_of_words(x[3], x[7], x[11], x[15]);
-    [
-        x0, x1, x[2], x3, x4, x5, x[6], x7, x8, x9, x[10], x11, x12, x13, x[14], x15,
-    ]
-}
-
-impl StepBlock {
-    // That of a step of a road.
-    pub(crate) fn new(key: &[u32; 8], road: u32, step: u32) -> StepBlock
-        ensures road { result.road ≡ road }
-        ensures step { result.step ≡ step }
-        ensures start { result.start ≡ step_state key.now road step }
-        ensures begun { result.begun ≡ other_columns (step_state key.now road step) }
-    {
-        let start = start_of(key, road, step);
-        StepBlock {
-            road,
-            step,
-            start,
-            begun: other_columns(&start),
-        }
-    }
-}
-
-// A state for each of eight cars: this one, with the word of the car.
+// The same four words in each lane.
 #[inline(always)]
-fn states_of_cars(x: &[u32; 16], cars: [u32; 8]) -> [u32x8; 16]
-    ensures states { (j : ℕ) → j < 8 → lane j result ≡ with_car x.now (slice_index cars j) }
+fn splat(a: u32, b: u32, c: u32, d: u32) -> Quarter
+    ensures { (j : ℕ) → j < 8 → words_in j result ≡ (a, b, c, d) }
+{
+    Quarter {
+        a: u32x8::splat(a),
+        b: u32x8::splat(b),
+        c: u32x8::splat(c),
+        d: bytes_of(u32x8::splat(d)),
+    }
+}
+
+// The same three words in each lane, and the number of a car as the fourth.
+#[inline(always)]
+fn splat_with_cars(a: u32, b: u32, c: u32, cars: [u32; 8]) -> Quarter
+    ensures words { (j : ℕ) → j < 8 → words_in j result ≡ (a, b, c, slice_index cars j) }
     ensures cars { (j : ℕ) → j < 8 → slice_index cars j < 2 ^ 32 }
 {
-    [
-        u32x8::splat(x[0]),
-        u32x8::splat(x[1]),
-        u32x8::splat(x[2]),
-        u32x8::splat(x[3]),
-        u32x8::splat(x[4]),
-        u32x8::splat(x[5]),
-        u32x8::splat(x[6]),
-        u32x8::splat(x[7]),
-        u32x8::splat(x[8]),
-        u32x8::splat(x[9]),
-        u32x8::splat(x[10]),
-        u32x8::splat(x[11]),
-        u32x8::splat(x[12]),
-        u32x8::splat(x[13]),
-        u32x8::from_array(cars),
-        u32x8::splat(x[15]),
-    ]
+    Quarter {
+        a: u32x8::splat(a),
+        b: u32x8::splat(b),
+        c: u32x8::splat(c),
+        d: bytes_of(u32x8::from_array(cars)),
+    }
 }
 
-// The quarter round on the third column of the states.
+// This state for each of eight cars, with the number of the car as word 14.
 #[inline(always)]
-fn third_column(x: [u32x8; 16]) -> [u32x8; 16]
-    ensures { (j : ℕ) → j < 8 → lane j result ≡ third_column (lane j x) }
+fn with_cars(x: &[u32; 16], cars: [u32; 8]) -> States
+    ensures states { (j : ℕ) → j < 8 → state_in j result ≡ with_car x.now (slice_index cars j) }
+    ensures cars { (j : ℕ) → j < 8 → slice_index cars j < 2 ^ 32 }
 {
-    let [
-        x0,
-        x1,
-        x2,
-        x3,
-        x4,
-        x5,
-        x6,
-        x7,
-        x8,
-        x9,
-        x10,
-        x11,
-        x12,
-        x13,
-        x14,
-        x15,
-    ] = x;
-    let (x2, x6, x10, x14) = quarter_round(x2, x6, x10, x14);
-    [
-        x0, x1, x2, x3, x4, x5, x6, x7, x8, x9, x10, x11, x12, x13, x14, x15,
-    ]
+    States {
+        first: splat(x[0], x[4], x[8], x[12]),
+        second: splat(x[1], x[5], x[9], x[13]),
+        third: splat_with_cars(x[2], x[6], x[10], cars),
+        fourth: splat(x[3], x[7], x[11], x[15]),
+    }
 }
 
-// Word k of the states that the blocks of eight cars begin with.
+// Word k of the initial states of eight cars.
 #[inline(always)]
-fn first_word(start: &[u32; 16], cars: [u32; 8], k: usize) -> u32x8
+fn initial_word(initial: &[u32; 16], cars: [u32; 8], k: usize) -> u32x8
     requires { k < 16 }
-    ensures { (j : ℕ) → j < 8 → slice_index result j ≡ slice_index (with_car start.now (slice_index cars j)) k }
+    ensures { (j : ℕ) → j < 8
+        → slice_index result j ≡ slice_index (with_car initial.now (slice_index cars j)) k }
 {
     if k == 14 {
         u32x8::from_array(cars)
     } else {
-        u32x8::splat(start[k])
+        u32x8::splat(initial[k])
     }
 }
 
 // Word k of the block of each of eight cars in a step.
-pub(crate) fn block_word_of_cars(of_step: &StepBlock, cars: [u32; 8], k: usize) -> [u32; 8]
+pub(crate) fn block_word_of_cars(start: &StepStart, cars: [u32; 8], k: usize) -> [u32; 8]
     requires { k < 16 }
-    ensures { (j : ℕ) → j < 8 → (key : List ℕ)
-        → of_step.now.start ≡ step_state key of_step.now.road of_step.now.step
-        → of_step.now.begun ≡ other_columns (step_state key of_step.now.road of_step.now.step)
-        → slice_index result j
-        ≡ block_word DOUBLE_ROUNDS key of_step.now.step (of_step.now.road * 2 ^ 32 + slice_index cars j) k }
+    ensures { (key : List ℕ)
+        → StartsStep key start.now.road start.now.step start.now.initial start.now.columns
+        → (j : ℕ) → j < 8 → slice_index result j
+        ≡ block_word DOUBLE_ROUNDS key start.now.step (start.now.road * 2 ^ 32 + slice_index cars j) k }
 {
-    let mut x = diagonal_round(third_column(states_of_cars(&of_step.begun, cars)));
+    let mut x = diagonal_round(car_column(with_cars(&start.columns, cars)));
     'rounds: for _round in 1..DOUBLE_ROUNDS - 1 {
         x = diagonal_round(column_round(x));
     }
     add(
         diagonal_word(column_round(x), k),
-        first_word(&of_step.start, cars, k),
+        initial_word(&start.initial, cars, k),
     )
     .to_array()
 }

@@ -3,19 +3,20 @@
 ghost use Rattle.std.specs.Prelude.{◌≡◌, ℕ, ◌<◌, ◌^◌, List, All, length, slice_index};
 ghost use Rattle.rand_chacha.specs.ChaCha.{seed_of};
 ghost use Rattle.trlab_words.specs.Words.{random_word};
-ghost use Rattle.trlab_words.specs.FirstRound.{step_state, other_columns};
+ghost use Rattle.trlab_words.specs.FirstRound.{StartsStep};
 
 use crate::Key;
-use crate::block::{StepBlock, block_word_of_cars};
+use crate::block::block_word_of_cars;
+use crate::step_start::StepStart;
 use rand_core::utils::read_u32;
 use std::marker::Model;
 
-/// A key as eight words of 32 bits, read once for many calls. It has what the blocks of one step have in
-/// common: words of that step take less time, and no contract tells of it.
+/// A key as eight words of 32 bits, read once for many calls. It also keeps the start of one step's blocks:
+/// the random words of that step take less time, and are the same.
 #[derive(Drop)]
 pub struct KeyWords {
     words: [u32; 8],
-    of_step: StepBlock,
+    start: StepStart,
 }
 
 impl Model for KeyWords {
@@ -24,8 +25,7 @@ impl Model for KeyWords {
     ghost view = { λ key. seed_of key.words };
 
     ghost invariant = { λ key. All (λ word. word < 2 ^ 32) key.words
-        × key.of_step.start ≡ step_state key.words key.of_step.road key.of_step.step
-        × key.of_step.begun ≡ other_columns (step_state key.words key.of_step.road key.of_step.step) };
+        × StartsStep key.words key.start.road key.start.step key.start.initial key.start.columns };
 }
 
 impl KeyWords {
@@ -35,7 +35,7 @@ impl KeyWords {
     {
         KeyWords {
             words: self.words,
-            of_step: self.of_step,
+            start: self.start,
         }
     }
 }
@@ -45,17 +45,17 @@ impl Key {
     pub fn words(&self) -> KeyWords
         ensures { result ≡ self.now.0 }
     {
-        self.words_for(0, 0)
+        self.words_for_step(0, 0)
     }
 
-    /// The key's eight words, for many words of one step of a road.
-    pub fn words_for(&self, road: u32, step: u32) -> KeyWords
+    /// The key's eight words, made ready for the random words of one step of a road.
+    pub fn words_for_step(&self, road: u32, step: u32) -> KeyWords
         ensures { result ≡ self.now.0 }
     {
         let words = read_words(&self.0);
         KeyWords {
             words,
-            of_step: StepBlock::new(&words, road, step),
+            start: StepStart::new(&words, road, step),
         }
     }
 }
@@ -83,9 +83,9 @@ pub fn word_of_cars(key: &KeyWords, road: u32, cars: [u32; 8], step: u32, k: usi
     requires { k < 16 }
     ensures { (j : ℕ) → j < 8 → slice_index result j ≡ random_word key.now road (slice_index cars j) step k }
 {
-    if key.of_step.road == road && key.of_step.step == step {
-        block_word_of_cars(&key.of_step, cars, k)
+    if key.start.road == road && key.start.step == step {
+        block_word_of_cars(&key.start, cars, k)
     } else {
-        block_word_of_cars(&StepBlock::new(&key.words, road, step), cars, k)
+        block_word_of_cars(&StepStart::new(&key.words, road, step), cars, k)
     }
 }

@@ -5,6 +5,8 @@ mod block;
 mod chance;
 mod key;
 mod key_words;
+mod lanes;
+mod step_start;
 
 pub use chance::{Chance, happens};
 pub use key::{Key, words};

@@ -5,8 +5,8 @@ pub returns : goal.returns
 unfolding column_round
 returns c j h =
     rw (
-      ← c.quarter_round.ensures j h,
-      ← c.quarter_round-2.ensures j h,
-      ← c.quarter_round-3.ensures j h,
-      ← c.quarter_round-4.ensures j h,
+      ← c.quarter_round_on.ensures j h,
+      ← c.quarter_round_on-2.ensures j h,
+      ← c.quarter_round_on-3.ensures j h,
+      ← c.quarter_round_on-4.ensures j h,
     )

@@ -5,8 +5,8 @@ pub returns : goal.returns
 unfolding diagonal_round
 returns c j h =
     rw (
-      ← c.quarter_round.ensures j h,
-      ← c.quarter_round-2.ensures j h,
-      ← c.quarter_round-3.ensures j h,
-      ← c.quarter_round-4.ensures j h,
+      ← c.quarter_round-p.ensures j h,
+      ← c.quarter_round-q.ensures j h,
+      ← c.quarter_round-r.ensures j h,
+      ← c.quarter_round-s.ensures j h,
     )

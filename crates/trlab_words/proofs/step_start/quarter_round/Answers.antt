@@ -1,6 +1,6 @@
 use Rattle.std.proofs.Common.{refl}
 use Rattle.rand_chacha.specs.Block.{quarter_round}
-use Rattle.trlab_words.proofs.block.quarter_round_of_words.Goals as goal
+use Rattle.trlab_words.proofs.step_start.quarter_round.Goals as goal
 
 pub returns : goal.returns
 unfolding quarter_round

@@ -1,5 +1,0 @@
-use Rattle.trlab_words.proofs.key.Key.words_for.Goals as goal
-
-pub invariant_of-result : goal.invariant_of-result
-invariant_of-result c =
-    (c.read_words-words.ensures.small, rw (c.new.ensures.road, c.new.ensures.step) c.new.ensures.start, rw (c.new.ensures.road, c.new.ensures.step) c.new.ensures.begun)
