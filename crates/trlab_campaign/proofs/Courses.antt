@@ -1,19 +1,13 @@
 -- The course of a run, and what is counted along it.
-use Rattle.std.proofs.Common.{◌≡◌, ℕ, zero, suc, ◌+◌, ◌-◌, ◌*◌, ◌/◌, ◌<◌, ◌≤◌, ◌↔◌, ◌&&◌, Bool, true, false, cond, List, length, refl, sym, ◌∙◌, ap, subst, arith, add-one, nat_eq}
+use Rattle.std.proofs.Common.{◌≡◌, ℕ, zero, suc, ◌+◌, ◌-◌, ◌*◌, ◌/◌, ◌<◌, ◌≤◌, ◌↔◌, true, List, length, refl, sym, ◌∙◌, ap, subst, arith, add-one}
 use Rattle.std.proofs.lemmas.Bool.{le-leb}
 use Rattle.std.proofs.lemmas.Nat.{div-add-mod', le-div, mul-le}
-use Rattle.std.proofs.lemmas.List.Sums.{sum_by_more}
-use Rattle.std.proofs.lemmas.Option.{get_or_from_slice_get, slice_get_within}
 use Rattle.std.proofs.lemmas.List.FromFn.{sum_by-map-range_with_len_more}
-use Rattle.std.proofs.Math.Seq.{take-length}
-use Rattle.std.specs.Prelude.{Some, count_by, sum_by, take, nat_le}
+use Rattle.std.specs.Prelude.{Some, sum_by, nat_le}
 use Rattle.trlab_diagram.specs.declared.point.Point.{Point}
 use Rattle.trlab_diagram.specs.declared.window.LaneCount.{LaneCount}
 use Rattle.trlab_diagram.specs.declared.window.Window.{Window}
-use Rattle.trlab_road.specs.declared.car.Car.{Car}
 use Rattle.trlab_road.specs.Cells.{Cells, cars, lane_of}
-use Rattle.trlab_road.specs.Standing.{IsStanding, standing}
-use Rattle.trlab_road.proofs.StandingOrder.{length-standing_lanes}
 use Rattle.trlab_road.specs.Legal.{IsLegal}
 use Rattle.trlab_rules.specs.Rules.{Programs}
 use Rattle.trlab_step.specs.declared.tally.StepTally.{StepTally}
@@ -24,7 +18,7 @@ use Rattle.trlab_step.proofs.NextLaws.{next_road_is_one}
 use Rattle.trlab_step.proofs.RunLaws.{run_comes_to_road, road_is_one, road_at_is_one}
 use Rattle.trlab_step.specs.Progress.{Progress, IsUnderway}
 use Rattle.trlab_campaign.specs.Counting.{IsFewCars, IsStepsOn}
-use Rattle.trlab_campaign.specs.SeriesOutput.{AreRoads, IsCourse, IsStepAt, cars_on, is_on, lane_count, roads_after, speed_on, stopped_on, tallies_from, window_of}
+use Rattle.trlab_campaign.specs.SeriesOutput.{AreRoads, IsCourse, IsStepAt, cars_on, lane_count, roads_after, speed_on, stopped_on, tallies_from, window_of}
 
 -- a run that has come to a step came there by one more step
 last_step : (seed : Seed) (sheet : Sheet) (step : ℕ) (before after : Cells) (sum : StepTally) (comes : ComesTo seed sheet (suc step) after sum) → comes.0 ≡ before
@@ -120,31 +114,6 @@ lane_more lane roads first done road old now new is here cars distance stopped a
         let same : of x.cars x.distance x.stopped ≡ of y.cars y.distance y.stopped = cc (p, q, r) in
         same
 
--- of the cars of a road in standing order one more is counted
-pub record IsOneCarMore (lane : ℕ) (road : Cells) (k : ℕ) (car : Car) : Type 0 where
-  pub cars : count_by (is_on lane) (take (k + 1) (standing road)) ≡ count_by (is_on lane) (take k (standing road)) + cond (is_on lane car) 1 0
-  pub distance : sum_by (λ (car : Car). cond (is_on lane car) car.speed 0) (take (k + 1) (standing road))
-      ≡ sum_by (λ (car : Car). cond (is_on lane car) car.speed 0) (take k (standing road)) + cond (is_on lane car) car.speed 0
-  pub stopped : count_by (λ (car : Car). is_on lane car && nat_eq car.speed 0) (take (k + 1) (standing road))
-      ≡ count_by (λ (car : Car). is_on lane car && nat_eq car.speed 0) (take k (standing road)) + cond (is_on lane car && nat_eq car.speed 0) 1 0
-
-pub one_car_more : (lane : ℕ) (road : Cells) (k : ℕ) (car : Car) → IsStanding road k car → IsOneCarMore lane road k car
-one_car_more lane road k car is =
-    let inside = slice_get_within (standing road) k car is in
-    let here = get_or_from_slice_get (standing road) k car car is in
-    record {
-      cars = sum_by_more (λ (car : Car). cond (is_on lane car) 1 0) (standing road) k car inside ∙ ap (λ (c : Car). count_by (is_on lane) (take k (standing road)) + cond (is_on lane c) 1 0) here;
-      distance = sum_by_more (λ (car : Car). cond (is_on lane car) car.speed 0) (standing road) k car inside
-          ∙ ap (λ (c : Car). sum_by (λ (car : Car). cond (is_on lane car) car.speed 0) (take k (standing road)) + cond (is_on lane c) c.speed 0) here;
-      stopped = sum_by_more (λ (car : Car). cond (is_on lane car && nat_eq car.speed 0) 1 0) (standing road) k car inside
-          ∙ ap (λ (c : Car). count_by (λ (car : Car). is_on lane car && nat_eq car.speed 0) (take k (standing road)) + cond (is_on lane c && nat_eq c.speed 0) 1 0) here;
-    }
-
--- a number that is taken by a test is no greater
-pub at_most : (b : Bool) (n : ℕ) → cond b n 0 ≤ n
-at_most true n = omega arith
-at_most false n = omega arith
-
 -- as many windows as that are whole
 pub whole_windows : (every from steps : ℕ) → 1 ≤ every → (k : ℕ) → (k < (steps - from) / every) ↔ (from + (k + 1) * every ≤ steps)
 whole_windows every from steps some k = (ends, fits)
@@ -204,13 +173,6 @@ window_is roads tallies first count step road old new point one two at here sum 
 pub road_here : (seed other : Seed) (sheet also : Sheet) (n step : ℕ) (roads : ℕ → Cells) (road : Cells) → other ≡ seed → also ≡ sheet → step ≡ n → AreRoads seed sheet roads
     → IsRoadAt other also step road → roads n ≡ road
 road_here seed other sheet also n step roads road a b c each at = road_at_is_one seed sheet n (roads n) road (each n) (rw (← a, ← b, ← c) at)
-
--- all cars in standing order
-pub whole_standing : (road : Cells) (k end : ℕ) → end ≡ cars road → k ≤ end → end ≤ k → take k (standing road) ≡ standing road
-whole_standing road k end is low high =
-    let size = length-standing_lanes 0 road.lanes in
-    let same : k ≡ length (standing road) = omega (arith, is, low, high, size) in
-    rw same (take-length (standing road))
 
 -- after one step more still few cars are counted
 pub few_more : (steps : ℕ) (old now new : LaneCount) → IsFewCars steps old → IsFewCars 1 now → new.cars ≡ old.cars + now.cars → new.distance ≡ old.distance + now.distance

@@ -1,5 +1,5 @@
 -- What the lanes of a window have together is what its road has.
-use Rattle.std.proofs.Common.{◌≡◌, ℕ, zero, suc, ◌+◌, ◌*◌, ◌<◌, ◌&&◌, Bool, true, false, cond, List, [], ◌∷◌, length, get_or, refl, sym, ◌∙◌, ap, subst, arith, nat_eq}
+use Rattle.std.proofs.Common.{◌≡◌, ℕ, zero, suc, ◌+◌, ◌*◌, ◌<◌, ◌&&◌, cond, List, [], ◌∷◌, length, get_or, refl, sym, ◌∙◌, ap, subst, arith, nat_eq}
 use Rattle.std.proofs.lemmas.List.Sums.{sum_by-cons}
 use Rattle.std.proofs.lemmas.List.FromFn.{get_or-map-range_with_len, length-map-range_with_len}
 use Rattle.std.specs.Prelude.{All, sum_by, Ok}
@@ -21,6 +21,7 @@ use Rattle.trlab_jobs.proofs.OneText.{one_thing}
 use Rattle.trlab_jobs.proofs.SomeText.{says_plain}
 use Rattle.trlab_campaign.specs.SeriesLaws.{LanesAddUp, LanesOfSeriesAddUp}
 use Rattle.trlab_campaign.specs.SeriesOutput.{AreRoads, IsCourse, IsSeries, cars_on, first_windows, is_on, lane_count, nth_window, roads_after, speed_on, stopped_on, tallies_from, window_of}
+use Rattle.trlab_campaign.proofs.LaneCounts.{both_tests, ones, same_sum}
 use Rattle.trlab_campaign.proofs.Sheets.{plain_sheet}
 
 -- a number of a car, on lane 0 or on lane 1
@@ -40,28 +41,6 @@ split_sum f (x ∷ xs) low =
     let here = of_lane x.lane (f x) (low 0 x (omega arith)) in
     let rest = split_sum f xs (λ k d inside. low (suc k) d (omega arith)) in
     omega (arith, first, second, both, here, rest)
-
--- a sum of ones is a length
-ones : (xs : List Car) → sum_by (λ (car : Car). 1) xs ≡ length xs
-ones [] = refl
-ones (x ∷ xs) =
-    let more = sum_by-cons (λ (car : Car). 1) x xs in
-    let rest = ones xs in
-    omega (arith, more, rest)
-
--- sums of numbers that are the same
-same_sum : (f g : Car → ℕ) (xs : List Car) → ((car : Car) → f car ≡ g car) → sum_by f xs ≡ sum_by g xs
-same_sum f g [] same = refl
-same_sum f g (x ∷ xs) same =
-    let a = sum_by-cons f x xs in
-    let b = sum_by-cons g x xs in
-    let here = same x in
-    let rest = same_sum f g xs same in
-    omega (arith, a, b, here, rest)
-
-both_tests : (a b : Bool) (n : ℕ) → cond (a && b) n 0 ≡ cond a (cond b n 0) 0
-both_tests true b n = refl
-both_tests false b n = refl
 
 -- each car of a legal road stands on lane 0 or on lane 1
 on_two : (road : Cells) → IsLegal road → (k : ℕ) (d : Car) → k < length (standing road) → (get_or (standing road) k d).lane < 2

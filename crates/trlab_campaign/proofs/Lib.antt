@@ -6,6 +6,7 @@ pub mod Sheets
 pub mod Running
 pub mod Courses
 pub mod SeriesLines
+pub mod LaneCounts
 pub mod LaneSums
 pub mod OneSeries
 pub mod Faults

@@ -1,11 +1,13 @@
 //! The cars on a lane of a road: how many, the sum of their speeds, and how many are stopped.
 
-ghost use Rattle.std.specs.Prelude.{◌≡◌, ◌+◌, ◌<◌, ◌^◌, ◌&&◌, cond, nat_eq};
-ghost use Rattle.trlab_campaign.specs.Counting.{IsFewCars};
-ghost use Rattle.trlab_campaign.specs.SeriesOutput.{cars_on, is_on, speed_on, stopped_on};
+ghost use Rattle.std.specs.Prelude.{◌≡◌, ◌+◌, ◌<◌, ◌≤◌, ◌^◌, ℕ, length, slice_index_or};
+ghost use Rattle.trlab_bounds.specs.declared.roads.TheConstants.{GREATEST_LENGTH, GREATEST_LIMIT};
+ghost use Rattle.trlab_road.specs.Stored.{no_car};
+ghost use Rattle.trlab_campaign.specs.Counting.{IsFewCars, line_count};
+ghost use Rattle.trlab_campaign.specs.SeriesOutput.{cars_on, speed_on, stopped_on};
 
 use trlab_diagram::LaneCount;
-use trlab_road::{Car, Road};
+use trlab_road::{LaneCar, Road};
 
 /// Nothing counted.
 pub fn no_cars() -> LaneCount
@@ -18,38 +20,39 @@ pub fn no_cars() -> LaneCount
     }
 }
 
-/// The count with one car more, where it is on the lane.
-fn with_car(count: LaneCount, lane: u32, car: Car) -> LaneCount
-    requires cars { count.cars + 1 < 2 ^ 64 }
-    requires distance { count.distance + car.speed < 2 ^ 64 }
-    requires stopped { count.stopped + 1 < 2 ^ 64 }
-    ensures cars { result.cars ≡ count.cars + cond (is_on lane car) 1 0 }
-    ensures distance { result.distance ≡ count.distance + cond (is_on lane car) car.speed 0 }
-    ensures stopped { result.stopped ≡ count.stopped + cond (is_on lane car && nat_eq car.speed 0) 1 0 }
+/// What is counted of the cars of a line, in one pass.
+fn count_line(line: &[LaneCar]) -> LaneCount
+    requires few { length line.now ≤ GREATEST_LENGTH }
+    requires slow { (k : ℕ) → k < length line.now
+        → (slice_index_or line.now k no_car).speed ≤ GREATEST_LIMIT }
+    ensures value { result ≡ line_count line.now }
+    ensures few { IsFewCars 1 result }
 {
-    if car.lane == lane {
-        LaneCount {
-            cars: count.cars + 1,
-            distance: count.distance + u64::from(car.speed),
-            stopped: count.stopped + u64::from(car.speed == 0),
-        }
-    } else {
-        count
+    let mut distance = 0;
+    let mut stopped = 0;
+    for k in 0..line.len() {
+        let speed = line[k].speed();
+        distance += u64::from(speed);
+        stopped += u64::from(speed == 0);
+    }
+    LaneCount {
+        cars: line.len() as u64,
+        distance,
+        stopped,
     }
 }
 
-/// What is counted on a lane of a road.
+/// What is counted on a lane of a road: nothing if the road does not have this lane.
 pub fn count_lane(road: &Road, lane: u32) -> LaneCount
     ensures cars { result.cars ≡ cars_on lane road.now }
     ensures distance { result.distance ≡ speed_on lane road.now }
     ensures stopped { result.stopped ≡ stopped_on lane road.now }
     ensures few { IsFewCars 1 result }
 {
-    let mut count = no_cars();
-    for k in 0..road.cars() {
-        count = with_car(count, lane, road.standing(k));
+    if road.lanes() <= lane {
+        return no_cars();
     }
-    count
+    count_line(road.line_of(lane))
 }
 
 /// What was counted before and what is counted now together.
