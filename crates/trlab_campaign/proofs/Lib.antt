@@ -17,6 +17,7 @@ pub mod SomeVerdict
 pub mod OneEntry
 pub mod Evenness
 pub mod Points
+pub mod Milestones
 pub mod OnePoints
 pub mod SomePoints
 pub mod SomeOutput

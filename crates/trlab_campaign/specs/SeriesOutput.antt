@@ -94,13 +94,18 @@ abbrev pub first_windows : (ℕ → Cells) → (ℕ → StepTally) → ℕ → �
 first_windows roads tallies every from count =
     map (nth_window roads tallies every from) (range_with_len 0 count)
 
--- the series of a job: window k is one of its windows where the run goes to the end of this window
+-- a run of so many steps goes to the end of so many windows: window k is one of them where it goes to the end
+-- of this window
+abbrev pub HasWindows : ℕ → ℕ → ℕ → ℕ → Type 0
+HasWindows every from steps count = (k : ℕ) → (k < count) ↔ (from + (k + 1) * every ≤ steps)
+
+-- the series of a job: the windows to whose ends its run goes
 pub record IsSeries (job : Job) (every from : ℕ) (windows : List Window) : Type 0 where
   pub roads : ℕ → Cells
   pub tallies : ℕ → StepTally
   pub course : IsCourse (seed_of job) (sheet_of job) roads tallies
   pub count : ℕ
-  pub whole : (k : ℕ) → (k < count) ↔ (from + (k + 1) * every ≤ job.steps)
+  pub whole : HasWindows every from job.steps count
   pub told : windows ≡ first_windows roads tallies every from count
 
 -- what is written for a job, which is no refusal

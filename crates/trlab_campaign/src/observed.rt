@@ -1,6 +1,7 @@
 //! A run whose steps an observer is told of: whoever asks its cars tells it.
 
-ghost use Rattle.std.specs.Prelude.{◌≡◌};
+ghost use Rattle.std.specs.Prelude.{◌≡◌, ◌↔◌, ◌-◌, IfSome, None};
+ghost use Rattle.trlab_campaign.specs.Hundredths.{hundredths};
 
 use crate::end::End;
 use crate::progress::{Milestone, Observer, newly_reached};
@@ -34,22 +35,31 @@ impl<'a, A, O: Observer> Observed<'a, A, O> {
         }
     }
 
-    /// So many steps are taken, one more than when it was called before.
-    fn took(&self, taken: u32) {
-        if self.is_watching {
-            self.tell(taken);
-        }
+    /// The milestone to which the last of so many steps has brought the run: none where it has brought it to no
+    /// other hundredth.
+    fn milestone(&self, taken: u32) -> Option<Milestone>
+        ensures hundredths { IfSome result (λ milestone. milestone.hundredths ≡ hundredths taken self.now.steps) }
+        ensures number { IfSome result (λ milestone. milestone.number ≡ taken) }
+        ensures count { IfSome result (λ milestone. milestone.count ≡ self.now.steps) }
+        ensures silent { (result ≡ None)
+            ↔ (hundredths (taken - 1) self.now.steps ≡ hundredths taken self.now.steps) }
+    {
+        let before = u64::from(taken.saturating_sub(1));
+        newly_reached(
+            before,
+            u64::from(taken),
+            u64::from(self.steps),
+            taken,
+            self.steps,
+        )
     }
 
-    /// Tells the observer of so many steps, where the last of them has reached a hundredth.
-    fn tell(&self, taken: u32) {
-        let before = u64::from(taken.saturating_sub(1));
-        if let Some(hundredths) = newly_reached(before, u64::from(taken), u64::from(self.steps)) {
-            self.observer.reached(Milestone {
-                hundredths,
-                number: taken,
-                count: self.steps,
-            });
+    /// So many steps are taken, one more than when it was called before.
+    fn took(&self, taken: u32) {
+        if self.is_watching
+            && let Some(milestone) = self.milestone(taken)
+        {
+            self.observer.reached(milestone);
         }
     }
 

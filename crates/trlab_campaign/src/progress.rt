@@ -1,6 +1,6 @@
 //! How far a command's work is, and who is told. What an observer does has no part in any output.
 
-ghost use Rattle.std.specs.Prelude.{◌≡◌, ◌↔◌, None, IfSome};
+ghost use Rattle.std.specs.Prelude.{◌≡◌, ◌↔◌, ◌<◌, ◌≤◌, None, IfSome};
 ghost use Rattle.trlab_campaign.specs.Hundredths.{hundredths};
 
 /// Who is told how far a command's work is. Nothing is promised of what it does with that.
@@ -12,7 +12,7 @@ pub trait Observer {
     fn reached(&self, milestone: Milestone);
 }
 
-/// How far the work is.
+/// How far the work is: each value has numbers in these ranges.
 #[derive(Clone, Copy, Debug, PartialEq, Eq)]
 pub struct Milestone {
     /// How many hundredths of the work are done, 1 to 100.
@@ -21,6 +21,10 @@ pub struct Milestone {
     pub number: u32,
     /// How many steps or points there are.
     pub count: u32,
+    pub ghost some: { 1 ≤ hundredths },
+    pub ghost few: { hundredths ≤ 100 },
+    pub ghost from_one: { 1 ≤ number },
+    pub ghost to_last: { number ≤ count },
 }
 
 /// An observer that wants nothing.
@@ -46,15 +50,31 @@ fn hundredths(done: u64, whole: u64) -> u32
     }
 }
 
-/// The hundredth to which the work has come by its last parts, where that is another than before.
-pub fn newly_reached(before: u64, after: u64, whole: u64) -> Option<u32>
-    ensures told { IfSome result (λ reached. reached ≡ hundredths after whole) }
+/// The milestone to which its last parts have brought the work, while the step or point of a number is at hand:
+/// none where the work has come to no other hundredth by them.
+pub fn newly_reached(
+    before: u64,
+    after: u64,
+    whole: u64,
+    number: u32,
+    count: u32,
+) -> Option<Milestone>
+    requires rises { before ≤ after }
+    // While parts are left and some are done, a step or point is at hand.
+    requires at_hand { before < after → before < whole → (1 ≤ number) × (number ≤ count) }
+    ensures hundredths { IfSome result (λ milestone. milestone.hundredths ≡ hundredths after whole) }
+    ensures number { IfSome result (λ milestone. milestone.number ≡ number) }
+    ensures count { IfSome result (λ milestone. milestone.count ≡ count) }
     ensures silent { (result ≡ None) ↔ (hundredths before whole ≡ hundredths after whole) }
 {
     let reached = hundredths(after, whole);
     if reached == hundredths(before, whole) {
         None
     } else {
-        Some(reached)
+        Some(Milestone {
+            hundredths: reached,
+            number,
+            count,
+        })
     }
 }

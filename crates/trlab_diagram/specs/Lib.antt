@@ -1,5 +1,5 @@
 pub mod Flow
 pub mod Table
 pub mod Series
+pub mod Writers
 pub mod Laws
-pub mod Lines

@@ -1,12 +1,12 @@
 //! The table of a series, line by line, as comma-separated values (RFC 4180, with LF for CRLF).
 
 ghost use Rattle.std.specs.Prelude.{◌≡◌, ◌++◌, ◌<◌, ◌^◌, [], All, map, decimal, IfOk, OnOk};
-ghost use Rattle.trlab_diagram.specs.Lines.{IsAtLine};
 ghost use Rattle.csv.specs.Records.{fields_of, partial_of};
 ghost use Rattle.csv.specs.Writing.{default_writer, row_text};
 ghost use Rattle.trlab_diagram.specs.Flow.{IsMeasured};
 ghost use Rattle.trlab_diagram.specs.Series.{series_heading, window_line, window_text};
 ghost use Rattle.trlab_diagram.specs.Table.{line_text};
+ghost use Rattle.trlab_diagram.specs.Writers.{IsAtLine};
 
 use crate::{DiagramFault, Window, flow};
 use csv::{ByteRecord, Writer};
@@ -14,8 +14,8 @@ use itoa::Buffer;
 use std::alloc::{AllocError, Global};
 use std::marker::Model;
 
-/// How many lines go through one writer: it keeps the text of all of them.
-const LINES: u32 = 256;
+/// A writer keeps the bytes of all its lines, so it is replaced once it has more than this many.
+const MOST_KEPT: usize = 16384;
 
 /// The fields of the first line.
 fn heading_row(alloc: Global) -> Result<ByteRecord, AllocError>
@@ -57,7 +57,7 @@ fn push_counts(row: &mut ByteRecord, counts: &[u64]) -> Result<(), DiagramFault>
     Ok(())
 }
 
-/// Puts the fields of a window's line in place of those that a row had.
+/// Replaces the fields of a row by those of a window's line.
 fn put_window(row: &mut ByteRecord, window: &Window) -> Result<(), DiagramFault>
     requires { IsMeasured window.now.point }
     ensures { OnOk result (row_text default_writer (fields_of row.new) ≡ line_text (window_line window.now)) }
@@ -92,33 +92,8 @@ fn put_window(row: &mut ByteRecord, window: &Window) -> Result<(), DiagramFault>
     Ok(())
 }
 
-/// The text of a line with these fields.
-fn row_bytes(alloc: Global, row: &ByteRecord) -> Result<Vec<u8>, DiagramFault>
-    ensures { IfOk result (λ text. text.items ≡ row_text default_writer (fields_of row.now)) }
-{
-    let mut writer = Writer::from_writer(Vec::new(alloc));
-    writer.write_byte_record(row)?;
-    match writer.into_inner() {
-        Ok(text) => Ok(text),
-        Err(_) => Err(DiagramFault::Memory),
-    }
-}
-
-/// The first line of a series, in bytes:
-/// `step,cars,cells,steps,distance,stopped,changes,flow,cars0,distance0,stopped0,cars1,distance1,stopped1`
-/// and an LF.
-///
-/// # Errors
-///
-/// `Memory` where memory runs out.
-pub fn series_heading(alloc: Global) -> Result<Vec<u8>, DiagramFault>
-    ensures { IfOk result (λ text. text.items ≡ line_text series_heading) }
-{
-    row_bytes(alloc, &heading_row(alloc)?)
-}
-
-/// The text of a line with these fields, which a writer of lines adds to its own.
-fn added_line(
+/// Writes a line with these fields, and returns its text.
+fn written_line(
     alloc: Global,
     writer: &mut Writer<Vec<u8>>,
     row: &ByteRecord,
@@ -133,13 +108,25 @@ fn added_line(
     Ok(Vec::from_slice(alloc, &writer.get_ref()[before..])?)
 }
 
-/// The lines of windows, one after another, in memory that is kept from line to line.
+/// The first line of a series, in bytes:
+/// `step,cars,cells,steps,distance,stopped,changes,flow,cars0,distance0,stopped0,cars1,distance1,stopped1`
+/// and an LF.
+///
+/// # Errors
+///
+/// `Memory` where memory runs out.
+pub fn series_heading(alloc: Global) -> Result<Vec<u8>, DiagramFault>
+    ensures { IfOk result (λ text. text.items ≡ line_text series_heading) }
+{
+    let mut writer = Writer::from_writer(Vec::new(alloc));
+    written_line(alloc, &mut writer, &heading_row(alloc)?)
+}
+
+/// Makes the lines of windows one after another, and reuses its memory from line to line.
 #[derive(Drop)]
 pub struct SeriesLines {
     writer: Writer<Vec<u8>>,
     row: ByteRecord,
-    /// How many lines the writer has.
-    count: u32,
 }
 
 impl Model for SeriesLines {
@@ -151,33 +138,29 @@ impl Model for SeriesLines {
 }
 
 impl SeriesLines {
-    /// No line so far.
+    /// Starts without a line.
     pub fn new(alloc: Global) -> SeriesLines {
         SeriesLines {
             writer: Writer::from_writer(Vec::new(alloc)),
             row: ByteRecord::new(alloc),
-            count: 0,
         }
     }
 
-    /// The line of a window, in bytes: these numbers of it in decimal digits, and an LF.
+    /// The line of a window as bytes: its numbers in decimal, separated by commas, and an LF.
     ///
-    /// It must have at least one cell and one step.
+    /// The window must have at least one cell and one step.
     ///
     /// # Errors
     ///
-    /// `Memory` where memory runs out.
+    /// `Memory` if memory runs out.
     pub fn window_text(&mut self, alloc: Global, window: &Window) -> Result<Vec<u8>, DiagramFault>
         requires { IsMeasured window.now.point }
         ensures { IfOk result (λ text. text.items ≡ window_text window.now) }
     {
         put_window(&mut self.row, window)?;
-        let line = added_line(alloc, &mut self.writer, &self.row);
-        if line.is_err() || self.count >= LINES {
+        let line = written_line(alloc, &mut self.writer, &self.row);
+        if line.is_err() || self.writer.get_ref().len() > MOST_KEPT {
             self.writer = Writer::from_writer(Vec::new(alloc));
-            self.count = 0;
-        } else {
-            self.count += 1;
         }
         line
     }

@@ -1,7 +1,10 @@
 //! The causes of numbers, and the reasons of causes.
 
-ghost use Rattle.std.specs.Prelude.{◌≡◌, IfSome};
+ghost use Rattle.std.specs.Prelude.{◌≡◌, IfSome, is_some, nat_eq};
+ghost use Rattle.std.specs.List.{find};
 ghost use Rattle.trlab_texts.specs.Causes.{cause_number};
+ghost use Rattle.trlab_sentences.specs.Numbers.{is_known};
+ghost use Rattle.trlab_sentences.specs.declared.topics.Topic.TheVariants.{Cause as OfCause};
 
 use trlab_asm::Why;
 use trlab_code::CodeFault;
@@ -54,14 +57,23 @@ pub fn reason_of(cause: Cause) -> Option<Reason> {
     }
 }
 
+/// The first cause of the list that has this number.
+fn listed(number: u32) -> Option<Cause>
+    ensures { result ≡ find (λ cause. nat_eq (cause_number cause) number) CAUSES }
+{
+    CAUSES
+        .iter()
+        .copied()
+        .find(|cause| cause.number() == u64::from(number))
+}
+
 /// The cause of a number, where a text may be refused for it.
 pub fn cause_numbered(number: u32) -> Option<Cause>
-    ensures { IfSome result (λ cause. cause_number cause ≡ number) }
+    ensures known { is_some result ≡ is_known OfCause number }
+    ensures number { IfSome result (λ cause. cause_number cause ≡ number) }
 {
-    for cause in CAUSES {
-        if cause.number() == u64::from(number) {
-            return Some(cause);
-        }
+    if let Some(cause) = listed(number) {
+        return Some(cause);
     }
     let reason = Reason::from_number(number.checked_sub(BEFORE_REASONS)?)?;
     Some(Cause::Verdict(reason.number()))

@@ -1,5 +1,8 @@
 //! What a number means that refused texts and programs tell.
 
+ghost use Rattle.std.specs.Prelude.{◌≡◌, IfOk, not, true};
+ghost use Rattle.trlab_sentences.specs.Numbers.{is_known};
+
 use crate::fault::causes::meaning_of_cause;
 use crate::fault::push_hint;
 use crate::lines::push_both;
@@ -63,15 +66,27 @@ fn push_reason(page: &mut Page, reason: Reason) -> Result<(), AllocError> {
     )
 }
 
+/// Adds that there is no such number, and answers so.
+fn push_none(page: &mut Page) -> Result<bool, AllocError>
+    ensures { IfOk result (λ is_none. is_none ≡ true) }
+{
+    page.line("there is none of this number.")?;
+    Ok(true)
+}
+
 /// Adds what is told of a number after it, and answers whether there is no such number.
-fn push_number(page: &mut Page, topic: Topic, number: u32) -> Result<bool, AllocError> {
-    match (topic, cause_numbered(number), Reason::from_number(number)) {
-        (Topic::Cause, Some(cause), _) => push_cause(page, cause)?,
-        (Topic::Reason, _, Some(reason)) => push_reason(page, reason)?,
-        _ => {
-            page.line("there is none of this number.")?;
-            return Ok(true);
-        }
+fn push_number(page: &mut Page, topic: Topic, number: u32) -> Result<bool, AllocError>
+    ensures { IfOk result (λ is_none. is_none ≡ not (is_known topic number)) }
+{
+    match topic {
+        Topic::Cause => match cause_numbered(number) {
+            Some(cause) => push_cause(page, cause)?,
+            None => return push_none(page),
+        },
+        Topic::Reason => match Reason::from_number(number) {
+            Some(reason) => push_reason(page, reason)?,
+            None => return push_none(page),
+        },
     }
     Ok(false)
 }
@@ -81,7 +96,9 @@ fn push_number(page: &mut Page, topic: Topic, number: u32) -> Result<bool, Alloc
 /// # Errors
 ///
 /// Where memory ran out.
-pub fn number_words(alloc: Global, topic: Topic, number: u32) -> Result<(bool, Page), AllocError> {
+pub fn number_words(alloc: Global, topic: Topic, number: u32) -> Result<(bool, Page), AllocError>
+    ensures { IfOk result (λ told. told.0 ≡ not (is_known topic number)) }
+{
     let mut page = Page::new(alloc);
     let is_none = push_number(&mut page, topic, number)?;
     Ok((is_none, page))

@@ -35,6 +35,7 @@ pub struct Runners<'a, R, O> {
     ghost few_runners: { count ≤ MOST_RUNNERS },
     ghost some_worker: { 0 < workers },
     ghost few_workers: { workers ≤ MOST_WORKERS },
+    ghost same_points: { gate.now.count ≡ length sweep.now.cars },
 }
 
 impl<'a, R: Threads + Wait + Sync, O: Observer + Sync> Runners<'a, R, O> {

@@ -1,5 +1,7 @@
 //! The work of a sweep, which is counted as its workers pass a gate. The work of a step is that of its cars.
 
+ghost use Rattle.std.specs.Prelude.{◌≡◌, ◌≤◌, length};
+
 use crate::progress::{Milestone, Observer, newly_reached};
 use std::sync::atomic::{AtomicU64, Ordering};
 use trlab_jobs::Sweep;
@@ -23,6 +25,7 @@ pub struct WorkGate<'a, O> {
     steps: u32,
     whole: u64,
     done: AtomicU64,
+    ghost count_is: { count ≡ length cars.now },
 }
 
 /// The work of the first points.
@@ -36,7 +39,9 @@ fn work_of(cars: &[u32], steps: u32, points: usize) -> u64 {
 
 impl<'a, O: Observer> WorkGate<'a, O> {
     /// A gate for the workers of a sweep.
-    pub fn new(sweep: &'a Sweep, observer: &'a O) -> WorkGate<'a, O> {
+    pub fn new(sweep: &'a Sweep, observer: &'a O) -> WorkGate<'a, O>
+        ensures { result.count ≡ length sweep.now.cars }
+    {
         let steps = sweep.warm + sweep.measure;
         WorkGate {
             observer,
@@ -54,43 +59,44 @@ impl<'a, O: Observer> WorkGate<'a, O> {
         if let Some(cars) = self.cars.get(number as usize) {
             let cars = u64::from(*cars);
             let before = self.done.fetch_add(cars, Ordering::SeqCst);
-            self.tell(
-                before,
-                before.saturating_add(cars),
-                number.saturating_add(1),
-            );
+            self.tell(before, before.saturating_add(cars), number + 1);
         }
     }
 
     /// So many points are there, the first of the sweep. What the caller has run of them passed no gate, and
     /// counts now.
-    pub fn collected(&self, points: usize) {
+    pub fn collected(&self, points: usize)
+        requires some { 1 ≤ points }
+        requires few { points ≤ self.now.count }
+    {
         if self.is_watching
             && let Ok(number) = u32::try_from(points)
         {
             let there = work_of(self.cars, self.steps, points);
             let before = self.done.fetch_max(there, Ordering::SeqCst);
-            self.tell(before, before.max(there), number);
+            if before < there {
+                self.tell(before, there, number);
+            }
         }
     }
 
     /// Tells the observer, at work on the point with this number, where the work has come to another
     /// hundredth, which is not the last.
-    fn tell(&self, before: u64, after: u64, number: u32) {
-        if let Some(hundredths) = newly_reached(before, after, self.whole)
-            && hundredths < 100
+    fn tell(&self, before: u64, after: u64, number: u32)
+        requires rises { before ≤ after }
+        requires from_one { 1 ≤ number }
+        requires to_last { number ≤ self.now.count }
+    {
+        if let Some(milestone) = newly_reached(before, after, self.whole, number, self.count)
+            && milestone.hundredths < 100
         {
-            self.observer.reached(Milestone {
-                hundredths,
-                number,
-                count: self.count,
-            });
+            self.observer.reached(milestone);
         }
     }
 
     /// All points are there.
     pub fn finished(&self) {
-        if self.is_watching {
+        if self.is_watching && self.count > 0 {
             self.observer.reached(Milestone {
                 hundredths: 100,
                 number: self.count,

@@ -1,9 +1,9 @@
--- Writers of lines, between two lines.
+-- A writer of lines that is between two lines.
 use Rattle.std.specs.Prelude.{◌≡◌, [], false}
 use Rattle.csv.specs.declared.writer.Writer.{Writer}
 use Rattle.csv.specs.Writing.{default_writer, writer_setup, writer_pending, fields_written, has_written}
 
--- a writer of plain lines that has handed on all that was written, and stands at the start of a line
+-- the writer has the default setup, is at the start of a line, and holds no bytes back
 abbrev pub IsAtLine : {W : Type 0} → Writer W → Type 0
 IsAtLine writer =
     (writer_setup writer ≡ default_writer)

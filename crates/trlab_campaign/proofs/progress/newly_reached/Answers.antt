@@ -1,0 +1,17 @@
+use Rattle.std.proofs.Common.{◌≡◌, ◌∙◌, ℕ, ◌≤◌, subst, sym}
+use Rattle.trlab_campaign.specs.Hundredths.{hundredths}
+use Rattle.trlab_campaign.proofs.Milestones.{IsReached, is_reached}
+use Rattle.trlab_campaign.proofs.progress.newly_reached.Goals as goal
+
+pub invariant_of-result : goal.invariant_of-result
+invariant_of-result c =
+    let other : hundredths c.args.after c.args.whole ≡ hundredths c.args.before c.args.whole → ⊥ =
+    λ same. c.if-reached-hundredths.false (c.hundredths-reached.ensures ∙ (same ∙ sym c.hundredths.ensures)) in
+    let reached = is_reached c.args.before c.args.after c.args.whole c.requires.rises other in
+    let at_hand = c.requires.at_hand reached.more reached.left in
+    record {
+      some = subst (λ (n : ℕ). 1 ≤ n) (sym c.hundredths-reached.ensures) reached.some;
+      few = subst (λ (n : ℕ). n ≤ 100) (sym c.hundredths-reached.ensures) reached.few;
+      from_one = at_hand.0;
+      to_last = at_hand.1;
+    }
