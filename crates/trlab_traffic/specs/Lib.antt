@@ -11,7 +11,7 @@ pub mod Randomization
 pub mod Following
 pub mod Jams
 pub mod Overtaking
--- runs that are compared, car by car
+-- runs compared car by car
 pub mod Gone
 pub mod Fastest
 -- what makes no difference
