@@ -94,7 +94,7 @@ function legend(name,  y) {
     if (!is_series) text(right - 8, y, "end", name, " fill=\"" paint[name] "\"")
     else {
         line(left + 14, y - 4, left + 38, y - 4, paint[name])
-        text(left + 46, y, "start", name, " stroke=\"white\" stroke-width=\"4\" paint-order=\"stroke\"")
+        text(left + 46, y, "start", name)
     }
 }
 
