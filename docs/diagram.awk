@@ -1,8 +1,9 @@
-# The fundamental diagram of one table of points or more, as an SVG image:
+# Tables of `sweep` as a fundamental diagram, or tables of `series` as distance against time, as an SVG image:
 #
 #   awk -f docs/diagram.awk flow.csv > flow.svg
 #
-# Each table is a curve of its own, named by its file; a table from standard input has no name.
+# Each table is one curve, labelled with the name of its file; a table from standard input has no label. Tables of
+# `series` whose names differ only after ", key" share one label and one colour.
 
 BEGIN {
     FS = ","
@@ -11,20 +12,36 @@ BEGIN {
 }
 
 # A table begins.
-$1 == "cars" {
+$1 == "cars" || $1 == "step" {
+    is_series = $1 == "step"
     tables++
-    name[tables] = FILENAME
-    sub(/^.*\//, "", name[tables])
-    sub(/\.csv$/, "", name[tables])
+    label[tables] = FILENAME
+    sub(/^.*\//, "", label[tables])
+    sub(/\.csv$/, "", label[tables])
+    if (is_series) {
+        sub(/, key .*$/, "", label[tables])
+        add_point(0, 0)
+    }
+    if (!(label[tables] in paint)) {
+        labels++
+        paint[label[tables]] = color[(labels - 1) % colors + 1]
+        row[label[tables]] = labels
+    }
     next
 }
 
-{
+# A window of a series: how far a car has come by its end, as a mean over all cars.
+is_series { add_point($1, y[tables, points[tables]] + $5 / $2); next }
+
+# A point of a fundamental diagram.
+{ add_point($1 / $2, $7 / 1000000) }
+
+function add_point(across, up) {
     points[tables]++
-    density[tables, points[tables]] = $1 / $2
-    flow[tables, points[tables]] = $7 / 1000000
-    if ($7 / 1000000 > highest) highest = $7 / 1000000
-    if ($1 / $2 > densest) densest = $1 / $2
+    x[tables, points[tables]] = across
+    y[tables, points[tables]] = up
+    if (across > widest) widest = across
+    if (up > highest) highest = up
 }
 
 function across(x) { return left + (right - left) * x / width }
@@ -44,7 +61,7 @@ function line(x1, y1, x2, y2, stroke) {
     printf "<line x1=\"%.1f\" y1=\"%.1f\" x2=\"%.1f\" y2=\"%.1f\" stroke=\"%s\"/>\n", x1, y1, x2, y2, stroke
 }
 
-function axes(  step, k) {
+function axes(below, beside,  step, k) {
     step = mark_step(width)
     for (k = 0; step * k < width * 1.001; k++) {
         line(across(step * k), bottom, across(step * k), top, "#e0e0e0")
@@ -57,31 +74,40 @@ function axes(  step, k) {
     }
     line(left, bottom, right, bottom, "#404040")
     line(left, bottom, left, top, "#404040")
-    text((left + right) / 2, bottom + 42, "middle", "density, cars a cell")
-    text(22, (top + bottom) / 2, "middle", "flow, cars a step",
-        sprintf(" transform=\"rotate(-90 22 %.1f)\"", (top + bottom) / 2))
+    text((left + right) / 2, bottom + 42, "middle", below)
+    text(22, (top + bottom) / 2, "middle", beside, sprintf(" transform=\"rotate(-90 22 %.1f)\"", (top + bottom) / 2))
 }
 
+# A curve, with a circle at each point of a fundamental diagram.
 function curve(t,  k) {
-    printf "<polyline fill=\"none\" stroke=\"%s\" stroke-width=\"1.5\" points=\"", paint(t)
-    for (k = 1; k <= points[t]; k++) printf "%.1f,%.1f ", across(density[t, k]), up(flow[t, k])
+    printf "<polyline fill=\"none\" stroke=\"%s\" stroke-width=\"1.5\" points=\"", paint[label[t]]
+    for (k = 1; k <= points[t]; k++) printf "%.1f,%.1f ", across(x[t, k]), up(y[t, k])
     print "\"/>"
-    for (k = 1; k <= points[t]; k++)
-        printf "<circle cx=\"%.1f\" cy=\"%.1f\" r=\"3\" fill=\"%s\"/>\n", across(density[t, k]), up(flow[t, k]), paint(t)
+    for (k = 1; k <= points[t] && !is_series; k++)
+        printf "<circle cx=\"%.1f\" cy=\"%.1f\" r=\"3\" fill=\"%s\"/>\n", across(x[t, k]), up(y[t, k]), paint[label[t]]
 }
 
-function paint(t) { return color[(t - 1) % colors + 1] }
+# The label of curves: on the right in their colour, or, in the empty corner of distances, after a line in it.
+function legend(name,  y) {
+    if (name == "" || name == "-") return
+    y = top + 18 * row[name]
+    if (!is_series) text(right - 8, y, "end", name, " fill=\"" paint[name] "\"")
+    else {
+        line(left + 14, y - 4, left + 38, y - 4, paint[name])
+        text(left + 46, y, "start", name)
+    }
+}
 
 END {
-    width = densest > 0 ? densest : 1
+    width = widest > 0 ? widest : 1
     height = highest > 0 ? highest * 1.05 : 1
     print "<svg xmlns=\"http://www.w3.org/2000/svg\" viewBox=\"0 0 580 400\" font-family=\"sans-serif\" font-size=\"13\">"
     print "<rect width=\"580\" height=\"400\" fill=\"white\"/>"
-    axes()
+    if (is_series) axes("time, steps", "mean distance per car, cells")
+    else axes("density, cars per cell", "flow, cars per step")
     for (t = 1; t <= tables; t++) {
         curve(t)
-        if (name[t] != "" && name[t] != "-")
-            text(right - 8, top + 18 * t, "end", name[t], " fill=\"" paint(t) "\"")
+        if (label[t] != label[t - 1]) legend(label[t])
     }
     print "</svg>"
 }

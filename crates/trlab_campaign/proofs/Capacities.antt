@@ -1,6 +1,6 @@
 -- The points of a sweep are within the capacity of their roads.
 use Rattle.std.proofs.Common.{◌≡◌, ℕ, suc, ◌+◌, ◌-◌, ◌*◌, ◌/◌, ◌<◌, ◌≤◌, min, List, [], ◌∷◌, length, get_or, sym, ◌∙◌, ap, subst, arith, mul_comm, mul_assoc, mul_right_comm, le_of_mul-le-mul_right, div-mul-le_self, mul-le-mul_right, le-div_iff_mul-le, le_trans}
-use Rattle.std.specs.Prelude.{IfOk, Ok, Result, sum_by}
+use Rattle.std.specs.Prelude.{All, IfOk, Ok, Result, sum_by}
 use Rattle.std.proofs.Math.Nat.{mul-div-mul_right}
 use Rattle.std.proofs.lemmas.List.Sums.{sum_by-cons}
 use Rattle.trlab_diagram.specs.declared.point.Point.{Point}
@@ -11,15 +11,17 @@ use Rattle.trlab_texts.specs.Reading.{Fault}
 use Rattle.trlab_jobs.specs.declared.shape.Shape.{Shape}
 use Rattle.trlab_jobs.specs.Shapes.{all_steps}
 use Rattle.trlab_jobs.specs.Stored.{IsStoredSweep, Spreads}
-use Rattle.trlab_jobs.specs.Sweep.{Setup, Sweep}
+use Rattle.trlab_jobs.specs.Sweep.{Setup, Sweep, SweepText}
 use Rattle.trlab_jobs.proofs.OneSweep.{one_thing}
 use Rattle.trlab_jobs.proofs.SomeSweep.{says_stored}
 use Rattle.trlab_traffic.specs.Capacity.{all_cells as cells_of_road, capacity, empty_cells, lane_cells}
 use Rattle.trlab_traffic.proofs.Capacities.{run_keeps_to_capacity}
 use Rattle.trlab_traffic.proofs.EvenFlows.{even_cars_flow_at_capacity}
+use Rattle.trlab_traffic.proofs.Moving.{run_goes_by_moving_cars, run_keeps_below_peak}
 use Rattle.trlab_traffic.proofs.RoomAhead.{taken_or_empty}
-use Rattle.trlab_campaign.specs.Capacity.{DiagramIsTriangle, IsOnTriangle, IsUnderTriangle, AsksForTriangle, SweepsKeepToCapacity}
-use Rattle.trlab_campaign.specs.SweepOutput.{IsPoint, seed_of, sheet_of}
+use Rattle.trlab_campaign.specs.Capacity.{DiagramIsTriangle, IsBelowPeak, IsOnTriangle, IsUnderTriangle, AsksForTriangle}
+use Rattle.trlab_campaign.specs.Capacity.{PointGoesByMovingCars, SweepsGoByMovingCars, SweepsKeepBelowPeak, SweepsKeepToCapacity}
+use Rattle.trlab_campaign.specs.SweepOutput.{ArePoints, IsPoint, seed_of, sheet_of}
 use Rattle.trlab_campaign.proofs.Points.{some_cells}
 use Rattle.trlab_campaign.proofs.StatedRules.{stated_nasch}
 use Rattle.trlab_rules.specs.StandardRules.{IsNasch}
@@ -47,6 +49,17 @@ flow_within distance cells steps most some_cell some_step far =
     let d : steps * most * 1000000 ≡ most * 1000000 * steps = ap (λ k. k * 1000000) (mul_comm steps most) ∙ mul_right_comm most steps 1000000 in
     let e : flow * cells * steps ≤ most * 1000000 * steps = subst (λ k. k ≤ most * 1000000 * steps) c (subst (λ k. flow * (cells * steps) ≤ k) d (le_trans a b)) in
     (le-div_iff_mul-le some_cell).1 (le_of_mul-le-mul_right e some_step)
+
+-- the same flow by a bound on the peak
+flow_below_peak : (distance cells steps limit : ℕ) → 1 ≤ cells → 1 ≤ steps → (limit + 1) * distance ≤ steps * (limit * cells) → distance * 1000000 / (cells * steps) ≤ limit * 1000000 / (limit + 1)
+flow_below_peak distance cells steps limit some_cell some_step low =
+    let some : 1 ≤ limit + 1 = omega arith in
+    let a : steps * (limit * cells) ≡ cells * steps * limit = ap (λ k. steps * k) (mul_comm limit cells) ∙ sym (mul_assoc steps cells limit) ∙ ap (λ k. k * limit) (mul_comm steps cells) in
+    let b : (limit + 1) * distance * 1000000 ≡ distance * 1000000 * (limit + 1) = ap (λ k. k * 1000000) (mul_comm (limit + 1) distance) ∙ mul_right_comm distance (limit + 1) 1000000 in
+    let c : (limit + 1) * (cells * steps) ≡ cells * steps * (limit + 1) = mul_comm (limit + 1) (cells * steps) in
+    let within = flow_within ((limit + 1) * distance) (limit + 1) (cells * steps) limit some (some_cells cells steps some_cell some_step) (subst (λ k. (limit + 1) * distance ≤ k) a low) in
+    let e = ap (λ k. k / ((limit + 1) * (cells * steps))) b ∙ ap (λ k. distance * 1000000 * (limit + 1) / k) c ∙ mul-div-mul_right (distance * 1000000) (cells * steps) some in
+    subst (λ k. k ≤ limit * 1000000 / (limit + 1)) e within
 
 -- the road of a point at the start: what its cars can go, by the counts of cells and cars
 module _ (shape : Shape) (count : ℕ) (start : Cells) (fits : Spreads shape count) (even : IsEven shape.lanes shape.cells shape.limit count start) where
@@ -86,14 +99,58 @@ module _ (common : Setup) (counted : 1 ≤ common.span.measure) where
         flow_by_limit = flow_within is.tally.distance (shape.lanes * shape.cells) span.measure (shape.limit * count) some counted by_limit;
       })
 
+  -- and that it is below the peak
+  told_below_peak : (number cars : ℕ) (point : Point) → Spreads common.shape cars → IsPoint common number cars point → IsBelowPeak common.shape.limit point
+  told_below_peak number count point fits is =
+      let shape = common.shape in
+      let span = common.span in
+      let start = is.start in
+      let legal = even_legal shape.lanes shape.cells shape.limit count start fits is.even in
+      let below = run_keeps_below_peak (seed_of common number start) (sheet_of common) (all_steps span) is.counted.0 is.tally legal is.counted.1 in
+      let steps : span.warm + span.measure - span.warm ≡ span.measure = omega arith in
+      let cells : cells_of_road start ≡ shape.lanes * shape.cells = even_cells shape.lanes shape.cells shape.limit count start is.even in
+      let low : (shape.limit + 1) * is.tally.distance ≤ span.measure * (shape.limit * (shape.lanes * shape.cells)) = rw (← steps, ← cells, ← is.even.same_limit) below in
+      let some = some_cells shape.lanes shape.cells fits.lanes_fit.some_lane fits.length_fits.some_cell in
+      subst (IsBelowPeak shape.limit) (sym is.told) (record {
+        distance = low;
+        flow = flow_below_peak is.tally.distance (shape.lanes * shape.cells) span.measure shape.limit some counted low;
+      })
+
+  -- and how far its moving cars went
+  told_by_moving_cars : (number cars : ℕ) (point : Point) → Spreads common.shape cars → IsPoint common number cars point → PointGoesByMovingCars common.shape.limit point
+  told_by_moving_cars number count point fits is =
+      let shape = common.shape in
+      let span = common.span in
+      let start = is.start in
+      let legal = even_legal shape.lanes shape.cells shape.limit count start fits is.even in
+      let moving = run_goes_by_moving_cars (seed_of common number start) (sheet_of common) (all_steps span) is.counted.0 is.tally legal is.counted.1 in
+      let steps : span.warm + span.measure - span.warm ≡ span.measure = omega arith in
+      let all : cars start ≡ count = all_cars shape count start fits is.even in
+      let most : start.limit * cars start ≡ shape.limit * count = at_limit shape count start fits is.even in
+      let stops : start.limit * is.tally.stopped ≡ shape.limit * is.tally.stopped = ap (λ k. k * is.tally.stopped) is.even.same_limit in
+      let cell_each : span.measure * count ≤ is.tally.distance + is.tally.stopped = rw (← steps, ← all) moving.cell_each in
+      let limit_each : is.tally.distance + shape.limit * is.tally.stopped ≤ span.measure * (shape.limit * count) = rw (← steps, ← most, ← stops) moving.limit_each in
+      subst (PointGoesByMovingCars shape.limit) (sym is.told) (record { cell_each = cell_each; limit_each = limit_each })
+
+-- what is so of each point of a sweep, once it is told of any
+module _ (IsSo : ℕ → Point → Type 0) (told : (common : Setup) → 1 ≤ common.span.measure → (number cars : ℕ) (point : Point) → Spreads common.shape cars → IsPoint common number cars point → IsSo common.shape.limit point) where
+  each_point : (text : List ℕ) (sweep : Sweep) (points : List Point) → SweepText text (Ok sweep) → ArePoints sweep points → All (IsSo sweep.setup.shape.limit) points
+  each_point text sweep points says are =
+      let found = says_stored text in
+      let same = one_thing text found.0 (Ok sweep) found.1.0 says in
+      let stored : IsStoredSweep sweep = subst (λ (said : Result Sweep Fault). IfOk said IsStoredSweep) same found.1.1 in
+      λ i d inside.
+      let on : i < length sweep.cars = (let size = are.one_each in omega (arith, size, inside)) in
+      told sweep.setup stored.counted i (get_or sweep.cars i 0) (get_or points i d) (stored.spreads i 0 on) (are.each i 0 d on)
+
 pub sweeps_keep_to_capacity : SweepsKeepToCapacity
-sweeps_keep_to_capacity text sweep points says are =
-    let found = says_stored text in
-    let same = one_thing text found.0 (Ok sweep) found.1.0 says in
-    let stored : IsStoredSweep sweep = subst (λ (said : Result Sweep Fault). IfOk said IsStoredSweep) same found.1.1 in
-    λ i d inside.
-    let on : i < length sweep.cars = (let size = are.one_each in omega (arith, size, inside)) in
-    told_within sweep.setup stored.counted i (get_or sweep.cars i 0) (get_or points i d) (stored.spreads i 0 on) (are.each i 0 d on)
+sweeps_keep_to_capacity = each_point IsUnderTriangle told_within
+
+pub sweeps_keep_below_peak : SweepsKeepBelowPeak
+sweeps_keep_below_peak = each_point IsBelowPeak told_below_peak
+
+pub sweeps_go_by_moving_cars : SweepsGoByMovingCars
+sweeps_go_by_moving_cars = each_point PointGoesByMovingCars told_by_moving_cars
 
 -- a flow by the distance of each step
 flow_is : (distance cells steps each : ℕ) → 1 ≤ steps → distance ≡ steps * each → distance * 1000000 / (cells * steps) ≡ each * 1000000 / cells

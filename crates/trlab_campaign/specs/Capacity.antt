@@ -40,6 +40,30 @@ SweepsKeepToCapacity =
     → SweepText text (Ok sweep) → ArePoints sweep points
     → All (IsUnderTriangle sweep.setup.shape.limit) points
 
+-- a point below the peak of the triangle: its flow is at most limit / (limit + 1)
+pub record IsBelowPeak (limit : ℕ) (point : Point) : Type 0 where
+  pub distance : (limit + 1) * point.distance ≤ point.steps * (limit * point.cells)
+  pub flow : flow_of point ≤ limit * 1000000 / (limit + 1)
+
+-- each point of a table is below the peak, under any rule that a sweep text may state
+abbrev pub SweepsKeepBelowPeak : Type 0
+SweepsKeepBelowPeak =
+    (text : List ℕ) (sweep : Sweep) (points : List Point)
+    → SweepText text (Ok sweep) → ArePoints sweep points
+    → All (IsBelowPeak sweep.setup.shape.limit) points
+
+-- the moving cars of a point, counted in each step, went at least one cell each, and at most the limit
+pub record PointGoesByMovingCars (limit : ℕ) (point : Point) : Type 0 where
+  pub cell_each : point.steps * point.cars ≤ point.distance + point.stopped
+  pub limit_each : point.distance + limit * point.stopped ≤ point.steps * (limit * point.cars)
+
+-- so did those of each point of a table, under any rule that a sweep text may state
+abbrev pub SweepsGoByMovingCars : Type 0
+SweepsGoByMovingCars =
+    (text : List ℕ) (sweep : Sweep) (points : List Point)
+    → SweepText text (Ok sweep) → ArePoints sweep points
+    → All (PointGoesByMovingCars sweep.setup.shape.limit) points
+
 -- a point on the triangle: its distance is the capacity for each of its steps
 pub record IsOnTriangle (limit : ℕ) (point : Point) : Type 0 where
   pub distance : point.distance ≡ point.steps * capacity_at limit point

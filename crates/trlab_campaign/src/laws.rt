@@ -3,7 +3,8 @@
 //!
 //! Each law is the contract of a function with nothing to do.
 
-ghost use Rattle.trlab_campaign.specs.Capacity.{DiagramIsTriangle, SweepsKeepToCapacity};
+ghost use Rattle.trlab_campaign.specs.Capacity.{DiagramIsTriangle, SweepsGoByMovingCars, SweepsKeepBelowPeak};
+ghost use Rattle.trlab_campaign.specs.Capacity.{SweepsKeepToCapacity};
 ghost use Rattle.trlab_campaign.specs.CheckOutput.{IsCheckOutput};
 ghost use Rattle.trlab_campaign.specs.Headline.{JobTextsAreDriven, SweepTextsAreDriven};
 ghost use Rattle.trlab_campaign.specs.Laws.{HasOneOutput, HasSomeOutput};
@@ -43,12 +44,15 @@ pub fn sweep_has_one_output()
     ensures one_output { HasOneOutput IsSweepOutput }
 {}
 
-/// Each point of the table for a sweep text is under a triangle: the flow is at most one less the
-/// density, and at most the limit times the density. On one lane under the rule of 1992 without
-/// randomization, where no step is counted before cars could have come to the limit, it is the lesser of
-/// the two, so the fundamental diagram is the triangle.
+/// Each point of the table for a sweep text is below a triangle: the flow is at most 1 minus the density, and
+/// at most the limit times the density. So it is at most limit / (limit + 1), the peak of the triangle. The
+/// cars that are not stopped in a step go at least one cell each, and at most the limit. On one lane, under
+/// the Nagel-Schreckenberg rule without randomization, the fundamental diagram is the triangle itself, if no
+/// step is counted before cars could have reached the limit.
 pub fn sweeps_keep_to_capacity()
     ensures within { SweepsKeepToCapacity }
+    ensures peak { SweepsKeepBelowPeak }
+    ensures moving { SweepsGoByMovingCars }
     ensures triangle { DiagramIsTriangle }
 {}
 

@@ -21,8 +21,8 @@ use Rattle.trlab_traffic.proofs.Numbering.{choose}
 abbrev pub gap_of : Cells → Car → ℕ
 gap_of road car = gap (lane_of road car.lane) car.place
 
--- the cars of a run at a step by their numbers, each with how far it has gone: the room that it had at the start it has
--- used up by what it has gone more than the next one
+-- the cars of a run at a step, by their numbers, each with how far it has gone: its gap is its gap at the
+-- start, plus what the next car has gone, less what it has gone itself
 pub record Course (seed : Seed) (sheet : Sheet) (next room : ℕ → ℕ) (step : ℕ) (road : Cells) (car : ℕ → Car) (far : ℕ → ℕ) : Type 0 where
   pub stands : (i : ℕ) → i < cars seed.road → IsAt road (car i)
   pub numbered : (i : ℕ) → i < cars seed.road → (car i).number ≡ i

@@ -45,12 +45,12 @@ answer_is speed rule dice road car v moves legal here answers =
     let words = words_of dice car.number in
     one_answer_each rule.motion dice road car v (speed view words) answers (moves view words (motion_view_is_view road car legal here))
 
--- brakes take nothing where the chance is 0
+-- with the chance 0 no car brakes at random
 no_brake : (b : Bool) (v : ℕ) → b ≡ false → brake b v ≡ v
 no_brake true v none = absurd cc
 no_brake false v none = refl
 
--- no rule is faster than that of cars that come to their speed at once
+-- no rule is faster than one under which cars reach their speed at once
 record GapAnswers (limit ga a gb b : ℕ) : Type 0 where
   within_limit : a ≤ limit
   within_gap : a ≤ ga

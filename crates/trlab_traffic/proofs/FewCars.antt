@@ -1,4 +1,5 @@
--- How many cars stand in a part of a lane: no more than all its cars, and no fewer than leave room for its empty cells.
+-- How many cars are in a part of a lane: at most all its cars, and at least as many as remain if all its
+-- empty cells are there.
 use Rattle.std.proofs.Common.{◌≡◌, ℕ, zero, suc, ◌+◌, ◌%◌, ◌≤◌, Bool, true, false, cond, length, refl, sym, ◌∙◌, ap, subst, inl, inr, arith}
 use Rattle.std.proofs.lemmas.Bool.{cases_lt}
 use Rattle.trlab_road.specs.Cells.{Cells, Lane, lane_cars, lane_of}

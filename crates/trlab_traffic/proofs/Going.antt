@@ -1,4 +1,4 @@
--- How far cars have gone: each some way, and one only; together the distance of the run.
+-- How far cars have gone: each has exactly one distance, and together they have gone the distance of the run.
 use Rattle.std.proofs.Common.{◌≡◌, ℕ, zero, suc, ◌+◌, ◌<◌, refl, sym, ◌∙◌, ap, subst, arith}
 use Rattle.std.specs.Prelude.{nat_le}
 use Rattle.std.proofs.lemmas.Bool.{le-leb}

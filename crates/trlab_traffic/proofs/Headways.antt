@@ -1,4 +1,5 @@
--- Between the passages of a detector there is room: in one more step than the limit not every step has a passage.
+-- There is room between the passages of a detector: in v + 1 steps in a row, where v is the limit, not every
+-- step has one.
 use Rattle.std.proofs.Common.{◌≡◌, ℕ, zero, suc, ◌+◌, ◌-◌, ◌<◌, ◌≤◌, true, cond, is_some, Some, None, length, refl, sym, ◌∙◌, ap, subst, inl, inr, arith, Bool}
 use Rattle.std.specs.Prelude.{count_by, nat_le}
 use Rattle.std.proofs.lemmas.Bool.{cases_lt, le-leb, lt-leb}
@@ -198,7 +199,7 @@ module _ (seed : Seed) (sheet : Sheet) (legal : IsLegal seed.road) (nobody : Eac
       let stands = one_ahead lane y in
       omega (arith, one, same, stands)
 
-  -- so many detectors in a row are not passed in one step
+  -- a step does not pass so many detectors in a row
   not_all : (t x : ℕ) → x < n → ((j : ℕ) → j ≤ seed.road.limit → Passed t (ahead n x j)) → ⊥
   not_all t x low each =
       let first = each 0 (omega arith) in

@@ -1,4 +1,5 @@
--- Cars that move go a cell at least, and no further than the limit; and no flow is above the peak of the triangle.
+-- Moving cars go at least one cell and at most as many as the limit; and no flow is above the peak of the
+-- triangle.
 use Rattle.std.proofs.Common.{◌≡◌, ℕ, zero, suc, ◌+◌, ◌-◌, ◌*◌, ◌≤◌, Bool, true, false, cond, List, [], ◌∷◌, length, get_or, sym, ◌∙◌, ap, subst, inl, inr, arith, mul-add, mul-suc, mul_assoc, mul_comm, suc-mul, true≢false, if◌then◌else◌}
 use Rattle.std.specs.Prelude.{All, count_by, nat_eq, nat_le, sum_by}
 use Rattle.std.proofs.lemmas.Bool.{cases_eq, cases_lt, eq-eqb, le-leb, lt-leb, ne_eqb}

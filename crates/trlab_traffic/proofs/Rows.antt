@@ -1,4 +1,4 @@
--- Rows of detectors, one on each lane: what they count in runs, where cars change lanes too.
+-- Rows of detectors, one on each lane: their counts in runs, even if cars change lanes.
 use Rattle.std.proofs.Common.{◌≡◌, ℕ, zero, suc, ◌+◌, ◌-◌, ◌*◌, ◌<◌, ◌≤◌, Bool, true, false, is_some, Option, Some, None, List, [], ◌∷◌, length, get_or, refl, sym, ◌∙◌, ap, subst, inl, inr, arith, suc-mul, true≢false, if◌then◌else◌, min}
 use Rattle.std.proofs.lemmas.Bool.{cases_lt, le-leb, lt-leb}
 use Rattle.std.proofs.lemmas.List.Sums.{sum_by-cons}

@@ -1,4 +1,5 @@
--- A road with all its cars at one speed; and where there is room for the limit, two flows at one density.
+-- A road whose cars all have the same speed; and, if there is room to drive at the limit, two flows at one
+-- density.
 use Rattle.std.proofs.Common.{◌≡◌, ℕ, zero, suc, ◌+◌, ◌-◌, ◌*◌, ◌/◌, ◌<◌, ◌≤◌, Some, None, List, [], ◌∷◌, Result, Ok, Err, length, map, get_or, refl, sym, ◌∙◌, ap, subst, arith, mul_comm, le-div_iff_mul-le}
 use Rattle.std.specs.Prelude.{sum_by}
 use Rattle.std.proofs.lemmas.List.{length-map}

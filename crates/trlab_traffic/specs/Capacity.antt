@@ -63,7 +63,7 @@ RunKeepsToCapacity =
     → IsLegal seed.road → ComesTo seed sheet step road sum
     → IsWithinCapacity seed.road (counted_steps seed step) sum.distance
 
--- so no flow is above the peak of the triangle, the limit over one more than the limit
+-- so no flow is above v / (v + 1), where v is the limit: the peak of the triangle
 abbrev pub RunKeepsBelowPeak : Type 0
 RunKeepsBelowPeak =
     (seed : Seed) (sheet : Sheet) (step : ℕ) (road : Cells) (sum : StepTally)

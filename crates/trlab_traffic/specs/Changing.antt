@@ -1,4 +1,4 @@
--- Lane changes: how many cars change lanes.
+-- How many cars change lanes.
 use Rattle.std.specs.Prelude.{ℕ, ◌*◌, ◌≤◌}
 use Rattle.trlab_road.specs.Cells.{Cells, cars}
 use Rattle.trlab_road.specs.Legal.{IsLegal}
@@ -10,18 +10,18 @@ use Rattle.trlab_step.specs.Run.{Seed, Sheet, ComesTo}
 use Rattle.trlab_traffic.specs.Capacity.{empty_cells}
 use Rattle.trlab_traffic.specs.Runs.{counted_steps}
 
--- in so many steps no more lane changes than cars, nor than empty cells, in each
+-- per step there are at most as many lane changes as cars, and at most as many as empty cells
 pub record ChangesFew (road : Cells) (steps changes : ℕ) : Type 0 where
   pub by_cars : changes ≤ steps * cars road
   pub by_empty_cells : changes ≤ steps * empty_cells road
 
--- a step changes so few, under any rule: each car that crosses goes to an empty cell, no two to the same
+-- this holds of every step, under any rule: each car that changes lanes needs an empty cell of its own
 abbrev pub StepChangesFew : Type 0
 StepChangesFew =
     (rule : Programs) (dice : Dice) (road next : Cells) (tally : StepTally)
     → IsLegal road → IsNext rule dice road next tally → ChangesFew road 1 tally.changes
 
--- and so do the steps of a run that are counted, under any sheet of rules
+-- and of the counted steps of a run, under any sheet of rules
 abbrev pub RunChangesFew : Type 0
 RunChangesFew =
     (seed : Seed) (sheet : Sheet) (step : ℕ) (road : Cells) (sum : StepTally)

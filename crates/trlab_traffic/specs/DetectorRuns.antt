@@ -50,11 +50,11 @@ DetectorsAgree =
     → EachRule StaysInLane sheet → ComesTo seed sheet step road sum
     → CountBoth seed sheet step l x k first second → AreWithin k first second
 
--- the lesser of the cars of a lane and its empty cells
+-- the cars of a lane or its empty cells, whichever are fewer
 abbrev pub scarcer : Lane → ℕ
 scarcer lane = min (lane_cars lane) (lane_empty_cells lane)
 
--- nor, within a round, by more than the cars of the lane, or its empty cells
+-- if they are at most one lap apart, they differ by no more than the lane has cars, or empty cells
 abbrev pub DetectorsAgreeByCars : Type 0
 DetectorsAgreeByCars =
     (seed : Seed) (sheet : Sheet) (step : ℕ) (road : Cells) (sum : StepTally) (l x k first second : ℕ)
@@ -69,8 +69,8 @@ DetectorsCountRun =
     → ((x : ℕ) → Counts seed sheet 0 x step (count x))
     → sum_by count (range_with_len 0 (length (lane_of seed.road 0))) ≡ sum.distance
 
--- the count of one detector of a ring, taken once for each cell, differs from the distance by no more than
--- the lesser of its cars and its empty cells, taken once for each cell too
+-- on a ring of n cells, n times the count of a detector differs from the distance by at most n times the
+-- cars, or the empty cells, whichever are fewer
 abbrev pub Measures : Lane → ℕ → ℕ → Type 0
 Measures lane count distance = AreWithin (length lane * scarcer lane) (length lane * count) distance
 
@@ -83,8 +83,8 @@ DetectorMeasuresFlow =
     → x < length (lane_of seed.road 0) → Counts seed sheet 0 x step count
     → Measures (lane_of seed.road 0) count sum.distance
 
--- in no more steps in a row than one more than the limit a detector counts no more cars than the limit, under
--- any sheet of rules without lane changes
+-- in at most v + 1 steps in a row, where v is the limit, a detector counts at most v cars, under any sheet of
+-- rules without lane changes
 abbrev pub DetectorCountsBelowPeak : Type 0
 DetectorCountsBelowPeak =
     (seed : Seed) (sheet : Sheet) (step l x count : ℕ)

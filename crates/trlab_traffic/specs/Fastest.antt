@@ -1,5 +1,4 @@
--- Nobody is faster: rules under which no car goes less far than under others, over whole runs from one start,
--- where nobody changes lanes.
+-- Which rule is faster: runs from one start, under one key and without lane changes, compared car by car.
 use Rattle.std.specs.Prelude.{◌≡◌, ℕ, ◌+◌, ◌≤◌, List, [], ◌∷◌, min}
 use Rattle.trlab_code.specs.declared.instruction.Input.TheVariants.{Limit, Gap}
 use Rattle.trlab_code.specs.declared.instruction.Instr.TheVariants.{Get, Min, Go}
@@ -19,21 +18,21 @@ use Rattle.trlab_step.specs.Run.{Seed, Sheet, ComesTo}
 use Rattle.trlab_traffic.specs.Gone.{HasGone}
 use Rattle.trlab_traffic.specs.Runs.{EachRule, StaysInLane, always}
 
--- of two runs from one start no car has gone further in the first steps of the slow one, nor do all cars
--- together, where each step is counted
+-- two runs from the same start: after so many steps no car has gone further in the slow run than in the fast
+-- one, and neither have all cars together, if every step is counted
 pub record IsNoFaster (seed : Seed) (slow fast : Sheet) (step : ℕ) : Type 0 where
   pub each_car : (number far most : ℕ)
       → HasGone seed slow step number far → HasGone seed fast step number most → far ≤ most
   pub all_cars : (road other : Cells) (sum most : StepTally) → seed.warm ≡ 0
       → ComesTo seed slow step road sum → ComesTo seed fast step other most → sum.distance ≤ most.distance
 
--- a motion program never answers more than one above the speed of the car
+-- a motion program never answers more than the car's speed + 1, so cars accelerate by at most one
 abbrev pub SpeedsUpByOne : Programs → Type 0
 SpeedsUpByOne rule =
     (view : View) (words : List ℕ) (speed n : ℕ) → IsView view
     → EndsWith Motion rule.motion.program.instrs view words (Goes speed) n → speed ≤ view.speed + 1
 
--- so it is under the rules of 1992 and of 1998, whatever their chances
+-- the rules of 1992 and of 1998 are such rules, for every probability
 abbrev pub NaschSpeedsUpByOne : Type 0
 NaschSpeedsUpByOne = (p : ℕ) (rule : Programs) → IsNasch p rule → SpeedsUpByOne rule
 
@@ -47,12 +46,12 @@ NobodyBeatsNasch =
     → IsNasch 0 rule → EachRule SpeedsUpByOne sheet → EachRule StaysInLane sheet → IsLegal seed.road
     → IsNoFaster seed sheet (always rule) step
 
--- a rule by which cars come to their speed at once: each goes as far as its gap and the limit allow
+-- a rule under which cars reach their speed at once: each goes as far as its gap and the limit allow
 pub record GoesAtOnce (rule : Programs) : Type 0 where
   pub motion : MovesBy (λ view words. min view.limit view.gap) rule.motion.program
   pub stays : StaysInLane rule
 
--- its motion program: the limit, or the gap where that is less
+-- a motion program for it: the limit or the gap, whichever is smaller
 abbrev pub gap_program : Program
 gap_program = record { kind = Motion; instrs = Get R0 Limit ∷ Get R1 Gap ∷ Min R0 R0 R1 ∷ Go R0 ∷ [] }
 
@@ -60,21 +59,21 @@ abbrev pub GapProgramGoesAtOnce : Type 0
 GapProgramGoesAtOnce =
     (rule : Programs) → rule.motion.program ≡ gap_program → StaysInLane rule → GoesAtOnce rule
 
--- no sheet of rules is faster than such a rule
+-- no sheet of rules without lane changes is faster than such a rule
 abbrev pub NobodyBeatsGap : Type 0
 NobodyBeatsGap =
     (rule : Programs) (sheet : Sheet) (seed : Seed) (step : ℕ)
     → GoesAtOnce rule → EachRule StaysInLane sheet → IsLegal seed.road
     → IsNoFaster seed sheet (always rule) step
 
--- with the limit 1 a greater chance of braking slows whole runs
+-- with the limit 1 a greater probability of braking slows whole runs; with a greater limit it need not
 abbrev pub RandomizationSlowsRuns : Type 0
 RandomizationSlowsRuns =
     (p q : ℕ) (light heavy : Programs) (seed : Seed) (step : ℕ)
     → p ≤ q → IsNasch p light → IsNasch q heavy → IsLegal seed.road → seed.road.limit ≡ 1
     → IsNoFaster seed (always heavy) (always light) step
 
--- and so do slow starts, beside the rule of 1992 with no greater chance
+-- and so do slow starts, compared with the rule of 1992 if its probability is not greater
 abbrev pub SlowStartsSlowRuns : Type 0
 SlowStartsSlowRuns =
     (p q q0 : ℕ) (light heavy : Programs) (seed : Seed) (step : ℕ)

@@ -7,29 +7,29 @@ use Rattle.trlab_road.specs.Legal.{IsLegal}
 use Rattle.trlab_step.specs.declared.tally.StepTally.{StepTally}
 use Rattle.trlab_step.specs.Run.{Seed, Sheet, ComesTo, IsRoadAt}
 
--- the car with a number has gone so many cells in the first steps of a run: the sum of its speeds on the
--- roads to which they led
+-- how far the car of a number has gone in the first steps of a run: the sum of its speeds after each of these
+-- steps
 abbrev pub HasGone : Seed → Sheet → ℕ → ℕ → ℕ → Type 0
 HasGone seed sheet zero number far = far ≡ 0
 HasGone seed sheet (suc step) number far =
     (road : Cells) × (car : Car) × (before : ℕ) × IsRoadAt seed sheet (suc step) road × IsAt road car
     × (car.number ≡ number) × HasGone seed sheet step number before × (far ≡ before + car.speed)
 
--- each car of a run has gone some way
+-- every car of a run has gone some distance
 abbrev pub EachCarHasGone : Type 0
 EachCarHasGone =
     (seed : Seed) (sheet : Sheet) (step : ℕ) (road : Cells) (sum : StepTally) (number : ℕ)
     → IsLegal seed.road → ComesTo seed sheet step road sum → number < cars seed.road
     → (far : ℕ) × HasGone seed sheet step number far
 
--- and one only
+-- and only one distance
 abbrev pub GoneIsOne : Type 0
 GoneIsOne =
     (seed : Seed) (sheet : Sheet) (step number far other : ℕ)
     → IsLegal seed.road → HasGone seed sheet step number far → HasGone seed sheet step number other
     → far ≡ other
 
--- together they have gone the distance of the run, where each of its steps is counted
+-- if every step is counted, these distances add up to the distance of the run
 abbrev pub CarsGoDistance : Type 0
 CarsGoDistance =
     (seed : Seed) (sheet : Sheet) (step : ℕ) (road : Cells) (sum : StepTally) (far : ℕ → ℕ)

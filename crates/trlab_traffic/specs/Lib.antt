@@ -13,7 +13,7 @@ pub mod LaneGaps
 pub mod Jams
 pub mod Queues
 pub mod Overtaking
--- runs that are compared, car by car
+-- runs compared car by car
 pub mod Gone
 pub mod Fastest
 -- what makes no difference

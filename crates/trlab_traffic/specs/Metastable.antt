@@ -48,8 +48,8 @@ pub record IsRing (cells limit n : ℕ) (road : Cells) : Type 0 where
   pub same_limit : road.limit ≡ limit
   pub same_cars : cars road ≡ n
 
--- two such roads: under a rule the cars of one go by the limit in each step that is counted, and those of the
--- other never go
+-- two such roads: under this rule all cars of the first drive at the limit in every counted step, and no car
+-- of the second ever moves
 pub record HasTwoFlows (cells limit n : ℕ) (rule : Programs) : Type 0 where
   pub free : Cells
   pub jam : Cells
@@ -60,8 +60,8 @@ pub record HasTwoFlows (cells limit n : ℕ) (rule : Programs) : Type 0 where
   pub stands : (seed : Seed) (step : ℕ) (road : Cells) (sum : StepTally) → seed.road ≡ jam
       → ComesTo seed (always rule) step road sum → sum.distance ≡ 0
 
--- with the chance 0 for cars that move, and certainty for those that are stopped, there are such two at each
--- density that leaves room for the limit
+-- if moving cars never brake at random and stopped cars always do, there are two such roads at every density
+-- that leaves room to drive at the limit
 abbrev pub TwoFlowsAtOneDensity : Type 0
 TwoFlowsAtOneDensity =
     (cells limit n : ℕ) (rule : Programs)

@@ -1,5 +1,4 @@
--- Rows of detectors, one on each lane at a place: what they say of the cars between two of them, where cars change
--- lanes too.
+-- Rows of detectors, one on each lane at the same place, and the cars between two rows.
 use Rattle.std.specs.Prelude.{◌≡◌, ℕ, ◌+◌, ◌*◌, ◌<◌, ◌≤◌, length, min, sum_by}
 use Rattle.std.specs.List.{range_with_len}
 use Rattle.trlab_road.specs.Cells.{Cells, Lane, cars, lane_of}
@@ -14,7 +13,7 @@ use Rattle.trlab_traffic.specs.Capacity.{empty_cells}
 use Rattle.trlab_traffic.specs.Detector.{cars_ahead_of, passages}
 use Rattle.trlab_traffic.specs.DetectorRuns.{AreWithin, Counts}
 
--- how many cars stand in the k cells ahead of a place, on all lanes together
+-- the number of cars in the k cells ahead of a place, on all lanes together
 abbrev pub cars_ahead_of_row : Cells → ℕ → ℕ → ℕ
 cars_ahead_of_row road x k = sum_by (λ (lane : Lane). cars_ahead_of lane x k) road.lanes
 
@@ -22,7 +21,7 @@ cars_ahead_of_row road x k = sum_by (λ (lane : Lane). cars_ahead_of lane x k) r
 abbrev pub row_passages : Cells → ℕ → ℕ
 row_passages road x = sum_by (λ (lane : Lane). passages lane x) road.lanes
 
--- continuity of all lanes together, under any rule: cars that change lanes stay between two places
+-- continuity of all lanes together, under any rule: a lane change takes no car past a row
 abbrev pub StepIsContinuousByRows : Type 0
 StepIsContinuousByRows =
     (rule : Programs) (dice : Dice) (old new : Cells) (tally : StepTally) (x k : ℕ)
@@ -30,7 +29,7 @@ StepIsContinuousByRows =
     → let end = ahead (length (lane_of old 0)) x k in
     cars_ahead_of_row new x k + row_passages new end ≡ cars_ahead_of_row old x k + row_passages new x
 
--- and so are the steps of a run, from the road on at which the counts of its detectors begin
+-- and of the steps of a run, from the road at which the detectors begin to count
 abbrev pub RunIsContinuousByRows : Type 0
 RunIsContinuousByRows =
     (seed : Seed) (sheet : Sheet) (step : ℕ) (start road : Cells) (x k : ℕ) (first second : ℕ → ℕ)
@@ -41,8 +40,8 @@ RunIsContinuousByRows =
     → let lanes = range_with_len 0 (length seed.road.lanes) in
     cars_ahead_of_row road x k + sum_by second lanes ≡ cars_ahead_of_row start x k + sum_by first lanes
 
--- so the counts of two rows of detectors, one on each lane, differ within a round by no more than all cars, or
--- all empty cells, whatever lanes cars change to
+-- so the counts of two rows at most one lap apart differ by no more than all cars, or all empty cells,
+-- however cars change lanes
 abbrev pub RowsAgree : Type 0
 RowsAgree =
     (seed : Seed) (sheet : Sheet) (step : ℕ) (road : Cells) (sum : StepTally) (x k : ℕ) (first second : ℕ → ℕ)

@@ -48,20 +48,21 @@ pub fn run_keeps_to_capacity()
     ensures run { RunKeepsToCapacity }
 {}
 
-/// No flow is above the peak of the triangle, the limit over one more than the limit, whatever the density and the
-/// rules.
+/// No flow is above v / (v + 1), where v is the limit, whatever the density and the rules: this is the peak of the
+/// triangle.
 pub fn run_keeps_below_peak()
     ensures { RunKeepsBelowPeak }
 {}
 
-/// Cars that are not stopped go a cell at least in a step, and no further than the limit: so distances and stops bound
-/// each other, in steps and runs.
+/// A car that is not stopped goes at least one cell per step, and at most as many as the limit. So distances and stops
+/// bound each other, in steps and in runs.
 pub fn moving_cars_go()
     ensures step { StepGoesByMovingCars }
     ensures run { RunGoesByMovingCars }
 {}
 
-/// In a step no more cars change lanes than there are empty cells, under any rule; and so in each step of a run.
+/// At most as many cars change lanes in a step as there are cars, and at most as many as there are empty cells, under
+/// any rule; so it is per step in the counted steps of a run.
 pub fn few_cars_change_lanes()
     ensures step { StepChangesFew }
     ensures run { RunChangesFew }
@@ -83,9 +84,9 @@ pub fn slow_starts_are_metastable()
     ensures jam { SlowStartsKeepJams }
 {}
 
-/// So at each density that leaves room for the limit there are two roads of as many cars and cells: under a rule by
-/// which stopped cars alone brake by chance, and always, the cars of one go by the limit for ever, and those of the
-/// other never go.
+/// So at every density that leaves room to drive at the limit there are two roads with the same numbers of cars and
+/// cells. If moving cars never brake at random and stopped cars always do, the cars of one drive at the limit for ever
+/// and those of the other never move.
 pub fn two_flows_at_one_density()
     ensures { TwoFlowsAtOneDensity }
 {}
@@ -132,29 +133,31 @@ pub fn nobody_overtakes()
     ensures run { RunKeepsNextCar }
 {}
 
-/// How far the cars of a run have gone: each some way, and one only; together the distance of the run.
+/// Every car of a run has gone exactly one distance, and all together have gone the distance of the run.
 pub fn cars_go_distance()
     ensures each { EachCarHasGone }
     ensures one { GoneIsOne }
     ensures all { CarsGoDistance }
 {}
 
-/// Nobody beats the rule of 1992 without randomization, car by car and step by step of runs from one start without
-/// lane changes, under rules that speed up by one at most; those of 1992 and 1998 do.
+/// Nobody beats the Nagel-Schreckenberg rule without randomization, car by car and step by step: in runs from one
+/// start, without lane changes and under rules that accelerate by at most one, no car ever gets further. The rules of
+/// 1992 and of 1998 are such rules.
 pub fn nobody_beats_nasch()
     ensures run { NobodyBeatsNasch }
     ensures nasch { NaschSpeedsUpByOne }
     ensures vdr { VdrSpeedsUpByOne }
 {}
 
-/// Nobody at all beats cars that come to their speed at once (Fukui and Ishibashi 1996, J. Phys. Soc. Japan 65, 1868).
+/// No rule without lane changes beats cars that reach their speed at once (Fukui and Ishibashi 1996, J. Phys. Soc.
+/// Japan 65, 1868).
 pub fn nobody_beats_gap()
     ensures run { NobodyBeatsGap }
     ensures program { GapProgramGoesAtOnce }
 {}
 
-/// With the limit 1 a greater chance of braking slows whole runs, car by car: under the rules of 1992 and of 1998, each
-/// beside that of 1992 with no greater chance.
+/// With the limit 1 a greater probability of braking slows whole runs, car by car: under the rules of 1992 and of 1998,
+/// each compared with the rule of 1992 with no greater probability. With a greater limit it need not.
 pub fn randomization_slows_runs()
     ensures nasch { RandomizationSlowsRuns }
     ensures vdr { SlowStartsSlowRuns }
@@ -239,9 +242,9 @@ pub fn detectors_count_flow()
     ensures step { StepIsContinuous }
 {}
 
-/// So it is in the steps of a run that are counted, and the counts of two detectors never differ by more than the cells
-/// between them, nor than the cars of their lane, or its empty cells. On one lane all detectors together count the
-/// distance, and each by itself measures the flow.
+/// The same holds for the counted steps of a run. The counts of two detectors never differ by more than the cells
+/// between them, and within one lap by no more than the lane has cars, or empty cells. On one lane all detectors
+/// together count the distance, and each by itself measures the flow.
 pub fn detectors_count_runs()
     ensures exists { CountExists }
     ensures run { RunIsContinuous }
@@ -251,15 +254,15 @@ pub fn detectors_count_runs()
     ensures flow { DetectorMeasuresFlow }
 {}
 
-/// In no more steps in a row than one more than the limit a detector counts no more cars than the limit: between
-/// passages there is room, where nobody changes lanes.
+/// In at most v + 1 steps in a row, where v is the limit, a detector counts at most v cars, if nobody changes lanes:
+/// there is room between two passages.
 pub fn detector_counts_below_peak()
     ensures { DetectorCountsBelowPeak }
 {}
 
-/// Where cars change lanes too, no car is lost or made between the detectors of two places, on all lanes together: so
-/// the counts of two rows of detectors, one on each lane, never differ by more than all cars, or all empty cells, and
-/// each row by itself measures the flow.
+/// Even if cars change lanes, none is lost or made between two rows of detectors, one on each lane. So within one lap
+/// the counts of two rows differ by no more than all cars, or all empty cells, and each row by itself measures the
+/// flow.
 pub fn rows_of_detectors_count()
     ensures step { StepIsContinuousByRows }
     ensures run { RunIsContinuousByRows }
