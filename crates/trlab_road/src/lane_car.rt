@@ -53,8 +53,8 @@ impl LaneCar {
         }
     }
 
-    /// A number that is 0 where this is the other car, made without branches, so that many cars are compared
-    /// at a time.
+    /// A number that is 0 exactly if the two cars are equal. It is computed without branches, so that the
+    /// compiler can compare many cars at once.
     #[inline(always)]
     pub fn difference(self, other: LaneCar) -> u32
         ensures { (result ≡ 0) ↔ (self ≡ other) }

@@ -84,7 +84,7 @@ pub fn copy_lanes(alloc: Global, lanes: &[Vec<LaneCar>]) -> Result<Vec<Vec<LaneC
     Ok(copies)
 }
 
-/// Have two lists the same cars?
+/// Whether two lists have the same cars.
 fn same_cars(cars: &[LaneCar], others: &[LaneCar]) -> bool
     ensures { IsTrue result ↔ (cars.now ≡ others.now) }
 {

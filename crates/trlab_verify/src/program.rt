@@ -88,7 +88,7 @@ impl<K: ProgramKind> AcceptedProgram<K> {
         &self.code
     }
 
-    /// How many instructions a run takes at most, the end counted: 1 to `MOST_INSTRUCTIONS`.
+    /// The length of the longest path through the program, in instructions, the end included: no call takes more.
     pub fn budget(&self) -> u32
         ensures value { result ≡ self.now.budget }
         ensures safe { IsSafe K.KIND self.now.program.instrs result }
