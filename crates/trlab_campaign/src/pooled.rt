@@ -1,7 +1,8 @@
 //! The engine that runs and series share: a pool of workers asks the cars of a job's run, and an observer is
 //! told of its steps. What is written meanwhile is the account.
 
-ghost use Rattle.std.specs.Prelude.{◌≡◌, ◌≤◌, false};
+ghost use Rattle.std.specs.Prelude.{◌≡◌, ◌<◌, ◌≤◌, false};
+ghost use Rattle.trlab_bounds.specs.declared.runs.TheConstants.{MOST_WORKERS};
 ghost use Rattle.trlab_jobs.specs.Job.{Job as Told, seed_of, sheet_of};
 ghost use Rattle.trlab_step.specs.Progress.{at_start};
 ghost use Rattle.trlab_campaign.specs.Ending.{EndsSo, EngineEnds, LeavesWriter, WritesOn, WroteBy};
@@ -76,16 +77,45 @@ fn write_account<C: Account, A: Asker, K: Sink>(
     }
 }
 
-/// The engine of job texts: what it writes for a job, who asks the cars, and who is told how far it is.
+/// The engine of job texts: what it writes for a job, the most workers that ask its cars, and who is told how far
+/// it is.
 #[derive(Drop)]
-struct Driver<'a, C, A, O> {
+struct Driver<'a, R, C, O> {
+    rt: &'a R,
     account: &'a C,
-    asker: &'a A,
+    workers: u32,
     observer: &'a O,
+    ghost some: { 0 < workers },
+    ghost few: { workers ≤ MOST_WORKERS },
 }
 
-impl<'a, C: Account, A: Asker, O: Observer> Engine for Driver<'a, C, A, O> {
-    ghost is_ready = { λ driver. A.is_ready driver.asker.now };
+impl<'a, R: Threads + Wait + Sync, C: Account, O: Observer> Driver<'a, R, C, O> {
+    /// Writes the account of a job, and hands it on. Only now is a pool made, with as many workers as make the work
+    /// faster on the job's road.
+    fn drive<K: Sink>(&self, alloc: Global, job: Job, writer: &mut K) -> End
+        requires works { K.failed writer.old ≡ false }
+        ensures { LeavesWriter K.Sink (EndsSo (C.outputs self.account.now job)) result writer.old writer.new }
+    {
+        let gate = OpenGate;
+        let pool = Pool::new(self.rt, self.workers, &gate).sparing(job.road.cars());
+        let observed = Observed::new(&pool, self.observer, self.account.steps(&job));
+        let account = self.account;
+        let asker = &observed;
+        let mut job = Some(job);
+        let end = pool.run(
+            alloc,
+            &mut || match job.take() {
+                Some(job) => write_account(account, asker, alloc, job, writer),
+                None => unreachable!(),
+            },
+        );
+        observed.ended(end);
+        end
+    }
+}
+
+impl<'a, R: Threads + Wait + Sync, C: Account, O: Observer> Engine for Driver<'a, R, C, O> {
+    ghost is_ready = { λ _. Unit {0} };
 
     ghost outputs = { λ driver text. IsOutputOf (C.outputs driver.account.now) text };
 
@@ -93,12 +123,7 @@ impl<'a, C: Account, A: Asker, O: Observer> Engine for Driver<'a, C, A, O> {
 
     fn write<K: Sink>(self, alloc: Global, text: &[u8], writer: &mut K) -> End {
         match read_job(alloc, text) {
-            Ok(job) => {
-                let observed = Observed::new(self.asker, self.observer, self.account.steps(&job));
-                let end = write_account(self.account, &observed, alloc, job, writer);
-                observed.ended(end);
-                end
-            }
+            Ok(job) => self.drive(alloc, job, writer),
             Err(TextFault::At { line, cause }) => refuse(alloc, line, cause, writer),
             Err(TextFault::Memory) => End::Memory,
         }
@@ -125,8 +150,8 @@ pub fn run_of(alloc: Global, job: Job) -> Run
 
 /// Reads a job text, and writes the account of its run, or the line of the text's first fault.
 ///
-/// A pool of so many workers asks the cars, of whom only those are started that make the run faster, once
-/// for the whole run.
+/// A pool of at most so many workers asks the cars. It is made once the text has been judged, and has no more workers
+/// than make the run faster.
 pub fn run_pooled<
     R: AllocGlobal + Threads + Wait + Sync,
     C: Account,
@@ -141,21 +166,15 @@ pub fn run_pooled<
     ensures { EngineEnds S.Source K.Sink (IsOutputOf (C.outputs account.now)) result
         reader.old reader.new writer.old writer.new }
 {
-    let alloc = rt.alloc();
-    let gate = OpenGate;
-    let pool = Pool::new(rt, workers, &gate).sparing();
-    let asker = &pool;
-    pool.run(
-        alloc,
-        &mut || run_engine(
-            alloc,
-            Driver {
-                account,
-                asker,
-                observer,
-            },
-            reader,
-            writer,
-        ),
+    run_engine(
+        rt.alloc(),
+        Driver {
+            rt,
+            account,
+            workers,
+            observer,
+        },
+        reader,
+        writer,
     )
 }
