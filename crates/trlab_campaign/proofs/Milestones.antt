@@ -1,6 +1,6 @@
 -- Hundredths of a work: at most 100, no fewer by more parts, and all of them where no part is left.
-use Rattle.std.proofs.Common.{◌≡◌, ℕ, ◌*◌, ◌/◌, ◌<◌, ◌≤◌, refl, sym, subst, ap, arith, inl, inr, Bool, true, false, cond, nat_le}
-use Rattle.std.proofs.lemmas.Bool.{cases_lt, le-leb, leb-false, leb-true, lt-leb}
+use Rattle.std.proofs.Common.{◌≡◌, ℕ, ◌*◌, ◌/◌, ◌<◌, ◌≤◌, refl, sym, ap, arith, inl, inr, Bool, true, false, cond, nat_le}
+use Rattle.std.proofs.lemmas.Bool.{cases_lt, le-leb, leb-false, lt-leb}
 use Rattle.std.proofs.lemmas.Nat.{le-div}
 use Rattle.std.proofs.Math.Nat.{div-le_of_le-mul, div-mul-le_self}
 use Rattle.trlab_campaign.specs.Hundredths.{hundredths}

@@ -3,5 +3,6 @@ mod CommandLine
 mod Levels
 mod Matches
 mod Options
+mod Printing
 mod Rows
 mod Uses

@@ -1,5 +1,5 @@
 -- What the commands write.
-use Rattle.std.specs.Prelude.{ℕ, List}
+use Rattle.std.specs.Prelude.{◌≡◌, ℕ, List, false}
 use Rattle.trlab_campaign.specs.CheckOutput.{IsCheckOutput}
 use Rattle.trlab_campaign.specs.Refusal.{Outputs}
 use Rattle.trlab_campaign.specs.Output.{IsOutput}
@@ -20,3 +20,7 @@ output_of (Sweep runners workers progress) text = IsSweepOutput text
 output_of (Series workers every from progress) text = IsSeriesOutput every from text
 output_of (Explain (Text subject)) text = Explains subject text
 output_of (Explain (Number topic number)) text = TellsNumber topic number
+
+-- what is written where help or the version is asked for: some text, which is no refusal
+abbrev pub IsHelp : Outputs
+IsHelp refused text = refused ≡ false

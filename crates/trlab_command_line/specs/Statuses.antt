@@ -1,5 +1,5 @@
 -- The exit statuses.
-use Rattle.std.specs.Prelude.{ℕ, Bool, if◌then◌else◌}
+use Rattle.std.specs.Prelude.{ℕ, Bool, true, false, if◌then◌else◌}
 use Rattle.clap.specs.declared.error.kind.ErrorKind.{ErrorKind}
 use Rattle.clap.specs.declared.error.kind.ErrorKind.TheVariants.{DisplayHelp, DisplayVersion, OutOfMemory}
 use Rattle.trlab_campaign.specs.declared.end.End.{End}
@@ -12,6 +12,12 @@ status_of_end Refused = 1
 status_of_end Memory = 3
 status_of_end DeviceFault = 4
 
+-- by what `clap` answers, the arguments ask for help or for the version
+abbrev pub asks_for_help : ErrorKind → Bool
+asks_for_help DisplayHelp = true
+asks_for_help DisplayVersion = true
+asks_for_help _ = false
+
 -- the exit status by what `clap` answers: 0 for help, 3 where memory ran out, or 2, the arguments are refused
 abbrev pub status_of_error : ErrorKind → ℕ
 status_of_error DisplayHelp = 0
@@ -19,7 +25,7 @@ status_of_error DisplayVersion = 0
 status_of_error OutOfMemory = 3
 status_of_error _ = 2
 
--- the exit status once `clap`'s text was to be printed: 4 where help was asked for and could not be written
+-- the exit status once `clap`'s text was to be printed: 4 where help was asked for and its writer failed
 abbrev pub status_of_print : ErrorKind → Bool → ℕ
 status_of_print DisplayHelp failed = if failed then 4 else 0
 status_of_print DisplayVersion failed = if failed then 4 else 0

@@ -34,7 +34,7 @@ pub fn carry_out<R: AllocGlobal + Threads + Wait + Sync, S: Source, K: Sink, O: 
     // Where the reader tells its bytes, and the writer those that it has.
     ensures answer { IfSome (S.left reader.old)
         (λ text. EndsSo (output_of request text) result (K.written writer.old) (K.written writer.new)) }
-    // Whatever the reader tells: for some text of as many bytes as it gave.
+    // Even if the reader does not tell its bytes: for some text of as many bytes as it gave.
     ensures some_text { EndsForSomeText (output_of request) result
         (S.taken reader.old) (S.taken reader.new) (K.written writer.old) (K.written writer.new) }
     ensures silent { S.failed reader.new ≡ true → Keeps (K.written writer.old) (K.written writer.new) }

@@ -5,8 +5,10 @@
 mod arguments;
 mod engines;
 mod help;
+mod printing;
 mod status;
 
 pub use arguments::{Explaining, Request, read_words};
 pub use engines::carry_out;
-pub use status::{REFUSED_ARGUMENTS, status_of_end, status_of_print};
+pub use printing::print_help_or_error;
+pub use status::{REFUSED_ARGUMENTS, status_of_end};

@@ -1,12 +1,11 @@
 //! The exit statuses: 0 done, 1 refused, 2 the arguments are refused, 3 memory ran out, 4 a failed device.
 
-ghost use Rattle.std.specs.Prelude.{◌≡◌, is_err};
+ghost use Rattle.std.specs.Prelude.{◌≡◌};
 ghost use Rattle.clap.specs.Words.{kind_of};
-ghost use Rattle.trlab_command_line.specs.Statuses.{status_of_end, status_of_error, status_of_print};
+ghost use Rattle.trlab_command_line.specs.Statuses.{status_of_end, status_of_error};
 
 use clap::Error;
 use clap::error::ErrorKind;
-use std::io;
 use trlab_campaign::End;
 
 /// The exit status of a command that has done what it was asked for, and of help that was printed.
@@ -38,23 +37,12 @@ pub fn status_of_end(end: End) -> u8
 
 /// The exit status of arguments that ask for no command: 0 where they ask for help, 3 where memory ran
 /// out, and else 2.
-fn status_of_error(error: &Error) -> u8
+pub fn status_of_error(error: &Error) -> u8
     ensures { result ≡ status_of_error (kind_of error.now) }
 {
     match error.kind() {
         ErrorKind::DisplayHelp | ErrorKind::DisplayVersion => DONE,
         ErrorKind::OutOfMemory => MEMORY,
         _ => REFUSED_ARGUMENTS,
-    }
-}
-
-/// The exit status of arguments that ask for no command, once help or why they are refused was to be
-/// printed: help that could not be written is a failed write.
-pub fn status_of_print(error: &Error, printed: &io::Result<()>) -> u8
-    ensures { result ≡ status_of_print (kind_of error.now) (is_err printed.now) }
-{
-    match error.kind() {
-        ErrorKind::DisplayHelp | ErrorKind::DisplayVersion if printed.is_err() => DEVICE_FAULT,
-        _ => status_of_error(error),
     }
 }

@@ -1,5 +1,5 @@
 -- How explanations end, by what was written.
-use Rattle.std.proofs.Common.{◌≡◌, ◌∙◌, ◌++◌, ◌<◌, ℕ, List, length, refl, sym, ap, Bool, true, inl, append_assoc, append-nil}
+use Rattle.std.proofs.Common.{◌≡◌, ◌∙◌, ◌++◌, ◌<◌, ℕ, List, length, refl, sym, ap, Bool, true, not, inl, append_assoc, append-nil}
 use Rattle.std.proofs.lemmas.Bool.{lt-ltb}
 use Rattle.std.specs.Prelude.{All, Option, None, Some, IfSome, Result, Ok, Err, IfOk, OnOk, MatchResult}
 use Rattle.std.specs.Option.{unwrap_or}
@@ -17,6 +17,7 @@ use Rattle.trlab_repairs.specs.Subjects.{subject_of}
 use Rattle.trlab_repairs.specs.declared.subject.Subject.{Subject}
 use Rattle.trlab_repairs.specs.declared.subject.Subject.TheVariants.{Job, Sweep, Check}
 use Rattle.trlab_explain.specs.Explanations.{BeginsWith, Explains, ExplainsAs, TellsNumber, TellsAs, topic_front}
+use Rattle.trlab_sentences.specs.Numbers.{is_known}
 use Rattle.trlab_sentences.specs.declared.topics.Topic.{Topic}
 
 -- two parts were put after a text, the second unless memory ran out
@@ -58,12 +59,12 @@ big_ends wanted (Ok t) e (Some all) old new big refused begins ends =
 
 -- the page on a number was written so
 pub number_ends : {E : Type 0} (topic : Topic) (number : ℕ) (told : Result (Bool × List ℕ) E) (e : End) (old new : Option (List ℕ))
-    → IfOk told (λ t. BeginsWith (topic_front topic number) t.1)
+    → IfOk told (λ t. t.0 ≡ not (is_known topic number)) → IfOk told (λ t. BeginsWith (topic_front topic number) t.1)
     → MatchResult told (λ t. All IsPlain t.1 × OutputEnds t.0 t.1 e old new) (λ _. (e ≡ Memory) × Keeps old new)
     → EndsSo (TellsNumber topic number) e old new
-number_ends topic number (Ok t) e old new told ends =
-    output_ends (TellsNumber topic number) t.0 t.1 e old new (told, ends.0) ends.1
-number_ends topic number (Err x) e old new told ends = rw ends.0 (inl ends.1)
+number_ends topic number (Ok t) e old new refused begins ends =
+    output_ends (TellsNumber topic number) t.0 t.1 e old new (refused, begins, ends.0) ends.1
+number_ends topic number (Err x) e old new refused begins ends = rw ends.0 (inl ends.1)
 
 -- where memory ran out, nothing was written
 pub told_kept : {E : Type 0} (told : Result (Bool × List ℕ) E) (e : End) (old new : Option (List ℕ))

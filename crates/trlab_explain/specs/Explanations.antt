@@ -1,5 +1,5 @@
 -- What is told of a text, whatever words are chosen: where it is refused, how that begins.
-use Rattle.std.specs.Prelude.{◌≡◌, ℕ, true, false, All, List, ◌++◌, codes, decimal, Option, None, Some, Result, Ok, Err}
+use Rattle.std.specs.Prelude.{◌≡◌, ℕ, true, false, not, All, List, ◌++◌, codes, decimal, Option, None, Some, Result, Ok, Err}
 use Rattle.trlab_pages.specs.Plain.{IsPlain}
 use Rattle.trlab_lines.specs.Lines.{lines_of}
 use Rattle.trlab_verify.specs.Verdict.{IsAccepted, IsRefused}
@@ -14,6 +14,7 @@ use Rattle.trlab_repairs.specs.Subjects.{subject_of}
 use Rattle.trlab_repairs.specs.declared.subject.Subject.{Subject}
 use Rattle.trlab_repairs.specs.declared.subject.Subject.TheVariants.{Job, Sweep, Check}
 use Rattle.trlab_sentences.specs.Quotes.{quote_line}
+use Rattle.trlab_sentences.specs.Numbers.{is_known}
 use Rattle.trlab_sentences.specs.declared.topics.Topic.{Topic}
 use Rattle.trlab_sentences.specs.declared.topics.Topic.TheVariants.{Cause, Reason}
 
@@ -69,6 +70,7 @@ abbrev pub topic_front : Topic → ℕ → List ℕ
 topic_front Cause number = codes "Cause " ++ (decimal number ++ codes ": ")
 topic_front Reason number = codes "Reason " ++ (decimal number ++ codes ": ")
 
--- the whole pages that there may be on a number
+-- the whole pages that there may be on a number, which is refused exactly where none has it
 abbrev pub TellsNumber : Topic → ℕ → Outputs
-TellsNumber topic number refused out = BeginsWith (topic_front topic number) out × All IsPlain out
+TellsNumber topic number refused out =
+    (refused ≡ not (is_known topic number)) × BeginsWith (topic_front topic number) out × All IsPlain out

@@ -65,8 +65,8 @@ impl Engine for Explainer {
 /// Reads a text, and writes what is wrong with it and how it may be mended, or what it will do: as
 /// the text that it is wanted to be, or else as what its first word says.
 ///
-/// The whole text is read and judged before a byte is written. Where memory runs out nothing is written,
-/// and where a call of the reader or writer fails, a prefix of the whole output.
+/// The whole text is read and judged before a byte is written. If memory runs out, nothing is written; if a
+/// call of the reader or writer fails, a prefix of the whole output.
 pub fn explain_text<R: AllocGlobal, S: Source, K: Sink>(
     rt: &R,
     subject: Option<Subject>,

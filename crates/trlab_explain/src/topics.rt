@@ -1,8 +1,9 @@
 //! The pages on what a number means that refused texts and programs tell.
 
-ghost use Rattle.std.specs.Prelude.{◌≡◌, ◌++◌, IfOk, OnOk, false};
+ghost use Rattle.std.specs.Prelude.{◌≡◌, ◌++◌, IfOk, OnOk, false, not};
 ghost use Rattle.trlab_campaign.specs.Ending.{EndsSo, LeavesWriter};
 ghost use Rattle.trlab_explain.specs.Explanations.{BeginsWith, TellsNumber, topic_front};
+ghost use Rattle.trlab_sentences.specs.Numbers.{is_known};
 
 use crate::explain::write_told;
 use std::alloc::{AllocError, AllocGlobal, Global};
@@ -24,7 +25,8 @@ fn push_topic(page: &mut Page, topic: Topic, number: u32) -> Result<(), AllocErr
 
 /// The page on a number, and whether there is no such number.
 fn number_page(alloc: Global, topic: Topic, number: u32) -> Result<(bool, Page), AllocError>
-    ensures { IfOk result (λ told. BeginsWith (topic_front topic number) told.1) }
+    ensures refused { IfOk result (λ told. told.0 ≡ not (is_known topic number)) }
+    ensures begins { IfOk result (λ told. BeginsWith (topic_front topic number) told.1) }
 {
     let (is_none, body) = number_words(alloc, topic, number)?;
     let mut page = Page::new(alloc);

@@ -1,12 +1,8 @@
 //! The program `trlab`: it does what its arguments ask for, from standard input to standard output.
 #![tactic(auto)]
 
-ghost use Rattle.std.specs.Prelude.{◌≡◌, Bool, false};
-ghost use Rattle.clap.specs.Words.{kind_of};
-ghost use Rattle.trlab_command_line.specs.Statuses.{status_of_print};
+ghost use Rattle.std.specs.Prelude.{◌≡◌, ◌↔◌, ◌||◌, true, false};
 
-use clap::Error;
-use clap::error::ErrorKind;
 use std::alloc::Global;
 use std::io::{BufWriter, IsTerminal, Write};
 use std::process::ExitCode;
@@ -16,7 +12,7 @@ use std::thread::Threads;
 use std::{env, io};
 use trlab_campaign::{End, Milestone, Observer, Sink, Source, Watched};
 use trlab_command_line::{
-    REFUSED_ARGUMENTS, Request, carry_out, read_words, status_of_end, status_of_print,
+    REFUSED_ARGUMENTS, Request, carry_out, print_help_or_error, read_words, status_of_end,
 };
 
 /// The most bytes of output that are gathered before they are written.
@@ -101,7 +97,7 @@ fn counted(request: Request) -> Option<&'static str> {
 }
 
 /// Does what the arguments ask for, and answers the exit status.
-fn act<R: AllocGlobal + Threads + Wait + Sync + Print + Eprint, S: Source, K: Sink>(
+fn act<R: AllocGlobal + Threads + Wait + Sync + Eprint, S: Source, K: Sink>(
     rt: &R,
     arguments: &[String],
     reader: &mut S,
@@ -109,6 +105,8 @@ fn act<R: AllocGlobal + Threads + Wait + Sync + Print + Eprint, S: Source, K: Si
 ) -> u8
     requires reader_works { S.failed reader.old ≡ false }
     requires writer_works { K.failed writer.old ≡ false }
+    // 4 exactly where a device has failed, whatever the arguments.
+    ensures { (result ≡ 4) ↔ ((S.failed reader.new || K.failed writer.new) ≡ true) }
 {
     match read_words(rt.alloc(), arguments) {
         Ok(request) => {
@@ -118,22 +116,11 @@ fn act<R: AllocGlobal + Threads + Wait + Sync + Print + Eprint, S: Source, K: Si
             };
             status_of_end(carry_out(rt, request, reader, writer, &teller))
         }
-        Err(error) => tell(rt, &error),
+        Err(error) => print_help_or_error(rt, &error, writer),
     }
 }
 
 /// The arguments after the program's name. One that is no text is an error.
 fn given_arguments(rt: &(impl Env + AllocGlobal)) -> io::Result<Vec<String>> {
     Ok(env::args(rt)?.skip(1).collect::<Vec<String>>(rt.alloc())?)
-}
-
-/// Prints the help that was asked for, or why the arguments are refused, and answers the exit status.
-/// Where memory ran out nothing is printed; help that cannot be written is a failed write.
-fn tell(rt: &(impl Print + Eprint), error: &Error) -> u8
-    ensures { (failed : Bool) × (result ≡ status_of_print (kind_of error.now) failed) }
-{
-    match error.kind() {
-        ErrorKind::OutOfMemory => status_of_end(End::Memory),
-        _ => status_of_print(error, &error.print(rt)),
-    }
 }
