@@ -1,58 +1,24 @@
 -- Cars that start evenly spread flow at the capacity of their road.
-use Rattle.std.proofs.Common.{◌≡◌, ℕ, zero, suc, ◌+◌, ◌-◌, ◌*◌, ◌/◌, ◌<◌, ◌≤◌, min, Some, None, [], ◌∷◌, length, refl, sym, ◌∙◌, ap, subst, inl, inr, arith, div-lt_iff_lt-mul, le-div_iff_mul-le, mul_comm}
-use Rattle.std.specs.Prelude.{nat_le, sum_by}
-use Rattle.std.proofs.lemmas.Bool.{cases_lt, le-leb, lt-leb}
-use Rattle.std.proofs.lemmas.List.Sums.{sum_by-cons}
+use Rattle.std.proofs.Common.{◌≡◌, ℕ, zero, suc, ◌+◌, ◌-◌, ◌*◌, ◌/◌, ◌<◌, ◌≤◌, min, Some, length, refl, sym, ◌∙◌, ap, subst, inl, inr, arith, div-lt_iff_lt-mul, le-div_iff_mul-le, mul_comm}
+use Rattle.std.proofs.lemmas.Bool.{cases_lt}
 use Rattle.trlab_road.specs.declared.car.Car.{Car}
-use Rattle.trlab_road.specs.Cells.{Cells, Lane, at, cars, lane_cars, lane_of}
+use Rattle.trlab_road.specs.Cells.{Lane, at, cars, lane_cars, lane_of}
 use Rattle.trlab_road.specs.Gaps.{gap, next_place}
-use Rattle.trlab_road.specs.Legal.{IsLegal}
 use Rattle.trlab_road.specs.Motion.{LaneFits, LaneMoves}
 use Rattle.trlab_road.specs.Standing.{standing_from}
 use Rattle.trlab_road.proofs.EvenRoads.{even_count, even_legal}
-use Rattle.trlab_road.proofs.Ring.{car_in, clear_within_gap}
 use Rattle.trlab_road.proofs.StandingOrder.{length-standing_from}
-use Rattle.trlab_rules.specs.Rules.{Programs}
-use Rattle.trlab_rules.specs.StandardRules.{IsNasch}
-use Rattle.trlab_step.specs.declared.tally.StepTally.{StepTally}
-use Rattle.trlab_step.specs.Laws.{IsLegalLike}
-use Rattle.trlab_step.specs.Next.{IsNext}
-use Rattle.trlab_step.specs.Run.{ComesTo, Seed, dice_at}
-use Rattle.trlab_step.proofs.NextLaws.{like_itself, like_next}
 use Rattle.trlab_traffic.specs.Capacity.{capacity, empty_cells, lane_empty_cells}
 use Rattle.trlab_traffic.specs.Diagram.{EvenCarsFlowAtCapacity}
-use Rattle.trlab_traffic.proofs.AnyRule.{next_legal_like}
-use Rattle.trlab_traffic.proofs.Capacities.{distance_counted, distance_uncounted, speeds_total}
 use Rattle.trlab_traffic.proofs.EvenGaps.{gap_high, gap_low, who}
-use Rattle.trlab_traffic.proofs.Freely.{one_more, one_rule, sum_by-same}
+use Rattle.trlab_traffic.proofs.Freely.{sum_by-same}
 use Rattle.trlab_traffic.proofs.GapsAfter.{gap_after, next_taken}
-use Rattle.trlab_traffic.proofs.NaschMoves.{safe_motion}
-use Rattle.trlab_traffic.proofs.Places.{clear_is_gap, gap_below}
-use Rattle.trlab_traffic.proofs.OneLane.{one_standing, one_sum}
-use Rattle.trlab_traffic.proofs.RoomAhead.{lane_filled, lane_room, lane_taken_or_empty}
-
--- sums over the cars of a lane by what agrees at them
-pub sum_at_cars : (f g : Car → ℕ) (l s : ℕ) (lane : Lane) → ((x number speed : ℕ) → at lane x ≡ Some (number, speed) → f (car_in l (s + x) number speed) ≡ g (car_in l (s + x) number speed))
-    → sum_by f (standing_from l s lane) ≡ sum_by g (standing_from l s lane)
-sum_at_cars f g l s [] same = refl
-sum_at_cars f g l s (None ∷ cells) same =
-    sum_at_cars f g l (suc s) cells
-    (λ x number speed here. let e : s + suc x ≡ suc s + x = omega arith in subst (λ k. f (car_in l k number speed) ≡ g (car_in l k number speed)) e (same (suc x) number speed here))
-sum_at_cars f g l s (Some car ∷ cells) same =
-    let zeroth : s + 0 ≡ s = omega arith in
-    let first : f (car_in l s car.0 car.1) ≡ g (car_in l s car.0 car.1) = subst (λ k. f (car_in l k car.0 car.1) ≡ g (car_in l k car.0 car.1)) zeroth (same 0 car.0 car.1 refl) in
-    let rest = sum_at_cars f g l (suc s) cells
-    (λ x number speed here. let e : s + suc x ≡ suc s + x = omega arith in subst (λ k. f (car_in l k number speed) ≡ g (car_in l k number speed)) e (same (suc x) number speed here)) in
-    let a = sum_by-cons f (car_in l s car.0 car.1) (standing_from l (suc s) cells) in
-    let b = sum_by-cons g (car_in l s car.0 car.1) (standing_from l (suc s) cells) in
-    omega (arith, first, rest, a, b)
-
--- the gaps of a lane that has a car are its empty cells
-pub gaps_total : (l : ℕ) (lane : Lane) → 0 < lane_cars lane → sum_by (λ (car : Car). gap lane car.place) (standing_from l 0 lane) ≡ lane_empty_cells lane
-gaps_total l lane some =
-    let most = lane_room (λ (car : Car). gap lane car.place) l lane (λ x number speed here. clear_within_gap lane x (gap lane x) (omega arith)) in
-    let least = lane_filled (λ (car : Car). gap lane car.place) l lane some (λ x number speed g here low clear. clear_is_gap lane x g low clear) in
-    omega (arith, most, least)
+use Rattle.trlab_traffic.proofs.LaneGaps.{gaps_total}
+use Rattle.trlab_traffic.proofs.Places.{gap_below}
+use Rattle.trlab_traffic.proofs.OneLane.{one_sum, one_total, only_lane}
+use Rattle.trlab_traffic.proofs.Regimes.{Regime, flows}
+use Rattle.trlab_traffic.proofs.RoomAhead.{lane_taken_or_empty}
+use Rattle.trlab_traffic.proofs.Sums.{sum_at_cars}
 
 -- cars of one speed, whose gaps are within bounds
 record Cruise (lane : Lane) (s low high : ℕ) : Type 0 where
@@ -144,65 +110,6 @@ module _ (answer : ℕ → ℕ) (old new : Lane) (m : LaneMoves answer old new) 
         omega (arith, own, other, is, bound);
   }
 
--- a regime of a run of one lane: what holds of the lane at a step, and how far its cars go, all together, from
--- some step on
-pub record Regime (limit each count begin : ℕ) : Type 1 where
-  pub Holds : ℕ → Lane → Type 0
-  pub goes_on : (t : ℕ) (old new : Lane) (answer : ℕ → ℕ) → LaneMoves answer old new → LaneFits answer old
-      → ((x number speed : ℕ) → at old x ≡ Some (number, speed) → answer x ≡ min (min (speed + 1) limit) (gap old x)) → Holds t old → Holds (suc t) new
-  pub far : (t : ℕ) (old : Lane) (answer : ℕ → ℕ)
-      → ((x number speed : ℕ) → at old x ≡ Some (number, speed) → answer x ≡ min (min (speed + 1) limit) (gap old x)) → Holds t old → begin ≤ t + 1 → lane_cars old ≡ count
-      → sum_by (λ (car : Car). answer car.place) (standing_from 0 0 old) ≡ each
-
-module _ (rule : Programs) (seed : Seed) (is : IsNasch 0 rule) (legal : IsLegal seed.road) (one : length seed.road.lanes ≡ 1) (limit each count begin : ℕ) (same_limit : seed.road.limit ≡ limit)
-    (same_count : cars seed.road ≡ count) (regime : Regime limit each count begin) (start : regime.Holds 0 (lane_of seed.road 0)) where
-  pub record Flows (step : ℕ) (road : Cells) (sum : StepTally) : Type 0 where
-    pub like : IsLegalLike seed.road road
-    pub holds : regime.Holds step (lane_of road 0)
-    pub gone : begin ≤ seed.warm + 1 → sum.distance ≡ (step - seed.warm) * each
-
-  pub flows : (step : ℕ) (road : Cells) (sum : StepTally) → ComesTo seed ((0, rule) ∷ []) step road sum → Flows step road sum
-  flows zero road sum comes = record {
-    like = subst (IsLegalLike seed.road) (sym comes.1) (like_itself seed.road legal);
-    holds = subst (λ (now : Cells). regime.Holds 0 (lane_of now 0)) (sym comes.1) start;
-    gone = λ warm. subst (λ (t : StepTally). t.distance ≡ (0 - seed.warm) * each) (sym comes.2) (let e : 0 - seed.warm ≡ 0 = omega arith in rw e (omega arith));
-  }
-  flows (suc step) road sum comes =
-      let before = comes.0 in
-      let so_far = comes.1 in
-      let tally = comes.3 in
-      let on = comes.5 in
-      let way = flows step before so_far comes.4 in
-      let same = one_rule rule comes.2 step on.under in
-      let next = subst (λ (r : Programs). IsNext r (dice_at seed step) before road tally) (sym same) on.next in
-      let motion = safe_motion rule (dice_at seed step) before road tally is way.like.legal next in
-      let alone : length before.lanes ≡ 1 = way.like.same_lanes ∙ one in
-      let lane = lane_of before 0 in
-      let speeds = motion.speeds 0 in
-      let by_limit : before.limit ≡ limit = way.like.same_limit ∙ same_limit in
-      let goes : (x number speed : ℕ) → at lane x ≡ Some (number, speed) → speeds x ≡ min (min (speed + 1) limit) (gap lane x) =
-      λ x number speed here. motion.safe (car_in 0 x number speed) here ∙ ap (λ k. min (min (speed + 1) k) (gap lane x)) by_limit in
-      let now : lane_cars lane ≡ count = sym (one_sum lane_cars before.lanes alone) ∙ way.like.same_count ∙ same_count in
-      let all : begin ≤ step + 1 → tally.distance ≡ each = λ late.
-      next.1.distance
-      ∙ speeds_total motion.speeds before road motion.fits motion.moves
-      ∙ ap (sum_by (λ (car : Car). motion.speeds car.lane car.place)) (one_standing before.lanes alone)
-      ∙ sum_at_cars (λ (car : Car). motion.speeds car.lane car.place) (λ (car : Car). speeds car.place) 0 0 lane (λ x number speed here. refl)
-      ∙ regime.far step lane speeds goes way.holds late now in
-      record {
-        like = like_next seed.road before road way.like (next_legal_like rule (dice_at seed step) before road tally way.like.legal next);
-        holds = regime.goes_on step lane (lane_of road 0) speeds (motion.moves.each_lane 0 (omega (arith, alone))) (motion.fits.each_lane 0 (omega (arith, alone))) goes way.holds;
-        gone = λ warm. elim (cases_lt step seed.warm) [
-          | inl early ↦
-              distance_uncounted (nat_le seed.warm step) sum so_far tally on.counted (lt-leb seed.warm step early)
-              ∙ way.gone warm
-              ∙ (let e : step - seed.warm ≡ suc step - seed.warm = omega (arith, early) in ap (λ k. k * each) e)
-          | inr late ↦
-              distance_counted (nat_le seed.warm step) sum so_far tally on.counted (le-leb seed.warm step late)
-              ∙ one_more so_far.distance tally.distance each step seed.warm (way.gone warm) (all (omega (arith, warm, late))) late
-        ];
-      }
-
 -- the speeds of cars with room for the limit, all together
 by_room : (t limit g speed : ℕ) → speed ≡ min t limit → limit ≤ g → min (min (speed + 1) limit) g ≡ min (suc t) limit
 by_room t limit g speed same room = omega (arith, same, room)
@@ -214,14 +121,14 @@ free limit count cells = record {
   goes_on = λ t old new answer m fits goes cruise.
       cruise_on answer old new m fits (min t limit) (min (suc t) limit) limit cells cruise
       (λ x number speed here. goes x number speed here ∙ by_room t limit (gap old x) speed (cruise.speeds x number speed here) (cruise.least x number speed here));
-  far = λ t old answer goes cruise late now.
+  far = λ l t old answer goes cruise late now.
       let fast : min (suc t) limit ≡ limit = omega (arith, late) in
-      let xs = standing_from 0 0 old in
-      sum_at_cars (λ (car : Car). answer car.place) (λ (car : Car). limit) 0 0 old
+      let xs = standing_from l 0 old in
+      sum_at_cars (λ (car : Car). answer car.place) (λ (car : Car). limit) l 0 old
       (λ x number speed here. let e : 0 + x ≡ x = omega arith in
       subst (λ k. answer k ≡ limit) (sym e) (goes x number speed here ∙ by_room t limit (gap old x) speed (cruise.speeds x number speed here) (cruise.least x number speed here) ∙ fast))
       ∙ sum_by-same (λ (car : Car). limit) limit xs (λ k d below. refl)
-      ∙ ap (λ k. k * limit) (length-standing_from 0 0 old ∙ now)
+      ∙ ap (λ k. k * limit) (length-standing_from l 0 old ∙ now)
       ∙ mul_comm count limit;
 }
 
@@ -261,14 +168,14 @@ dense limit count cells g fast some = record {
           record { starts = λ h. absurd (omega (arith, h, late)); queues = λ h. on }
     ],
   );
-  far = λ t old answer goes holds late now.
+  far = λ l t old answer goes holds late now.
       let queue = holds.1.queues (omega (arith, late, fast)) in
       let size = holds.0 in
       let whole = lane_taken_or_empty old in
-      sum_at_cars (λ (car : Car). answer car.place) (λ (car : Car). gap old car.place) 0 0 old
+      sum_at_cars (λ (car : Car). answer car.place) (λ (car : Car). gap old car.place) l 0 old
       (λ x number speed here. let e : 0 + x ≡ x = omega arith in
       subst (λ k. answer k ≡ gap old k) (sym e) (goes x number speed here ∙ queuing g limit (gap old x) speed (queue.speeds x number speed here) (queue.most x number speed here) fast))
-      ∙ gaps_total 0 old (omega (arith, now, some))
+      ∙ gaps_total l old (omega (arith, now, some))
       ∙ (let e : lane_empty_cells old ≡ cells - count = omega (arith, size, whole, now) in e);
 }
 
@@ -281,8 +188,10 @@ even_cars_flow_at_capacity cells limit n rule seed step road sum is fits even wa
     let on_lane = even.each_lane 0 (omega arith) in
     let room = fits.room in
     let most : seed.road.limit * cars seed.road ≡ limit * n = ap (λ k. k * cars seed.road) even.same_limit ∙ ap (λ k. limit * k) count in
-    let own = one_sum lane_cars seed.road.lanes even.same_lanes in
-    let holes = one_sum lane_empty_cells seed.road.lanes even.same_lanes in
+    let one = even.same_lanes in
+    let own = one_sum lane_cars seed.road.lanes one in
+    let holes = one_sum lane_empty_cells seed.road.lanes one in
+    let each_count = only_lane (λ l. lane_cars (lane_of seed.road l) ≡ n) seed.road.lanes one (sym own ∙ count) in
     let whole = lane_taken_or_empty lane in
     let size = on_lane.same_length in
     let empty : empty_cells seed.road ≡ cells - n = omega (arith, own, holes, whole, size, count) in
@@ -299,9 +208,10 @@ even_cars_flow_at_capacity cells limit n rule seed step road sum is fits even wa
             least = λ x number speed here. let a = gap_low cells n lane on_lane x number speed here in omega (arith, a);
             most = λ x number speed here. let a = gap_high cells n lane on_lane x number speed least here in omega (arith, a, least);
           } in
-          let way = flows rule seed is legal even.same_lanes limit (cells - n) n limit even.same_limit count (dense limit n cells g (omega (arith, least, most)) some)
-          (on_lane.same_length, record { starts = λ h. start; queues = λ h. as_queue lane 0 g h start }) step road sum comes in
-          way.gone warm ∙ (let e : cells - n ≡ min (limit * n) (cells - n) = fewer_holes cells n limit many in ap (λ k. (step - seed.warm) * k) (e ∙ all))
+          let regime = dense limit n cells g (omega (arith, least, most)) some in
+          let way = flows rule seed is legal limit limit (λ l. cells - n) (λ l. n) even.same_limit each_count (λ l. regime)
+          (only_lane (λ l. regime.Holds 0 (lane_of seed.road l)) seed.road.lanes one (on_lane.same_length, record { starts = λ h. start; queues = λ h. as_queue lane 0 g h start })) step road sum comes in
+          way.gone warm ∙ ap (λ k. (step - seed.warm) * k) (one_total (λ l. cells - n) seed.road.lanes one) ∙ (let e : cells - n ≡ min (limit * n) (cells - n) = fewer_holes cells n limit many in ap (λ k. (step - seed.warm) * k) (e ∙ all))
       | inr few ↦
           let start : Cruise lane (min 0 limit) limit cells = record {
             speeds = λ x number speed here. (who cells n lane on_lane x number speed here).stopped ∙ (let e : 0 ≡ min 0 limit = omega arith in e);
@@ -312,8 +222,10 @@ even_cars_flow_at_capacity cells limit n rule seed step road sum is fits even wa
                 omega (arith, a, b);
             most = λ x number speed here. let a = gap_below lane x x (number, speed) here in let b = on_lane.same_length in omega (arith, a, b);
           } in
-          let way = flows rule seed is legal even.same_lanes limit (limit * n) n limit even.same_limit count (free limit n cells) start step road sum comes in
-          way.gone warm ∙ (let e : limit * n ≡ min (limit * n) (cells - n) = fewer_cars cells n limit few in ap (λ k. (step - seed.warm) * k) (e ∙ all))
+          let regime = free limit n cells in
+          let way = flows rule seed is legal limit limit (λ l. limit * n) (λ l. n) even.same_limit each_count (λ l. regime)
+          (only_lane (λ l. regime.Holds 0 (lane_of seed.road l)) seed.road.lanes one start) step road sum comes in
+          way.gone warm ∙ ap (λ k. (step - seed.warm) * k) (one_total (λ l. limit * n) seed.road.lanes one) ∙ (let e : limit * n ≡ min (limit * n) (cells - n) = fewer_cars cells n limit few in ap (λ k. (step - seed.warm) * k) (e ∙ all))
     ]
   where
     few_none : (cells n limit : ℕ) → cells < n * (limit + 1) → 0 < n

@@ -1,7 +1,8 @@
 -- Free flow goes on for ever where no car brakes by chance.
-use Rattle.std.proofs.Common.{◌≡◌, ℕ, zero, suc, ◌+◌, ◌-◌, ◌*◌, ◌<◌, ◌≤◌, min, Some, None, List, [], ◌∷◌, length, get_or, refl, sym, ◌∙◌, ap, subst, inl, inr, arith, mul_comm}
+use Rattle.std.proofs.Common.{◌≡◌, ℕ, zero, suc, ◌+◌, ◌-◌, ◌*◌, ◌<◌, ◌≤◌, min, Some, None, List, [], ◌∷◌, length, get_or, refl, sym, ◌∙◌, ap, subst, inl, inr, arith, mul_comm, mul-suc, mul-zero}
 use Rattle.std.specs.Prelude.{All, nat_le, sum_by}
 use Rattle.std.proofs.lemmas.Bool.{cases_lt, le-leb, lt-leb}
+use Rattle.std.proofs.lemmas.List.{ext_get_or, length-map}
 use Rattle.std.proofs.lemmas.List.Sums.{sum_by-cons}
 use Rattle.trlab_machine.specs.declared.dice.Dice.{Dice}
 use Rattle.trlab_road.specs.declared.car.Car.{Car}
@@ -22,11 +23,13 @@ use Rattle.trlab_step.specs.Next.{IsNext, total_speed}
 use Rattle.trlab_step.specs.Published.{AllGo, car_ahead}
 use Rattle.trlab_step.specs.Run.{ComesTo, Seed, dice_at, in_force}
 use Rattle.trlab_step.proofs.NextLaws.{like_itself, like_next}
-use Rattle.trlab_traffic.specs.FreeFlow.{FreeFlowGoesOn, FreeFlowStaysFree, IsFree}
+use Rattle.trlab_traffic.specs.FreeFlow.{FreeFlowGoesOn, FreeFlowStaysFree, FreeFlowTurns, IsFree}
+use Rattle.trlab_traffic.specs.Homogeneity.{turned, turned_lane}
 use Rattle.trlab_traffic.proofs.AnyRule.{next_legal_like}
 use Rattle.trlab_traffic.proofs.Capacities.{distance_counted, distance_uncounted}
 use Rattle.trlab_traffic.proofs.NaschMoves.{safe_motion}
 use Rattle.trlab_traffic.proofs.Places.{ahead_below, ahead_once, ahead_swap, clear_is_gap, gap_below}
+use Rattle.trlab_traffic.proofs.Turning.{lane_turned, length-turned, same_road, turned_at, turned_more, turned_none}
 
 -- the safe speed of a car at the limit, with room for it
 at_limit_safe : (limit gap : ℕ) → limit ≤ gap → min (min (limit + 1) limit) gap ≡ limit
@@ -74,6 +77,33 @@ module _ (v : ℕ) (answer : ℕ → ℕ) (old new : Lane) (m : LaneMoves answer
       let came = m.nothing_else y number speed there in
       came.1.1.at_speed ∙ goes came.0 number came.1.0 came.1.1.was
 
+  -- and each cell so far ahead has what it had, where the cars went as far before
+  module _ (fast : (x number speed : ℕ) → at old x ≡ Some (number, speed) → speed ≡ v) where
+    cell_ahead : (x : ℕ) → x < length old → at new (ahead (length old) x v) ≡ at old x
+    cell_ahead x low = of_cells (at old x) refl (at new (ahead (length old) x v)) refl
+      where
+        of_cells : (c : Cell) → at old x ≡ c → (d : Cell) → at new (ahead (length old) x v) ≡ d → at new (ahead (length old) x v) ≡ at old x
+        of_cells (Some car) was d is =
+            subst (λ k. at new (ahead (length old) x k) ≡ Some (car.0, k)) (goes x car.0 car.1 was) (m.arrives x car.0 car.1 was)
+            ∙ ap (λ (k : ℕ). Some (car.0, k)) (sym (fast x car.0 car.1 was))
+            ∙ sym was
+        of_cells None was None is = is ∙ sym was
+        of_cells None was (Some car) is =
+            let n = length old in
+            let came = m.nothing_else (ahead n x v) car.0 car.1 is in
+            let z = came.0 in
+            let stood = came.1.1.was in
+            let from : ahead n z v ≡ ahead n x v = sym (came.1.1.reaches ∙ ap (ahead n z) (goes z car.0 came.1.0 stood)) in
+            let e = sym stood ∙ ap (at old) (ahead_once n z x v (inside old z (car.0, came.1.0) stood) low from) ∙ was in
+            absurd cc
+
+    turned_back : turned_lane v new ≡ old
+    turned_back =
+        ext_get_or None (turned_lane v new) old (length-turned v new ∙ m.same_length) (λ x below.
+        let size = m.same_length in
+        let low : x < length new = subst (λ k. x < k) (length-turned v new) below in
+        turned_at v new x low ∙ ap (λ k. at new (ahead k x v)) size ∙ cell_ahead x (omega (arith, low, size)))
+
 -- the safe speed of a car in free flow
 pub free_speed : (road : Cells) (car : Car) → IsFree road → IsAt road car → safe_speed car.speed road.limit (gap (lane_of road car.lane) car.place) ≡ road.limit
 free_speed road car free here =
@@ -109,6 +139,17 @@ free_after old new motion free = record {
         let on = on_lane new car.lane car.place (car.number, car.speed) here in
         let size = motion.moves.same_lanes in
         omega (arith, on, size)
+
+-- the road after it, turned by the limit, is the road before it
+pub free_back : (old new : Cells) → FreeMotion old new → IsFree old → turned old.limit new ≡ old
+free_back old new motion free =
+    same_road (turned old.limit new) old motion.moves.same_limit (length-map new.lanes (turned_lane old.limit) ∙ motion.moves.same_lanes) (λ l below.
+    let size = length-map new.lanes (turned_lane old.limit) in
+    let same = motion.moves.same_lanes in
+    lane_turned old.limit new l
+    ∙ turned_back old.limit (motion.speeds l) (lane_of old l) (lane_of new l) (motion.moves.each_lane l (omega (arith, below, size, same)))
+    (λ x number speed there. motion.goes (car_in l x number speed) there) (λ x number speed there. free.room (car_in l x number speed) there)
+    (λ x number speed there. free.at_limit (car_in l x number speed) there))
 
 free_go : (old new : Cells) → FreeMotion old new → AllGo (λ car. old.limit) old new
 free_go old new motion car here =
@@ -154,6 +195,7 @@ one_rule rule other step is = let e = sym (in_force_one rule step) ∙ is in cc
 pub record FreelyOn (seed : Seed) (step : ℕ) (road : Cells) (sum : StepTally) : Type 0 where
   like : IsLegalLike seed.road road
   pub free : IsFree road
+  pub as_one : turned (seed.road.limit * step) road ≡ seed.road
   pub gone : sum.distance ≡ (step - seed.warm) * (seed.road.limit * cars seed.road)
 
 pub one_more : (m n most step warm : ℕ) → m ≡ (step - warm) * most → n ≡ most → warm ≤ step → m + n ≡ (suc step - warm) * most
@@ -171,28 +213,35 @@ none_yet most warm = let e : 0 - warm ≡ 0 = omega arith in rw e (omega arith)
 
 -- under a rule by which free flow goes on
 pub run_freely : (rule : Programs) (seed : Seed) (step : ℕ) (road : Cells) (sum : StepTally)
-    → ((dice : Dice) (old new : Cells) (tally : StepTally) → IsLegal old → IsFree old → IsNext rule dice old new tally → IsFree new)
+    → ((dice : Dice) (old new : Cells) (tally : StepTally) → IsLegal old → IsFree old → IsNext rule dice old new tally → FreeMotion old new)
     → IsLegal seed.road → IsFree seed.road → ComesTo seed ((0, rule) ∷ []) step road sum → FreelyOn seed step road sum
-run_freely rule seed zero road sum goes_on legal free comes = record {
+run_freely rule seed zero road sum moves legal free comes = record {
   like = subst (IsLegalLike seed.road) (sym comes.1) (like_itself seed.road legal);
   free = subst IsFree (sym comes.1) free;
+  as_one = ap (turned (seed.road.limit * 0)) comes.1 ∙ ap (λ k. turned k seed.road) (mul-zero seed.road.limit) ∙ turned_none seed.road;
   gone = subst (λ (t : StepTally). t.distance ≡ (0 - seed.warm) * (seed.road.limit * cars seed.road)) (sym comes.2) (none_yet (seed.road.limit * cars seed.road) seed.warm);
 }
-run_freely rule seed (suc step) road sum goes_on legal free comes =
+run_freely rule seed (suc step) road sum moves legal free comes =
     let before = comes.0 in
     let so_far = comes.1 in
     let tally = comes.3 in
     let on = comes.5 in
-    let way = run_freely rule seed step before so_far goes_on legal free comes.4 in
+    let way = run_freely rule seed step before so_far moves legal free comes.4 in
     let same = one_rule rule comes.2 step on.under in
     let next = subst (λ (r : Programs). IsNext r (dice_at seed step) before road tally) (sym same) on.next in
     let like = like_next seed.road before road way.like (next_legal_like rule (dice_at seed step) before road tally way.like.legal next) in
-    let again = goes_on (dice_at seed step) before road tally way.like.legal way.free next in
+    let motion = moves (dice_at seed step) before road tally way.like.legal way.free next in
+    let again = free_after before road motion way.free in
+    let v = seed.road.limit in
     let most : road.limit * cars road ≡ seed.road.limit * cars seed.road = ap (λ k. k * cars road) like.same_limit ∙ ap (λ k. seed.road.limit * k) like.same_count in
     let now : tally.distance ≡ seed.road.limit * cars seed.road = next.1.distance ∙ free_total road again ∙ most in
     record {
       like = like;
       free = again;
+      as_one = ap (λ k. turned k road) (mul-suc v step)
+          ∙ sym (turned_more (v * step) v road)
+          ∙ ap (turned (v * step)) (ap (λ k. turned k road) (sym way.like.same_limit) ∙ free_back before road motion way.free)
+          ∙ way.as_one;
       gone = elim (cases_lt step seed.warm) [
         | inl early ↦
             distance_uncounted (nat_le seed.warm step) sum so_far tally on.counted (lt-leb seed.warm step early)
@@ -203,7 +252,14 @@ run_freely rule seed (suc step) road sum goes_on legal free comes =
       ];
     }
 
+nasch_freely : (rule : Programs) (seed : Seed) (step : ℕ) (road : Cells) (sum : StepTally) → IsNasch 0 rule → IsLegal seed.road → IsFree seed.road → ComesTo seed ((0, rule) ∷ []) step road sum → FreelyOn seed step road sum
+nasch_freely rule seed step road sum is =
+    run_freely rule seed step road sum (λ dice old new tally fine flows next. free_motion rule dice old new tally is fine flows next)
+
 pub free_flow_stays_free : FreeFlowStaysFree
 free_flow_stays_free rule seed step road sum is legal free comes =
-    let way = run_freely rule seed step road sum (λ dice old new tally fine flows next. (free_flow_goes_on rule dice old new tally is fine flows next).1) legal free comes in
+    let way = nasch_freely rule seed step road sum is legal free comes in
     (way.free, way.gone)
+
+pub free_flow_turns : FreeFlowTurns
+free_flow_turns rule seed step road sum is legal free comes = (nasch_freely rule seed step road sum is legal free comes).as_one

@@ -16,6 +16,7 @@ pub mod SlowStarts
 pub mod Slower
 -- cars that follow one another
 pub mod GapsAfter
+pub mod LaneGaps
 pub mod Jamming
 pub mod NextCars
 -- runs that are compared, car by car
@@ -36,6 +37,7 @@ pub mod Certainties
 pub mod Reductions
 pub mod Wolfram
 -- the fundamental diagram without randomization
+pub mod Regimes
 pub mod EvenGaps
 pub mod EvenFlows
 pub mod Speeding

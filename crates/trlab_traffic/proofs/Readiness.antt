@@ -1,29 +1,36 @@
 -- Without randomization cars are held back by acceleration in the first steps alone; from then on each goes by the
 -- limit or its gap, whichever is less, and the lane comes to its capacity.
-use Rattle.std.proofs.Common.{◌≡◌, ℕ, zero, suc, ◌+◌, ◌-◌, ◌*◌, ◌%◌, ◌<◌, ◌≤◌, ◌⊎◌, min, is_some, Some, length, refl, sym, ◌∙◌, ap, subst, inl, inr, arith, mod-eq_of_lt, mul_comm, suc-mul}
+use Rattle.std.proofs.Common.{◌≡◌, ℕ, zero, suc, ◌+◌, ◌-◌, ◌*◌, ◌%◌, ◌<◌, ◌≤◌, ◌⊎◌, min, is_some, Some, [], ◌∷◌, length, refl, sym, ◌∙◌, ap, subst, inl, inr, arith, mod-eq_of_lt, mul_comm, suc-mul}
 use Rattle.std.specs.Prelude.{sum_by}
 use Rattle.std.proofs.lemmas.Bool.{cases_lt}
 use Rattle.std.proofs.lemmas.Option.{some_pair_parts}
 use Rattle.trlab_road.specs.declared.car.Car.{Car}
 use Rattle.trlab_road.specs.Cells.{Cell, Cells, Lane, at, cars, lane_cars, lane_of}
 use Rattle.trlab_road.specs.Gaps.{ahead, gap, next_place}
+use Rattle.trlab_road.specs.Legal.{IsLegal}
 use Rattle.trlab_road.specs.Motion.{LaneFits, LaneMoves}
 use Rattle.trlab_road.specs.Standing.{standing_from}
 use Rattle.trlab_road.proofs.MotionLaws.{lane_same_count}
 use Rattle.trlab_road.proofs.Ring.{apart_within_gaps, blocked, clear_within_gap, inside}
 use Rattle.trlab_road.proofs.StandingOrder.{length-standing_from, rank_below}
-use Rattle.trlab_traffic.specs.Capacity.{empty_cells, lane_cells, lane_empty_cells}
-use Rattle.trlab_traffic.specs.Diagram.{NaschComesToCapacity, Rule184ComesToCapacity}
+use Rattle.trlab_rules.specs.Rules.{Programs}
+use Rattle.trlab_rules.specs.StandardRules.{IsNasch}
+use Rattle.trlab_step.specs.declared.tally.StepTally.{StepTally}
+use Rattle.trlab_step.specs.Run.{ComesTo, Seed}
+use Rattle.trlab_traffic.specs.Capacity.{capacity, lane_capacity, lane_cells, lane_empty_cells}
+use Rattle.trlab_traffic.specs.Diagram.{NaschComesToCapacity, NaschComesToCapacityByLane, Rule184ComesToCapacity}
 use Rattle.trlab_traffic.specs.Rule184.{digit, is_taken}
-use Rattle.trlab_traffic.proofs.EvenFlows.{Regime, flows, gaps_total, sum_at_cars}
 use Rattle.trlab_traffic.proofs.Freely.{sum_by-same}
 use Rattle.trlab_traffic.proofs.GapsAfter.{gap_after, next_taken}
+use Rattle.trlab_traffic.proofs.LaneGaps.{gaps_total}
 use Rattle.trlab_traffic.proofs.Digits.{digit_at}
 use Rattle.trlab_traffic.proofs.Leaping.{Leaps, few_near, leaps_itself, leaps_more, none_is_empty, one_is_car, some_near}
 use Rattle.trlab_traffic.proofs.Heights.{last_of, window, window_has, window_last, window_slides}
 use Rattle.trlab_traffic.proofs.Places.{ahead_more, clear_is_gap}
 use Rattle.trlab_traffic.proofs.OneLane.{one_sum}
+use Rattle.trlab_traffic.proofs.Regimes.{Regime, flows}
 use Rattle.trlab_traffic.proofs.RoomAhead.{lane_taken_or_empty}
+use Rattle.trlab_traffic.proofs.Sums.{by_lane, sum_at_cars, total, total_same}
 
 -- no car's gap is below the speed of the next car ahead
 record Settled (lane : Lane) : Type 0 where
@@ -167,39 +174,39 @@ tight_gap limit lane x car here some =
     omega (arith, before, below)
 
 -- how far the cars of a lane go that has leapt for long enough
-leapt_far : (limit cells count k : ℕ) (lane : Lane) (answer : ℕ → ℕ) → 1 ≤ limit → 1 ≤ cells → length lane ≡ cells → lane_cars lane ≡ count → Leaping limit cells count k lane → cells ≤ k + 1
+leapt_far : (l limit cells count k : ℕ) (lane : Lane) (answer : ℕ → ℕ) → 1 ≤ limit → 1 ≤ cells → length lane ≡ cells → lane_cars lane ≡ count → Leaping limit cells count k lane → cells ≤ k + 1
     → ((x number speed : ℕ) → at lane x ≡ Some (number, speed) → answer x ≡ min limit (gap lane x))
-    → sum_by (λ (car : Car). answer car.place) (standing_from 0 0 lane) ≡ min (limit * count) (cells - count)
-leapt_far limit cells count k lane answer some_limit some_cell size full l round goes =
-    let first_size = l.size in
-    let first_full = l.full in
-    let product = suc-mul limit (lane_cars l.first) in
+    → sum_by (λ (car : Car). answer car.place) (standing_from l 0 lane) ≡ min (limit * count) (cells - count)
+leapt_far l limit cells count k lane answer some_limit some_cell size full leaping round goes =
+    let first_size = leaping.size in
+    let first_full = leaping.full in
+    let product = suc-mul limit (lane_cars leaping.first) in
     let whole = lane_taken_or_empty lane in
-    let factor : limit * lane_cars l.first ≡ limit * count = ap (λ j. limit * j) first_full in
-    elim (cases_lt (length l.first) (suc limit * lane_cars l.first)) [
+    let factor : limit * lane_cars leaping.first ≡ limit * count = ap (λ j. limit * j) first_full in
+    elim (cases_lt (length leaping.first) (suc limit * lane_cars leaping.first)) [
       | inl many ↦
-          let some_car : 0 < count = none_full limit (lane_cars l.first) count (length l.first) first_full many in
-          sum_at_cars (λ (car : Car). answer car.place) (λ (car : Car). gap lane car.place) 0 0 lane
+          let some_car : 0 < count = none_full limit (lane_cars leaping.first) count (length leaping.first) first_full many in
+          sum_at_cars (λ (car : Car). answer car.place) (λ (car : Car). gap lane car.place) l 0 lane
           (λ x number speed here.
           let e : 0 + x ≡ x = omega arith in
-          let near = some_near limit l.first lane k (suc x) l.leaps (omega (arith, size, some_cell)) (omega (arith, many)) (omega (arith, round, first_size)) in
+          let near = some_near limit leaping.first lane k (suc x) leaping.leaps (omega (arith, size, some_cell)) (omega (arith, many)) (omega (arith, round, first_size)) in
           let tight = tight_gap limit lane x (number, speed) here near in
           let far = goes x number speed here in
           subst (λ i. answer i ≡ gap lane i) (sym e) (let g : answer x ≡ gap lane x = omega (arith, far, tight) in g))
-          ∙ gaps_total 0 lane (omega (arith, full, some_car))
+          ∙ gaps_total l lane (omega (arith, full, some_car))
           ∙ (let e : lane_empty_cells lane ≡ min (limit * count) (cells - count) = omega (arith, whole, size, full, many, product, factor, first_size, first_full) in e)
       | inr few ↦
-          sum_at_cars (λ (car : Car). answer car.place) (λ (car : Car). limit) 0 0 lane
+          sum_at_cars (λ (car : Car). answer car.place) (λ (car : Car). limit) l 0 lane
           (λ x number speed here.
           let e : 0 + x ≡ x = omega arith in
           let rank = rank_below lane x (number, speed) here in
-          let short : limit < length lane = one_fits limit (lane_cars l.first) (length l.first) (length lane) (omega (arith, rank, full, first_full)) few (omega (arith, size, first_size)) in
-          let near = few_near limit l.first lane k x l.leaps (omega (arith, size, some_cell)) few (omega (arith, round, first_size)) in
+          let short : limit < length lane = one_fits limit (lane_cars leaping.first) (length leaping.first) (length lane) (omega (arith, rank, full, first_full)) few (omega (arith, size, first_size)) in
+          let near = few_near limit leaping.first lane k x leaping.leaps (omega (arith, size, some_cell)) few (omega (arith, round, first_size)) in
           let wide = wide_gap limit lane x (number, speed) short here near in
           let far = goes x number speed here in
           subst (λ i. answer i ≡ limit) (sym e) (let g : answer x ≡ limit = omega (arith, far, wide) in g))
-          ∙ sum_by-same (λ (car : Car). limit) limit (standing_from 0 0 lane) (λ j d below. refl)
-          ∙ ap (λ j. j * limit) (length-standing_from 0 0 lane ∙ full)
+          ∙ sum_by-same (λ (car : Car). limit) limit (standing_from l 0 lane) (λ j d below. refl)
+          ∙ ap (λ j. j * limit) (length-standing_from l 0 lane ∙ full)
           ∙ mul_comm count limit
           ∙ (let e : limit * count ≡ min (limit * count) (cells - count) = omega (arith, few, product, factor, first_size, first_full) in e)
     ]
@@ -231,8 +238,8 @@ to_capacity limit count cells some_limit some_cell = record {
     quick = λ some. quick_next t old new answer m fits goes way;
     leaping = λ late full. leap_next t old new answer m fits goes way late full;
   };
-  far = λ t old answer goes way late full.
-      leapt_far limit cells count (t - limit) old answer some_limit some_cell way.size full (way.leaping (omega (arith, late, some_cell)) full) (omega (arith, late))
+  far = λ l t old answer goes way late full.
+      leapt_far l limit cells count (t - limit) old answer some_limit some_cell way.size full (way.leaping (omega (arith, late, some_cell)) full) (omega (arith, late))
       (ready limit t old answer some_limit (omega (arith, late, some_cell)) (way.quick (omega (arith, late, some_limit, some_cell))) goes);
 }
   where
@@ -253,32 +260,50 @@ to_capacity limit count cells some_limit some_cell = record {
               subst (λ k. Leaping limit cells count k new) e (leap_on limit cells count (t - limit) answer old new some_limit some_cell m fits goes_far (way.leaping more) full)
         ]
 
--- the cells of a road of one lane that its cars leave empty
-one_lane_left : (road : Cells) → length road.lanes ≡ 1 → length (lane_of road 0) - cars road ≡ empty_cells road
-one_lane_left road one =
-    let own = one_sum lane_cars road.lanes one in
-    let holes = one_sum lane_empty_cells road.lanes one in
-    let whole = lane_taken_or_empty (lane_of road 0) in
-    omega (arith, own, holes, whole)
+-- the capacities of the lanes of a legal road, by the cells that their cars leave empty
+capacities : (road : Cells) → IsLegal road → let cells = length (lane_of road 0) in let count : ℕ → ℕ = λ l. lane_cars (lane_of road l) in
+    total (λ l. min (road.limit * count l) (cells - count l)) (length road.lanes) ≡ sum_by (lane_capacity road.limit) road.lanes
+capacities road legal =
+    let cells = length (lane_of road 0) in
+    let count : ℕ → ℕ = λ l. lane_cars (lane_of road l) in
+    total_same (λ l. min (road.limit * count l) (cells - count l)) (λ l. lane_capacity road.limit (lane_of road l)) (length road.lanes) (λ l on.
+    let whole = lane_taken_or_empty (lane_of road l) in
+    let size = legal.shape.equal l on in
+    let e : cells - count l ≡ lane_empty_cells (lane_of road l) = omega (arith, whole, size) in
+    ap (min (road.limit * count l)) e)
+    ∙ sym (by_lane (lane_capacity road.limit) road.lanes)
 
-pub nasch_comes_to_capacity : NaschComesToCapacity
+-- that of the lane is that of the road where it has one
+one_capacity : (road : Cells) → length road.lanes ≡ 1 → sum_by (lane_capacity road.limit) road.lanes ≡ capacity road
+one_capacity road one =
+    let lane = lane_of road 0 in
+    one_sum (lane_capacity road.limit) road.lanes one
+    ∙ ap (λ k. min (road.limit * k) (lane_empty_cells lane)) (sym (one_sum lane_cars road.lanes one))
+    ∙ ap (min (road.limit * cars road)) (sym (one_sum lane_empty_cells road.lanes one))
+
+pub nasch_comes_to_capacity_by_lane : NaschComesToCapacityByLane
 unfolding to_capacity
-nasch_comes_to_capacity rule seed step road sum is legal one late comes =
+nasch_comes_to_capacity_by_lane rule seed step road sum is legal late comes =
     let limit = seed.road.limit in
-    let lane = lane_of seed.road 0 in
-    let cells = length lane in
-    let count = cars seed.road in
+    let cells = length (lane_of seed.road 0) in
+    let count : ℕ → ℕ = λ l. lane_cars (lane_of seed.road l) in
     let some_limit = legal.shape.limit.some_limit in
     let some_cell = legal.shape.cells.some_cell in
-    let start : OnWay limit cells count 0 lane = record {
-      size = refl;
+    let start : (l : ℕ) → l < length seed.road.lanes → OnWay limit cells (count l) 0 (lane_of seed.road l) = λ l on. record {
+      size = legal.shape.equal l on;
       settled = λ some. absurd (omega (arith, some));
       quick = λ some. absurd (omega (arith, some));
       leaping = λ early full. absurd (omega (arith, early, some_limit));
     } in
-    let way = flows rule seed is legal one limit (min (limit * count) (cells - count)) count (limit + cells) refl refl (to_capacity limit count cells some_limit some_cell) start step road sum comes in
+    let way = flows rule seed is legal limit (limit + cells) (λ l. min (limit * count l) (cells - count l)) count refl (λ l on. refl)
+    (λ l. to_capacity limit (count l) cells some_limit some_cell) start step road sum comes in
+    way.gone late ∙ ap (λ k. (step - seed.warm) * k) (capacities seed.road legal)
+
+pub nasch_comes_to_capacity : NaschComesToCapacity
+nasch_comes_to_capacity rule seed step road sum is legal one late comes =
     let size = one_sum lane_cells seed.road.lanes one in
-    way.gone (omega (arith, late, size)) ∙ ap (λ k. (step - seed.warm) * min (limit * count) k) (one_lane_left seed.road one)
+    nasch_comes_to_capacity_by_lane rule seed step road sum is legal (omega (arith, late, size)) comes
+    ∙ ap (λ k. (step - seed.warm) * k) (one_capacity seed.road one)
 
 -- with the limit 1 acceleration holds no car back, and so a lane leaps from the start
 at_once : (answer : ℕ → ℕ) (lane : Lane) → ((x number speed : ℕ) → at lane x ≡ Some (number, speed) → answer x ≡ min (min (speed + 1) 1) (gap lane x))
@@ -296,19 +321,25 @@ to_capacity_at_once count cells some_cell = record {
     size = m.same_length ∙ way.size;
     leaping = leap_on 1 cells count t answer old new (omega arith) some_cell m fits (at_once answer old goes) way.leaping;
   };
-  far = λ t old answer goes way late full. leapt_far 1 cells count t old answer (omega arith) some_cell way.size full (way.leaping full) late (at_once answer old goes);
+  far = λ l t old answer goes way late full. leapt_far l 1 cells count t old answer (omega arith) some_cell way.size full (way.leaping full) late (at_once answer old goes);
 }
 
-pub rule_184_comes_to_capacity : Rule184ComesToCapacity
+rule_184_by_lane : (rule : Programs) (seed : Seed) (step : ℕ) (road : Cells) (sum : StepTally) → IsNasch 0 rule → IsLegal seed.road → seed.road.limit ≡ 1 → length (lane_of seed.road 0) ≤ seed.warm + 1
+    → ComesTo seed ((0, rule) ∷ []) step road sum → sum.distance ≡ (step - seed.warm) * sum_by (lane_capacity seed.road.limit) seed.road.lanes
 unfolding to_capacity_at_once
+rule_184_by_lane rule seed step road sum is legal slow late comes =
+    let cells = length (lane_of seed.road 0) in
+    let count : ℕ → ℕ = λ l. lane_cars (lane_of seed.road l) in
+    let start : (l : ℕ) → l < length seed.road.lanes → OnWayAtOnce cells (count l) 0 (lane_of seed.road l) = λ l on.
+    let size = legal.shape.equal l on in
+    record { size = size; leaping = λ full. record { first = lane_of seed.road l; size = size; full = full; leaps = leaps_itself 1 (lane_of seed.road l) } } in
+    let way = flows rule seed is legal 1 cells (λ l. min (1 * count l) (cells - count l)) count slow (λ l on. refl)
+    (λ l. to_capacity_at_once (count l) cells legal.shape.cells.some_cell) start step road sum comes in
+    let same = ap (λ v. total (λ l. min (v * count l) (cells - count l)) (length seed.road.lanes)) (sym slow) in
+    way.gone late ∙ ap (λ k. (step - seed.warm) * k) (same ∙ capacities seed.road legal)
+
+pub rule_184_comes_to_capacity : Rule184ComesToCapacity
 rule_184_comes_to_capacity rule seed step road sum is legal one slow late comes =
-    let lane = lane_of seed.road 0 in
-    let cells = length lane in
-    let count = cars seed.road in
-    let start : OnWayAtOnce cells count 0 lane = record { size = refl; leaping = λ full. record { first = lane; size = refl; full = full; leaps = leaps_itself 1 lane } } in
-    let regime = to_capacity_at_once count cells legal.shape.cells.some_cell in
-    let way = flows rule seed is legal one 1 (min (1 * count) (cells - count)) count cells slow refl regime start step road sum comes in
     let size = one_sum lane_cells seed.road.lanes one in
-    way.gone (omega (arith, late, size))
-    ∙ ap (λ k. (step - seed.warm) * min (1 * count) k) (one_lane_left seed.road one)
-    ∙ ap (λ k. (step - seed.warm) * min (k * count) (empty_cells seed.road)) (sym slow)
+    rule_184_by_lane rule seed step road sum is legal slow (omega (arith, late, size)) comes
+    ∙ ap (λ k. (step - seed.warm) * k) (one_capacity seed.road one)

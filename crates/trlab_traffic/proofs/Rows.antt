@@ -25,7 +25,7 @@ use Rattle.trlab_traffic.proofs.LanesApart.{any_lane}
 use Rattle.trlab_traffic.proofs.Places.{ahead_below}
 use Rattle.trlab_traffic.proofs.RoomAhead.{taken_or_empty}
 use Rattle.trlab_traffic.proofs.RunLanes.{run_lanes, middle_lanes}
-use Rattle.trlab_traffic.proofs.Sums.{sum_range, total, total_add, total_none, total_same, total_swap}
+use Rattle.trlab_traffic.proofs.Sums.{by_lane, sum_range, total, total_add, total_none, total_same, total_swap}
 use Rattle.trlab_traffic.specs.Capacity.{empty_cells, lane_empty_cells}
 use Rattle.trlab_traffic.specs.Detector.{cars_ahead_of, passages, all_passages, way}
 use Rattle.trlab_traffic.specs.DetectorRuns.{AreWithin, Counts}
@@ -122,14 +122,6 @@ step_is_continuous_by_rows rule dice old new tally x k legal is low =
     let end : passages (lane_of new l) (ahead (length (lane_of middle l)) x k) ≡ passages (lane_of new l) (ahead n x k) = ap (λ m. passages (lane_of new l) (ahead m x k)) size in
     omega (arith, one, end)) in
     omega (arith, all, change)
-
--- a sum over lanes, lane by lane
-by_lane : (g : Lane → ℕ) (lanes : List Lane) → sum_by g lanes ≡ total (λ l. g (get_or lanes l [])) (length lanes)
-by_lane g [] = refl
-by_lane g (lane ∷ lanes) =
-    let e = sum_by-cons g lane lanes in
-    let rest = by_lane g lanes in
-    omega (arith, e, rest)
 
 by_range : (f : ℕ → ℕ) (m : ℕ) → sum_by f (range_with_len 0 m) ≡ total f m
 by_range f m = sum_range f 0 m ∙ total_same (λ l. f (0 + l)) f m (λ l low. let e : 0 + l ≡ l = omega arith in ap f e)

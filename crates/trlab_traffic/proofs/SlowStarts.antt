@@ -24,9 +24,9 @@ use Rattle.trlab_step.specs.declared.tally.StepTally.{StepTally}
 use Rattle.trlab_step.specs.Next.{IsNext, total_speed}
 use Rattle.trlab_step.specs.Run.{ComesTo, Seed, dice_at}
 use Rattle.trlab_traffic.specs.FreeFlow.{IsFree}
-use Rattle.trlab_traffic.specs.Metastable.{IsStopped, SlowStartsKeepFreeFlow, SlowStartsKeepJams}
+use Rattle.trlab_traffic.specs.Metastable.{IsStopped, SlowStartsKeepFreeFlow, SlowStartsKeepJams, SlowStartsTurnFreeFlow}
 use Rattle.trlab_traffic.proofs.Capacities.{distance_counted, distance_uncounted}
-use Rattle.trlab_traffic.proofs.Freely.{FreeMotion, free_after, free_speed, one_rule, run_freely, sum_by-same}
+use Rattle.trlab_traffic.proofs.Freely.{FreeMotion, FreelyOn, free_speed, one_rule, run_freely, sum_by-same}
 use Rattle.trlab_traffic.proofs.NaschMoves.{answered, motion_alone, never}
 use Rattle.trlab_traffic.proofs.Places.{ahead_none}
 
@@ -49,10 +49,17 @@ free_motion p0 rule dice old new tally is legal free next =
       moves = phase.2;
     }
 
+vdr_freely : (p0 : ℕ) (rule : Programs) (seed : Seed) (step : ℕ) (road : Cells) (sum : StepTally) → IsVdr 0 p0 rule → IsLegal seed.road → IsFree seed.road → ComesTo seed ((0, rule) ∷ []) step road sum → FreelyOn seed step road sum
+vdr_freely p0 rule seed step road sum is =
+    run_freely rule seed step road sum (λ dice old new tally fine flows next. free_motion p0 rule dice old new tally is fine flows next)
+
 pub slow_starts_keep_free_flow : SlowStartsKeepFreeFlow
 slow_starts_keep_free_flow p0 rule seed step road sum is legal free comes =
-    let way = run_freely rule seed step road sum (λ dice old new tally fine flows next. free_after old new (free_motion p0 rule dice old new tally is fine flows next) flows) legal free comes in
+    let way = vdr_freely p0 rule seed step road sum is legal free comes in
     (way.free, way.gone)
+
+pub slow_starts_turn_free_flow : SlowStartsTurnFreeFlow
+slow_starts_turn_free_flow p0 rule seed step road sum is legal free comes = (vdr_freely p0 rule seed step road sum is legal free comes).as_one
 
 -- certainty happens on each word
 always : (word : ℕ) → word < 2 ^ 32 → happens_on CERTAIN word ≡ true

@@ -1,14 +1,14 @@
--- Sums: of the first values of a function, and over the cars of a lane, cell by cell.
-use Rattle.std.proofs.Common.{◌≡◌, ◌≢◌, ℕ, zero, suc, ◌+◌, ◌%◌, ◌<◌, ◌≤◌, ◌⊎◌, min, cond, Some, None, [], ◌∷◌, length, refl, sym, ◌∙◌, ap, inl, inr, arith, mod-eq_of_lt}
+-- Sums: of the first values of a function, over lanes, and over the cars of a lane, cell by cell.
+use Rattle.std.proofs.Common.{◌≡◌, ◌≢◌, ℕ, zero, suc, ◌+◌, ◌%◌, ◌<◌, ◌≤◌, ◌⊎◌, min, cond, Some, None, List, [], ◌∷◌, length, get_or, refl, sym, ◌∙◌, ap, subst, inl, inr, arith, mod-eq_of_lt}
 use Rattle.std.specs.Prelude.{nat_eq, nat_lt, sum_by}
 use Rattle.std.specs.List.{range_with_len}
 use Rattle.std.proofs.Math.Nat.{mod_self}
 use Rattle.std.proofs.lemmas.Bool.{cases_lt, eq-eqb, le-ltb, lt-ltb, ne_eqb}
-use Rattle.std.proofs.lemmas.List.Sums.{sum_by-cons}
+use Rattle.std.proofs.lemmas.List.Sums.{sum_by-append, sum_by-cons}
 use Rattle.trlab_road.specs.declared.car.Car.{Car}
 use Rattle.trlab_road.specs.Cells.{Cell, Lane, at}
 use Rattle.trlab_road.specs.Gaps.{ahead}
-use Rattle.trlab_road.specs.Standing.{standing_from}
+use Rattle.trlab_road.specs.Standing.{standing_from, standing_lanes}
 use Rattle.trlab_road.proofs.Ring.{car_in}
 use Rattle.trlab_traffic.proofs.Places.{ahead_more, ahead_none}
 
@@ -146,6 +146,27 @@ sum_range f s (suc n) =
     let first = ap f zeroth in
     omega (arith, split, rest, same, first)
 
+-- a sum over lanes, lane by lane
+pub by_lane : (g : Lane → ℕ) (lanes : List Lane) → sum_by g lanes ≡ total (λ l. g (get_or lanes l [])) (length lanes)
+by_lane g [] = refl
+by_lane g (lane ∷ lanes) =
+    let e = sum_by-cons g lane lanes in
+    let rest = by_lane g lanes in
+    omega (arith, e, rest)
+
+-- a sum over the cars of lanes, lane by lane
+pub sum_of_lanes : (f : Car → ℕ) (each : ℕ → ℕ) (base : ℕ) (lanes : List Lane)
+    → ((l : ℕ) → l < length lanes → sum_by f (standing_from (base + l) 0 (get_or lanes l [])) ≡ each l)
+    → sum_by f (standing_lanes base lanes) ≡ total each (length lanes)
+sum_of_lanes f each base [] same = refl
+sum_of_lanes f each base (lane ∷ lanes) same =
+    let zeroth : base + 0 ≡ base = omega arith in
+    let first = subst (λ k. sum_by f (standing_from k 0 lane) ≡ each 0) zeroth (same 0 (omega arith)) in
+    let rest = sum_of_lanes f (λ l. each (suc l)) (suc base) lanes (λ l low. let e : base + suc l ≡ suc base + l = omega arith in
+    subst (λ k. sum_by f (standing_from k 0 (get_or lanes l [])) ≡ each (suc l)) e (same (suc l) (omega (arith, low)))) in
+    let split = sum_by-append f (standing_from base 0 lane) (standing_lanes (suc base) lanes) in
+    omega (arith, first, rest, split)
+
 -- a sum of ones and zeros of which one is 1 at most
 pub single : (w : ℕ → ℕ) (n : ℕ) → ((y : ℕ) → y < n → (w y ≡ 0) ⊎ (w y ≡ 1)) → ((y z : ℕ) → y < n → z < n → w y ≡ 1 → w z ≡ 1 → y ≡ z) → total w n ≤ 1
 single w zero each one = omega arith
@@ -162,6 +183,22 @@ single w (suc n) each one =
           ]) in
           omega (arith, here, rest)
     ]
+
+-- sums over the cars of a lane by what agrees at them
+pub sum_at_cars : (f g : Car → ℕ) (l s : ℕ) (lane : Lane) → ((x number speed : ℕ) → at lane x ≡ Some (number, speed) → f (car_in l (s + x) number speed) ≡ g (car_in l (s + x) number speed))
+    → sum_by f (standing_from l s lane) ≡ sum_by g (standing_from l s lane)
+sum_at_cars f g l s [] same = refl
+sum_at_cars f g l s (None ∷ cells) same =
+    sum_at_cars f g l (suc s) cells
+    (λ x number speed here. let e : s + suc x ≡ suc s + x = omega arith in subst (λ k. f (car_in l k number speed) ≡ g (car_in l k number speed)) e (same (suc x) number speed here))
+sum_at_cars f g l s (Some car ∷ cells) same =
+    let zeroth : s + 0 ≡ s = omega arith in
+    let first : f (car_in l s car.0 car.1) ≡ g (car_in l s car.0 car.1) = subst (λ k. f (car_in l k car.0 car.1) ≡ g (car_in l k car.0 car.1)) zeroth (same 0 car.0 car.1 refl) in
+    let rest = sum_at_cars f g l (suc s) cells
+    (λ x number speed here. let e : s + suc x ≡ suc s + x = omega arith in subst (λ k. f (car_in l k number speed) ≡ g (car_in l k number speed)) e (same (suc x) number speed here)) in
+    let a = sum_by-cons f (car_in l s car.0 car.1) (standing_from l (suc s) cells) in
+    let b = sum_by-cons g (car_in l s car.0 car.1) (standing_from l (suc s) cells) in
+    omega (arith, first, rest, a, b)
 
 -- what the car of a cell weighs
 abbrev pub weight : (Car → ℕ) → ℕ → ℕ → Cell → ℕ

@@ -1,6 +1,7 @@
 -- What is seen on a lane that is turned.
 use Rattle.std.proofs.Common.{◌≡◌, ℕ, zero, suc, ◌+◌, ◌-◌, ◌%◌, ◌<◌, ◌&&◌, Bool, cond, Some, None, List, [], ◌∷◌, length, get_or, map, refl, sym, ◌∙◌, ap, subst, arith}
 use Rattle.std.specs.Prelude.{is_none}
+use Rattle.std.proofs.lemmas.List.{ext_get_or, length-map}
 use Rattle.std.proofs.lemmas.List.FromFn.{get_or-map-range_with_len, length-map-range_with_len}
 use Rattle.trlab_road.specs.Cells.{Cell, Cells, Lane, at, lane_of}
 use Rattle.trlab_road.specs.Gaps.{ahead, behind, clear_cells, gap, greatest, headspeed, is_clear, side, sideback, sidegap, speed_in}
@@ -8,7 +9,7 @@ use Rattle.trlab_road.specs.LaneChange.{LaneCrosses, cell_after_change}
 use Rattle.trlab_road.specs.Motion.{ComesFrom, LaneMoves}
 use Rattle.trlab_road.proofs.Ring.{inside}
 use Rattle.trlab_traffic.specs.Homogeneity.{turned, turned_lane}
-use Rattle.trlab_traffic.proofs.Places.{ahead_below, ahead_once, ahead_swap, back_ahead}
+use Rattle.trlab_traffic.proofs.Places.{ahead_below, ahead_more, ahead_none, ahead_once, ahead_swap, back_ahead}
 
 -- tests that agree have one greatest number
 greatest_same : (test other : ℕ → Bool) (n : ℕ) → ((k : ℕ) → test k ≡ other k) → greatest test n ≡ greatest other n
@@ -46,6 +47,45 @@ turned_at r lane x low = get_or-map-range_with_len (λ y. at lane (ahead (length
 -- what stood where a car is seen
 pub turned_car : (r : ℕ) (lane : Lane) (x : ℕ) (car : ℕ × ℕ) → at (turned_lane r lane) x ≡ Some car → x < length lane
 turned_car r lane x car here = subst (λ n. x < n) (length-turned r lane) (inside (turned_lane r lane) x car here)
+
+-- a lane that is turned by no cell, and one that is turned twice
+lane_turned_none : (lane : Lane) → turned_lane 0 lane ≡ lane
+lane_turned_none lane =
+    ext_get_or None (turned_lane 0 lane) lane (length-turned 0 lane) (λ x below.
+    let low : x < length lane = subst (λ n. x < n) (length-turned 0 lane) below in
+    turned_at 0 lane x low ∙ ap (at lane) (ahead_none (length lane) x low))
+
+lane_turned_more : (a b : ℕ) (lane : Lane) → turned_lane a (turned_lane b lane) ≡ turned_lane (a + b) lane
+lane_turned_more a b lane =
+    let n = length lane in
+    let size = length-turned a (turned_lane b lane) in
+    ext_get_or None (turned_lane a (turned_lane b lane)) (turned_lane (a + b) lane) (size ∙ length-turned b lane ∙ sym (length-turned (a + b) lane)) (λ x below.
+    let on : x < length (turned_lane b lane) = subst (λ k. x < k) size below in
+    let low : x < n = subst (λ k. x < k) (length-turned b lane) on in
+    turned_at a (turned_lane b lane) x on
+    ∙ ap (λ k. at (turned_lane b lane) (ahead k x a)) (length-turned b lane)
+    ∙ turned_at b lane (ahead n x a) (ahead_below n x a (omega (arith, low)))
+    ∙ ap (at lane) (ahead_more n x a b)
+    ∙ sym (turned_at (a + b) lane x low))
+
+abbrev made : ℕ → List Lane → Cells
+made limit lanes = record { limit = limit; lanes = lanes }
+
+-- roads of one limit with the same lanes are one
+pub same_road : (road other : Cells) → road.limit ≡ other.limit → length road.lanes ≡ length other.lanes
+    → ((l : ℕ) → l < length road.lanes → lane_of road l ≡ lane_of other l) → road ≡ other
+same_road road other limit count same =
+    ap (λ (v : ℕ). made v road.lanes) limit ∙ ap (made other.limit) (ext_get_or [] road.lanes other.lanes count same)
+
+pub turned_none : (road : Cells) → turned 0 road ≡ road
+turned_none road =
+    same_road (turned 0 road) road refl (length-map road.lanes (turned_lane 0)) (λ l on. lane_turned 0 road l ∙ lane_turned_none (lane_of road l))
+
+pub turned_more : (a b : ℕ) (road : Cells) → turned a (turned b road) ≡ turned (a + b) road
+turned_more a b road =
+    same_road (turned a (turned b road)) (turned (a + b) road) refl
+    (length-map (map (turned_lane b) road.lanes) (turned_lane a) ∙ length-map road.lanes (turned_lane b) ∙ sym (length-map road.lanes (turned_lane (a + b))))
+    (λ l on. lane_turned a (turned b road) l ∙ ap (turned_lane a) (lane_turned b road l) ∙ lane_turned_more a b (lane_of road l) ∙ sym (lane_turned (a + b) road l))
 
 -- the cells ahead
 pub turned_ahead : (r : ℕ) (lane : Lane) (x j : ℕ) → 0 < length lane → at (turned_lane r lane) (ahead (length lane) x j) ≡ at lane (ahead (length lane) (ahead (length lane) x r) j)

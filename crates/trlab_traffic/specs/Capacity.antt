@@ -2,7 +2,7 @@
 -- two over the same, and none is faster than the limit. So the flow is at most that of a triangle over the
 -- density, whose sides are the limit times the density, and one less the density.
 use Rattle.std.specs.Prelude.{◌≡◌, ℕ, ◌+◌, ◌*◌, ◌≤◌, count_by, is_none, length, min, sum_by}
-use Rattle.trlab_road.specs.Cells.{Cells, Lane, cars}
+use Rattle.trlab_road.specs.Cells.{Cells, Lane, cars, lane_cars}
 use Rattle.trlab_road.specs.Legal.{IsLegal}
 use Rattle.trlab_rules.specs.Rules.{Programs}
 use Rattle.trlab_machine.specs.declared.dice.Dice.{Dice}
@@ -39,6 +39,10 @@ distance_at_limit road = road.limit * cars road
 -- is gone onto
 abbrev pub capacity : Cells → ℕ
 capacity road = min (distance_at_limit road) (empty_cells road)
+
+-- the capacity of a lane by itself, on a road with a limit
+abbrev pub lane_capacity : ℕ → Lane → ℕ
+lane_capacity limit lane = min (limit * lane_cars lane) (lane_empty_cells lane)
 
 -- a distance is within the capacity of a road for so many steps
 pub record IsWithinCapacity (road : Cells) (steps distance : ℕ) : Type 0 where

@@ -1,15 +1,15 @@
--- The fundamental diagram without randomization, on one lane: a run comes to the capacity of its road, and
--- stays at it. So the diagram is a triangle: its flow is the lesser of the limit times the density, and one
+-- The fundamental diagram without randomization: each lane of a run comes to its capacity, and stays at it.
+-- So the diagram of one lane is a triangle: its flow is the lesser of the limit times the density, and one
 -- less the density.
-use Rattle.std.specs.Prelude.{◌≡◌, ℕ, ◌+◌, ◌*◌, ◌≤◌, length}
+use Rattle.std.specs.Prelude.{◌≡◌, ℕ, ◌+◌, ◌*◌, ◌≤◌, length, sum_by}
 use Rattle.trlab_road.specs.Legal.{IsLegal}
-use Rattle.trlab_road.specs.Cells.{Cells}
+use Rattle.trlab_road.specs.Cells.{Cells, lane_of}
 use Rattle.trlab_road.specs.Spreading.{CanSpread, IsEven}
 use Rattle.trlab_rules.specs.Rules.{Programs}
 use Rattle.trlab_rules.specs.StandardRules.{IsNasch}
 use Rattle.trlab_step.specs.declared.tally.StepTally.{StepTally}
 use Rattle.trlab_step.specs.Run.{Seed, ComesTo}
-use Rattle.trlab_traffic.specs.Capacity.{all_cells, capacity}
+use Rattle.trlab_traffic.specs.Capacity.{all_cells, capacity, lane_capacity}
 use Rattle.trlab_traffic.specs.Runs.{always, counted_steps}
 
 -- the distance of the steps of a run that are counted is the capacity of its road for each of them
@@ -24,6 +24,15 @@ NaschComesToCapacity =
     → IsNasch 0 rule → IsLegal seed.road → length seed.road.lanes ≡ 1
     → seed.road.limit + all_cells seed.road ≤ seed.warm + 1 → ComesTo seed (always rule) step road sum
     → FlowsAtCapacity seed step sum
+
+-- on any number of lanes each comes to its own capacity. Together this is less than the capacity of the road
+-- if one lane is held back by the limit and another by its empty cells
+abbrev pub NaschComesToCapacityByLane : Type 0
+NaschComesToCapacityByLane =
+    (rule : Programs) (seed : Seed) (step : ℕ) (road : Cells) (sum : StepTally)
+    → IsNasch 0 rule → IsLegal seed.road → seed.road.limit + length (lane_of seed.road 0) ≤ seed.warm + 1
+    → ComesTo seed (always rule) step road sum
+    → sum.distance ≡ counted_steps seed step * sum_by (lane_capacity seed.road.limit) seed.road.lanes
 
 -- with the limit 1, which is rule 184, the time to go round the ring is enough
 abbrev pub Rule184ComesToCapacity : Type 0

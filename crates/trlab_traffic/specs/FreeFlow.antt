@@ -12,6 +12,7 @@ use Rattle.trlab_step.specs.Next.{IsNext}
 use Rattle.trlab_step.specs.Published.{AllGo}
 use Rattle.trlab_step.specs.Run.{Seed, ComesTo}
 use Rattle.trlab_traffic.specs.Capacity.{distance_at_limit}
+use Rattle.trlab_traffic.specs.Homogeneity.{turned}
 use Rattle.trlab_traffic.specs.Runs.{always, counted_steps}
 
 -- a road in free flow
@@ -38,3 +39,14 @@ FreeFlowStaysFree =
     (rule : Programs) (seed : Seed) (step : ℕ) (road : Cells) (sum : StepTally)
     → IsNasch 0 rule → IsLegal seed.road → IsFree seed.road → ComesTo seed (always rule) step road sum
     → FlowsFreely seed step road sum
+
+-- a run has moved as one: its road, turned by the limit for each step, is the road of the start
+abbrev pub MovesAsOne : Seed → ℕ → Cells → Type 0
+MovesAsOne seed step road = turned (seed.road.limit * step) road ≡ seed.road
+
+-- free flow does: all cars keep their distances from one another
+abbrev pub FreeFlowTurns : Type 0
+FreeFlowTurns =
+    (rule : Programs) (seed : Seed) (step : ℕ) (road : Cells) (sum : StepTally)
+    → IsNasch 0 rule → IsLegal seed.road → IsFree seed.road → ComesTo seed (always rule) step road sum
+    → MovesAsOne seed step road

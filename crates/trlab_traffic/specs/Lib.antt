@@ -9,6 +9,7 @@ pub mod Metastable
 pub mod Randomization
 -- cars that follow one another
 pub mod Following
+pub mod LaneGaps
 pub mod Jams
 pub mod Overtaking
 -- runs compared car by car

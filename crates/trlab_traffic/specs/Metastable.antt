@@ -12,7 +12,7 @@ use Rattle.trlab_rules.specs.StandardRules.{IsVdr}
 use Rattle.trlab_step.specs.declared.tally.StepTally.{StepTally}
 use Rattle.trlab_step.specs.Run.{Seed, ComesTo}
 use Rattle.trlab_traffic.specs.Capacity.{all_cells}
-use Rattle.trlab_traffic.specs.FreeFlow.{FlowsFreely, IsFree}
+use Rattle.trlab_traffic.specs.FreeFlow.{FlowsFreely, IsFree, MovesAsOne}
 use Rattle.trlab_traffic.specs.Runs.{always, counted_steps}
 
 -- a road whose cars are all stopped
@@ -25,6 +25,13 @@ SlowStartsKeepFreeFlow =
     (p0 : ℕ) (rule : Programs) (seed : Seed) (step : ℕ) (road : Cells) (sum : StepTally)
     → IsVdr 0 p0 rule → IsLegal seed.road → IsFree seed.road → ComesTo seed (always rule) step road sum
     → FlowsFreely seed step road sum
+
+-- and such a road moves as one
+abbrev pub SlowStartsTurnFreeFlow : Type 0
+SlowStartsTurnFreeFlow =
+    (p0 : ℕ) (rule : Programs) (seed : Seed) (step : ℕ) (road : Cells) (sum : StepTally)
+    → IsVdr 0 p0 rule → IsLegal seed.road → IsFree seed.road → ComesTo seed (always rule) step road sum
+    → MovesAsOne seed step road
 
 -- with any chance p for cars that move, and certainty for those that are stopped
 abbrev pub SlowStartsKeepJams : Type 0

@@ -11,16 +11,19 @@ ghost use Rattle.trlab_traffic.specs.Detector.{DetectorCountsOne, DetectorsCount
 ghost use Rattle.trlab_traffic.specs.DetectorRuns.{CountExists, DetectorMeasuresFlow, DetectorsAgree};
 ghost use Rattle.trlab_traffic.specs.DetectorRuns.{DetectorCountsBelowPeak, DetectorsAgreeByCars};
 ghost use Rattle.trlab_traffic.specs.DetectorRuns.{DetectorsCountRun, RunIsContinuous};
-ghost use Rattle.trlab_traffic.specs.Diagram.{EvenCarsFlowAtCapacity, NaschComesToCapacity, Rule184ComesToCapacity};
+ghost use Rattle.trlab_traffic.specs.Diagram.{EvenCarsFlowAtCapacity, NaschComesToCapacity};
+ghost use Rattle.trlab_traffic.specs.Diagram.{NaschComesToCapacityByLane, Rule184ComesToCapacity};
 ghost use Rattle.trlab_traffic.specs.Fastest.{GapProgramGoesAtOnce, NaschSpeedsUpByOne, NobodyBeatsGap};
 ghost use Rattle.trlab_traffic.specs.Fastest.{NobodyBeatsNasch, RandomizationSlowsRuns, SlowStartsSlowRuns};
 ghost use Rattle.trlab_traffic.specs.Fastest.{VdrSpeedsUpByOne};
 ghost use Rattle.trlab_traffic.specs.Following.{GapsFollow};
-ghost use Rattle.trlab_traffic.specs.FreeFlow.{FreeFlowGoesOn, FreeFlowStaysFree};
+ghost use Rattle.trlab_traffic.specs.FreeFlow.{FreeFlowGoesOn, FreeFlowStaysFree, FreeFlowTurns};
 ghost use Rattle.trlab_traffic.specs.Gone.{CarsGoDistance, EachCarHasGone, GoneIsOne};
 ghost use Rattle.trlab_traffic.specs.Homogeneity.{RunIsHomogeneous, StepIsHomogeneous};
 ghost use Rattle.trlab_traffic.specs.Jams.{CarWithoutGapStops};
-ghost use Rattle.trlab_traffic.specs.Metastable.{SlowStartsKeepFreeFlow, SlowStartsKeepJams, TwoFlowsAtOneDensity};
+ghost use Rattle.trlab_traffic.specs.LaneGaps.{GapsFillLane, RunKeepsLaneCars};
+ghost use Rattle.trlab_traffic.specs.Metastable.{SlowStartsKeepFreeFlow, SlowStartsKeepJams};
+ghost use Rattle.trlab_traffic.specs.Metastable.{SlowStartsTurnFreeFlow, TwoFlowsAtOneDensity};
 ghost use Rattle.trlab_traffic.specs.Moving.{RunGoesByMovingCars, StepGoesByMovingCars};
 ghost use Rattle.trlab_traffic.specs.Overtaking.{EachCarHasNext, NextCarIsOne, RunKeepsNextCar, StepKeepsNextCar};
 ghost use Rattle.trlab_traffic.specs.Randomization.{RandomizationSlows, SlowStartsSlow};
@@ -63,17 +66,19 @@ pub fn few_cars_change_lanes()
     ensures run { RunChangesFew }
 {}
 
-/// Free flow stays free for ever under the rule of 1992 without randomization: all cars go by the limit (Nagel and
-/// Schreckenberg 1992, J. Phys. I France 2, 2221).
+/// Free flow stays free for ever under the rule of 1992 without randomization: all cars go by the limit, so the road
+/// moves as one (Nagel and Schreckenberg 1992, J. Phys. I France 2, 2221).
 pub fn free_flow_stays_free()
     ensures step { FreeFlowGoesOn }
     ensures run { FreeFlowStaysFree }
+    ensures turned { FreeFlowTurns }
 {}
 
 /// Slow starts make free flow metastable: at one density free flow goes on for ever, and so does a jam (Barlovic,
 /// Santen, Schadschneider and Schreckenberg 1998, Eur. Phys. J. B 5, 793).
 pub fn slow_starts_are_metastable()
     ensures free { SlowStartsKeepFreeFlow }
+    ensures turned { SlowStartsTurnFreeFlow }
     ensures jam { SlowStartsKeepJams }
 {}
 
@@ -95,6 +100,13 @@ pub fn randomization_slows()
 /// changes.
 pub fn gaps_follow()
     ensures { GapsFollow }
+{}
+
+/// The gaps of a lane with a car add up to its empty cells, so the mean gap is the number of empty cells per car; and
+/// without lane changes each lane of a run keeps its number of cars.
+pub fn gaps_fill_lanes()
+    ensures gaps { GapsFillLane }
+    ensures cars { RunKeepsLaneCars }
 {}
 
 /// A car that has no gap stops, under any rule without lane changes.
@@ -188,9 +200,10 @@ pub fn nasch_is_rule_184()
 
 /// Without randomization a run on one lane comes to the capacity of its road from any start, whatever the limit: the
 /// fundamental diagram is a triangle (Fukui and Ishibashi 1996, J. Phys. Soc. Japan 65, 1868, of cars that come to
-/// their speed at once).
+/// their speed at once). On several lanes each comes to its own capacity.
 pub fn nasch_comes_to_capacity()
-    ensures { NaschComesToCapacity }
+    ensures one_lane { NaschComesToCapacity }
+    ensures by_lane { NaschComesToCapacityByLane }
 {}
 
 /// With the limit 1 it does so a step sooner: rule 184 relaxes while a run goes round the ring (Krug and Spohn 1988,
