@@ -33,7 +33,7 @@ use Rattle.trlab_traffic.proofs.Races.{no_faster}
 use Rattle.trlab_traffic.proofs.Slower.{more_happens}
 
 -- a sheet of one rule has what the rule has
-always_so : (P : Programs → Type 0) (rule : Programs) → P rule → EachRule P (always rule)
+pub always_so : (P : Programs → Type 0) (rule : Programs) → P rule → EachRule P (always rule)
 always_so P rule so zero d below = so
 always_so P rule so (suc k) d below = absurd (omega (arith, below))
 

@@ -19,6 +19,7 @@ pub mod GapsAfter
 pub mod LaneGaps
 pub mod Jamming
 pub mod NextCars
+pub mod Queues
 -- runs that are compared, car by car
 pub mod Numbering
 pub mod Going
@@ -33,6 +34,8 @@ pub mod LaneUnread
 pub mod Exchanging
 pub mod LanesApart
 pub mod Certainties
+pub mod Pigeonhole
+pub mod Periods
 -- rules that go as others
 pub mod Reductions
 pub mod Wolfram

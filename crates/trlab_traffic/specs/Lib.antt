@@ -11,6 +11,7 @@ pub mod Randomization
 pub mod Following
 pub mod LaneGaps
 pub mod Jams
+pub mod Queues
 pub mod Overtaking
 -- runs compared car by car
 pub mod Gone
@@ -20,6 +21,7 @@ pub mod Homogeneity
 pub mod Symmetry
 pub mod Apart
 pub mod Certainty
+pub mod Periods
 -- rules that go as others
 pub mod Reduction
 pub mod Rule184

@@ -26,6 +26,8 @@ ghost use Rattle.trlab_traffic.specs.Metastable.{SlowStartsKeepFreeFlow, SlowSta
 ghost use Rattle.trlab_traffic.specs.Metastable.{SlowStartsTurnFreeFlow, TwoFlowsAtOneDensity};
 ghost use Rattle.trlab_traffic.specs.Moving.{RunGoesByMovingCars, StepGoesByMovingCars};
 ghost use Rattle.trlab_traffic.specs.Overtaking.{EachCarHasNext, NextCarIsOne, RunKeepsNextCar, StepKeepsNextCar};
+ghost use Rattle.trlab_traffic.specs.Periods.{CertainRulesBecomePeriodic};
+ghost use Rattle.trlab_traffic.specs.Queues.{QueueStarts, QueueWaits};
 ghost use Rattle.trlab_traffic.specs.Randomization.{RandomizationSlows, SlowStartsSlow};
 ghost use Rattle.trlab_traffic.specs.Reduction.{RickertWithoutChange, RunsAlike, VdrOfOneChance};
 ghost use Rattle.trlab_traffic.specs.Rows.{RowMeasuresFlow, RowsAgree};
@@ -114,6 +116,14 @@ pub fn car_without_gap_stops()
     ensures { CarWithoutGapStops }
 {}
 
+/// A queue dissolves from its front, one car per step. Under any rules without lane changes the j-th car behind the
+/// head is stopped in its cell for j steps. Under the rule of 1992 without randomization it moves by one cell in the
+/// next step, if the head has a gap at the start.
+pub fn queue_dissolves_from_front()
+    ensures waits { QueueWaits }
+    ensures starts { QueueStarts }
+{}
+
 /// Nobody overtakes on a lane: each car has one next car ahead, and keeps it in each step and run without lane
 /// changes.
 pub fn nobody_overtakes()
@@ -180,6 +190,12 @@ pub fn certain_rules_are_deterministic()
     ensures nasch { NaschWithoutRandomization }
     ensures step { StepIsDeterministic }
     ensures run { RunIsDeterministic }
+{}
+
+/// A run under such a rule becomes periodic: from some step on its roads repeat for ever. This step and the period
+/// together are at most the number of states of the cars.
+pub fn certain_rules_become_periodic()
+    ensures { CertainRulesBecomePeriodic }
 {}
 
 /// Two rules go as that of Nagel and Schreckenberg (1992): that of 1998 where a car that is stopped brakes with the

@@ -1,0 +1,226 @@
+-- Queues: each car waits for the next car ahead.
+use Rattle.std.proofs.Common.{◌≡◌, ℕ, zero, suc, ◌+◌, ◌-◌, ◌%◌, ◌<◌, ◌≤◌, true, Some, None, length, refl, sym, ◌∙◌, ap, subst, inl, inr, arith}
+use Rattle.std.specs.Prelude.{is_some}
+use Rattle.std.proofs.Math.Nat.{add-mod-mod, add-mod_right, mod-lt}
+use Rattle.std.proofs.lemmas.Bool.{cases_lt, true≢false}
+use Rattle.trlab_road.specs.Cells.{Cell, Cells, Lane, at, lane_of}
+use Rattle.trlab_road.specs.Gaps.{ahead, behind, gap, next_place}
+use Rattle.trlab_road.specs.Legal.{IsLegal}
+use Rattle.trlab_road.proofs.MotionLaws.{on_lane}
+use Rattle.trlab_road.proofs.Ring.{car_in, clear_within_gap, ends_before, inside}
+use Rattle.trlab_rules.specs.Rules.{Programs}
+use Rattle.trlab_rules.specs.StandardRules.{IsNasch}
+use Rattle.trlab_rules.specs.Published.{safe_speed}
+use Rattle.trlab_step.specs.Next.{IsNext}
+use Rattle.trlab_step.specs.Run.{IsRoadAt, Seed, Sheet, dice_at}
+use Rattle.trlab_step.proofs.RunLaws.{force_all}
+use Rattle.trlab_traffic.specs.Queues.{IsQueue, QueueStarts, QueueWaits}
+use Rattle.trlab_traffic.specs.Rule184.{is_taken}
+use Rattle.trlab_traffic.specs.Runs.{EachRule, StaysInLane, always}
+use Rattle.trlab_traffic.proofs.Fastest.{always_so}
+use Rattle.trlab_traffic.proofs.Freely.{one_rule}
+use Rattle.trlab_traffic.proofs.GapsAfter.{gap_after}
+use Rattle.trlab_traffic.proofs.Going.{run_like}
+use Rattle.trlab_traffic.proofs.Jamming.{car_without_gap_stops}
+use Rattle.trlab_traffic.proofs.NaschMoves.{SafeMotion, safe_motion}
+use Rattle.trlab_traffic.proofs.Places.{ahead_more, ahead_none, clear_is_gap, gap_below}
+use Rattle.trlab_traffic.proofs.RunLanes.{run_lanes}
+
+-- what a taken cell has
+taken_car : (c : Cell) → is_some c ≡ true → (car : ℕ × ℕ) × (c ≡ Some car)
+taken_car None h = absurd cc
+taken_car (Some car) h = (car, refl)
+
+-- the cell p of a lane and the j cells ahead of it are taken
+abbrev Row : Lane → ℕ → ℕ → Type 0
+Row lane p j = (i : ℕ) → i ≤ j → is_taken lane (ahead (length lane) p i) ≡ true
+
+-- a queue as long as its lane has a car in every cell
+whole : (lane : Lane) (x n k : ℕ) → IsQueue lane x n → length lane ≤ n → is_taken lane (ahead (length lane) x k) ≡ true
+whole lane x n k queue round =
+    let m = length lane in
+    let first = taken_car (at lane (behind m x 0)) (queue 0 (omega arith)) in
+    let some : 0 < m = let low = inside lane (behind m x 0) first.0 first.1 in omega (arith, low) in
+    let part : k % m < m = mod-lt k some in
+    let e : m - (m - k % m) ≡ k % m = omega (arith, part) in
+    let same : behind m x (m - k % m) ≡ ahead m x k = ap (λ i. (x + i) % m) e ∙ add-mod-mod x k m in
+    ap (is_taken lane) (sym same) ∙ queue (m - k % m) (omega (arith, round))
+
+-- from a car of a queue to the head all cells are taken
+row_of : (lane : Lane) (x n j : ℕ) → IsQueue lane x n → j ≤ n → Row lane (behind (length lane) x j) j
+row_of lane x n j queue within i most =
+    let m = length lane in
+    let to : ahead m (behind m x j) i ≡ ahead m x (m - j + i) = ahead_more m x (m - j) i in
+    elim (cases_lt m j) [
+      | inl past ↦ ap (is_taken lane) to ∙ whole lane x n (m - j + i) queue (omega (arith, past, within))
+      | inr inner ↦
+          let e : m - j + i ≡ m - (j - i) = omega (arith, inner, most) in
+          ap (is_taken lane) (to ∙ ap (ahead m x) e) ∙ queue (j - i) (omega (arith, within))
+    ]
+
+-- the row of the next car
+row_on : (lane : Lane) (p j : ℕ) → Row lane p (suc j) → Row lane (ahead (length lane) p 1) j
+row_on lane p j row i most = ap (is_taken lane) (ahead_more (length lane) p 1 i) ∙ row (1 + i) (omega (arith, most))
+
+-- a car behind a taken cell has no gap
+no_gap : (lane : Lane) (p : ℕ) (next : ℕ × ℕ) → at lane (ahead (length lane) p 1) ≡ Some next → gap lane p ≡ 0
+no_gap lane p next there =
+    let low = inside lane (ahead (length lane) p 1) next there in
+    ends_before lane (ahead (length lane) p) 0 (omega (arith, low)) refl (ap is_some there)
+
+-- a car is still in its cell, and stopped from step 1 on
+pub record Waits (lane : Lane) (p number step : ℕ) : Type 0 where
+  speed : ℕ
+  here : at lane p ≡ Some (number, speed)
+  stopped : 1 ≤ step → speed ≡ 0
+
+module _ (seed : Seed) (sheet : Sheet) (nobody : EachRule StaysInLane sheet) (l : ℕ) where
+  abbrev start : Lane
+  start = lane_of seed.road l
+
+  -- with j taken cells directly ahead a car waits for j steps
+  waits : (step : ℕ) (road : Cells) (p j number speed : ℕ) → Row start p j → at start p ≡ Some (number, speed) → step ≤ j → IsRoadAt seed sheet step road → Waits (lane_of road l) p number step
+  waits zero road p j number speed row here most is = record {
+    speed = speed;
+    here = ap (λ (r : Cells). at (lane_of r l) p) is.1.1 ∙ here;
+    stopped = λ some. absurd (omega (arith, some));
+  }
+  waits (suc step) road p zero number speed row here most is = absurd (omega (arith, most))
+  waits (suc step) road p (suc j) number speed row here most is =
+      let comes = is.1 in
+      let before = comes.0 in
+      let old = lane_of before l in
+      let rule = comes.2 in
+      let none = force_all StaysInLane sheet step rule nobody comes.5.under in
+      let so_far : IsRoadAt seed sheet step before = (comes.1, comes.4) in
+      let own = waits step before p (suc j) number speed row here (omega (arith, most)) so_far in
+      let next = taken_car (at start (ahead (length start) p 1)) (row 1 (omega arith)) in
+      let other = waits step before (ahead (length start) p 1) j next.0.0 next.0.1 (row_on start p j row) next.1 (omega (arith, most)) so_far in
+      let size : length old ≡ length start = (run_lanes seed sheet step before comes.1 comes.4).size l (on_lane seed.road l p (number, speed) here) in
+      let jammed = no_gap old p (next.0.0, other.speed) (ap (λ k. at old (ahead k p 1)) size ∙ other.here) in
+      record {
+        speed = 0;
+        here = car_without_gap_stops rule (dice_at seed step) before road comes.3 (car_in l p number own.speed) none comes.5.next own.here jammed;
+        stopped = λ some. refl;
+      }
+
+pub queue_waits : QueueWaits
+queue_waits seed sheet step road x n j car nobody queued some most is =
+    let l = car.lane in
+    let lane = lane_of seed.road l in
+    let row : Row lane car.place j = subst (λ p. Row lane p j) (sym queued.place) (row_of lane x n j queued.queue queued.within) in
+    let now = waits seed sheet nobody l step road car.place j car.number car.speed row queued.stands most is in
+    subst (λ v. at (lane_of road l) car.place ≡ Some (car.number, v)) (now.stopped some) now.here
+
+-- a car with a gap moves, whatever its speed and the limit
+goes : (speed limit gap : ℕ) → 1 ≤ limit → 1 ≤ gap → 1 ≤ safe_speed speed limit gap
+goes speed limit gap some room = omega (arith, some, room)
+
+-- by one cell, if it was stopped
+goes_one : (limit gap : ℕ) → 1 ≤ limit → 1 ≤ gap → safe_speed 0 limit gap ≡ 1
+goes_one limit gap some room = omega (arith, some, room)
+
+module _ (seed : Seed) (rule : Programs) (nasch : IsNasch 0 rule) (legal : IsLegal seed.road) (l : ℕ) where
+  abbrev first : Lane
+  first = lane_of seed.road l
+
+  abbrev stays : EachRule StaysInLane (always rule)
+  stays = always_so StaysInLane rule nasch.change
+
+  -- the motion of one more step
+  record Motion (step : ℕ) (road : Cells) : Type 0 where
+    before : Cells
+    so_far : IsRoadAt seed (always rule) step before
+    some_limit : 1 ≤ before.limit
+    motion : SafeMotion before road
+
+  motion_of : (step : ℕ) (road : Cells) → IsRoadAt seed (always rule) (suc step) road → Motion step road
+  motion_of step road is =
+      let comes = is.1 in
+      let before = comes.0 in
+      let same = one_rule rule comes.2 step comes.5.under in
+      let next = subst (λ (r : Programs). IsNext r (dice_at seed step) before road comes.3) (sym same) comes.5.next in
+      let like = run_like seed (always rule) step before comes.1 legal comes.4 in
+      record {
+        before = before;
+        so_far = (comes.1, comes.4);
+        some_limit = like.legal.shape.limit.some_limit;
+        motion = safe_motion rule (dice_at seed step) before road comes.3 nasch like.legal next;
+      }
+
+  -- if the head of its row has a gap at the start, a car has a gap after these steps
+  ready : (j : ℕ) (road : Cells) (p number speed : ℕ) → Row first p j → at first p ≡ Some (number, speed) → 1 ≤ gap first (ahead (length first) p j) → IsRoadAt seed (always rule) j road → 1 ≤ gap (lane_of road l) p
+  ready zero road p number speed row here room is =
+      let e = ahead_none (length first) p (inside first p (number, speed) here) in
+      subst (λ (r : Cells). 1 ≤ gap (lane_of r l) p) (sym is.1.1) (subst (λ k. 1 ≤ gap first k) e room)
+  ready (suc j) road p number speed row here room is =
+      let m = motion_of j road is in
+      let before = m.before in
+      let old = lane_of before l in
+      let q = ahead (length first) p 1 in
+      let next = taken_car (at first q) (row 1 (omega arith)) in
+      let own = waits seed (always rule) stays l j before p (suc j) number speed row here (omega arith) m.so_far in
+      let other = waits seed (always rule) stays l j before q j next.0.0 next.0.1 (row_on first p j row) next.1 (omega arith) m.so_far in
+      let on = on_lane before l p (number, own.speed) own.here in
+      let size : length old ≡ length first = (run_lanes seed (always rule) j before m.so_far.0 m.so_far.1).size l (on_lane seed.road l p (number, speed) here) in
+      let jammed : gap old p ≡ 0 = no_gap old p (next.0.0, other.speed) (ap (λ k. at old (ahead k p 1)) size ∙ other.here) in
+      let one : 1 + j ≡ suc j = omega arith in
+      let head : ahead (length first) q j ≡ ahead (length first) p (suc j) = ahead_more (length first) p 1 j ∙ ap (ahead (length first) p) one in
+      let room_ahead = ready j before q next.0.0 next.0.1 (row_on first p j row) next.1 (subst (λ k. 1 ≤ gap first k) (sym head) room) m.so_far in
+      let answer = m.motion.speeds l in
+      let moves = m.motion.moves.each_lane l on in
+      let fits = m.motion.fits.each_lane l on in
+      let short = fits.gaps p number own.speed own.here in
+      let stops : answer p ≡ 0 = omega (arith, short, jammed) in
+      let q_is : next_place old p ≡ q = ap (λ g. ahead (length old) p (g + 1)) jammed ∙ ap (λ k. ahead k p 1) size in
+      let follows : answer (next_place old p) ≡ answer q = ap answer q_is in
+      let safe = m.motion.safe (car_in l q next.0.0 other.speed) other.here in
+      let gone = goes other.speed before.limit (gap old q) m.some_limit room_ahead in
+      let after = gap_after answer old (lane_of road l) moves fits p number own.speed own.here in
+      let there : ahead (length old) p (answer p) ≡ p = ap (ahead (length old) p) stops ∙ ahead_none (length old) p (inside old p (number, own.speed) own.here) in
+      let same = ap (gap (lane_of road l)) there in
+      omega (arith, same, after, follows, safe, gone)
+
+-- if the head of a queue has a gap, so has the last car of the row from the j-th car on
+head_room : (lane : Lane) (x n j : ℕ) → IsQueue lane x n → j ≤ n → 1 ≤ gap lane x → 1 ≤ gap lane (ahead (length lane) (behind (length lane) x j) j)
+head_room lane x n j queue within room =
+    let m = length lane in
+    let free : at lane (ahead m x 1) ≡ None = (clear_within_gap lane x 1 room).clear 1 (omega arith) (omega arith) in
+    let first = taken_car (at lane (behind m x 0)) (queue 0 (omega arith)) in
+    let short : gap lane x < m = gap_below lane x (behind m x 0) first.0 first.1 in
+    elim (cases_lt n m) [
+      | inl inner ↦
+          let e : m - j + j ≡ m = omega (arith, inner, within) in
+          let head : ahead m (behind m x j) j ≡ ahead m x m = ahead_more m x (m - j) j ∙ ap (ahead m x) e in
+          let k : x + (m + 1) ≡ x + 1 + m = omega arith in
+          let next : ahead m (ahead m x m) 1 ≡ ahead m x 1 = ahead_more m x m 1 ∙ ap (λ i. i % m) k ∙ add-mod_right (x + 1) m in
+          subst (λ i. 1 ≤ gap lane i) (sym head) (clear_is_gap lane (ahead m x m) 1 (omega (arith, room, short)) (record {
+            clear = λ i some most. let one : 1 ≡ i = omega (arith, some, most) in subst (λ k. at lane (ahead m (ahead m x m) k) ≡ None) one (ap (at lane) next ∙ free);
+          }))
+      | inr round ↦
+          let taken = whole lane x n 1 queue round in
+          let e = sym taken ∙ ap is_some free in
+          absurd (true≢false e)
+    ]
+
+pub queue_starts : QueueStarts
+queue_starts seed rule road x n j car nasch legal queued room is =
+    let l = car.lane in
+    let lane = lane_of seed.road l in
+    let p = car.place in
+    let row : Row lane p j = subst (λ k. Row lane k j) (sym queued.place) (row_of lane x n j queued.queue queued.within) in
+    let e : j + 1 ≡ suc j = omega arith in
+    let m = motion_of seed rule nasch legal l j road (subst (λ k. IsRoadAt seed (always rule) k road) e is) in
+    let before = m.before in
+    let old = lane_of before l in
+    let own = waits seed (always rule) (stays seed rule nasch legal l) l j before p j car.number car.speed row queued.stands (omega arith) m.so_far in
+    let size : length old ≡ length lane = (run_lanes seed (always rule) j before m.so_far.0 m.so_far.1).size l (on_lane seed.road l p (car.number, car.speed) queued.stands) in
+    let head = subst (λ k. 1 ≤ gap lane (ahead (length lane) k j)) (sym queued.place) (head_room lane x n j queued.queue queued.within room) in
+    let free = ready seed rule nasch legal l j before p car.number car.speed row queued.stands head m.so_far in
+    let safe = m.motion.safe (car_in l p car.number own.speed) own.here in
+    let slow = ap (λ v. safe_speed v before.limit (gap old p)) (own.stopped queued.behind_head) in
+    let one = goes_one before.limit (gap old p) m.some_limit free in
+    let speed : m.motion.speeds l p ≡ 1 = omega (arith, safe, slow, one) in
+    let arrived = (m.motion.moves.each_lane l (on_lane before l p (car.number, own.speed) own.here)).arrives p car.number own.speed own.here in
+    let there = subst (λ v. at (lane_of road l) (ahead (length old) p v) ≡ Some (car.number, v)) speed arrived in
+    subst (λ k. at (lane_of road l) (ahead k p 1) ≡ Some (car.number, 1)) size there

@@ -1,0 +1,29 @@
+-- Rules that leave nothing to chance lead every run into a cycle: from some step on its roads repeat.
+use Rattle.std.specs.Prelude.{◌≡◌, ℕ, ◌+◌, ◌*◌, ◌^◌, ◌≤◌, length}
+use Rattle.trlab_road.specs.Cells.{Cells, cars}
+use Rattle.trlab_road.specs.Legal.{IsLegal}
+use Rattle.trlab_rules.specs.Rules.{Programs}
+use Rattle.trlab_step.specs.Laws.{IsRuleFor}
+use Rattle.trlab_step.specs.Run.{Seed, Sheet, IsRoadAt}
+use Rattle.trlab_traffic.specs.Capacity.{all_cells}
+use Rattle.trlab_traffic.specs.Certainty.{IsCertain}
+use Rattle.trlab_traffic.specs.Runs.{always}
+
+-- from a first step on each road of a run comes again after a period of steps
+pub record IsPeriodic (seed : Seed) (sheet : Sheet) (first period : ℕ) : Type 0 where
+  pub some_step : 1 ≤ period
+  pub comes_again : (step : ℕ) (road later : Cells) → first ≤ step
+      → IsRoadAt seed sheet step road → IsRoadAt seed sheet (step + period) later → later ≡ road
+
+-- the number of states of a road's cars: each car is in one of the cells, at one of the speeds 0 to the limit
+abbrev pub states : Cells → ℕ
+states road = (all_cells road * (road.limit + 1)) ^ cars road
+
+-- a run under such a rule becomes periodic: its first step and its period together are at most the number
+-- of states
+abbrev pub CertainRulesBecomePeriodic : Type 0
+CertainRulesBecomePeriodic =
+    (rule : Programs) (seed : Seed)
+    → IsCertain rule → IsRuleFor (length seed.road.lanes) rule → IsLegal seed.road
+    → (first : ℕ) × (period : ℕ) × IsPeriodic seed (always rule) first period
+    × (first + period ≤ states seed.road)

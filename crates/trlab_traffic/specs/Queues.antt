@@ -1,0 +1,43 @@
+-- Queues: cars directly behind each other. Each car waits until the next car ahead has gone, so a queue
+-- dissolves from its front, one car per step.
+use Rattle.std.specs.Prelude.{◌≡◌, ℕ, ◌+◌, ◌≤◌, true, length}
+use Rattle.trlab_road.specs.declared.car.Car.{Car}
+use Rattle.trlab_road.specs.Cells.{Cells, Lane, IsAt, lane_of}
+use Rattle.trlab_road.specs.Gaps.{behind, gap}
+use Rattle.trlab_road.specs.Legal.{IsLegal}
+use Rattle.trlab_rules.specs.Rules.{Programs}
+use Rattle.trlab_rules.specs.StandardRules.{IsNasch}
+use Rattle.trlab_step.specs.Published.{car_ahead}
+use Rattle.trlab_step.specs.Run.{Seed, Sheet, IsRoadAt}
+use Rattle.trlab_traffic.specs.Jams.{stopped_car}
+use Rattle.trlab_traffic.specs.Rule184.{is_taken}
+use Rattle.trlab_traffic.specs.Runs.{EachRule, StaysInLane, always}
+
+-- a queue on a lane: the head in cell x, and a car in each of the n cells behind it
+abbrev pub IsQueue : Lane → ℕ → ℕ → Type 0
+IsQueue lane x n = (j : ℕ) → j ≤ n → is_taken lane (behind (length lane) x j) ≡ true
+
+-- a car is the j-th behind the head of a queue
+pub record IsQueued (road : Cells) (x n j : ℕ) (car : Car) : Type 0 where
+  pub queue : IsQueue (lane_of road car.lane) x n
+  pub behind_head : 1 ≤ j
+  pub within : j ≤ n
+  pub stands : IsAt road car
+  pub place : car.place ≡ behind (length (lane_of road car.lane)) x j
+
+-- under any sheet of rules without lane changes it is stopped in its cell after each of the first j steps,
+-- also if the queue is the whole ring
+abbrev pub QueueWaits : Type 0
+QueueWaits =
+    (seed : Seed) (sheet : Sheet) (step : ℕ) (road : Cells) (x n j : ℕ) (car : Car)
+    → EachRule StaysInLane sheet → IsQueued seed.road x n j car
+    → 1 ≤ step → step ≤ j → IsRoadAt seed sheet step road → IsAt road (stopped_car car)
+
+-- under the rule of 1992 without randomization it moves by one cell in the step after these, if the head has
+-- a gap at the start
+abbrev pub QueueStarts : Type 0
+QueueStarts =
+    (seed : Seed) (rule : Programs) (road : Cells) (x n j : ℕ) (car : Car)
+    → IsNasch 0 rule → IsLegal seed.road → IsQueued seed.road x n j car
+    → 1 ≤ gap (lane_of seed.road car.lane) x
+    → IsRoadAt seed (always rule) (j + 1) road → IsAt road (car_ahead seed.road car 1)
