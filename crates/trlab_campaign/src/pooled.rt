@@ -7,6 +7,7 @@ ghost use Rattle.trlab_step.specs.Progress.{at_start};
 ghost use Rattle.trlab_campaign.specs.Ending.{EndsSo, EngineEnds, LeavesWriter, WritesOn, WroteBy};
 ghost use Rattle.trlab_campaign.specs.Output.{IsOutputOf};
 ghost use Rattle.trlab_campaign.specs.Refusal.{Outputs};
+ghost use Rattle.trlab_campaign.specs.Writers.{bytes_of};
 
 use crate::device::{Sink, Source};
 use crate::end::End;
@@ -50,7 +51,8 @@ pub trait Account {
     ) -> Result<(), WriteFault>
         requires ready { A.is_ready asker.now }
         requires works { K.failed writer.old ≡ false }
-        ensures wrote { WroteBy (outputs self.now job) result (K.written writer.old) (K.written writer.new) }
+        ensures wrote { WroteBy (outputs self.now job) result
+            (bytes_of K.Sink writer.old) (bytes_of K.Sink writer.new) }
         ensures writer { WritesOn K.Sink result writer.old writer.new };
 }
 
@@ -147,15 +149,18 @@ pub fn run_pooled<
     let asker = &pool;
     pool.run(
         alloc,
-        &mut || run_engine(
-            alloc,
-            Driver {
+        &mut || -> End
+            requires reader_works { S.failed reader.now ≡ false }
+            requires writer_works { K.failed writer.now ≡ false }
+            ensures { EngineEnds S.Source K.Sink (IsOutputOf (C.outputs account.entry.now)) result
+                reader.entry.now reader.exit.now writer.entry.now writer.exit.now }
+        {
+            let driver = Driver {
                 account,
                 asker,
                 observer,
-            },
-            reader,
-            writer,
-        ),
+            };
+            run_engine(alloc, driver, reader, writer)
+        },
     )
 }
