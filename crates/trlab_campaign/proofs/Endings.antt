@@ -1,7 +1,6 @@
 -- How runs end, by what was written.
-use Rattle.std.proofs.Common.{◌≡◌, ℕ, zero, suc, ◌+◌, ◌-◌, ◌<◌, ◌≤◌, List, [], ◌∷◌, length, refl, ap, arith, subst, Bool, true, false, inl, inr}
+use Rattle.std.proofs.Common.{◌≡◌, ℕ, ◌<◌, List, length, refl, subst, Bool, true, false, inl, inr}
 use Rattle.std.specs.Prelude.{Option, None, Some, IfSome, Ok, Err}
-use Rattle.std.specs.Io.KnownBytes.{Keeps}
 use Rattle.trlab_campaign.specs.declared.end.End.{End}
 use Rattle.trlab_campaign.specs.declared.end.End.TheVariants.{Done, Refused, Memory, DeviceFault}
 use Rattle.trlab_bounds.specs.declared.texts.TheConstants.{TEXT_LIMIT}
@@ -14,14 +13,15 @@ use Rattle.trlab_campaign.specs.CheckOutput.{VerdictOutput, IsCheckOutput}
 use Rattle.trlab_jobs.specs.Sweep.{Sweep, SweepText}
 use Rattle.trlab_campaign.specs.SweepOutput.{SweepOutput, IsSweepOutput}
 use Rattle.trlab_campaign.specs.Ending.{EndsSo, EndsTooBig, OutputEnds, WroteAll, WrotePrefix}
-use Rattle.trlab_campaign.proofs.KnownBytes.{prefix_kept}
+use Rattle.trlab_campaign.specs.Writers.{SinkBytes, AddsNone}
+use Rattle.trlab_campaign.proofs.WrittenBytes.{prefix_kept}
 
 -- a whole output was written, and the last call kept the bytes
-pub all_kept : (IsWhole : Outputs) (refused : Bool) (old a b : Option (List ℕ)) → WroteAll IsWhole refused old a → Keeps a b → WrotePrefix IsWhole old b
+pub all_kept : (IsWhole : Outputs) (refused : Bool) (old a b : SinkBytes) → WroteAll IsWhole refused old a → AddsNone a b → WrotePrefix IsWhole old b
 all_kept IsWhole refused old a b wrote keeps = inr (refused, (wrote.0, (wrote.1.0, prefix_kept old a b wrote.0 wrote.1.1 keeps)))
 
 -- a whole output of a text, whose writing ended so
-pub output_ends : (IsWhole : Outputs) (refused : Bool) (out : List ℕ) (e : End) (old new : Option (List ℕ)) → IsWhole refused out
+pub output_ends : (IsWhole : Outputs) (refused : Bool) (out : List ℕ) (e : End) (old new : SinkBytes) → IsWhole refused out
     → OutputEnds refused out e old new → EndsSo IsWhole e old new
 output_ends IsWhole refused out Done old new whole ends = (out, (subst (λ (r : Bool). IsWhole r out) ends.0 whole, ends.1))
 output_ends IsWhole refused out Refused old new whole ends = (out, (subst (λ (r : Bool). IsWhole r out) ends.0 whole, ends.1))
@@ -29,7 +29,7 @@ output_ends IsWhole refused out Memory old new whole ends = inl ends
 output_ends IsWhole refused out DeviceFault old new whole ends = inr (refused, (out, (whole, ends)))
 
 -- whoever ended so by some outputs ended so by all that these are among
-ends_among : (IsOwn IsWhole : Outputs) (e : End) (old new : Option (List ℕ)) → ((refused : Bool) (out : List ℕ) → IsOwn refused out → IsWhole refused out)
+ends_among : (IsOwn IsWhole : Outputs) (e : End) (old new : SinkBytes) → ((refused : Bool) (out : List ℕ) → IsOwn refused out → IsWhole refused out)
     → EndsSo IsOwn e old new → EndsSo IsWhole e old new
 ends_among IsOwn IsWhole Done old new among ends = (ends.0, (among false ends.0 ends.1.0, ends.1.1))
 ends_among IsOwn IsWhole Refused old new among ends = (ends.0, (among true ends.0 ends.1.0, ends.1.1))
@@ -39,57 +39,39 @@ ends_among IsOwn IsWhole DeviceFault old new among (inl kept) = inl kept
 ends_among IsOwn IsWhole DeviceFault old new among (inr wrote) = inr (wrote.0, (wrote.1.0, (among wrote.0 wrote.1.0 wrote.1.1.0, wrote.1.1.1)))
 
 -- what is written for a job or a sweep that a text says
-pub text_ends : (Output : Job → Outputs) (e : End) (text : List ℕ) (job : Job) (old new : Option (List ℕ))
+pub text_ends : (Output : Job → Outputs) (e : End) (text : List ℕ) (job : Job) (old new : SinkBytes)
     → JobText text (Ok job) → EndsSo (Output job) e old new → EndsSo (IsOutputOf Output text) e old new
 text_ends Output e text job old new says ends = ends_among (Output job) (IsOutputOf Output text) e old new (λ refused out is. (Ok job, (says, is))) ends
 
-pub sweep_ends : (e : End) (text : List ℕ) (sweep : Sweep) (old new : Option (List ℕ)) → SweepText text (Ok sweep)
+pub sweep_ends : (e : End) (text : List ℕ) (sweep : Sweep) (old new : SinkBytes) → SweepText text (Ok sweep)
     → EndsSo (SweepOutput sweep) e old new → EndsSo (IsSweepOutput text) e old new
 sweep_ends e text sweep old new says ends = ends_among (SweepOutput sweep) (IsSweepOutput text) e old new (λ refused out is. (Ok sweep, (says, is))) ends
 
 -- the verdict on the program of a check that a text says
-pub verdict_ends : (e : End) (text : List ℕ) (check : Check) (refused : Bool) (out : List ℕ) (old new : Option (List ℕ)) → CheckText text (Ok check)
+pub verdict_ends : (e : End) (text : List ℕ) (check : Check) (refused : Bool) (out : List ℕ) (old new : SinkBytes) → CheckText text (Ok check)
     → VerdictOutput check refused out → OutputEnds refused out e old new → EndsSo (IsCheckOutput text) e old new
 verdict_ends e text check refused out old new says verdict ends =
     output_ends (IsCheckOutput text) refused out e old new (Ok check, (says, verdict)) ends
 
 -- the refusal of a text with a fault
-pub refusal_ends : (Output : Job → Outputs) (e : End) (text : List ℕ) (fault : Fault) (old new : Option (List ℕ))
+pub refusal_ends : (Output : Job → Outputs) (e : End) (text : List ℕ) (fault : Fault) (old new : SinkBytes)
     → JobText text (Err fault) → OutputEnds true (fault_line fault) e old new → EndsSo (IsOutputOf Output text) e old new
 refusal_ends Output e text fault old new says ends =
     output_ends (IsOutputOf Output text) true (fault_line fault) e old new (Err fault, (says, (refl, refl))) ends
 
-pub check_refusal_ends : (e : End) (text : List ℕ) (fault : Fault) (old new : Option (List ℕ)) → CheckText text (Err fault)
+pub check_refusal_ends : (e : End) (text : List ℕ) (fault : Fault) (old new : SinkBytes) → CheckText text (Err fault)
     → OutputEnds true (fault_line fault) e old new → EndsSo (IsCheckOutput text) e old new
 check_refusal_ends e text fault old new says ends = output_ends (IsCheckOutput text) true (fault_line fault) e old new (Err fault, (says, (refl, refl))) ends
 
-pub sweep_refusal_ends : (e : End) (text : List ℕ) (fault : Fault) (old new : Option (List ℕ)) → SweepText text (Err fault)
+pub sweep_refusal_ends : (e : End) (text : List ℕ) (fault : Fault) (old new : SinkBytes) → SweepText text (Err fault)
     → OutputEnds true (fault_line fault) e old new → EndsSo (IsSweepOutput text) e old new
 sweep_refusal_ends e text fault old new says ends = output_ends (IsSweepOutput text) true (fault_line fault) e old new (Err fault, (says, (refl, refl))) ends
 
 -- what is written for a text that is too long, by what an engine does for any such text
-pub too_big_ends : (IsWhole : List ℕ → Outputs) (e : End) (left old new : Option (List ℕ)) → EndsTooBig IsWhole e old new
+pub too_big_ends : (IsWhole : List ℕ → Outputs) (e : End) (left : Option (List ℕ)) (old new : SinkBytes) → EndsTooBig IsWhole e old new
     → IfSome left (λ all. TEXT_LIMIT < length all) → IfSome left (λ text. EndsSo (IsWhole text) e old new)
 too_big_ends IsWhole e None old new ends big = tt
 too_big_ends IsWhole e (Some all) old new ends big = ends all big
-
--- some text has so many bytes
-some_text : (count : ℕ) → (text : List ℕ) × (length text ≡ count)
-some_text zero = ([], refl)
-some_text (suc count) = let rest = some_text count in (0 ∷ rest.0, ap suc rest.1)
-
--- what holds of each text of so many bytes holds of one
-pub of_some_text : (P : List ℕ → Type 0) (before after : ℕ) → before ≤ after → ((text : List ℕ) → after ≡ before + length text → P text)
-    → (text : List ℕ) × ((after ≡ before + length text) × P text)
-of_some_text P before after rises holds =
-    let found = some_text (after - before) in
-    let count : after ≡ before + length found.0 = omega (arith, found.1) in
-    (found.0, (count, holds found.0 count))
-
--- a writer that was not called keeps its bytes
-pub kept : (written : Option (List ℕ)) → Keeps written written
-kept None = tt
-kept (Some bytes) = refl
 
 -- what holds of each text holds of the one that is told, if one is
 pub if_told : (P : List ℕ → Type 0) (left : Option (List ℕ)) → ((text : List ℕ) → P text) → IfSome left P
@@ -97,7 +79,7 @@ if_told P None holds = tt
 if_told P (Some text) holds = holds text
 
 -- where memory ran out, the writing of one whole output wrote nothing
-pub kept_at_memory : (refused : Bool) (out : List ℕ) (e : End) (old new : Option (List ℕ)) → OutputEnds refused out e old new → e ≡ Memory → Keeps old new
+pub kept_at_memory : (refused : Bool) (out : List ℕ) (e : End) (old new : SinkBytes) → OutputEnds refused out e old new → e ≡ Memory → AddsNone old new
 kept_at_memory refused out Memory old new ends is = ends
 kept_at_memory refused out Done old new ends is = absurd (cc is)
 kept_at_memory refused out Refused old new ends is = absurd (cc is)

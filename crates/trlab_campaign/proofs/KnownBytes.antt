@@ -1,9 +1,7 @@
--- Known bytes over several calls.
-use Rattle.std.proofs.Common.{◌≡◌, ℕ, ◌+◌, ◌<◌, ◌≤◌, List, [], ◌++◌, length, take, drop, refl, arith, append_assoc, sym, ◌∙◌, ap, length-append, append-nil, take-add, subst}
-use Rattle.std.proofs.Math.Seq.{take-length}
+-- The bytes of a reader, over several calls: first those that it tells.
+use Rattle.std.proofs.Common.{◌≡◌, ℕ, ◌<◌, List, [], ◌++◌, length, take, refl, arith, append_assoc, sym, ◌∙◌, ap, length-append, append-nil, subst}
 use Rattle.std.specs.Prelude.{Option, None, Some, IfSome}
-use Rattle.std.specs.Io.KnownBytes.{Appends, Consumes, IsAtEnd, Keeps}
-use Rattle.trlab_campaign.specs.Device.{AppendsPrefix}
+use Rattle.std.specs.Io.KnownBytes.{Consumes, IsAtEnd, Keeps}
 
 pub consumes_none : (a : Option (List ℕ)) → Consumes a a []
 consumes_none None = tt
@@ -38,35 +36,12 @@ consumes_over None b xs least over p = tt
 consumes_over (Some x) None xs least over p = absurd p
 consumes_over (Some x) (Some y) xs least over p = omega (arith, ap length p, length-append xs y)
 
-pub appends_none : (a : Option (List ℕ)) → Appends a a []
-appends_none None = tt
-appends_none (Some xs) = sym (append-nil xs)
+-- all bytes that a reader has given: a call gave more, none, and none since it counted 0
+pub given_more : (a b c xs ys : List ℕ) → b ≡ a ++ xs → c ≡ b ++ ys → c ≡ a ++ (xs ++ ys)
+given_more a b c xs ys p q = q ∙ (ap (λ t. t ++ ys) p ∙ append_assoc a xs ys)
 
-pub appends_more : (a b c : Option (List ℕ)) (xs ys : List ℕ) → Appends a b xs → Appends b c ys → Appends a c (xs ++ ys)
-appends_more None b c xs ys p q = tt
-appends_more (Some x) None c xs ys p q = absurd p
-appends_more (Some x) (Some y) None xs ys p q = absurd q
-appends_more (Some x) (Some y) (Some z) xs ys p q = q ∙ ap (λ t. t ++ ys) p ∙ append_assoc x xs ys
+pub given_more_none : (a b c xs : List ℕ) → b ≡ a ++ xs → c ≡ b ++ [] → c ≡ a ++ xs
+given_more_none a b c xs p q = q ∙ (append-nil b ∙ p)
 
-pub appends_kept : (a b c : Option (List ℕ)) (xs : List ℕ) → Appends a b xs → Keeps b c → Appends a c xs
-appends_kept None b c xs p q = tt
-appends_kept (Some x) None c xs p q = absurd p
-appends_kept (Some x) (Some y) None xs p q = absurd q
-appends_kept (Some x) (Some y) (Some z) xs p q = q ∙ p
-
--- of a text whose first `done` bytes are there, `count` more
-pub appends_part : (a b c : Option (List ℕ)) (text : List ℕ) (done count : ℕ) → Appends a b (take done text) → Appends b c (take count (drop done text)) → Appends a c (take (done + count) text)
-appends_part a b c text done count p q = rw (take-add done count text) (appends_more a b c (take done text) (take count (drop done text)) p q)
-
--- of a text all bytes are there
-pub appends_whole : (a b : Option (List ℕ)) (text : List ℕ) (done : ℕ) → done ≤ length text → length text ≤ done → Appends a b (take done text) → Appends a b text
-appends_whole a b text done inside all p =
-    let here : done ≡ length text = omega arith in
-    subst (λ (t : List ℕ). Appends a b t) (take-length text) (rw here at p)
-
--- a whole text is a prefix of it, and so is nothing
-pub prefix_whole : (a b : Option (List ℕ)) (text : List ℕ) → Appends a b text → AppendsPrefix a b text
-prefix_whole a b text p = record { count = length text; prefix = subst (λ (t : List ℕ). Appends a b t) (sym (take-length text)) p }
-
-pub prefix_kept : (a b c : Option (List ℕ)) (text : List ℕ) → Appends a b text → Keeps b c → AppendsPrefix a c text
-prefix_kept a b c text p q = record { count = length text; prefix = subst (λ (t : List ℕ). Appends a c t) (sym (take-length text)) (appends_kept a b c text p q) }
+pub given_last : (a b c xs part : List ℕ) (count : ℕ) → count ≡ 0 → b ≡ a ++ xs → c ≡ b ++ take count part → c ≡ a ++ xs
+given_last a b c xs part count is p q = given_more_none a b c xs p (rw is at q)

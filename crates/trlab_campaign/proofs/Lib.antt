@@ -1,4 +1,5 @@
 pub mod KnownBytes
+pub mod WrittenBytes
 pub mod Lines
 pub mod NoteTables
 pub mod Owed

@@ -2,43 +2,41 @@
 use Rattle.std.proofs.Common.{◌≡◌, ℕ, List, [], ◌++◌, length, take, drop, refl, append_assoc, append-nil, sym, ◌∙◌, ap, subst}
 use Rattle.std.proofs.Math.Seq.{take-append_seam}
 use Rattle.std.proofs.lemmas.List.{take-append-drop}
-use Rattle.std.specs.Prelude.{Option}
-use Rattle.std.specs.Io.KnownBytes.{Appends}
-use Rattle.trlab_campaign.specs.Device.{AppendsPrefix}
-use Rattle.trlab_campaign.proofs.KnownBytes.{appends_none, appends_more}
+use Rattle.trlab_campaign.specs.Writers.{Adds, AddsPrefix, SinkBytes}
+use Rattle.trlab_campaign.proofs.WrittenBytes.{adds_none, adds_more}
 
 -- of a whole text some was written, and the rest is owed
-pub record Owes (whole rest : List ℕ) (old now : Option (List ℕ)) : Type 0 where
+pub record Owes (whole rest : List ℕ) (old now : SinkBytes) : Type 0 where
   pub done : List ℕ
   pub parts : whole ≡ done ++ rest
-  pub wrote : Appends old now done
+  pub wrote : Adds old now done
 
 -- before the first piece
-pub owes_all : (whole : List ℕ) (old : Option (List ℕ)) → Owes whole whole old old
-owes_all whole old = record { done = []; parts = refl; wrote = appends_none old }
+pub owes_all : (whole : List ℕ) (old : SinkBytes) → Owes whole whole old old
+owes_all whole old = record { done = []; parts = refl; wrote = adds_none old }
 
 -- after a piece
-pub owes_less : (whole next rest : List ℕ) (old a b : Option (List ℕ)) → Owes whole (next ++ rest) old a → Appends a b next → Owes whole rest old b
+pub owes_less : (whole next rest : List ℕ) (old a b : SinkBytes) → Owes whole (next ++ rest) old a → Adds a b next → Owes whole rest old b
 owes_less whole next rest old a b owes wrote = record {
   done = owes.done ++ next;
   parts = owes.parts ∙ sym (append_assoc owes.done next rest);
-  wrote = appends_more old a b owes.done next owes.wrote wrote;
+  wrote = adds_more old a b owes.done next owes.wrote wrote;
 }
 
 -- where it stops, a prefix was written
-owes_stop : (whole rest : List ℕ) (old a : Option (List ℕ)) → Owes whole rest old a → AppendsPrefix old a whole
+owes_stop : (whole rest : List ℕ) (old a : SinkBytes) → Owes whole rest old a → AddsPrefix old a whole
 owes_stop whole rest old a owes =
-    record { count = length owes.done; prefix = subst (λ (t : List ℕ). Appends old a t) (sym (ap (take (length owes.done)) owes.parts ∙ take-append_seam owes.done rest)) owes.wrote }
+    record { count = length owes.done; prefix = subst (λ (t : List ℕ). Adds old a t) (sym (ap (take (length owes.done)) owes.parts ∙ take-append_seam owes.done rest)) owes.wrote }
 
 -- where it stops within a piece
-pub owes_prefix : (whole next rest : List ℕ) (old a b : Option (List ℕ)) → Owes whole (next ++ rest) old a → AppendsPrefix a b next → AppendsPrefix old b whole
+pub owes_prefix : (whole next rest : List ℕ) (old a b : SinkBytes) → Owes whole (next ++ rest) old a → AddsPrefix a b next → AddsPrefix old b whole
 owes_prefix whole next rest old a b owes prefix =
     owes_stop whole (drop prefix.count next ++ rest) old b (record {
       done = owes.done ++ take prefix.count next;
       parts = owes.parts ∙ ap (λ t. owes.done ++ t) (ap (λ t. t ++ rest) (sym (take-append-drop prefix.count next)) ∙ append_assoc (take prefix.count next) (drop prefix.count next) rest) ∙ sym (append_assoc owes.done (take prefix.count next) (drop prefix.count next ++ rest));
-      wrote = appends_more old a b owes.done (take prefix.count next) owes.wrote prefix.prefix;
+      wrote = adds_more old a b owes.done (take prefix.count next) owes.wrote prefix.prefix;
     })
 
 -- where nothing is owed, all was written
-pub owes_none : (whole : List ℕ) (old a : Option (List ℕ)) → Owes whole [] old a → Appends old a whole
-owes_none whole old a owes = subst (λ (t : List ℕ). Appends old a t) (sym (owes.parts ∙ append-nil owes.done)) owes.wrote
+pub owes_none : (whole : List ℕ) (old a : SinkBytes) → Owes whole [] old a → Adds old a whole
+owes_none whole old a owes = subst (λ (t : List ℕ). Adds old a t) (sym (owes.parts ∙ append-nil owes.done)) owes.wrote

@@ -1,17 +1,16 @@
 -- A run whose pictures are written step by step.
 use Rattle.std.proofs.Common.{◌≡◌, ℕ, ◌+◌, ◌-◌, ◌≤◌, List, ◌++◌, flat_map, refl, ◌∙◌, ap, arith, add-one, inr, false}
-use Rattle.std.specs.Prelude.{Option, Result, Ok, Err}
+use Rattle.std.specs.Prelude.{Result, Ok, Err}
 use Rattle.std.specs.List.{range_with_len}
-use Rattle.std.specs.Io.KnownBytes.{Appends}
 use Rattle.trlab_road.specs.Cells.{Cells}
 use Rattle.trlab_step.specs.Run.{IsRoadAt}
 use Rattle.trlab_step.proofs.RunLaws.{run_comes_to_road, road_at_is_one}
 use Rattle.trlab_step.specs.Progress.{Progress, IsOneStepOn, at_start}
 use Rattle.trlab_jobs.specs.Job.{Job, seed_of, sheet_of}
 use Rattle.trlab_jobs.specs.Stored.{IsStored}
-use Rattle.trlab_campaign.specs.Device.{AppendsBy, AppendsPrefix}
 use Rattle.trlab_campaign.specs.Output.{JobOutput, step_text, steps_text}
 use Rattle.trlab_campaign.specs.Ending.{WroteAll, WroteBy, WrotePrefix}
+use Rattle.trlab_campaign.specs.Writers.{Adds, AddsBy, AddsPrefix, SinkBytes}
 use Rattle.trlab_campaign.proofs.Sheets.{plain_sheet}
 use Rattle.trlab_campaign.proofs.Owed.{Owes, owes_all, owes_less, owes_prefix, owes_none}
 
@@ -24,14 +23,14 @@ abbrev pub Roads : Job → (ℕ → Cells) → Type 0
 Roads job roads = (s : ℕ) → IsRoadAt (seed_of job) (sheet_of job) s (roads s)
 
 -- before a step, of the whole output the text from this step on is owed
-pub record Underway (job : Job) (step left : ℕ) (old now : Option (List ℕ)) : Type 0 where
+pub record Underway (job : Job) (step left : ℕ) (old now : SinkBytes) : Type 0 where
   pub roads : ℕ → Cells
   pub each : Roads job roads
   pub ends : step + left ≡ job.steps
   pub owes : Owes (steps_text roads (job.steps + 1)) (text_from roads step (left + 1)) old now
 
 -- the same, once the text of the step is written
-pub record Written (job : Job) (step left : ℕ) (old now : Option (List ℕ)) : Type 0 where
+pub record Written (job : Job) (step left : ℕ) (old now : SinkBytes) : Type 0 where
   pub roads : ℕ → Cells
   pub each : Roads job roads
   pub ends : step + left ≡ job.steps
@@ -50,7 +49,7 @@ pub record Begins (job : Job) (steps : ℕ) (run : Progress) : Type 0 where
   pub ends : steps ≡ job.steps
 
 -- a run has come to a step, and so many are left: if it began as that of a job, it is on its way as that
-abbrev pub Writes : ℕ → Progress → ℕ → ℕ → Progress → Option (List ℕ) → Option (List ℕ) → Type 0
+abbrev pub Writes : ℕ → Progress → ℕ → ℕ → Progress → SinkBytes → SinkBytes → Type 0
 Writes steps start step left run old now = (job : Job) → Begins job steps start → Underway job step left old now × Drives job step run
 
 -- a job that was read has a road at each step of its run
@@ -60,7 +59,7 @@ roads_of job plain =
     (λ s. (at s).0, λ s. ((at s).1, (at s).2))
 
 -- before the first step
-begin : (job : Job) (old : Option (List ℕ)) → IsStored job → Underway job 0 job.steps old old
+begin : (job : Job) (old : SinkBytes) → IsStored job → Underway job 0 job.steps old old
 begin job old plain =
     let found = roads_of job plain in
     record {
@@ -71,7 +70,7 @@ begin job old plain =
     }
 
 -- the run of a job begins
-pub begin_run : (steps : ℕ) (run : Progress) (old : Option (List ℕ)) → Writes steps run 0 steps run old old
+pub begin_run : (steps : ℕ) (run : Progress) (old : SinkBytes) → Writes steps run 0 steps run old old
 begin_run steps run old job begins = (
   rw begins.ends (begin job old begins.stored),
   rw begins.starts (record { seed = refl; sheet = refl; step_is = refl }),
@@ -98,8 +97,8 @@ here : (job : Job) (roads : ℕ → Cells) (step : ℕ) (road : Cells) → Roads
 here job roads step road each at = road_at_is_one (seed_of job) (sheet_of job) step (roads step) road (each step) at
 
 -- the text of a step is written
-wrote : (job : Job) (step left : ℕ) (road : Cells) (old a b : Option (List ℕ)) → Underway job step left old a
-    → IsRoadAt (seed_of job) (sheet_of job) step road → Appends a b (step_text step road) → Written job step left old b
+wrote : (job : Job) (step left : ℕ) (road : Cells) (old a b : SinkBytes) → Underway job step left old a
+    → IsRoadAt (seed_of job) (sheet_of job) step road → Adds a b (step_text step road) → Written job step left old b
 wrote job step left road old a b u at text = record {
   roads = u.roads;
   each = u.each;
@@ -109,12 +108,12 @@ wrote job step left road old a b u at text = record {
 }
 
 -- the next step comes
-went_on : (job : Job) (step left : ℕ) (old now : Option (List ℕ)) → Written job step (left + 1) old now → Underway job (step + 1) left old now
+went_on : (job : Job) (step left : ℕ) (old now : SinkBytes) → Written job step (left + 1) old now → Underway job (step + 1) left old now
 went_on job step left old now w = record { roads = w.roads; each = w.each; ends = omega (arith, w.ends); owes = w.owes }
 
 -- it stops within the text of a step
-stop_within : (job : Job) (step left : ℕ) (road : Cells) (old a b : Option (List ℕ)) → Underway job step left old a
-    → IsRoadAt (seed_of job) (sheet_of job) step road → AppendsPrefix a b (step_text step road) → WrotePrefix (JobOutput job) old b
+stop_within : (job : Job) (step left : ℕ) (road : Cells) (old a b : SinkBytes) → Underway job step left old a
+    → IsRoadAt (seed_of job) (sheet_of job) step road → AddsPrefix a b (step_text step road) → WrotePrefix (JobOutput job) old b
 stop_within job step left road old a b u at text =
     let whole = steps_text u.roads (job.steps + 1) in
     let is : JobOutput job false whole = (refl, (u.roads, record { road_at = λ s _. u.each s; pictures = refl })) in
@@ -131,24 +130,24 @@ stop_within job step left road old a b u at text =
     )
 
 -- the text of the last step is written
-all_written : (job : Job) (step : ℕ) (road : Cells) (old a b : Option (List ℕ)) → Underway job step 0 old a
-    → IsRoadAt (seed_of job) (sheet_of job) step road → Appends a b (step_text step road) → WroteAll (JobOutput job) false old b
+all_written : (job : Job) (step : ℕ) (road : Cells) (old a b : SinkBytes) → Underway job step 0 old a
+    → IsRoadAt (seed_of job) (sheet_of job) step road → Adds a b (step_text step road) → WroteAll (JobOutput job) false old b
 all_written job step road old a b u at text =
     let w = wrote job step 0 road old a b u at text in
     let whole = steps_text w.roads (job.steps + 1) in
     (whole, ((refl, (w.roads, record { road_at = λ s _. w.each s; pictures = refl })), owes_none whole old b w.owes))
 
 -- the text of a step is written, and the run takes this step
-pub step_on : (steps step left : ℕ) (start run next : Progress) (old a b : Option (List ℕ)) → Writes steps start step (left + 1) run old a
-    → IsRoadAt run.seed run.sheet run.step run.road → Appends a b (step_text step run.road) → IsOneStepOn run next → Writes steps start (step + 1) left next old b
+pub step_on : (steps step left : ℕ) (start run next : Progress) (old a b : SinkBytes) → Writes steps start step (left + 1) run old a
+    → IsRoadAt run.seed run.sheet run.step run.road → Adds a b (step_text step run.road) → IsOneStepOn run next → Writes steps start (step + 1) left next old b
 step_on steps step left start run next old a b writes road text on job begins =
     let here = writes job begins in
     let at = driven_road job step run run.road here.1 road in
     (went_on job step left old b (wrote job step (left + 1) run.road old a b here.0 at text), drive_on job step run next here.1 on)
 
 -- it stops within the text of a step of the run
-pub step_stops : (steps step left : ℕ) (start run : Progress) (old a b : Option (List ℕ)) → Writes steps start step left run old a
-    → IsRoadAt run.seed run.sheet run.step run.road → AppendsPrefix a b (step_text step run.road) → (job : Job) → Begins job steps start → WrotePrefix (JobOutput job) old b
+pub step_stops : (steps step left : ℕ) (start run : Progress) (old a b : SinkBytes) → Writes steps start step left run old a
+    → IsRoadAt run.seed run.sheet run.step run.road → AddsPrefix a b (step_text step run.road) → (job : Job) → Begins job steps start → WrotePrefix (JobOutput job) old b
 step_stops steps step left start run old a b writes road text job begins =
     let here = writes job begins in
     stop_within job step left run.road old a b here.0 (driven_road job step run run.road here.1 road) text
@@ -158,8 +157,8 @@ pub no_step_left : (step steps : ℕ) → step ≤ steps → steps ≤ step → 
 no_step_left step steps inside all = (omega arith, omega arith)
 
 -- the text of the last step was written, or a prefix of it
-pub last_wrote : {A E : Type 0} (r : Result A E) (steps : ℕ) (start run : Progress) (road : Cells) (old a b : Option (List ℕ)) → Writes steps start steps 0 run old a
-    → IsRoadAt run.seed run.sheet run.step road → AppendsBy r a b (step_text steps road) → (job : Job) → Begins job steps start → WroteBy (JobOutput job) r old b
+pub last_wrote : {A E : Type 0} (r : Result A E) (steps : ℕ) (start run : Progress) (road : Cells) (old a b : SinkBytes) → Writes steps start steps 0 run old a
+    → IsRoadAt run.seed run.sheet run.step road → AddsBy r a b (step_text steps road) → (job : Job) → Begins job steps start → WroteBy (JobOutput job) r old b
 last_wrote (Ok x) steps start run road old a b writes at text job begins =
     let here = writes job begins in
     all_written job steps road old a b here.0 (driven_road job steps run road here.1 at) text

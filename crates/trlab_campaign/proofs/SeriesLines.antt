@@ -1,20 +1,19 @@
 -- The lines of a series, written one after another.
 use Rattle.std.proofs.Common.{◌≡◌, ◌↔◌, ℕ, ◌+◌, ◌*◌, ◌<◌, ◌≤◌, List, [], ◌++◌, flat_map, map, refl, sym, ap, subst, arith, add-one, append-nil, inr, false}
 use Rattle.std.specs.List.{range_with_len}
-use Rattle.std.specs.Prelude.{Option, Result, Ok, Err}
-use Rattle.std.specs.Io.KnownBytes.{Appends}
+use Rattle.std.specs.Prelude.{Result, Ok, Err}
 use Rattle.trlab_diagram.specs.declared.window.Window.{Window}
 use Rattle.trlab_diagram.specs.Series.{series_text, window_text}
 use Rattle.trlab_road.specs.Cells.{Cells}
 use Rattle.trlab_step.specs.declared.tally.StepTally.{StepTally}
-use Rattle.trlab_campaign.specs.Device.{AppendsBy, AppendsPrefix}
 use Rattle.trlab_step.specs.Progress.{Progress, at_start}
 use Rattle.trlab_jobs.specs.Job.{Job, seed_of, sheet_of}
 use Rattle.trlab_jobs.specs.Stored.{IsStored}
 use Rattle.trlab_campaign.specs.Ending.{WroteBy, WrotePrefix}
 use Rattle.trlab_campaign.specs.SeriesOutput.{IsCourse, IsSeries, SeriesOutput, first_windows, nth_window, window_of}
+use Rattle.trlab_campaign.specs.Writers.{Adds, AddsBy, AddsPrefix, SinkBytes}
 use Rattle.trlab_campaign.proofs.Courses.{course_of}
-use Rattle.trlab_campaign.proofs.KnownBytes.{appends_more}
+use Rattle.trlab_campaign.proofs.WrittenBytes.{adds_more}
 use Rattle.trlab_campaign.proofs.Sheets.{plain_sheet}
 use Rattle.trlab_campaign.proofs.Owed.{Owes, owes_all, owes_prefix, owes_less}
 
@@ -28,16 +27,16 @@ next_line : (roads : ℕ → Cells) (tallies : ℕ → StepTally) (every from k 
 next_line roads tallies every from k left = rw (add-one left) refl
 
 -- one line is written
-pub line_on : (roads : ℕ → Cells) (tallies : ℕ → StepTally) (every from k left step : ℕ) (whole : List ℕ) (old a b : Option (List ℕ)) → step ≡ from + k * every
-    → Owes whole (lines_from roads tallies every from k (left + 1)) old a → Appends a b (window_text (window_of roads tallies step every))
+pub line_on : (roads : ℕ → Cells) (tallies : ℕ → StepTally) (every from k left step : ℕ) (whole : List ℕ) (old a b : SinkBytes) → step ≡ from + k * every
+    → Owes whole (lines_from roads tallies every from k (left + 1)) old a → Adds a b (window_text (window_of roads tallies step every))
     → Owes whole (lines_from roads tallies every from (k + 1) left) old b
 line_on roads tallies every from k left step whole old a b is owes text =
     owes_less whole (window_text (nth_window roads tallies every from k)) (lines_from roads tallies every from (k + 1) left) old a b
     (rw (next_line roads tallies every from k left) at owes) (rw is at text)
 
 -- or a prefix of it
-pub line_stops : (roads : ℕ → Cells) (tallies : ℕ → StepTally) (every from k left step : ℕ) (whole : List ℕ) (old a b : Option (List ℕ)) → step ≡ from + k * every
-    → Owes whole (lines_from roads tallies every from k (left + 1)) old a → AppendsPrefix a b (window_text (window_of roads tallies step every)) → AppendsPrefix old b whole
+pub line_stops : (roads : ℕ → Cells) (tallies : ℕ → StepTally) (every from k left step : ℕ) (whole : List ℕ) (old a b : SinkBytes) → step ≡ from + k * every
+    → Owes whole (lines_from roads tallies every from k (left + 1)) old a → AddsPrefix a b (window_text (window_of roads tallies step every)) → AddsPrefix old b whole
 line_stops roads tallies every from k left step whole old a b is owes text =
     owes_prefix whole (window_text (nth_window roads tallies every from k)) (lines_from roads tallies every from (k + 1) left) old a b
     (rw (next_line roads tallies every from k left) at owes) (rw is at text)
@@ -47,13 +46,13 @@ pub next_at : (from k every step next : ℕ) → step ≡ from + k * every → n
 next_at from k every step next at later = omega (arith, at, later)
 
 -- a prefix of a text is one of a text that begins with it
-pub prefix_of_first : (first rest : List ℕ) (old new : Option (List ℕ)) → AppendsPrefix old new first → AppendsPrefix old new (first ++ rest)
+pub prefix_of_first : (first rest : List ℕ) (old new : SinkBytes) → AddsPrefix old new first → AddsPrefix old new (first ++ rest)
 prefix_of_first first rest old new prefix = owes_prefix (first ++ rest) first rest old old new (owes_all (first ++ rest) old) prefix
 
 -- a text was written, and then another one, or a prefix of that
-pub then_wrote : {A E : Type 0} (r : Result A E) (first rest : List ℕ) (old mid new : Option (List ℕ)) → Appends old mid first → AppendsBy r mid new rest
-    → AppendsBy r old new (first ++ rest)
-then_wrote (Ok x) first rest old mid new a b = appends_more old mid new first rest a b
+pub then_wrote : {A E : Type 0} (r : Result A E) (first rest : List ℕ) (old mid new : SinkBytes) → Adds old mid first → AddsBy r mid new rest
+    → AddsBy r old new (first ++ rest)
+then_wrote (Ok x) first rest old mid new a b = adds_more old mid new first rest a b
 then_wrote (Err e) first rest old mid new a b =
     owes_prefix (first ++ rest) rest [] old mid new (record { done = first; parts = ap (λ t. first ++ t) (sym (append-nil rest)); wrote = a }) b
 
@@ -75,13 +74,13 @@ module _ (job : Job) (every from count steps : ℕ) (run : Progress) (stored : I
   is_output : SeriesOutput every from job false (series_text the_windows)
   is_output = (refl, (the_windows, (is_series, refl)))
 
-  pub series_stops : (old new : Option (List ℕ))
-      → ((roads : ℕ → Cells) (tallies : ℕ → StepTally) → IsCourse run.seed run.sheet roads tallies → AppendsPrefix old new (series_text (first_windows roads tallies every from count)))
+  pub series_stops : (old new : SinkBytes)
+      → ((roads : ℕ → Cells) (tallies : ℕ → StepTally) → IsCourse run.seed run.sheet roads tallies → AddsPrefix old new (series_text (first_windows roads tallies every from count)))
       → WrotePrefix (SeriesOutput every from job) old new
   series_stops old new told = inr (false, (series_text the_windows, (is_output, told job_course.0 job_course.1 run_course)))
 
-  pub series_wrote : {A E : Type 0} (r : Result A E) (old new : Option (List ℕ))
-      → ((roads : ℕ → Cells) (tallies : ℕ → StepTally) → IsCourse run.seed run.sheet roads tallies → AppendsBy r old new (series_text (first_windows roads tallies every from count)))
+  pub series_wrote : {A E : Type 0} (r : Result A E) (old new : SinkBytes)
+      → ((roads : ℕ → Cells) (tallies : ℕ → StepTally) → IsCourse run.seed run.sheet roads tallies → AddsBy r old new (series_text (first_windows roads tallies every from count)))
       → WroteBy (SeriesOutput every from job) r old new
   series_wrote (Ok x) old new told = (series_text the_windows, (is_output, told job_course.0 job_course.1 run_course))
   series_wrote (Err e) old new told = series_stops old new told

@@ -1,7 +1,6 @@
 -- How an engine ends: what it has written by then, how that was handed on, and what its reader gave.
 use Rattle.std.specs.Prelude.{◌≡◌, ◌+◌, ◌<◌, ◌≤◌, ◌||◌, ◌⊎◌, ◌↔◌, ℕ, Bool, true, false}
-use Rattle.std.specs.Prelude.{List, length, Option, IfSome, Result, Ok, Err, IfErr, OnOk}
-use Rattle.std.specs.Io.KnownBytes.{Appends, Keeps}
+use Rattle.std.specs.Prelude.{List, length, IfSome, Result, Ok, Err, IfErr, OnOk}
 use Rattle.trlab_bounds.specs.declared.texts.TheConstants.{TEXT_LIMIT}
 use Rattle.trlab_campaign.specs.declared.device.Sink as Sink
 use Rattle.trlab_campaign.specs.declared.device.Source as Source
@@ -10,28 +9,29 @@ use Rattle.trlab_campaign.specs.declared.end.End.{End}
 use Rattle.trlab_campaign.specs.declared.end.End.TheVariants.{Done, Refused, Memory, DeviceFault}
 use Rattle.trlab_campaign.specs.declared.pooled.WriteFault.{WriteFault}
 use Rattle.trlab_campaign.specs.declared.pooled.WriteFault.TheVariants.{Device}
-use Rattle.trlab_campaign.specs.Device.{AppendsPrefix, ConsumesUpTo}
+use Rattle.trlab_campaign.specs.Device.{ConsumesUpTo, Gave}
 use Rattle.trlab_campaign.specs.Flushes.{AtMostOnce, HandedOnce}
 use Rattle.trlab_campaign.specs.Refusal.{Outputs}
+use Rattle.trlab_campaign.specs.Writers.{Adds, AddsNone, AddsPrefix, SinkBytes, bytes_of}
 
 -- a whole output was written, which is a refusal or is none
-abbrev pub WroteAll : Outputs → Bool → Option (List ℕ) → Option (List ℕ) → Type 0
-WroteAll IsWhole refused old new = (out : List ℕ) × (IsWhole refused out × Appends old new out)
+abbrev pub WroteAll : Outputs → Bool → SinkBytes → SinkBytes → Type 0
+WroteAll IsWhole refused old new = (out : List ℕ) × (IsWhole refused out × Adds old new out)
 
 -- nothing was written, or a prefix of a whole output
-abbrev pub WrotePrefix : Outputs → Option (List ℕ) → Option (List ℕ) → Type 0
+abbrev pub WrotePrefix : Outputs → SinkBytes → SinkBytes → Type 0
 WrotePrefix IsWhole old new =
-    Keeps old new
-    ⊎ ((refused : Bool) × ((out : List ℕ) × (IsWhole refused out × AppendsPrefix old new out)))
+    AddsNone old new
+    ⊎ ((refused : Bool) × ((out : List ℕ) × (IsWhole refused out × AddsPrefix old new out)))
 
 -- by its result, a writing wrote a whole output that is no refusal, or a prefix of one
 abbrev pub WroteBy : {A E : Type 0} → Outputs → Result A E
-    → Option (List ℕ) → Option (List ℕ) → Type 0
+    → SinkBytes → SinkBytes → Type 0
 WroteBy IsWhole (Ok done) old new = WroteAll IsWhole false old new
 WroteBy IsWhole (Err fault) old new = WrotePrefix IsWhole old new
 
 -- an engine ended so: a text with a fault, or a program that is refused, has an output that is a refusal
-abbrev pub EndsSo : Outputs → End → Option (List ℕ) → Option (List ℕ) → Type 0
+abbrev pub EndsSo : Outputs → End → SinkBytes → SinkBytes → Type 0
 EndsSo IsWhole Done old new = WroteAll IsWhole false old new
 EndsSo IsWhole Refused old new = WroteAll IsWhole true old new
 EndsSo IsWhole Memory old new = WrotePrefix IsWhole old new
@@ -46,11 +46,11 @@ HandsOn Memory handed_on old new = new ≡ old
 HandsOn DeviceFault handed_on old new = AtMostOnce old new
 
 -- the writing of one whole output ended so
-abbrev pub OutputEnds : Bool → List ℕ → End → Option (List ℕ) → Option (List ℕ) → Type 0
-OutputEnds refused out Done old new = (refused ≡ false) × Appends old new out
-OutputEnds refused out Refused old new = (refused ≡ true) × Appends old new out
-OutputEnds refused out Memory old new = Keeps old new
-OutputEnds refused out DeviceFault old new = AppendsPrefix old new out
+abbrev pub OutputEnds : Bool → List ℕ → End → SinkBytes → SinkBytes → Type 0
+OutputEnds refused out Done old new = (refused ≡ false) × Adds old new out
+OutputEnds refused out Refused old new = (refused ≡ true) × Adds old new out
+OutputEnds refused out Memory old new = AddsNone old new
+OutputEnds refused out DeviceFault old new = AddsPrefix old new out
 
 -- a writing that hands nothing on yet left its writer so: it works where all was written, it has failed
 -- exactly where that is the fault, and it was not flushed
@@ -63,37 +63,32 @@ pub record WritesOn {A K : Type 0} (sink : Sink.Ghosts K) (result : Result A Wri
 -- a call ended so, and left its writer so: by this end so much was written, what was written whole was handed
 -- on by one flush, and it ended in a device fault exactly where the writer has failed
 pub record LeavesWriter {K : Type 0} (sink : Sink.Ghosts K)
-    (Wrote : End → Option (List ℕ) → Option (List ℕ) → Type 0)
+    (Wrote : End → SinkBytes → SinkBytes → Type 0)
     (end : End) (old new : K) : Type 0 where
-  pub answer : Wrote end (sink.written old) (sink.written new)
+  pub answer : Wrote end (bytes_of sink old) (bytes_of sink new)
   pub handed : HandsOn end (sink.handed_on new) (sink.flushes old) (sink.flushes new)
   pub device : (end ≡ DeviceFault) ↔ (sink.failed new ≡ true)
 
 -- an engine ended so on a text that is too long, of which no more is known
-abbrev pub EndsTooBig : (List ℕ → Outputs) → End → Option (List ℕ) → Option (List ℕ) → Type 0
+abbrev pub EndsTooBig : (List ℕ → Outputs) → End → SinkBytes → SinkBytes → Type 0
 EndsTooBig outputs end old new =
     (text : List ℕ) → TEXT_LIMIT < length text → EndsSo (outputs text) end old new
-
--- what was written is for some text of as many bytes as a reader gave
-abbrev pub EndsForSomeText : (List ℕ → Outputs) → End → ℕ → ℕ → Option (List ℕ) → Option (List ℕ) → Type 0
-EndsForSomeText outputs end before after old new =
-    (text : List ℕ) × ((after ≡ before + length text) × EndsSo (outputs text) end old new)
 
 -- an engine ended so, which reads a text and writes one of the outputs that there may be for it: `before` and
 -- `after` are its reader, `old` and `new` its writer
 pub record EngineEnds {S K : Type 0} (source : Source.Ghosts S) (sink : Sink.Ghosts K)
     (outputs : List ℕ → Outputs) (end : End) (before after : S) (old new : K) : Type 0 where
-  -- where the reader tells its bytes, and the writer those that it has
+  -- whatever bytes the calls of the reader gave, the bytes that the calls of the writer took are the output
+  -- for exactly these, or the prefix of it that the end allows
+  pub exact : Gave (λ text. EndsSo (outputs text) end (bytes_of sink old) (bytes_of sink new))
+      (source.given before) (source.given after)
+  -- the same for all bytes that are left to a reader that tells them
   pub answer : IfSome (source.left before)
-      (λ text. EndsSo (outputs text) end (sink.written old) (sink.written new))
-  -- whatever the reader tells: what was written is for some text of as many bytes as it gave
-  pub some_text : EndsForSomeText outputs end (source.taken before) (source.taken after)
-      (sink.written old) (sink.written new)
-  -- nothing was written where the text was not read, also by a reader that does not tell its bytes
-  pub silent : source.failed after ≡ true → Keeps (sink.written old) (sink.written new)
+      (λ text. EndsSo (outputs text) end (bytes_of sink old) (bytes_of sink new))
+  -- nothing was written where the text was not read
+  pub silent : source.failed after ≡ true → AddsNone (bytes_of sink old) (bytes_of sink new)
   pub handed : HandsOn end (sink.handed_on new) (sink.flushes old) (sink.flushes new)
   pub device : (end ≡ DeviceFault) ↔ ((source.failed after || sink.failed new) ≡ true)
   -- at most one byte more was read than a text may have
   pub read : ConsumesUpTo (TEXT_LIMIT + 1) (source.left before) (source.left after)
-  -- a reader that tells no bytes gives no more either
-  pub stops : source.taken after ≤ source.taken before + (TEXT_LIMIT + 1)
+  pub stops : Gave (λ bytes. length bytes ≤ TEXT_LIMIT + 1) (source.given before) (source.given after)

@@ -1,6 +1,7 @@
 -- readers and writers
 pub mod Flushes
 pub mod Device
+pub mod Writers
 pub mod Watched
 -- what is written for texts
 pub mod Refusal

@@ -1,5 +1,5 @@
 -- Readers and writers of std that remember what came of their calls.
-use Rattle.std.specs.Prelude.{ℕ, Bool}
+use Rattle.std.specs.Prelude.{ℕ, List, Bool}
 use Rattle.trlab_campaign.specs.declared.device.flushes.Flushes.{Flushes}
 use Rattle.trlab_campaign.specs.declared.device.watched.Watched.{Watched}
 
@@ -11,9 +11,13 @@ inner_of watched = watched.inner
 abbrev pub has_failed : {X : Type 0} → Watched X → Bool
 has_failed watched = watched.failed
 
--- how many bytes it gave
-abbrev pub taken_of : {X : Type 0} → Watched X → ℕ
-taken_of watched = watched.taken
+-- the bytes that it gave
+abbrev pub given_of : {X : Type 0} → Watched X → List ℕ
+given_of watched = watched.given.bytes
+
+-- the bytes that it took
+abbrev pub accepted_of : {X : Type 0} → Watched X → List ℕ
+accepted_of watched = watched.accepted.bytes
 
 -- whether all that was written has been handed on
 abbrev pub has_handed_on : {X : Type 0} → Watched X → Bool

@@ -1,10 +1,10 @@
 //! The engine of checks: check texts in, verdicts out. The verifier judges the one program of a text.
 
 ghost use Rattle.std.specs.Prelude.{◌≡◌, true, false};
-ghost use Rattle.std.specs.Io.KnownBytes.{Keeps};
 ghost use Rattle.trlab_campaign.specs.declared.end.End.TheVariants.{Memory};
 ghost use Rattle.trlab_campaign.specs.CheckOutput.{IsCheckOutput};
 ghost use Rattle.trlab_campaign.specs.Ending.{EngineEnds};
+ghost use Rattle.trlab_campaign.specs.Writers.{AddsNone, bytes_of};
 
 use crate::device::{Sink, Source};
 use crate::end::End;
@@ -54,7 +54,7 @@ pub fn check_text<R: AllocGlobal, S: Source, K: Sink>(rt: &R, reader: &mut S, wr
     requires writer_works { K.failed writer.old ≡ false }
     ensures ends { EngineEnds S.Source K.Sink IsCheckOutput result
         reader.old reader.new writer.old writer.new }
-    ensures kept { result ≡ Memory → Keeps (K.written writer.old) (K.written writer.new) }
+    ensures kept { result ≡ Memory → AddsNone (bytes_of K.Sink writer.old) (bytes_of K.Sink writer.new) }
 {
     run_engine(rt.alloc(), Judge, reader, writer)
 }

@@ -1,10 +1,10 @@
 //! Engines: each makes the output of a text, which is read whole before its engine begins.
 
 ghost use Rattle.std.specs.Prelude.{◌≡◌, ℕ, List, Bool, true, false};
-ghost use Rattle.std.specs.Io.KnownBytes.{Keeps};
 ghost use Rattle.trlab_campaign.specs.declared.end.End.TheVariants.{Memory};
 ghost use Rattle.trlab_campaign.specs.Ending.{EndsSo, EndsTooBig, EngineEnds, LeavesWriter};
 ghost use Rattle.trlab_campaign.specs.Refusal.{Outputs};
+ghost use Rattle.trlab_campaign.specs.Writers.{AddsNone, bytes_of};
 
 use crate::device::{ReadFault, Sink, Source, read_text};
 use crate::end::End;
@@ -27,14 +27,14 @@ pub trait Engine: Drop {
         requires works { K.failed writer.old ≡ false }
         ensures ends { LeavesWriter K.Sink (EndsSo (outputs self text.now)) result writer.old writer.new }
         ensures kept { at_once ≡ true → result ≡ Memory
-            → Keeps (K.written writer.old) (K.written writer.new) };
+            → AddsNone (bytes_of K.Sink writer.old) (bytes_of K.Sink writer.new) };
 
     /// Writes the output of a text that is too long, of which no more is known, and hands it on.
     fn write_too_big<K: Sink>(self, alloc: Global, writer: &mut K) -> End
         requires works { K.failed writer.old ≡ false }
         ensures ends { LeavesWriter K.Sink (EndsTooBig (outputs self)) result writer.old writer.new }
         ensures kept { at_once ≡ true → result ≡ Memory
-            → Keeps (K.written writer.old) (K.written writer.new) };
+            → AddsNone (bytes_of K.Sink writer.old) (bytes_of K.Sink writer.new) };
 }
 
 /// Reads a text, and lets an engine write its output.
@@ -50,7 +50,7 @@ pub fn run_engine<E: Engine, S: Source, K: Sink>(
     ensures ends { EngineEnds S.Source K.Sink (E.outputs engine) result
         reader.old reader.new writer.old writer.new }
     ensures kept { E.at_once ≡ true → result ≡ Memory
-        → Keeps (K.written writer.old) (K.written writer.new) }
+        → AddsNone (bytes_of K.Sink writer.old) (bytes_of K.Sink writer.new) }
 {
     match read_text(alloc, reader) {
         Ok(text) => engine.write(alloc, &text, writer),

@@ -8,6 +8,7 @@ ghost use Rattle.trlab_step.specs.Progress.{at_start};
 ghost use Rattle.trlab_campaign.specs.Ending.{EndsSo, EngineEnds, LeavesWriter, WritesOn, WroteBy};
 ghost use Rattle.trlab_campaign.specs.Output.{IsOutputOf};
 ghost use Rattle.trlab_campaign.specs.Refusal.{Outputs};
+ghost use Rattle.trlab_campaign.specs.Writers.{bytes_of};
 
 use crate::device::{Sink, Source};
 use crate::end::End;
@@ -51,7 +52,8 @@ pub trait Account {
     ) -> Result<(), WriteFault>
         requires ready { A.is_ready asker.now }
         requires works { K.failed writer.old ≡ false }
-        ensures wrote { WroteBy (outputs self.now job) result (K.written writer.old) (K.written writer.new) }
+        ensures wrote { WroteBy (outputs self.now job) result
+            (bytes_of K.Sink writer.old) (bytes_of K.Sink writer.new) }
         ensures writer { WritesOn K.Sink result writer.old writer.new };
 }
 

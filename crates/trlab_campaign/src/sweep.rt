@@ -10,11 +10,11 @@ mod table;
 mod work;
 
 ghost use Rattle.std.specs.Prelude.{◌≡◌, ◌<◌, ◌≤◌, true, false, IfOk};
-ghost use Rattle.std.specs.Io.KnownBytes.{Keeps};
 ghost use Rattle.trlab_campaign.specs.declared.end.End.TheVariants.{Memory};
 ghost use Rattle.trlab_bounds.specs.declared.runs.TheConstants.{MOST_RUNNERS, MOST_WORKERS};
 ghost use Rattle.trlab_campaign.specs.Ending.{EndsSo, EngineEnds, LeavesWriter};
 ghost use Rattle.trlab_campaign.specs.SweepOutput.{IsSweepOutput, SweepOutput, TellsTable};
+ghost use Rattle.trlab_campaign.specs.Writers.{AddsNone, bytes_of};
 
 use crate::device::{Sink, Source};
 use crate::end::End;
@@ -40,7 +40,7 @@ fn write_table<K: Sink>(sweep: &Sweep, table: Result<Vec<u8>, AllocError>, write
     requires made { IfOk table (λ table. SweepOutput sweep.now false table.items) }
     requires works { K.failed writer.old ≡ false }
     ensures ends { LeavesWriter K.Sink (EndsSo (SweepOutput sweep.now)) result writer.old writer.new }
-    ensures kept { result ≡ Memory → Keeps (K.written writer.old) (K.written writer.new) }
+    ensures kept { result ≡ Memory → AddsNone (bytes_of K.Sink writer.old) (bytes_of K.Sink writer.new) }
 {
     match table {
         Ok(table) => write_output(false, &table, writer),
@@ -93,7 +93,7 @@ pub fn run_sweep_text<R: AllocGlobal + Threads + Wait + Sync, S: Source, K: Sink
     requires few_workers { workers ≤ MOST_WORKERS }
     ensures ends { EngineEnds S.Source K.Sink IsSweepOutput result
         reader.old reader.new writer.old writer.new }
-    ensures kept { result ≡ Memory → Keeps (K.written writer.old) (K.written writer.new) }
+    ensures kept { result ≡ Memory → AddsNone (bytes_of K.Sink writer.old) (bytes_of K.Sink writer.new) }
 {
     run_sweep_text_observed(rt, reader, writer, runners, workers, &Unobserved)
 }
@@ -113,7 +113,7 @@ pub fn run_sweep_text_observed<
     requires few_workers { workers ≤ MOST_WORKERS }
     ensures ends { EngineEnds S.Source K.Sink IsSweepOutput result
         reader.old reader.new writer.old writer.new }
-    ensures kept { result ≡ Memory → Keeps (K.written writer.old) (K.written writer.new) }
+    ensures kept { result ≡ Memory → AddsNone (bytes_of K.Sink writer.old) (bytes_of K.Sink writer.new) }
 {
     let surveyor = Surveyor {
         table: |alloc: Global, sweep: &Sweep| -> Result<Vec<u8>, AllocError>

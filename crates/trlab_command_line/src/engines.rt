@@ -1,9 +1,9 @@
 //! What is done for the arguments: an engine runs from a reader to a writer, or a page is written.
 
-ghost use Rattle.std.specs.Prelude.{◌≡◌, ◌+◌, ◌≤◌, ◌||◌, ◌↔◌, true, false, IfSome};
-ghost use Rattle.std.specs.Io.KnownBytes.{Keeps};
-ghost use Rattle.trlab_campaign.specs.Device.{ConsumesUpTo};
-ghost use Rattle.trlab_campaign.specs.Ending.{EndsForSomeText, EndsSo, HandsOn};
+ghost use Rattle.std.specs.Prelude.{◌≡◌, ◌+◌, ◌≤◌, ◌||◌, ◌↔◌, length, true, false, IfSome};
+ghost use Rattle.trlab_campaign.specs.Device.{ConsumesUpTo, Gave};
+ghost use Rattle.trlab_campaign.specs.Ending.{EndsSo, HandsOn};
+ghost use Rattle.trlab_campaign.specs.Writers.{AddsNone, bytes_of};
 ghost use Rattle.trlab_campaign.specs.declared.end.End.TheVariants.{DeviceFault};
 ghost use Rattle.trlab_bounds.specs.declared.texts.TheConstants.{TEXT_LIMIT};
 ghost use Rattle.trlab_command_line.specs.Requests.{HasCounts};
@@ -31,19 +31,18 @@ pub fn carry_out<R: AllocGlobal + Threads + Wait + Sync, S: Source, K: Sink, O: 
     requires counts { HasCounts request }
     requires reader_works { S.failed reader.old ≡ false }
     requires writer_works { K.failed writer.old ≡ false }
-    // Where the reader tells its bytes, and the writer those that it has.
-    ensures answer { IfSome (S.left reader.old)
-        (λ text. EndsSo (output_of request text) result (K.written writer.old) (K.written writer.new)) }
-    // Even if the reader does not tell its bytes: for some text of as many bytes as it gave.
-    ensures some_text { EndsForSomeText (output_of request) result
-        (S.taken reader.old) (S.taken reader.new) (K.written writer.old) (K.written writer.new) }
-    ensures silent { S.failed reader.new ≡ true → Keeps (K.written writer.old) (K.written writer.new) }
+    // Whatever bytes the calls of the reader gave, the writer's calls took the output for exactly these.
+    ensures exact { Gave (λ text. EndsSo (output_of request text) result
+        (bytes_of K.Sink writer.old) (bytes_of K.Sink writer.new)) (S.given reader.old) (S.given reader.new) }
+    // The same for all bytes that are left to a reader that tells them.
+    ensures answer { IfSome (S.left reader.old) (λ text. EndsSo (output_of request text) result
+        (bytes_of K.Sink writer.old) (bytes_of K.Sink writer.new)) }
+    ensures silent { S.failed reader.new ≡ true → AddsNone (bytes_of K.Sink writer.old) (bytes_of K.Sink writer.new) }
     ensures handed { HandsOn result
         (K.handed_on writer.new) (K.flushes writer.old) (K.flushes writer.new) }
     ensures device { (result ≡ DeviceFault) ↔ ((S.failed reader.new || K.failed writer.new) ≡ true) }
     ensures read { ConsumesUpTo (TEXT_LIMIT + 1) (S.left reader.old) (S.left reader.new) }
-    // A reader that tells no bytes gives no more either.
-    ensures stops { S.taken reader.new ≤ S.taken reader.old + (TEXT_LIMIT + 1) }
+    ensures stops { Gave (λ bytes. length bytes ≤ TEXT_LIMIT + 1) (S.given reader.old) (S.given reader.new) }
 {
     match request {
         Request::Check => check_text(rt, reader, writer),

@@ -3,7 +3,6 @@ use Rattle.std.proofs.Common.{◌≡◌, ◌∙◌, ◌++◌, ◌<◌, ℕ, List
 use Rattle.std.proofs.lemmas.Bool.{lt-ltb}
 use Rattle.std.specs.Prelude.{All, Option, None, Some, IfSome, Result, Ok, Err, IfOk, OnOk, MatchResult}
 use Rattle.std.specs.Option.{unwrap_or}
-use Rattle.std.specs.Io.KnownBytes.{Keeps}
 use Rattle.trlab_lines.specs.Lines.{lines_of}
 use Rattle.trlab_bounds.specs.declared.texts.TheConstants.{TEXT_LIMIT}
 use Rattle.trlab_texts.specs.declared.fault.Cause.TheVariants.{TooBig}
@@ -11,6 +10,7 @@ use Rattle.trlab_campaign.specs.declared.end.End.{End}
 use Rattle.trlab_campaign.specs.declared.end.End.TheVariants.{Memory}
 use Rattle.trlab_campaign.specs.Ending.{EndsSo, OutputEnds}
 use Rattle.trlab_campaign.specs.Refusal.{too_big_line}
+use Rattle.trlab_campaign.specs.Writers.{SinkBytes, AddsNone}
 use Rattle.trlab_campaign.proofs.Endings.{output_ends, kept_at_memory}
 use Rattle.trlab_pages.specs.Plain.{IsPlain}
 use Rattle.trlab_repairs.specs.Subjects.{subject_of}
@@ -32,9 +32,9 @@ explained_as None text refused out told = told
 explained_as (Some subject) text refused out told = told
 
 -- the page on a text was written so
-pub told_ends : {E : Type 0} (wanted : Option Subject) (text : List ℕ) (told : Result (Bool × List ℕ) E) (e : End) (old new : Option (List ℕ))
+pub told_ends : {E : Type 0} (wanted : Option Subject) (text : List ℕ) (told : Result (Bool × List ℕ) E) (e : End) (old new : SinkBytes)
     → IfOk told (λ t. TellsAs (unwrap_or wanted (subject_of (lines_of text))) text t.0 t.1)
-    → MatchResult told (λ t. All IsPlain t.1 × OutputEnds t.0 t.1 e old new) (λ _. (e ≡ Memory) × Keeps old new)
+    → MatchResult told (λ t. All IsPlain t.1 × OutputEnds t.0 t.1 e old new) (λ _. (e ≡ Memory) × AddsNone old new)
     → EndsSo (Explains wanted text) e old new
 told_ends wanted text (Ok t) e old new told ends =
     output_ends (Explains wanted text) t.0 t.1 e old new (explained_as wanted text t.0 t.1 (told, ends.0)) ends.1
@@ -47,9 +47,9 @@ big_as Sweep text out big begins = (Err (record { line = 0; cause = TooBig }), r
 big_as Check text out big begins = (Err (record { line = 0; cause = TooBig }), rw (lt-ltb TEXT_LIMIT (length text) big) refl, (refl, (begins.0, begins.1 ∙ ap (λ t. t ++ begins.0) (sym (append-nil too_big_line)))))
 
 -- the page on a text that is too big was written so
-pub big_ends : {E : Type 0} (wanted : Option Subject) (told : Result (Bool × List ℕ) E) (e : End) (left old new : Option (List ℕ))
+pub big_ends : {E : Type 0} (wanted : Option Subject) (told : Result (Bool × List ℕ) E) (e : End) (left : Option (List ℕ)) (old new : SinkBytes)
     → IfSome left (λ all. TEXT_LIMIT < length all) → IfOk told (λ t. t.0 ≡ true) → IfOk told (λ t. BeginsWith too_big_line t.1)
-    → MatchResult told (λ t. All IsPlain t.1 × OutputEnds t.0 t.1 e old new) (λ _. (e ≡ Memory) × Keeps old new)
+    → MatchResult told (λ t. All IsPlain t.1 × OutputEnds t.0 t.1 e old new) (λ _. (e ≡ Memory) × AddsNone old new)
     → IfSome left (λ text. EndsSo (Explains wanted text) e old new)
 big_ends wanted told e None old new big refused begins ends = tt
 big_ends wanted (Err x) e (Some all) old new big refused begins ends = rw ends.0 (inl ends.1)
@@ -58,16 +58,16 @@ big_ends wanted (Ok t) e (Some all) old new big refused begins ends =
     output_ends (Explains wanted all) t.0 t.1 e old new (explained_as wanted all t.0 t.1 (told, ends.0)) ends.1
 
 -- the page on a number was written so
-pub number_ends : {E : Type 0} (topic : Topic) (number : ℕ) (told : Result (Bool × List ℕ) E) (e : End) (old new : Option (List ℕ))
+pub number_ends : {E : Type 0} (topic : Topic) (number : ℕ) (told : Result (Bool × List ℕ) E) (e : End) (old new : SinkBytes)
     → IfOk told (λ t. t.0 ≡ not (is_known topic number)) → IfOk told (λ t. BeginsWith (topic_front topic number) t.1)
-    → MatchResult told (λ t. All IsPlain t.1 × OutputEnds t.0 t.1 e old new) (λ _. (e ≡ Memory) × Keeps old new)
+    → MatchResult told (λ t. All IsPlain t.1 × OutputEnds t.0 t.1 e old new) (λ _. (e ≡ Memory) × AddsNone old new)
     → EndsSo (TellsNumber topic number) e old new
 number_ends topic number (Ok t) e old new refused begins ends =
     output_ends (TellsNumber topic number) t.0 t.1 e old new (refused, begins, ends.0) ends.1
 number_ends topic number (Err x) e old new refused begins ends = rw ends.0 (inl ends.1)
 
 -- where memory ran out, nothing was written
-pub told_kept : {E : Type 0} (told : Result (Bool × List ℕ) E) (e : End) (old new : Option (List ℕ))
-    → MatchResult told (λ t. All IsPlain t.1 × OutputEnds t.0 t.1 e old new) (λ _. (e ≡ Memory) × Keeps old new) → e ≡ Memory → Keeps old new
+pub told_kept : {E : Type 0} (told : Result (Bool × List ℕ) E) (e : End) (old new : SinkBytes)
+    → MatchResult told (λ t. All IsPlain t.1 × OutputEnds t.0 t.1 e old new) (λ _. (e ≡ Memory) × AddsNone old new) → e ≡ Memory → AddsNone old new
 told_kept (Ok t) e old new ends is = kept_at_memory t.0 t.1 e old new ends.1 is
 told_kept (Err x) e old new ends is = ends.1

@@ -1,9 +1,9 @@
 //! The engine of explanations.
 
 ghost use Rattle.std.specs.Prelude.{◌≡◌, ◌↔◌, true, false, All, IfOk, MatchResult};
-ghost use Rattle.std.specs.Io.KnownBytes.{Keeps};
 ghost use Rattle.trlab_campaign.specs.Ending.{EngineEnds, HandsOn, OutputEnds};
 ghost use Rattle.trlab_campaign.specs.Refusal.{too_big_line};
+ghost use Rattle.trlab_campaign.specs.Writers.{AddsNone, bytes_of};
 ghost use Rattle.trlab_campaign.specs.declared.end.End.TheVariants.{DeviceFault, Memory};
 ghost use Rattle.trlab_pages.specs.Plain.{IsPlain};
 ghost use Rattle.trlab_explain.specs.Explanations.{BeginsWith, Explains};
@@ -27,8 +27,9 @@ fn too_big_page(alloc: Global) -> Result<(bool, Page), AllocError>
 pub fn write_told<K: Sink>(told: Result<(bool, Page), AllocError>, writer: &mut K) -> End
     requires { K.failed writer.old ≡ false }
     ensures answer { MatchResult told
-        (λ told. All IsPlain told.1 × OutputEnds told.0 told.1 result (K.written writer.old) (K.written writer.new))
-        (λ _. (result ≡ Memory) × Keeps (K.written writer.old) (K.written writer.new)) }
+        (λ told. All IsPlain told.1
+            × OutputEnds told.0 told.1 result (bytes_of K.Sink writer.old) (bytes_of K.Sink writer.new))
+        (λ _. (result ≡ Memory) × AddsNone (bytes_of K.Sink writer.old) (bytes_of K.Sink writer.new)) }
     ensures handed { HandsOn result
         (K.handed_on writer.new) (K.flushes writer.old) (K.flushes writer.new) }
     ensures device { (result ≡ DeviceFault) ↔ (K.failed writer.new ≡ true) }
@@ -77,7 +78,7 @@ pub fn explain_text<R: AllocGlobal, S: Source, K: Sink>(
     requires writer_works { K.failed writer.old ≡ false }
     ensures ends { EngineEnds S.Source K.Sink (Explains subject) result
         reader.old reader.new writer.old writer.new }
-    ensures kept { result ≡ Memory → Keeps (K.written writer.old) (K.written writer.new) }
+    ensures kept { result ≡ Memory → AddsNone (bytes_of K.Sink writer.old) (bytes_of K.Sink writer.new) }
 {
     run_engine(rt.alloc(), Explainer { subject }, reader, writer)
 }

@@ -1,36 +1,40 @@
 //! Readers and writers of std that remember what came of their calls.
 
-ghost use Rattle.std.specs.Prelude.{◌≡◌, false};
+ghost use Rattle.std.specs.Prelude.{◌≡◌, [], false};
 ghost use Rattle.trlab_campaign.specs.declared.device.flushes.Flushes.TheVariants.{Never};
 
+use crate::device::transcript::Transcript;
 use crate::device::{DeviceError, Flushes, Sink, Source};
 use std::io::{Read, Write};
 
-/// A reader or a writer, and whether a call of it has failed; of a reader how many bytes it gave, and of a
-/// writer whether it has handed on all that was written and how often it was flushed.
+/// A reader or a writer, and whether a call of it has failed; of a reader, for contracts alone, the bytes that it
+/// gave, and of a writer those that it took, whether it has handed on all of them and how often it was flushed.
 #[derive(Drop)]
 pub struct Watched<X> {
     inner: X,
     failed: bool,
-    taken: u64,
+    given: Transcript,
+    accepted: Transcript,
     handed_on: bool,
     flushes: Flushes,
 }
 
 impl<X> Watched<X> {
-    ghost use Rattle.trlab_campaign.specs.Watched.{inner_of, has_failed, taken_of, flushes_of};
+    ghost use Rattle.trlab_campaign.specs.Watched.{inner_of, has_failed, given_of, accepted_of, flushes_of};
 
-    /// One that has not failed, has given no byte and was never flushed.
+    /// One that has not failed, has given and taken no byte and was never flushed.
     pub fn new(inner: X) -> Watched<X>
         ensures inner { inner_of result ≡ inner }
         ensures fresh { has_failed result ≡ false }
-        ensures untaken { taken_of result ≡ 0 }
+        ensures none_given { given_of result ≡ [] }
+        ensures none_accepted { accepted_of result ≡ [] }
         ensures unflushed { flushes_of result ≡ Never }
     {
         Watched {
             inner,
             failed: false,
-            taken: 0,
+            given: Transcript::new(),
+            accepted: Transcript::new(),
             handed_on: false,
             flushes: Flushes::Never,
         }
@@ -46,23 +50,18 @@ impl<X> Watched<X> {
 }
 
 impl<X: Read> Source for Watched<X> {
-    ghost use Rattle.trlab_campaign.specs.Watched.{inner_of, has_failed, taken_of};
+    ghost use Rattle.trlab_campaign.specs.Watched.{inner_of, has_failed, given_of};
 
     ghost left = { λ watched. X.remaining (inner_of watched) };
 
-    ghost taken = { taken_of };
+    ghost given = { given_of };
 
     ghost failed = { has_failed };
 
     fn take(&mut self, buffer: &mut [u8]) -> Result<usize, DeviceError> {
-        // Bytes that could not be counted are not read.
-        if buffer.len() as u64 > u64::MAX - self.taken {
-            self.failed = true;
-            return Err(DeviceError);
-        }
         match self.inner.read(buffer) {
             Ok(count) => {
-                self.taken += count as u64;
+                self.given.add(&buffer[..count]);
                 Ok(count)
             }
             Err(_) => {
@@ -74,9 +73,11 @@ impl<X: Read> Source for Watched<X> {
 }
 
 impl<X: Write> Sink for Watched<X> {
-    ghost use Rattle.trlab_campaign.specs.Watched.{inner_of, has_failed, has_handed_on, flushes_of};
+    ghost use Rattle.trlab_campaign.specs.Watched.{inner_of, has_failed, has_handed_on, accepted_of, flushes_of};
 
     ghost written = { λ watched. X.contents (inner_of watched) };
+
+    ghost accepted = { accepted_of };
 
     ghost handed_on = { has_handed_on };
 
@@ -93,6 +94,7 @@ impl<X: Write> Sink for Watched<X> {
                     self.failed = true;
                     return Err(DeviceError);
                 }
+                self.accepted.add(&bytes[..count]);
                 Ok(count)
             }
             Err(_) => {

@@ -1,10 +1,11 @@
 //! Whole texts: one is read to its end, or written piece by piece until nothing is owed.
 
-ghost use Rattle.std.specs.Prelude.{◌≡◌, ◌+◌, ◌≤◌, ◌<◌, ◌||◌, ◌↔◌, length, false, true, IfOk};
+ghost use Rattle.std.specs.Prelude.{◌≡◌, ◌+◌, ◌≤◌, ◌<◌, ◌||◌, ◌↔◌, ◌++◌, length, false, true, IfOk};
 ghost use Rattle.std.specs.Prelude.{OnOk, IfErr, IfSome, is_err};
 ghost use Rattle.std.specs.Io.KnownBytes.{Consumes, IsAtEnd};
-ghost use Rattle.trlab_campaign.specs.Device.{AppendsBy, ConsumesUpTo};
+ghost use Rattle.trlab_campaign.specs.Device.{ConsumesUpTo, Gave};
 ghost use Rattle.trlab_campaign.specs.Flushes.{AtMostOnce, HandedOnce};
+ghost use Rattle.trlab_campaign.specs.Writers.{AddsBy, bytes_of};
 ghost use Rattle.trlab_campaign.specs.declared.device.whole.ReadFault.TheVariants.{Device, TooBig};
 
 use crate::device::{DeviceError, Sink, Source};
@@ -36,12 +37,10 @@ pub fn read_text<S: Source>(alloc: Global, reader: &mut S) -> Result<Vec<u8>, Re
     ensures big { IfErr result (λ fault. fault ≡ TooBig
         → IfSome (S.left reader.old) (λ all. TEXT_LIMIT < length all)) }
     ensures read { ConsumesUpTo (TEXT_LIMIT + 1) (S.left reader.old) (S.left reader.new) }
-    ensures stops { S.taken reader.new ≤ S.taken reader.old + (TEXT_LIMIT + 1) }
-    ensures rises { S.taken reader.old ≤ S.taken reader.new }
-    ensures counted { IfOk result
-        (λ text. S.taken reader.new ≡ S.taken reader.old + length text.items) }
+    ensures given { IfOk result (λ text. S.given reader.new ≡ S.given reader.old ++ text.items) }
     ensures over { IfErr result (λ fault. fault ≡ TooBig
-        → S.taken reader.new ≡ S.taken reader.old + (TEXT_LIMIT + 1)) }
+        → Gave (λ bytes. length bytes ≡ TEXT_LIMIT + 1) (S.given reader.old) (S.given reader.new)) }
+    ensures stops { Gave (λ bytes. length bytes ≤ TEXT_LIMIT + 1) (S.given reader.old) (S.given reader.new) }
     ensures fails { IfErr result (λ fault. (S.failed reader.new ≡ true) ↔ (fault ≡ Device)) }
     ensures works { OnOk result (S.failed reader.new ≡ false) }
 {
@@ -68,9 +67,9 @@ pub fn read_text<S: Source>(alloc: Global, reader: &mut S) -> Result<Vec<u8>, Re
 /// # Errors
 ///
 /// `DeviceError` where the writer failed: a prefix of the text was written.
-#[tactic(auto, using(crate::proofs::KnownBytes::appends_part))]
+#[tactic(auto, using(crate::proofs::WrittenBytes::adds_part))]
 pub fn write_text<K: Sink>(writer: &mut K, text: &[u8]) -> Result<(), DeviceError>
-    ensures wrote { AppendsBy result (K.written writer.old) (K.written writer.new) text.now }
+    ensures wrote { AddsBy result (bytes_of K.Sink writer.old) (bytes_of K.Sink writer.new) text.now }
     ensures fails { K.failed writer.new ≡ (K.failed writer.old || is_err result) }
     ensures flushed { K.flushes writer.new ≡ K.flushes writer.old }
 {
@@ -89,7 +88,7 @@ pub fn write_text<K: Sink>(writer: &mut K, text: &[u8]) -> Result<(), DeviceErro
 ///
 /// Those of `write_text`, also where all was written and not handed on.
 pub fn write_last<K: Sink>(writer: &mut K, text: &[u8]) -> Result<(), DeviceError>
-    ensures wrote { AppendsBy result (K.written writer.old) (K.written writer.new) text.now }
+    ensures wrote { AddsBy result (bytes_of K.Sink writer.old) (bytes_of K.Sink writer.new) text.now }
     ensures handed { OnOk result
         (HandedOnce (K.handed_on writer.new) (K.flushes writer.old) (K.flushes writer.new)) }
     ensures flushed { AtMostOnce (K.flushes writer.old) (K.flushes writer.new) }

@@ -5,9 +5,9 @@ ghost use Rattle.trlab_jobs.specs.Job.{Job as Told, seed_of, sheet_of};
 ghost use Rattle.trlab_jobs.specs.Stored.{IsStored};
 ghost use Rattle.trlab_step.specs.Progress.{IsOneStepOn, at_start};
 ghost use Rattle.trlab_step.specs.Run.{IsRoadAt};
-ghost use Rattle.trlab_campaign.specs.Device.{AppendsBy};
 ghost use Rattle.trlab_campaign.specs.Ending.{WritesOn, WroteBy};
 ghost use Rattle.trlab_campaign.specs.Output.{JobOutput, step_text};
+ghost use Rattle.trlab_campaign.specs.Writers.{AddsBy, bytes_of};
 
 use crate::device::{Sink, write_text};
 use crate::pooled::{WriteFault, run_of};
@@ -20,7 +20,7 @@ use trlab_step::{Asker, Onlooker, Run};
 fn write_made<K: Sink>(text: &StepText, writer: &mut K) -> Result<(), WriteFault>
     requires { K.failed writer.old ≡ false }
     ensures wrote { (bytes : List ℕ) → OnOk text.now.made (text.now.bytes.items ≡ bytes)
-        → AppendsBy result (K.written writer.old) (K.written writer.new) bytes }
+        → AddsBy result (bytes_of K.Sink writer.old) (bytes_of K.Sink writer.new) bytes }
     ensures writer { WritesOn K.Sink result writer.old writer.new }
 {
     match text.made {
@@ -44,8 +44,8 @@ fn show_step<A: Asker, K: Sink>(
     requires works { K.failed writer.old ≡ false }
     requires steps { run.old.step + 1 < 2 ^ 32 }
     ensures road { IsRoadAt run.old.seed run.old.sheet run.old.step run.old.road }
-    ensures wrote { AppendsBy result
-        (K.written writer.old) (K.written writer.new) (step_text run.old.step run.old.road) }
+    ensures wrote { AddsBy result
+        (bytes_of K.Sink writer.old) (bytes_of K.Sink writer.new) (step_text run.old.step run.old.road) }
     ensures on { OnOk result (IsOneStepOn run.old run.new) }
     ensures writer { WritesOn K.Sink result writer.old writer.new }
 {
@@ -62,8 +62,8 @@ fn show_step<A: Asker, K: Sink>(
 fn show_last<K: Sink>(text: &mut StepText, run: &Run, writer: &mut K) -> Result<(), WriteFault>
     requires { K.failed writer.old ≡ false }
     ensures road { IsRoadAt run.now.seed run.now.sheet run.now.step run.now.road }
-    ensures wrote { AppendsBy result
-        (K.written writer.old) (K.written writer.new) (step_text run.now.step run.now.road) }
+    ensures wrote { AddsBy result
+        (bytes_of K.Sink writer.old) (bytes_of K.Sink writer.new) (step_text run.now.step run.now.road) }
     ensures writer { WritesOn K.Sink result writer.old writer.new }
 {
     text.step = run.step();
@@ -84,7 +84,7 @@ fn write_run<A: Asker, K: Sink>(
     requires start { run.old.step ≡ 0 }
     ensures wrote { (job : Told) → IsStored job
         → run.old ≡ at_start (seed_of job) (sheet_of job) → steps ≡ job.steps
-        → WroteBy (JobOutput job) result (K.written writer.old) (K.written writer.new) }
+        → WroteBy (JobOutput job) result (bytes_of K.Sink writer.old) (bytes_of K.Sink writer.new) }
     ensures writer { WritesOn K.Sink result writer.old writer.new }
 {
     let mut text = StepText::new(alloc);
@@ -104,7 +104,7 @@ pub fn write_pictures<A: Asker, K: Sink>(
 ) -> Result<(), WriteFault>
     requires ready { A.is_ready asker.now }
     requires works { K.failed writer.old ≡ false }
-    ensures wrote { WroteBy (JobOutput job) result (K.written writer.old) (K.written writer.new) }
+    ensures wrote { WroteBy (JobOutput job) result (bytes_of K.Sink writer.old) (bytes_of K.Sink writer.new) }
     ensures writer { WritesOn K.Sink result writer.old writer.new }
 {
     let steps = job.steps;

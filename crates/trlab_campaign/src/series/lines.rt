@@ -6,9 +6,9 @@ ghost use Rattle.trlab_diagram.specs.Series.{window_text};
 ghost use Rattle.trlab_road.specs.Cells.{Cells};
 ghost use Rattle.trlab_step.specs.declared.tally.StepTally.{StepTally};
 ghost use Rattle.trlab_campaign.specs.Counting.{IsStepsOn};
-ghost use Rattle.trlab_campaign.specs.Device.{AppendsBy};
 ghost use Rattle.trlab_campaign.specs.Ending.{WritesOn, WroteBy};
 ghost use Rattle.trlab_campaign.specs.SeriesOutput.{IsCourse, SeriesOutput, first_windows, window_of};
+ghost use Rattle.trlab_campaign.specs.Writers.{AddsBy, bytes_of};
 
 use crate::device::{Sink, write_text};
 use crate::pooled::{WriteFault, run_of};
@@ -48,7 +48,7 @@ fn write_line<K: Sink>(
 ) -> Result<(), WriteFault>
     requires { K.failed writer.old ≡ false }
     ensures wrote { (bytes : List ℕ) → IfOk line (λ line. line.items ≡ bytes)
-        → AppendsBy result (K.written writer.old) (K.written writer.new) bytes }
+        → AddsBy result (bytes_of K.Sink writer.old) (bytes_of K.Sink writer.new) bytes }
     ensures writer { WritesOn K.Sink result writer.old writer.new }
     ensures made { OnOk result (IsOk line) }
 {
@@ -78,7 +78,7 @@ fn write_window<A: Asker, K: Sink>(
     requires counts { run.old.seed.warm ≡ 0 }
     ensures wrote { (roads : ℕ → Cells) (tallies : ℕ → StepTally)
         → IsCourse run.old.seed run.old.sheet roads tallies
-        → AppendsBy result (K.written writer.old) (K.written writer.new)
+        → AddsBy result (bytes_of K.Sink writer.old) (bytes_of K.Sink writer.new)
         (window_text (window_of roads tallies run.old.step every)) }
     ensures on { OnOk result (IsStepsOn every run.old run.new) }
     ensures writer { WritesOn K.Sink result writer.old writer.new }
@@ -103,7 +103,7 @@ fn write_windows<A: Asker, K: Sink>(
     requires room { (k : ℕ) → k < count → windows.now.from + (k + 1) * windows.now.every < 2 ^ 32 }
     ensures wrote { (roads : ℕ → Cells) (tallies : ℕ → StepTally)
         → IsCourse run.old.seed run.old.sheet roads tallies
-        → AppendsBy result (K.written writer.old) (K.written writer.new)
+        → AddsBy result (bytes_of K.Sink writer.old) (bytes_of K.Sink writer.new)
         (flat_map window_text (first_windows roads tallies windows.now.every windows.now.from count)) }
     ensures writer { WritesOn K.Sink result writer.old writer.new }
 {
@@ -131,7 +131,7 @@ pub fn write_series<A: Asker, K: Sink>(
     requires ready { A.is_ready asker.now }
     requires works { K.failed writer.old ≡ false }
     ensures wrote { WroteBy (SeriesOutput windows.now.every windows.now.from job) result
-        (K.written writer.old) (K.written writer.new) }
+        (bytes_of K.Sink writer.old) (bytes_of K.Sink writer.new) }
     ensures writer { WritesOn K.Sink result writer.old writer.new }
 {
     let count = windows.count(job.steps);

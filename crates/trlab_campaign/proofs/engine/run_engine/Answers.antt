@@ -2,8 +2,10 @@ use Rattle.std.proofs.Common.{◌≡◌, ℕ, List, Bool, true, false, refl, sym
 use Rattle.std.proofs.lemmas.Bool.{false≢true}
 use Rattle.trlab_campaign.specs.declared.end.End.TheVariants.{Memory, DeviceFault}
 use Rattle.trlab_campaign.specs.Ending.{EndsSo}
-use Rattle.trlab_campaign.proofs.Endings.{too_big_ends, of_some_text, kept, if_told}
+use Rattle.trlab_campaign.specs.Writers.{bytes_of}
+use Rattle.trlab_campaign.proofs.Endings.{too_big_ends, if_told}
 use Rattle.trlab_campaign.proofs.KnownBytes.{consumes_whole}
+use Rattle.trlab_campaign.proofs.WrittenBytes.{kept}
 use Rattle.trlab_campaign.proofs.engine.run_engine.Goals as goal
 
 -- what is not true is false
@@ -19,10 +21,10 @@ returns-in-Ok-clause-ends g c =
     let read = c.in-Ok.ensures in
     let ends = rw c.deref.ensures.value at c.write.ensures.ends in
     record {
+      exact = (c.in-Ok.text.items, (read.given, ends.answer));
       answer =
-          consumes_whole (λ (text : List ℕ). EndsSo (g.E.Engine.outputs c.args.engine text) c.write.result (g.K.Sink.written c.args.writer.now) (g.K.Sink.written c.write.new.writer))
+          consumes_whole (λ (text : List ℕ). EndsSo (g.E.Engine.outputs c.args.engine text) c.write.result (bytes_of g.K.Sink c.args.writer.now) (bytes_of g.K.Sink c.write.new.writer))
           _ _ c.in-Ok.text.items read.text read.whole ends.answer;
-      some_text = (c.in-Ok.text.items, (read.counted, ends.answer));
       silent = λ failed. absurd (false≢true (sym read.works ∙ failed));
       handed = ends.handed;
       device = rw read.works ends.device;
@@ -38,10 +40,8 @@ returns-in-Err-TooBig-clause-ends g c =
     let ends = c.write_too_big.ensures.ends in
     let over = rw c.in-Err-TooBig.field-0-is at read.over refl in
     record {
+      exact = (over.0, (over.1.0, ends.answer over.0 (omega (arith, over.1.1))));
       answer = too_big_ends (g.E.Engine.outputs c.args.engine) _ _ _ _ ends.answer (rw c.in-Err-TooBig.field-0-is at read.big refl);
-      some_text =
-          of_some_text (λ (text : List ℕ). EndsSo (g.E.Engine.outputs c.args.engine text) c.write_too_big.result (g.K.Sink.written c.args.writer.now) (g.K.Sink.written c.write_too_big.new.writer))
-          _ _ read.rises (λ text count. ends.answer text (omega (arith, over, count)));
       silent = λ failed. absurd (false≢true (sym works ∙ failed));
       handed = ends.handed;
       device = rw works ends.device;
@@ -55,10 +55,8 @@ returns-in-Err-Memory-clause-ends g c =
     let fault = rw c.in-Err-Memory.field-0-is at read.fails in
     let works : g.S.Source.failed c.read_text.new.reader ≡ false = not_true _ (λ failed. cc (fault.0 failed)) in
     record {
-      answer = if_told (λ (text : List ℕ). EndsSo (g.E.Engine.outputs c.args.engine text) Memory (g.K.Sink.written c.args.writer.now) (g.K.Sink.written c.args.writer.now)) _ (λ text. inl (kept _));
-      some_text =
-          of_some_text (λ (text : List ℕ). EndsSo (g.E.Engine.outputs c.args.engine text) Memory (g.K.Sink.written c.args.writer.now) (g.K.Sink.written c.args.writer.now))
-          _ _ read.rises (λ text count. inl (kept _));
+      exact = (read.stops.0, (read.stops.1.0, inl (kept _)));
+      answer = if_told (λ (text : List ℕ). EndsSo (g.E.Engine.outputs c.args.engine text) Memory (bytes_of g.K.Sink c.args.writer.now) (bytes_of g.K.Sink c.args.writer.now)) _ (λ text. inl (kept _));
       silent = λ failed. kept _;
       handed = refl;
       device = rw (works, c.requires.writer_works) (λ e. absurd (memory≢device e), λ e. absurd (false≢true e));
@@ -72,10 +70,8 @@ returns-in-Err-Device-clause-ends g c =
     let fault = rw c.in-Err-Device.field-0-is at read.fails in
     let failed : g.S.Source.failed c.read_text.new.reader ≡ true = fault.1 refl in
     record {
-      answer = if_told (λ (text : List ℕ). EndsSo (g.E.Engine.outputs c.args.engine text) DeviceFault (g.K.Sink.written c.args.writer.now) (g.K.Sink.written c.args.writer.now)) _ (λ text. inl (kept _));
-      some_text =
-          of_some_text (λ (text : List ℕ). EndsSo (g.E.Engine.outputs c.args.engine text) DeviceFault (g.K.Sink.written c.args.writer.now) (g.K.Sink.written c.args.writer.now))
-          _ _ read.rises (λ text count. inl (kept _));
+      exact = (read.stops.0, (read.stops.1.0, inl (kept _)));
+      answer = if_told (λ (text : List ℕ). EndsSo (g.E.Engine.outputs c.args.engine text) DeviceFault (bytes_of g.K.Sink c.args.writer.now) (bytes_of g.K.Sink c.args.writer.now)) _ (λ text. inl (kept _));
       silent = λ failed. kept _;
       handed = inl refl;
       device = rw failed (λ e. refl, λ e. refl);

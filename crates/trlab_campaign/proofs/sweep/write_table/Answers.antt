@@ -1,6 +1,7 @@
 use Rattle.std.proofs.Common.{false}
 use Rattle.trlab_campaign.specs.SweepOutput.{SweepOutput}
-use Rattle.trlab_campaign.proofs.Endings.{output_ends, kept_at_memory, kept}
+use Rattle.trlab_campaign.proofs.Endings.{output_ends, kept_at_memory}
+use Rattle.trlab_campaign.proofs.WrittenBytes.{kept}
 use Rattle.trlab_campaign.proofs.sweep.write_table.Goals as goal
 
 pub returns-in-Ok-clause-ends : goal.returns-in-Ok-clause-ends

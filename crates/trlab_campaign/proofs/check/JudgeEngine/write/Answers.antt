@@ -1,5 +1,6 @@
 use Rattle.std.proofs.Common.{true}
-use Rattle.trlab_campaign.proofs.Endings.{check_refusal_ends, verdict_ends, kept_at_memory, kept}
+use Rattle.trlab_campaign.proofs.Endings.{check_refusal_ends, verdict_ends, kept_at_memory}
+use Rattle.trlab_campaign.proofs.WrittenBytes.{kept}
 use Rattle.trlab_campaign.proofs.check.JudgeEngine.write.Goals as goal
 
 pub returns-in-Err-At-clause-ends : goal.returns-in-Err-At-clause-ends

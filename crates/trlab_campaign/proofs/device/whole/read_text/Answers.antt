@@ -1,13 +1,13 @@
-use Rattle.std.proofs.Common.{◌≡◌, ◌++◌, ◌∙◌, take, arith, refl, sym, ap, length, length-append, length-take}
+use Rattle.std.proofs.Common.{◌≡◌, ◌++◌, ◌∙◌, take, arith, refl, sym, ap, append-nil, length, length-append, length-take}
 use Rattle.std.proofs.lemmas.List.{take-append-le}
 use Rattle.std.proofs.Math.Bool.{or-false}
 use Rattle.std.proofs.lemmas.Bool.{false≢true}
 use Rattle.trlab_bounds.specs.declared.texts.TheConstants.{TEXT_LIMIT}
-use Rattle.trlab_campaign.proofs.KnownBytes.{consumes_more, consumes_none, consumes_kept, consumes_last, consumes_over}
+use Rattle.trlab_campaign.proofs.KnownBytes.{consumes_more, consumes_none, consumes_kept, consumes_last, consumes_over, given_last, given_more, given_more_none}
 use Rattle.trlab_campaign.proofs.device.whole.read_text.Goals as goal
 
 pub loop-piece-init : goal.loop-piece-init
-loop-piece-init g c = record { read = rw c.new-text.ensures.items (consumes_none _); small = omega (arith, c.new-text.ensures.len); taken = omega (arith, c.new-text.ensures.len); works = c.requires }
+loop-piece-init g c = record { read = rw c.new-text.ensures.items (consumes_none _); small = omega (arith, c.new-text.ensures.len); given = rw c.new-text.ensures.items (sym (append-nil _)); works = c.requires }
 
 pub loop-piece-preserved : goal.loop-piece-preserved
 loop-piece-preserved g c =
@@ -16,7 +16,7 @@ loop-piece-preserved g c =
     record {
       read = rw added (consumes_more _ _ _ _ _ c.loop-piece.invariant.read c.in-Ok.ensures.bytes.0);
       small = omega (arith, all, length-take c.in-Ok.count c.take.new.buffer, length-take c.min-room.result c.loop-piece.piece);
-      taken = omega (arith, all, length-take c.in-Ok.count c.take.new.buffer, c.in-Ok.ensures.count, c.in-Ok.ensures.counted, c.loop-piece.invariant.taken);
+      given = rw added (given_more _ _ _ _ _ c.loop-piece.invariant.given c.in-Ok.ensures.gives);
       works = c.in-Ok.ensures.fails ∙ (or-false _ ∙ c.loop-piece.invariant.works);
     }
 
@@ -25,9 +25,6 @@ returns-clause-big g c = λ _. consumes_over _ _ c.loop-piece.text.items TEXT_LI
 
 pub returns-clause-read : goal.returns-clause-read
 returns-clause-read g c = (c.loop-piece.text.items, omega arith, c.loop-piece.invariant.read)
-
-pub returns-clause-stops : goal.returns-clause-stops
-returns-clause-stops g c = omega (arith, c.loop-piece.invariant.small, c.loop-piece.invariant.taken)
 
 pub returns-clause-fails : goal.returns-clause-fails
 returns-clause-fails g c = (λ failed. absurd (false≢true (sym c.loop-piece.invariant.works ∙ failed)), λ e. cc)
@@ -38,9 +35,6 @@ returns-in-Err-clause-big g c = λ e. absurd (cc)
 pub returns-in-Err-clause-read : goal.returns-in-Err-clause-read
 returns-in-Err-clause-read g c = (c.loop-piece.text.items, omega arith, consumes_kept _ _ _ _ c.loop-piece.invariant.read c.in-Err.ensures.bytes)
 
-pub returns-in-Err-clause-stops : goal.returns-in-Err-clause-stops
-returns-in-Err-clause-stops g c = omega (arith, c.in-Err.ensures.counted, c.loop-piece.invariant.small, c.loop-piece.invariant.taken)
-
 pub returns-in-Err-clause-fails : goal.returns-in-Err-clause-fails
 returns-in-Err-clause-fails g c = (λ _. refl, λ _. rw c.loop-piece.invariant.works at c.in-Err.ensures.fails)
 
@@ -50,10 +44,6 @@ returns-then-is_err-clause-big g c = λ e. absurd (cc)
 pub returns-then-is_err-clause-read : goal.returns-then-is_err-clause-read
 returns-then-is_err-clause-read g c =
     (c.loop-piece.text.items ++ take c.in-Ok.count c.take.new.buffer, grind (arith, length-append, length-take), consumes_more _ _ _ _ _ c.loop-piece.invariant.read c.in-Ok.ensures.bytes.0)
-
-pub returns-then-is_err-clause-stops : goal.returns-then-is_err-clause-stops
-returns-then-is_err-clause-stops g c =
-    omega (arith, c.in-Ok.ensures.count, c.in-Ok.ensures.counted, length-take c.min-room.result c.loop-piece.piece, c.loop-piece.invariant.small, c.loop-piece.invariant.taken)
 
 pub returns-then-is_err-clause-fails : goal.returns-then-is_err-clause-fails
 returns-then-is_err-clause-fails g c =
@@ -111,47 +101,46 @@ pub returns-then-count-eq0-clause-read : goal.returns-then-count-eq0-clause-read
 returns-then-count-eq0-clause-read g c =
     (c.loop-piece.text.items, omega (arith, c.loop-piece.invariant.small), consumes_last _ _ _ c.loop-piece.text.items c.take.new.buffer c.in-Ok.count c.if-count-eq0.true c.loop-piece.invariant.read c.in-Ok.ensures.bytes.0)
 
-pub returns-then-count-eq0-clause-stops : goal.returns-then-count-eq0-clause-stops
-returns-then-count-eq0-clause-stops g c = omega (arith, c.if-count-eq0.true, c.in-Ok.ensures.counted, c.loop-piece.invariant.small, c.loop-piece.invariant.taken)
-
 pub returns-then-count-eq0-clause-big : goal.returns-then-count-eq0-clause-big
 returns-then-count-eq0-clause-big g c = tt
 
 pub returns-then-count-eq0-clause-fails : goal.returns-then-count-eq0-clause-fails
 returns-then-count-eq0-clause-fails g c = tt
 
-pub returns-clause-rises : goal.returns-clause-rises
-returns-clause-rises g c = omega (arith, c.loop-piece.invariant.taken)
-
-pub returns-clause-counted : goal.returns-clause-counted
-returns-clause-counted g c = tt
+pub returns-clause-given : goal.returns-clause-given
+returns-clause-given g c = tt
 
 pub returns-clause-over : goal.returns-clause-over
-returns-clause-over g c = λ _. omega (arith, c.loop-piece.invariant.small, c.loop-piece.invariant.taken)
+returns-clause-over g c = λ _. (c.loop-piece.text.items, (c.loop-piece.invariant.given, omega (arith, c.loop-piece.invariant.small)))
 
-pub returns-in-Err-clause-rises : goal.returns-in-Err-clause-rises
-returns-in-Err-clause-rises g c = omega (arith, c.in-Err.ensures.counted, c.loop-piece.invariant.taken)
+pub returns-clause-stops : goal.returns-clause-stops
+returns-clause-stops g c = (c.loop-piece.text.items, (c.loop-piece.invariant.given, omega (arith, c.loop-piece.invariant.small)))
 
-pub returns-in-Err-clause-counted : goal.returns-in-Err-clause-counted
-returns-in-Err-clause-counted g c = tt
+pub returns-in-Err-clause-given : goal.returns-in-Err-clause-given
+returns-in-Err-clause-given g c = tt
 
 pub returns-in-Err-clause-over : goal.returns-in-Err-clause-over
 returns-in-Err-clause-over g c = λ e. absurd (cc)
 
-pub returns-then-is_err-clause-rises : goal.returns-then-is_err-clause-rises
-returns-then-is_err-clause-rises g c = omega (arith, c.in-Ok.ensures.counted, c.loop-piece.invariant.taken)
+pub returns-in-Err-clause-stops : goal.returns-in-Err-clause-stops
+returns-in-Err-clause-stops g c = (c.loop-piece.text.items, (given_more_none _ _ _ c.loop-piece.text.items c.loop-piece.invariant.given c.in-Err.ensures.gives, omega (arith, c.loop-piece.invariant.small)))
 
-pub returns-then-is_err-clause-counted : goal.returns-then-is_err-clause-counted
-returns-then-is_err-clause-counted g c = tt
+pub returns-then-is_err-clause-given : goal.returns-then-is_err-clause-given
+returns-then-is_err-clause-given g c = tt
 
 pub returns-then-is_err-clause-over : goal.returns-then-is_err-clause-over
 returns-then-is_err-clause-over g c = λ e. absurd (cc)
 
-pub returns-then-count-eq0-clause-rises : goal.returns-then-count-eq0-clause-rises
-returns-then-count-eq0-clause-rises g c = omega (arith, c.in-Ok.ensures.counted, c.loop-piece.invariant.taken)
+pub returns-then-is_err-clause-stops : goal.returns-then-is_err-clause-stops
+returns-then-is_err-clause-stops g c =
+    (c.loop-piece.text.items ++ take c.in-Ok.count c.take.new.buffer, (given_more _ _ _ _ _ c.loop-piece.invariant.given c.in-Ok.ensures.gives, grind (arith, length-append, length-take)))
 
-pub returns-then-count-eq0-clause-counted : goal.returns-then-count-eq0-clause-counted
-returns-then-count-eq0-clause-counted g c = omega (arith, c.if-count-eq0.true, c.in-Ok.ensures.counted, c.loop-piece.invariant.taken)
+pub returns-then-count-eq0-clause-given : goal.returns-then-count-eq0-clause-given
+returns-then-count-eq0-clause-given g c = given_last _ _ _ c.loop-piece.text.items c.take.new.buffer c.in-Ok.count c.if-count-eq0.true c.loop-piece.invariant.given c.in-Ok.ensures.gives
 
 pub returns-then-count-eq0-clause-over : goal.returns-then-count-eq0-clause-over
 returns-then-count-eq0-clause-over g c = tt
+
+pub returns-then-count-eq0-clause-stops : goal.returns-then-count-eq0-clause-stops
+returns-then-count-eq0-clause-stops g c =
+    (c.loop-piece.text.items, (given_last _ _ _ c.loop-piece.text.items c.take.new.buffer c.in-Ok.count c.if-count-eq0.true c.loop-piece.invariant.given c.in-Ok.ensures.gives, omega (arith, c.loop-piece.invariant.small)))

@@ -1,4 +1,4 @@
-use Rattle.std.proofs.Common.{◌≡◌, ◌≤◌, ◌+◌, ◌-◌, false, vec_len}
+use Rattle.std.proofs.Common.{◌≡◌, ◌≤◌, ◌+◌, ◌-◌, ◌++◌, false, vec_len}
 use Rattle.std.specs.Io.KnownBytes.{Consumes}
 use Rattle.trlab_bounds.specs.declared.texts.TheConstants.{TEXT_LIMIT}
 use Rattle.trlab_campaign.proofs.device.whole.read_text.Given as goal
@@ -7,7 +7,7 @@ abbrev pub invariant-loop-piece : goal.invariant-loop-piece
 invariant-loop-piece g l = record {
   read : Consumes (g.S.Source.left l.fn.reader) (g.S.Source.left l.reader) l.text.items;
   small : vec_len l.text ≤ TEXT_LIMIT + 1;
-  taken : g.S.Source.taken l.reader ≡ g.S.Source.taken l.fn.reader + vec_len l.text;
+  given : g.S.Source.given l.reader ≡ g.S.Source.given l.fn.reader ++ l.text.items;
   works : g.S.Source.failed l.reader ≡ false;
 }
 

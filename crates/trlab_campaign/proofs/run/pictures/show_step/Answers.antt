@@ -1,6 +1,6 @@
 use Rattle.std.proofs.lemmas.Result.{err_from_is_err_and}
 use Rattle.std.proofs.Common.{refl}
-use Rattle.trlab_campaign.proofs.KnownBytes.{prefix_whole}
+use Rattle.trlab_campaign.proofs.WrittenBytes.{prefix_whole}
 use Rattle.trlab_campaign.proofs.Faults.{by_memory}
 use Rattle.trlab_campaign.proofs.run.pictures.show_step.Goals as goal
 

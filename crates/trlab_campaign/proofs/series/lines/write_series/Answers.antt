@@ -6,6 +6,7 @@ use Rattle.trlab_step.specs.Progress.{at_start}
 use Rattle.trlab_jobs.specs.Job.{Job, seed_of, sheet_of}
 use Rattle.trlab_jobs.specs.Stored.{IsStored}
 use Rattle.trlab_campaign.specs.SeriesOutput.{first_windows}
+use Rattle.trlab_campaign.specs.Writers.{bytes_of}
 use Rattle.trlab_campaign.proofs.SeriesLines.{prefix_of_first, series_stops, series_wrote, then_wrote}
 use Rattle.trlab_campaign.proofs.series.lines.write_series.Goals as goal
 
@@ -19,7 +20,7 @@ returns-in_err-write_line g c =
     let writer = c.in_err-write_line.ensures.writer in
     record {
       wrote = rw fault.1 (series_stops c.args.job windows.every windows.from count c.job.inside.steps (at_start (seed_of c.args.job) (sheet_of c.args.job)) stored refl (ap (λ (job : Job). job.steps) c.job.view_is) c.count-count.ensures
-          (g.K.Sink.written c.args.writer.now) (g.K.Sink.written c.write_line.new.writer) (λ roads tallies course.
+          (bytes_of g.K.Sink c.args.writer.now) (bytes_of g.K.Sink c.write_line.new.writer) (λ roads tallies course.
           prefix_of_first (line_text series_heading) (flat_map window_text (first_windows roads tallies windows.every windows.from count)) _ _ heading));
       writer = record { works = rw fault.1 tt; fails = rw (fault.1, fault.2) writer.fails; flushed = writer.flushed };
     }

@@ -1,5 +1,6 @@
 use Rattle.std.proofs.Common.{true}
-use Rattle.trlab_campaign.proofs.Endings.{sweep_ends, sweep_refusal_ends, kept_at_memory, kept}
+use Rattle.trlab_campaign.proofs.Endings.{sweep_ends, sweep_refusal_ends, kept_at_memory}
+use Rattle.trlab_campaign.proofs.WrittenBytes.{kept}
 use Rattle.trlab_campaign.proofs.sweep.SurveyorEngine.write.Goals as goal
 
 pub returns-in-Err-At-clause-ends : goal.returns-in-Err-At-clause-ends

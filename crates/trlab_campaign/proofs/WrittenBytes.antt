@@ -1,0 +1,65 @@
+-- What was written, over several calls.
+use Rattle.std.proofs.Common.{◌≡◌, ℕ, ◌+◌, ◌≤◌, List, [], ◌++◌, length, take, drop, refl, arith, append_assoc, sym, ◌∙◌, ap, append-nil, take-add, subst}
+use Rattle.std.proofs.Math.Seq.{take-length}
+use Rattle.std.specs.Prelude.{Option, None, Some}
+use Rattle.std.specs.Io.KnownBytes.{Appends, Keeps}
+use Rattle.trlab_campaign.specs.Writers.{SinkBytes, Adds, AddsNone, AddsPrefix}
+
+-- of the bytes that a writer tells
+told_none : (a : Option (List ℕ)) → Appends a a []
+told_none None = tt
+told_none (Some xs) = sym (append-nil xs)
+
+told_same : (a : Option (List ℕ)) → Keeps a a
+told_same None = tt
+told_same (Some xs) = refl
+
+told_more : (a b c : Option (List ℕ)) (xs ys : List ℕ) → Appends a b xs → Appends b c ys → Appends a c (xs ++ ys)
+told_more None b c xs ys p q = tt
+told_more (Some x) None c xs ys p q = absurd p
+told_more (Some x) (Some y) None xs ys p q = absurd q
+told_more (Some x) (Some y) (Some z) xs ys p q = q ∙ ap (λ t. t ++ ys) p ∙ append_assoc x xs ys
+
+told_kept : (a b c : Option (List ℕ)) (xs : List ℕ) → Appends a b xs → Keeps b c → Appends a c xs
+told_kept None b c xs p q = tt
+told_kept (Some x) None c xs p q = absurd p
+told_kept (Some x) (Some y) None xs p q = absurd q
+told_kept (Some x) (Some y) (Some z) xs p q = q ∙ p
+
+-- a writer that was not called
+pub adds_none : (a : SinkBytes) → Adds a a []
+adds_none a = record { accepted = sym (append-nil a.accepted); told = told_none a.told }
+
+pub kept : (a : SinkBytes) → AddsNone a a
+kept a = record { accepted = refl; told = told_same a.told }
+
+-- a call that took nothing
+pub nothing_taken : (a b : SinkBytes) → b.accepted ≡ a.accepted ++ [] → Keeps a.told b.told → AddsNone a b
+nothing_taken a b p q = record { accepted = p ∙ append-nil a.accepted; told = q }
+
+pub adds_more : (a b c : SinkBytes) (xs ys : List ℕ) → Adds a b xs → Adds b c ys → Adds a c (xs ++ ys)
+adds_more a b c xs ys p q = record {
+  accepted = q.accepted ∙ (ap (λ t. t ++ ys) p.accepted ∙ append_assoc a.accepted xs ys);
+  told = told_more a.told b.told c.told xs ys p.told q.told;
+}
+
+pub adds_kept : (a b c : SinkBytes) (xs : List ℕ) → Adds a b xs → AddsNone b c → Adds a c xs
+adds_kept a b c xs p q = record { accepted = q.accepted ∙ p.accepted; told = told_kept a.told b.told c.told xs p.told q.told }
+
+-- of a text whose first `done` bytes are there, `count` more
+pub adds_part : (a b c : SinkBytes) (text : List ℕ) (done count : ℕ) → Adds a b (take done text) → Adds b c (take count (drop done text)) → Adds a c (take (done + count) text)
+adds_part a b c text done count p q =
+    subst (λ (t : List ℕ). Adds a c t) (sym (take-add done count text)) (adds_more a b c (take done text) (take count (drop done text)) p q)
+
+-- of a text all bytes are there
+pub adds_whole : (a b : SinkBytes) (text : List ℕ) (done : ℕ) → done ≤ length text → length text ≤ done → Adds a b (take done text) → Adds a b text
+adds_whole a b text done inside all p =
+    let here : done ≡ length text = omega arith in
+    subst (λ (t : List ℕ). Adds a b t) (ap (λ (n : ℕ). take n text) here ∙ take-length text) p
+
+-- a whole text is a prefix of it
+pub prefix_whole : (a b : SinkBytes) (text : List ℕ) → Adds a b text → AddsPrefix a b text
+prefix_whole a b text p = record { count = length text; prefix = subst (λ (t : List ℕ). Adds a b t) (sym (take-length text)) p }
+
+pub prefix_kept : (a b c : SinkBytes) (text : List ℕ) → Adds a b text → AddsNone b c → AddsPrefix a c text
+prefix_kept a b c text p q = prefix_whole a c text (adds_kept a b c text p q)
