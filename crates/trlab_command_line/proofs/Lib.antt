@@ -3,6 +3,5 @@ mod CommandLine
 mod Levels
 mod Matches
 mod Options
-mod Printing
 mod Rows
 mod Uses
