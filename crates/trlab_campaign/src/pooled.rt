@@ -1,7 +1,8 @@
 //! The engine that runs and series share: a pool of workers asks the cars of a job's run, and an observer is
 //! told of its steps. What is written meanwhile is the account.
 
-ghost use Rattle.std.specs.Prelude.{◌≡◌, ◌<◌, ◌≤◌, false};
+ghost use Rattle.std.specs.Thread.{IsSync};
+ghost use Rattle.std.specs.Prelude.{◌≡◌, ◌<◌, ◌≤◌, false, IfSome, IsSome};
 ghost use Rattle.trlab_bounds.specs.declared.runs.TheConstants.{MOST_WORKERS};
 ghost use Rattle.trlab_jobs.specs.Job.{Job as Told, seed_of, sheet_of};
 ghost use Rattle.trlab_step.specs.Progress.{at_start};
@@ -21,7 +22,7 @@ use std::sync::Wait;
 use std::thread::Threads;
 use trlab_bounds::runs::MOST_WORKERS;
 use trlab_jobs::{Job, read_job};
-use trlab_segments::{OpenGate, Pool};
+use trlab_segments::{Gate, OpenGate, Pool};
 use trlab_step::{Asker, Run, Sheet};
 use trlab_texts::{Cause, TextFault};
 
@@ -79,6 +80,37 @@ fn write_account<C: Account, A: Asker, K: Sink>(
     }
 }
 
+/// Writes the account of a job, and hands it on, while the helpers of a pool wait for the phases of its run.
+fn write_by_pool<'x, R: Threads + Wait + Sync, G: Gate + Sync, C: Account, A: Asker, K: Sink>(
+    alloc: Global,
+    pool: &'x Pool<'x, R, G>,
+    account: &'x C,
+    asker: &'x A,
+    job: Job,
+    writer: &mut K,
+) -> End
+    requires ready { A.is_ready asker.now }
+    requires works { K.failed writer.old ≡ false }
+    ensures { LeavesWriter K.Sink (EndsSo (C.outputs account.now job)) result writer.old writer.new }
+{
+    let mut job = Some(job);
+    pool.run(
+        alloc,
+        &mut || -> End
+            requires taken { IsSome job }
+            requires ready { A.is_ready asker.now }
+            requires works { K.failed writer.now ≡ false }
+            ensures { IfSome job.entry (λ told. LeavesWriter K.Sink
+                (EndsSo (C.outputs account.entry.now told)) result writer.entry.now writer.exit.now) }
+        {
+            match job.take() {
+                Some(job) => write_account(account, asker, alloc, job, writer),
+                None => unreachable!(),
+            }
+        },
+    )
+}
+
 /// The engine of job texts: what it writes for a job, the most workers that ask its cars, and who is told how far
 /// it is.
 #[derive(Drop)]
@@ -96,39 +128,31 @@ impl<'a, R: Threads + Wait + Sync, C: Account, O: Observer> Driver<'a, R, C, O> 
     /// faster on the job's road.
     fn drive<K: Sink>(&self, alloc: Global, job: Job, writer: &mut K) -> End
         requires works { K.failed writer.old ≡ false }
-        ensures { LeavesWriter K.Sink (EndsSo (C.outputs self.account.now job)) result writer.old writer.new }
+        ensures { LeavesWriter K.Sink (EndsSo (C.outputs self.now.account.now job)) result writer.old writer.new }
     {
         let gate = OpenGate;
         let pool = Pool::new(self.rt, self.workers, &gate).sparing(job.road.cars());
         let observed = Observed::new(&pool, self.observer, self.account.steps(&job));
-        let account = self.account;
-        let asker = &observed;
-        let mut job = Some(job);
-        let end = pool.run(
-            alloc,
-            &mut || match job.take() {
-                Some(job) => write_account(account, asker, alloc, job, writer),
-                None => unreachable!(),
-            },
-        );
+        let end = write_by_pool(alloc, &pool, self.account, &observed, job, writer);
         observed.ended(end);
         end
     }
 }
 
 impl<'a, R: Threads + Wait + Sync, C: Account, O: Observer> Engine for Driver<'a, R, C, O> {
-    ghost is_ready = { λ _. Unit {0} };
+    ghost is_ready = { λ _. IsSync R.row };
 
     ghost outputs = { λ driver text. IsOutputOf (C.outputs driver.account.now) text };
 
     ghost at_once = { false };
 
     fn write<K: Sink>(self, alloc: Global, text: &[u8], writer: &mut K) -> End {
-        match read_job(alloc, text) {
-            Ok(job) => self.drive(alloc, job, writer),
-            Err(TextFault::At { line, cause }) => refuse(alloc, line, cause, writer),
-            Err(TextFault::Memory) => End::Memory,
-        }
+        let job = match read_job(alloc, text) {
+            Ok(job) => job,
+            Err(TextFault::At { line, cause }) => return refuse(alloc, line, cause, writer),
+            Err(TextFault::Memory) => return End::Memory,
+        };
+        self.drive(alloc, job, writer)
     }
 
     fn write_too_big<K: Sink>(self, alloc: Global, writer: &mut K) -> End {

@@ -1,10 +1,10 @@
 //! What is printed for arguments that ask for no command: help, or why they are refused.
 
 ghost use Rattle.std.specs.Prelude.{◌≡◌, ◌↔◌, ◌⊎◌, true, false};
-ghost use Rattle.std.specs.Io.KnownBytes.{Keeps};
 ghost use Rattle.clap.specs.Words.{kind_of};
 ghost use Rattle.trlab_campaign.specs.Ending.{EndsSo, LeavesWriter};
 ghost use Rattle.trlab_campaign.specs.Flushes.{HandedOnce};
+ghost use Rattle.trlab_campaign.specs.Writers.{AddsNone, bytes_of};
 ghost use Rattle.trlab_campaign.specs.declared.end.End.TheVariants.{Memory};
 ghost use Rattle.trlab_command_line.specs.Outputs.{IsHelp};
 ghost use Rattle.trlab_command_line.specs.Statuses.{asks_for_help, status_of_print};
@@ -19,7 +19,7 @@ use trlab_campaign::{End, Sink, write_output};
 fn write_help<K: Sink>(alloc: Global, error: &Error, writer: &mut K) -> End
     requires { K.failed writer.old ≡ false }
     ensures ends { LeavesWriter K.Sink (EndsSo IsHelp) result writer.old writer.new }
-    ensures kept { result ≡ Memory → Keeps (K.written writer.old) (K.written writer.new) }
+    ensures kept { result ≡ Memory → AddsNone (bytes_of K.Sink writer.old) (bytes_of K.Sink writer.new) }
 {
     match error.to_string(alloc) {
         Ok(text) => write_output(false, text.as_bytes(), writer),
@@ -38,7 +38,7 @@ pub fn print_help_or_error<R: AllocGlobal + Eprint, K: Sink>(
     // 3 if memory runs out, also for the text of help.
     ensures status { (result ≡ 3) ⊎ (result ≡ status_of_print (kind_of error.now) (K.failed writer.new)) }
     ensures device { (result ≡ 4) ↔ (K.failed writer.new ≡ true) }
-    ensures kept { result ≡ 3 → Keeps (K.written writer.old) (K.written writer.new) }
+    ensures kept { result ≡ 3 → AddsNone (bytes_of K.Sink writer.old) (bytes_of K.Sink writer.new) }
     ensures handed { asks_for_help (kind_of error.now) ≡ true → result ≡ 0
         → HandedOnce (K.handed_on writer.new) (K.flushes writer.old) (K.flushes writer.new) }
     ensures silent { asks_for_help (kind_of error.now) ≡ false → writer.new ≡ writer.old }
