@@ -28,7 +28,7 @@ pub fn write_told<K: Sink>(told: Result<(bool, Page), AllocError>, writer: &mut 
     requires { K.failed writer.old ≡ false }
     ensures answer { MatchResult told
         (λ told. All IsPlain told.1
-            × OutputEnds told.0 told.1 result (bytes_of K.Sink writer.old) (bytes_of K.Sink writer.new))
+        × OutputEnds told.0 told.1 result (bytes_of K.Sink writer.old) (bytes_of K.Sink writer.new))
         (λ _. (result ≡ Memory) × AddsNone (bytes_of K.Sink writer.old) (bytes_of K.Sink writer.new)) }
     ensures handed { HandsOn result
         (K.handed_on writer.new) (K.flushes writer.old) (K.flushes writer.new) }
