@@ -12,14 +12,16 @@
 A length is in cells, a time in steps, a speed in cells a step; a chance and a density (cars a cell) are 0 to 1.
 `.text()` gives the text of a job or a sweep, and its table or pictures depend on that alone. No package is needed,
 except that `.to_numpy()` and `.to_pandas()` of results need numpy and pandas. `TRLAB` names the program; without it
-that of the checkout is found."""
+that of the package or of the checkout is used."""
+from .location import find_program
 from .many import map, read_tables, write_texts
-from .program import Failed, Refused, find_program
+from .program import Failed, Refused
 from .results import Picture, Pictures, Point, Table, Window
 from .rules import Nasch, Own, Rickert, Rule, SlowToStart
 from .starts import Start, even, jam, moving, random
 from .texts import Accepted, Job, Sweep, check
 from .units import Chance, Density, Key
+from .version import __version__
 
 __all__ = [
     "Accepted",
@@ -41,6 +43,7 @@ __all__ = [
     "Sweep",
     "Table",
     "Window",
+    "__version__",
     "check",
     "even",
     "find_program",

@@ -1,14 +1,12 @@
-"""The program: where it is, and what it answers to a text."""
+"""The program: what it answers to an input."""
 from __future__ import annotations
 
-import functools
-import os
 import re
-import shutil
 import subprocess
 import tempfile
-from pathlib import Path
-from typing import IO, Iterator, NamedTuple, NoReturn, Optional, Sequence
+from typing import IO, Iterator, NamedTuple, Optional, Sequence
+
+from .location import find_program
 
 REFUSED = 1
 # `explain` reads a refused text as one of these commands does.
@@ -45,27 +43,6 @@ class _Pair(NamedTuple):
 def _numbers(form: str, answer: str) -> _Pair:
     found = re.match(form, answer)
     return _Pair(int(found[1]), int(found[2])) if found else _Pair(None, None)
-
-
-def find_program() -> str:
-    """The path of the program: what `TRLAB` names, else the one of the checkout that has this module, as
-    `./trlab` finds it, else `trlab` on the `PATH`."""
-    return os.environ.get("TRLAB") or _of_checkout() or shutil.which("trlab") or _nowhere()
-
-
-@functools.lru_cache(maxsize=None)
-def _of_checkout() -> Optional[str]:
-    script = Path(__file__).resolve().parents[2] / "trlab"
-    if not (script.is_file() and os.access(script, os.X_OK)):
-        return None
-    asked = subprocess.run([script, "--where"], stdout=subprocess.PIPE, stderr=subprocess.PIPE, text=True)
-    if asked.returncode != 0:
-        raise Failed(asked.returncode, asked.stderr)
-    return asked.stdout[:-1]
-
-
-def _nowhere() -> NoReturn:
-    raise FileNotFoundError("trlab is not found: let TRLAB name the program, or have it on the PATH")
 
 
 def ask(words: Sequence[str], text: str) -> str:
