@@ -24,7 +24,7 @@ def example(name):
 def stand_in(folder, lines):
     """A program of a few lines of the shell."""
     path = Path(folder) / "trlab"
-    path.write_text("#!/bin/sh\n" + lines)
+    path.write_text('#!/bin/sh\n[ "$1" != --version ] || exec echo trlab 0\n' + lines)
     path.chmod(path.stat().st_mode | stat.S_IXUSR)
     return mock.patch.dict(os.environ, TRLAB=str(path))
 
