@@ -24,7 +24,7 @@ NO_DATE = (1980, 1, 1, 0, 0, 0)
 
 def version():
     """The version, which the module states."""
-    return re.search(r'^__version__ = "(.*)"$', (MODULE / "version.py").read_text(), re.M)[1]
+    return re.search(r'^__version__ = "(.*)"$', (MODULE / "_version.py").read_text(), re.M)[1]
 
 
 def metadata():

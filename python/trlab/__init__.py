@@ -15,13 +15,13 @@ except that `.to_numpy()` and `.to_pandas()` of results need numpy and pandas. `
 that of the package or of the checkout is used."""
 from .location import find_program
 from .many import map, read_tables, write_texts
-from .program import Failed, Refused
+from .program import Failed, Refused, version
 from .results import Picture, Pictures, Point, Table, Window
 from .rules import Nasch, Own, Rickert, Rule, SlowToStart
 from .starts import Start, even, jam, moving, random
-from .texts import Accepted, Job, Sweep, check
+from .texts import Accepted, Job, Sweep, check, explain
 from .units import Chance, Density, Key
-from .version import __version__
+from ._version import __version__
 
 __all__ = [
     "Accepted",
@@ -46,11 +46,12 @@ __all__ = [
     "__version__",
     "check",
     "even",
+    "explain",
     "find_program",
     "jam",
-    "map",
     "moving",
-    "random",
     "read_tables",
+    "version",
     "write_texts",
 ]
+# `map` and `random` are not in this list, so that `from trlab import *` leaves Python's own names as they are.
