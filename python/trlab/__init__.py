@@ -20,6 +20,7 @@ from .results import Picture, Pictures, Point, Table, Window
 from .rules import Nasch, Own, Rickert, Rule, SlowToStart
 from .starts import Start, even, jam, moving, random
 from .texts import Accepted, Job, Sweep, check, explain
+from .trajectories import Jam, Trajectories, Trip
 from .units import Chance, Density, Key
 from ._version import __version__
 
@@ -28,6 +29,7 @@ __all__ = [
     "Chance",
     "Density",
     "Failed",
+    "Jam",
     "Job",
     "Key",
     "Nasch",
@@ -42,6 +44,8 @@ __all__ = [
     "Start",
     "Sweep",
     "Table",
+    "Trajectories",
+    "Trip",
     "Window",
     "__version__",
     "check",

@@ -10,6 +10,8 @@ if TYPE_CHECKING:
     import numpy
     import pandas
 
+    from .trajectories import Trajectories
+
 
 class _Counted:
     """What a line of any table tells of its cars. (Counts are of all lanes together.)"""
@@ -200,6 +202,16 @@ class Pictures(List[Picture]):
             if sign != "."
         ]
         return pandas.DataFrame(cars, columns=["step", "lane", "cell", "speed"])
+
+    def trajectories(self) -> Trajectories:
+        """The trajectory of every car, with its lane, cell, distance and speed at each step.
+
+        Cars are numbered as in the first picture: lane by lane, and by cell. The pictures must be those of consecutive
+        steps of one run, otherwise `ValueError` is raised. A part of a run is good as well:
+        `job.run()[1000:].trajectories()` leaves out the first 1000 pictures."""
+        from .following import trajectories_of
+
+        return trajectories_of(self)
 
 
 def pictures_in(lines: Iterable[str]) -> Iterator[Picture]:
