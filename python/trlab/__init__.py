@@ -13,11 +13,13 @@ A length is in cells, a time in steps, a speed in cells a step; a chance and a d
 `.text()` gives the text of a job or a sweep, and its table or pictures depend on that alone. No package is needed,
 except that `.to_numpy()` and `.to_pandas()` of results need numpy and pandas. `TRLAB` names the program; without it
 that of the package or of the checkout is used."""
+from .figure import Figure
 from .location import find_program
 from .many import map, read_tables, write_texts
 from .program import Failed, Refused, version
 from .results import Picture, Pictures, Point, Table, Window
 from .rules import Nasch, Own, Rickert, Rule, SlowToStart
+from .space_time import SpaceTime
 from .starts import Start, even, jam, moving, random
 from .texts import Accepted, Job, Sweep, check, explain
 from .trajectories import Jam, Trajectories, Trip
@@ -29,6 +31,7 @@ __all__ = [
     "Chance",
     "Density",
     "Failed",
+    "Figure",
     "Jam",
     "Job",
     "Key",
@@ -41,6 +44,7 @@ __all__ = [
     "Rickert",
     "Rule",
     "SlowToStart",
+    "SpaceTime",
     "Start",
     "Sweep",
     "Table",

@@ -10,6 +10,8 @@ if TYPE_CHECKING:
     import numpy
     import pandas
 
+    from .figure import Figure
+    from .space_time import SpaceTime
     from .trajectories import Trajectories
 
 
@@ -148,6 +150,19 @@ class Table(List[Row], Generic[Row]):
         frame["stopped_share"] = [row.stopped_share for row in self]
         return frame
 
+    def plot(self, name: str = "") -> Figure:
+        """A figure of the table: the fundamental diagram of a sweep, or the flow of a series against the step.
+
+        Points of one density are averaged, with error bars of two standard errors. Notebooks show the figure,
+        `.svg()` is the image, and `.draw(axes)` draws it on an axis of matplotlib. `trlab.figure.diagram` compares
+        several tables."""
+        from .figure import diagram
+
+        return diagram({name: self})
+
+    def _repr_svg_(self) -> str:
+        return self.plot().svg()
+
 
 class Picture(NamedTuple):
     """The road at a step: each lane in characters, `.` an empty cell, `0` to `9` and `a` to `z` a car and its speed."""
@@ -202,6 +217,19 @@ class Pictures(List[Picture]):
             if sign != "."
         ]
         return pandas.DataFrame(cars, columns=["step", "lane", "cell", "speed"])
+
+    def space_time(self) -> SpaceTime:
+        """The space-time diagram: `.svg()` with axes and a legend, `.png()`, or `.draw(axes)` on an axis of matplotlib.
+
+        Raises `ValueError` if there are no pictures."""
+        from .space_time import SpaceTime
+
+        return SpaceTime(self)
+
+    def _repr_svg_(self) -> Optional[str]:
+        """The picture in a notebook: the last 300 steps of the first 400 cells."""
+        shown = [Picture(it.step, tuple(lane[:400] for lane in it.lanes)) for it in self[-300:]]
+        return Pictures(shown).space_time().svg() if shown else None
 
     def trajectories(self) -> Trajectories:
         """The trajectory of every car, with its lane, cell, distance and speed at each step.
