@@ -9,10 +9,9 @@ from hashlib import sha256
 from pathlib import Path
 from typing import Callable, Dict, Iterable, List, Mapping, NamedTuple, Sequence, Type, TypeVar, Union
 
-from figure import Figure
-
 import trlab
 from trlab import Job, Point, Sweep, Window
+from trlab.figure import Figure
 
 Text = TypeVar("Text", Job, Sweep)
 Row = TypeVar("Row", Point, Window)

@@ -1,7 +1,9 @@
 """Runs of the program: what it writes is what the results hold, and what it refuses is raised."""
 import os
+import signal
 import stat
 import tempfile
+import time
 import unittest
 import warnings
 from dataclasses import replace
@@ -24,7 +26,7 @@ def example(name):
 def stand_in(folder, lines):
     """A program of a few lines of the shell."""
     path = Path(folder) / "trlab"
-    path.write_text("#!/bin/sh\n" + lines)
+    path.write_text('#!/bin/sh\n[ "$1" != --version ] || exec echo trlab 0\n' + lines)
     path.chmod(path.stat().st_mode | stat.S_IXUSR)
     return mock.patch.dict(os.environ, TRLAB=str(path))
 
@@ -149,6 +151,30 @@ class Refusals(unittest.TestCase):
         self.assertEqual((caught.exception.status, str(caught.exception)), (4, "trlab ended with status 4: full"))
 
 
+    def test_a_stopped_run_leaves_no_process(self):
+        with tempfile.TemporaryDirectory() as folder:
+            mark = Path(folder) / "mark"
+            lines = f'trap "" PIPE; echo step 0; echo .; while sleep 0.1; do date > {mark}; done\n'
+            with stand_in(folder, lines):
+                self._stop_after_a_while(Job(limit=5, length=1, cars=0, rule=Nasch(0), steps=1).pictures())
+            mark.unlink(missing_ok=True)
+            time.sleep(0.5)
+            self.assertFalse(mark.exists())
+
+    def _stop_after_a_while(self, pictures):
+        """Reads with an alarm that interrupts, as Ctrl-C does."""
+        def interrupt(*_):
+            raise KeyboardInterrupt
+
+        before = signal.signal(signal.SIGALRM, interrupt)
+        signal.setitimer(signal.ITIMER_REAL, 0.5)
+        try:
+            self.assertRaises(KeyboardInterrupt, list, pictures)
+        finally:
+            signal.setitimer(signal.ITIMER_REAL, 0)
+            signal.signal(signal.SIGALRM, before)
+
+
 class Many(unittest.TestCase):
     def setUp(self):
         shape = Sweep(limit=5, length=100, rule=Nasch(0.25), warm=10, measure=20, cars=[10, 20])
@@ -159,7 +185,7 @@ class Many(unittest.TestCase):
 
     def test_the_first_that_fails(self):
         with self.assertRaises(Refused):
-            map(Job.run, [Job(limit=5, length=1, cars=0, rule=Nasch(0), steps=steps) for steps in (1, 500001)])
+            map(Job.run, [Job(limit=5, length=5, cars=1, rule=rule, steps=1) for rule in (Nasch(0), Rickert(0, 0))])
 
     def test_by_files(self):
         with tempfile.TemporaryDirectory(prefix="a blank ") as folder:

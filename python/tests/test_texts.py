@@ -69,7 +69,7 @@ class Starts(unittest.TestCase):
         self.assertRaises(ValueError, Job(limit=35, start=[36], rule=Nasch(0), steps=0).text)
 
     def test_a_road_says_its_cars_itself(self):
-        self.assertRaises(ValueError, Job(limit=5, start=[0, None], cars=1, rule=Nasch(0), steps=0).text)
+        self.assertRaises(ValueError, Job, limit=5, start=[0, None], cars=1, rule=Nasch(0), steps=0)
 
     def test_no_more_cars_than_cells(self):
         self.assertRaises(ValueError, self.road, even, cars=13)
@@ -105,7 +105,7 @@ class Texts(unittest.TestCase):
 
     def test_cars_or_densities(self):
         for more in {}, {"cars": [1], "densities": [0.1]}:
-            self.assertRaises(ValueError, Sweep(limit=5, length=10, rule=Nasch(0), warm=0, measure=1, **more).text)
+            self.assertRaises(ValueError, Sweep, limit=5, length=10, rule=Nasch(0), warm=0, measure=1, **more)
 
     def test_a_start_on_one_lane_is_told(self):
         sweep = Sweep(limit=5, length=10, lanes=2, rule=Nasch(0), warm=0, measure=1, cars=[5])

@@ -12,20 +12,27 @@
 A length is in cells, a time in steps, a speed in cells a step; a chance and a density (cars a cell) are 0 to 1.
 `.text()` gives the text of a job or a sweep, and its table or pictures depend on that alone. No package is needed,
 except that `.to_numpy()` and `.to_pandas()` of results need numpy and pandas. `TRLAB` names the program; without it
-that of the checkout is found."""
+that of the package or of the checkout is used."""
+from .figure import Figure
+from .location import find_program
 from .many import map, read_tables, write_texts
-from .program import Failed, Refused, find_program
+from .program import Failed, Refused, version
 from .results import Picture, Pictures, Point, Table, Window
 from .rules import Nasch, Own, Rickert, Rule, SlowToStart
+from .space_time import SpaceTime
 from .starts import Start, even, jam, moving, random
-from .texts import Accepted, Job, Sweep, check
+from .texts import Accepted, Job, Sweep, check, explain
+from .trajectories import Jam, Trajectories, Trip
 from .units import Chance, Density, Key
+from ._version import __version__
 
 __all__ = [
     "Accepted",
     "Chance",
     "Density",
     "Failed",
+    "Figure",
+    "Jam",
     "Job",
     "Key",
     "Nasch",
@@ -37,17 +44,22 @@ __all__ = [
     "Rickert",
     "Rule",
     "SlowToStart",
+    "SpaceTime",
     "Start",
     "Sweep",
     "Table",
+    "Trajectories",
+    "Trip",
     "Window",
+    "__version__",
     "check",
     "even",
+    "explain",
     "find_program",
     "jam",
-    "map",
     "moving",
-    "random",
     "read_tables",
+    "version",
     "write_texts",
 ]
+# `map` and `random` are not in this list, so that `from trlab import *` leaves Python's own names as they are.

@@ -7,7 +7,7 @@ from concurrent.futures import ThreadPoolExecutor
 from pathlib import Path
 from typing import Callable, Dict, Iterable, List, Mapping, Optional, Sequence, TypeVar, Union
 
-from .program import find_program
+from .location import find_program
 from .results import Row, Table
 from .texts import Job, Sweep
 

@@ -1,14 +1,12 @@
-"""The program: where it is, and what it answers to a text."""
+"""The program: what it answers to an input."""
 from __future__ import annotations
 
-import functools
-import os
 import re
-import shutil
 import subprocess
 import tempfile
-from pathlib import Path
-from typing import IO, Iterator, NamedTuple, NoReturn, Optional, Sequence
+from typing import IO, Iterator, NamedTuple, Optional, Sequence
+
+from .location import find_program
 
 REFUSED = 1
 # `explain` reads a refused text as one of these commands does.
@@ -16,25 +14,31 @@ _READ_AS = {"series": "run"}
 
 
 class Refused(Exception):
-    """A text that the program refuses.
+    """An input that the program rejects.
 
-    `answer` is what the command wrote, `explanation` what `trlab explain` tells of the text. Of a text with a fault
-    `line` counts from 1, and `cause` is its number; of a program that the verifier refuses `pc` is the instruction,
-    counted from 0, and `reason` its number."""
+    `answer` is what the command wrote, `explanation` what `trlab explain` prints for the input. For a faulty input
+    `line` (from 1) and `cause` are numbers; for a program that the verifier rejects, `pc` (from 0) is the instruction and
+    `reason` a number. The others are None."""
 
     def __init__(self, answer: str, explanation: str) -> None:
-        super().__init__(explanation or answer)
+        super().__init__(answer, explanation)
         self.answer, self.explanation = answer, explanation
         self.line, self.cause = _numbers(r"fault line (\d+) cause (\d+)", answer)
         self.pc, self.reason = _numbers(r"refused at (\d+) reason (\d+)", answer)
 
+    def __str__(self) -> str:
+        return self.explanation or self.answer
+
 
 class Failed(Exception):
-    """The program ended neither done nor with a refusal: its `status`, and what it said."""
+    """The program ended with an error that is not a rejected input: its exit `status`, and what it `said`."""
 
     def __init__(self, status: int, said: str) -> None:
-        super().__init__(f"trlab ended with status {status}: {said.strip()}")
-        self.status = status
+        super().__init__(status, said)
+        self.status, self.said = status, said
+
+    def __str__(self) -> str:
+        return f"trlab ended with status {self.status}: {self.said.strip()}"
 
 
 class _Pair(NamedTuple):
@@ -47,34 +51,13 @@ def _numbers(form: str, answer: str) -> _Pair:
     return _Pair(int(found[1]), int(found[2])) if found else _Pair(None, None)
 
 
-def find_program() -> str:
-    """The path of the program: what `TRLAB` names, else the one of the checkout that has this module, as
-    `./trlab` finds it, else `trlab` on the `PATH`."""
-    return os.environ.get("TRLAB") or _of_checkout() or shutil.which("trlab") or _nowhere()
-
-
-@functools.lru_cache(maxsize=None)
-def _of_checkout() -> Optional[str]:
-    script = Path(__file__).resolve().parents[2] / "trlab"
-    if not (script.is_file() and os.access(script, os.X_OK)):
-        return None
-    asked = subprocess.run([script, "--where"], stdout=subprocess.PIPE, stderr=subprocess.PIPE, text=True)
-    if asked.returncode != 0:
-        raise Failed(asked.returncode, asked.stderr)
-    return asked.stdout[:-1]
-
-
-def _nowhere() -> NoReturn:
-    raise FileNotFoundError("trlab is not found: let TRLAB name the program, or have it on the PATH")
-
-
 def ask(words: Sequence[str], text: str) -> str:
-    """What the program writes for these words and this text on standard input."""
+    """What the program writes for these words, with this input on standard input."""
     return "".join(ask_by_line(words, text))
 
 
 def ask_by_line(words: Sequence[str], text: str) -> Iterator[str]:
-    """The same line by line while the program runs, so that nothing is kept."""
+    """The same line by line while the program runs, so that no more than a line is kept."""
     with tempfile.TemporaryFile("w+") as source, tempfile.TemporaryFile("w+") as told:
         source.write(text)
         source.seek(0)
@@ -84,6 +67,10 @@ def ask_by_line(words: Sequence[str], text: str) -> Iterator[str]:
             assert running.stdout is not None
             try:
                 yield from _lines_of(running.stdout, words, text)
+            except BaseException:
+                # Also if the caller is interrupted or wants no more: the program does not go on without a reader.
+                running.kill()
+                raise
             finally:
                 running.stdout.close()
         if running.returncode != 0:
@@ -92,7 +79,7 @@ def ask_by_line(words: Sequence[str], text: str) -> Iterator[str]:
 
 
 def _lines_of(output: IO[str], words: Sequence[str], text: str) -> Iterator[str]:
-    """The lines of an output, or the refusal that it says."""
+    """The lines of an output; raises `Refused` if it says that the input is rejected."""
     for number, line in enumerate(output):
         if number == 0 and line.startswith(("fault ", "refused ")):
             raise Refused(line.rstrip("\n"), _explain(words[0], text))
@@ -100,12 +87,18 @@ def _lines_of(output: IO[str], words: Sequence[str], text: str) -> Iterator[str]
 
 
 def _explain(word: str, text: str) -> str:
-    """What `trlab explain` tells of a text that is refused."""
-    told = subprocess.run(
-        [find_program(), "explain", _READ_AS.get(word, word)],
-        input=text,
-        stdout=subprocess.PIPE,
-        stderr=subprocess.DEVNULL,
-        text=True,
-    )
+    """What `trlab explain` prints for a rejected input."""
+    told = explained(text, _READ_AS.get(word, word))
     return told.stdout.rstrip("\n") if told.returncode == REFUSED else ""
+
+
+def explained(text: str, *words: str) -> subprocess.CompletedProcess[str]:
+    """What `trlab explain` does with an input, read as these words say or as its own first line says."""
+    return subprocess.run(
+        [find_program(), "explain", *words], input=text, stdout=subprocess.PIPE, stderr=subprocess.PIPE, text=True
+    )
+
+
+def version() -> str:
+    """What `trlab --version` prints: the version of the program, and the logic in which it is proved."""
+    return ask(["--version"], "").rstrip("\n")

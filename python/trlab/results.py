@@ -10,6 +10,10 @@ if TYPE_CHECKING:
     import numpy
     import pandas
 
+    from .figure import Figure
+    from .space_time import SpaceTime
+    from .trajectories import Trajectories
+
 
 class _Counted:
     """What a line of any table tells of its cars. (Counts are of all lanes together.)"""
@@ -98,6 +102,23 @@ class Table(List[Row], Generic[Row]):
         self.extend(rows)
         self.kind: Type[Row] = kind
 
+    def __repr__(self) -> str:
+        return f"<table of {len(self)} {self.kind.__name__}s>"
+
+    # A part of a table, or two tables one after the other, are tables of the same kind.
+    def __getitem__(self, place: Any) -> Any:
+        found = super().__getitem__(place)
+        return Table(self.kind, found) if isinstance(place, slice) else found
+
+    def __add__(self, other: Any) -> Any:
+        return Table(self.kind, [*self, *other])
+
+    def copy(self) -> Table[Row]:
+        return Table(self.kind, self)
+
+    def __reduce__(self) -> Any:
+        return Table, (self.kind, list(self))
+
     @classmethod
     def read(cls, kind: Type[Row], text: str) -> Table[Row]:
         """The table that a program has written."""
@@ -119,10 +140,28 @@ class Table(List[Row], Generic[Row]):
         return numpy.array([tuple(row) for row in self], dtype=[(name, numpy.int64) for name in self.kind._fields])
 
     def to_pandas(self) -> pandas.DataFrame:
-        """A frame with the columns of the table."""
+        """A frame with the columns of the table, and with `density` (cars per cell), `speed` (mean speed in cells per
+        step) and `stopped_share` (0 to 1). In it `flow` is in cars per step, not in millionths."""
         import pandas
 
-        return pandas.DataFrame([tuple(row) for row in self], columns=self.kind._fields)
+        frame = pandas.DataFrame([tuple(row) for row in self], columns=self.kind._fields)
+        for name, column in (("density", "density"), ("flow", "passing"), ("speed", "speed")):
+            frame[name] = [getattr(row, column) for row in self]
+        frame["stopped_share"] = [row.stopped_share for row in self]
+        return frame
+
+    def plot(self, name: str = "") -> Figure:
+        """A figure of the table: the fundamental diagram of a sweep, or the flow of a series against the step.
+
+        Points of one density are averaged, with error bars of two standard errors. Notebooks show the figure,
+        `.svg()` is the image, and `.draw(axes)` draws it on an axis of matplotlib. `trlab.figure.diagram` compares
+        several tables."""
+        from .figure import diagram
+
+        return diagram({name: self})
+
+    def _repr_svg_(self) -> str:
+        return self.plot().svg()
 
 
 class Picture(NamedTuple):
@@ -138,6 +177,23 @@ class Picture(NamedTuple):
 
 class Pictures(List[Picture]):
     """The pictures of a run, of step 0 and after each step."""
+
+    def __repr__(self) -> str:
+        if not self:
+            return "<no pictures>"
+        lanes = self[0].lanes
+        return f"<{len(self)} pictures of {len(lanes)} x {len(lanes[0])} cells, steps {self[0].step} to {self[-1].step}>"
+
+    # A part of the pictures, or those of two runs one after the other, are pictures too.
+    def __getitem__(self, place: Any) -> Any:
+        found = super().__getitem__(place)
+        return Pictures(found) if isinstance(place, slice) else found
+
+    def __add__(self, other: Any) -> Any:
+        return Pictures([*self, *other])
+
+    def copy(self) -> Pictures:
+        return Pictures(self)
 
     def to_numpy(self) -> numpy.ndarray[Any, Any]:
         """An array by picture, lane and cell: the speed in cells a step, and -1 where the cell is empty."""
@@ -161,6 +217,29 @@ class Pictures(List[Picture]):
             if sign != "."
         ]
         return pandas.DataFrame(cars, columns=["step", "lane", "cell", "speed"])
+
+    def space_time(self) -> SpaceTime:
+        """The space-time diagram: `.svg()` with axes and a legend, `.png()`, or `.draw(axes)` on an axis of matplotlib.
+
+        Raises `ValueError` if there are no pictures."""
+        from .space_time import SpaceTime
+
+        return SpaceTime(self)
+
+    def _repr_svg_(self) -> Optional[str]:
+        """The picture in a notebook: the last 300 steps of the first 400 cells."""
+        shown = [Picture(it.step, tuple(lane[:400] for lane in it.lanes)) for it in self[-300:]]
+        return Pictures(shown).space_time().svg() if shown else None
+
+    def trajectories(self) -> Trajectories:
+        """The trajectory of every car, with its lane, cell, distance and speed at each step.
+
+        Cars are numbered as in the first picture: lane by lane, and by cell. The pictures must be those of consecutive
+        steps of one run, otherwise `ValueError` is raised. A part of a run is good as well:
+        `job.run()[1000:].trajectories()` leaves out the first 1000 pictures."""
+        from .following import trajectories_of
+
+        return trajectories_of(self)
 
 
 def pictures_in(lines: Iterable[str]) -> Iterator[Picture]:

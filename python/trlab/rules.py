@@ -13,6 +13,9 @@ class Nasch:
 
     brake: Chance
 
+    def __post_init__(self) -> None:
+        parts(self.brake)
+
     def lines(self) -> List[str]:
         return [f"rule nasch {parts(self.brake)}"]
 
@@ -26,6 +29,9 @@ class SlowToStart:
     brake: Chance
     stopped: Chance
 
+    def __post_init__(self) -> None:
+        parts(self.brake), parts(self.stopped)
+
     def lines(self) -> List[str]:
         return [f"rule vdr {parts(self.brake)} {parts(self.stopped)}"]
 
@@ -38,6 +44,9 @@ class Rickert:
 
     brake: Chance
     change: Chance
+
+    def __post_init__(self) -> None:
+        parts(self.brake), parts(self.change)
 
     def lines(self) -> List[str]:
         return [f"rule rickert {parts(self.brake)} {parts(self.change)}"]
@@ -61,8 +70,9 @@ Rule = Union[Nasch, SlowToStart, Rickert, Own]
 
 
 def _part(kind: str, program: str) -> List[str]:
-    """The lines of a program in a text. Its first line may be left out, and `end` is not one of them."""
-    lines = program.rstrip("\n").split("\n")
+    """The lines of a program in a text. Its first line may be left out, and `end` is not one of them. Empty lines at the
+    start and at the end do not count, so that a program may be written between triple quotes."""
+    lines = program.strip("\n").split("\n")
     if lines[0].startswith("code "):
         return lines
     first = [] if lines[0] == kind else [kind]

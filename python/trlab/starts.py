@@ -7,7 +7,8 @@ from __future__ import annotations
 import random as _random
 import warnings
 from dataclasses import dataclass
-from typing import Callable, List, Optional, Sequence
+from numbers import Integral
+from typing import List, Optional, Sequence, Tuple, cast
 
 SPEEDS = "0123456789abcdefghijklmnopqrstuvwxyz"
 """The characters of speeds in pictures, 0 to 35 cells a step."""
@@ -18,10 +19,21 @@ Lane = Sequence[Optional[int]]
 
 @dataclass(frozen=True)
 class Start:
-    """So many cars on so many cells: which cells they take, and the speed of all, None for that of the limit."""
+    """How cars are placed at first: `even`, `moving`, `jam` or `random(seed)`.
 
-    taken: Callable[[int, int], Sequence[int]]
+    `speed` is the initial speed of all cars in cells per step; None means the maximum speed."""
+
+    placement: str
     speed: Optional[int] = 0
+    seed: Optional[int] = None
+
+    def taken(self, cars: int, cells: int) -> List[int]:
+        """The cells that so many cars take, of so many."""
+        if self.placement == "random":
+            numbers = _random.Random(self.seed)
+            order = sorted((numbers.random(), cell) for cell in range(cells))
+            return [cell for _, cell in order[:cars]]
+        return list(range(cars)) if self.placement == "jam" else [car * cells // cars for car in range(cars)]
 
     def on_lanes(self, cars: int, length: int, lanes: int, limit: int) -> List[Lane]:
         """The lanes of the road, with so many cars in all."""
@@ -35,37 +47,33 @@ class Start:
         return list(road)
 
 
-def _evenly(cars: int, cells: int) -> List[int]:
-    return [car * cells // cars for car in range(cars)]
+even = Start("even")
+"""Evenly spaced, all stopped: the initial state of every sweep. On two lanes all cars are on lane 0 if their number
+divides the length of a lane."""
 
+moving = Start("even", None)
+"""Evenly spaced, all at the maximum speed."""
 
-def _side_by_side(cars: int, cells: int) -> List[int]:
-    return list(range(cars))
-
-
-even = Start(_evenly)
-"""Evenly spread, all stopped: the start of every sweep. On two lanes a count of cars that divides the length of a
-lane fills lane 0 alone."""
-
-moving = Start(_evenly, None)
-"""Evenly spread, all at the limit."""
-
-jam = Start(_side_by_side)
+jam = Start("jam")
 """All stopped in one block, on the first cells of the road."""
 
 
 def random(seed: int, speed: Optional[int] = 0) -> Start:
-    """Places drawn without preference, by a seed that has nothing to do with the key.
+    """Uniformly random cells, drawn with a seed independent of `key`.
 
-    `speed` is that of all cars, in cells a step, and None that of the limit. The same seed gives the same places in
-    every version of Python."""
+    `speed` is the initial speed of every car in cells per step; None means the maximum speed. The same seed gives the
+    same cells in every version of Python."""
+    return Start("random", speed, seed)
 
-    def drawn(cars: int, cells: int) -> List[int]:
-        numbers = _random.Random(seed)
-        order = sorted((numbers.random(), cell) for cell in range(cells))
-        return [cell for _, cell in order[:cars]]
 
-    return Start(drawn, speed)
+def lanes_of(road: object) -> Tuple[Lane, ...]:
+    """A road that is given as the speeds of one lane, or as those of two, with None for each empty cell."""
+    cells = list(cast(Sequence[object], road))
+    lanes = [cells] if all(cell is None or isinstance(cell, Integral) for cell in cells) else cells
+    read = [tuple(cast(Sequence[Optional[int]], lane)) for lane in lanes]
+    if not (1 <= len(read) <= 2 and all(cell is None or isinstance(cell, Integral) for lane in read for cell in lane)):
+        raise ValueError("a road is a list of speeds, with None for an empty cell, or two such lists")
+    return tuple(tuple(None if cell is None or cell < 0 else int(cell) for cell in lane) for lane in read)
 
 
 def picture(lane: Lane) -> str:
@@ -75,5 +83,5 @@ def picture(lane: Lane) -> str:
 
 def _sign(speed: int) -> str:
     if speed >= len(SPEEDS):
-        raise ValueError(f"a speed is at most {len(SPEEDS) - 1} cells a step, and not {speed}")
+        raise ValueError(f"a speed must be at most {len(SPEEDS) - 1} cells per step, not {speed}")
     return SPEEDS[speed]

@@ -3,14 +3,13 @@ from __future__ import annotations
 
 import warnings
 from dataclasses import dataclass, field
-from numbers import Integral
 from typing import Iterator, List, Mapping, NamedTuple, Optional, Sequence, Union, cast
 
-from .program import ask, ask_by_line
+from .program import ask, ask_by_line, explained
 from .results import Picture, Pictures, Point, Table, Window, pictures_in
 from .rules import Rule
-from .starts import Lane, Start, even, picture
-from .units import Density, Key, cars_at, key_digits
+from .starts import Lane, Start, even, lanes_of, picture
+from .units import MOST_CARS, MOST_CELLS, MOST_SPEED, MOST_STEPS, Density, Key, cars_at, key_digits, whole
 
 
 @dataclass(frozen=True)
@@ -35,18 +34,31 @@ class Job:
     key: Key = 0
     at: Mapping[int, Rule] = field(default_factory=dict)
 
-    def road(self) -> List[Lane]:
-        """The lanes at the start: the speed of the car in each cell, and None where it is empty."""
+    def __post_init__(self) -> None:
+        whole("limit", self.limit, 1, MOST_SPEED)
+        whole("steps", self.steps, 0, MOST_STEPS)
+        whole("lanes", self.lanes, 1, 2)
+        key_digits(self.key)
         if isinstance(self.start, Start):
             if self.length is None:
-                raise ValueError("a job says the length of a lane, or its road")
-            cars = _count(self.cars, self.density, self.length * self.lanes)
-            return self.start.on_lanes(cars, self.length, self.lanes, self.limit)
-        if not (self.length is None and self.lanes == 1 and self.cars is None and self.density is None):
-            raise ValueError("where `start` is a road, it says the length, the lanes and the cars")
-        if all(cell is None or isinstance(cell, Integral) for cell in self.start):
-            return [cast(Lane, self.start)]
-        return list(cast(Sequence[Lane], self.start))
+                raise ValueError("a job needs the length of its lanes, or a road as `start`")
+            cells = whole("length", self.length, 1, MOST_CELLS) * self.lanes
+            _count(self.cars, self.density, cells)
+        elif not (self.length is None and self.lanes == 1 and self.cars is None and self.density is None):
+            raise ValueError("a road as `start` has its own length, lanes and cars: leave them out")
+        else:
+            object.__setattr__(self, "start", lanes_of(self.start))
+
+    def __hash__(self) -> int:
+        return hash(self.text())
+
+    def road(self) -> List[Lane]:
+        """The lanes at the start: the speed of the car in each cell, and None for an empty cell."""
+        if not isinstance(self.start, Start):
+            return list(cast(Sequence[Lane], self.start))
+        length = cast(int, self.length)
+        cars = _count(self.cars, self.density, length * self.lanes)
+        return self.start.on_lanes(cars, length, self.lanes, self.limit)
 
     def text(self) -> str:
         """The job text, as `trlab run` reads it."""
@@ -90,12 +102,26 @@ class Sweep:
     densities: Optional[Sequence[Density]] = None
     key: Key = 0
 
-    def counts(self) -> List[int]:
-        """The cars of each point."""
+    def __post_init__(self) -> None:
+        whole("limit", self.limit, 1, MOST_SPEED)
+        whole("length", self.length, 1, MOST_CELLS)
+        whole("lanes", self.lanes, 1, 2)
+        whole("warm", self.warm, 0, MOST_STEPS)
+        whole("measure", self.measure, 1, MOST_STEPS)
+        key_digits(self.key)
         if (self.cars is None) == (self.densities is None):
-            raise ValueError("a sweep says its `cars` or its `densities`")
+            raise ValueError("a sweep needs either `cars` or `densities`")
+        for name in "cars", "densities":
+            if getattr(self, name) is not None:
+                object.__setattr__(self, name, tuple(getattr(self, name)))
+        self.counts()
+
+    def counts(self) -> List[int]:
+        """The number of cars of each point."""
         cells = self.length * self.lanes
-        return list(self.cars) if self.cars is not None else [cars_at(it, cells) for it in self.densities or ()]
+        if self.cars is not None:
+            return [whole("cars", count, 0, min(cells, MOST_CARS)) for count in self.cars]
+        return [cars_at(density, cells) for density in cast(Sequence[Density], self.densities)]
 
     def text(self) -> str:
         """The sweep text, as `trlab sweep` reads it."""
@@ -123,7 +149,7 @@ class Accepted(NamedTuple):
 
 def check(program: str) -> Accepted:
     """What the verifier says of a driver program, whose text begins with `motion` or `change`, or is `code X`."""
-    first, _, written = ask(["check"], program).partition("\n")
+    first, _, written = ask(["check"], program.lstrip("\n")).partition("\n")
     return Accepted(int(first.split(" ")[-1]), written)
 
 
@@ -136,7 +162,12 @@ def _option(name: str, number: int, unsaid: int) -> List[str]:
     return [] if number == unsaid else [f"--{name}", str(number)]
 
 
+def explain(text: Union[str, Job, Sweep]) -> str:
+    """What `trlab explain` prints for an input: what a valid one will do, or what is wrong and how to repair it."""
+    return explained(text if isinstance(text, str) else text.text()).stdout.rstrip("\n")
+
+
 def _count(cars: Optional[int], density: Optional[Density], cells: int) -> int:
     if (cars is None) == (density is None):
-        raise ValueError("a job says its `cars` or its `density`")
-    return cars if cars is not None else cars_at(density or 0, cells)
+        raise ValueError("a job needs either `cars` or `density`")
+    return whole("cars", cars, 0, cells) if cars is not None else cars_at(cast(Density, density), cells)

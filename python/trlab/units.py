@@ -4,6 +4,7 @@ from __future__ import annotations
 import operator
 import re
 from fractions import Fraction
+from numbers import Rational
 from typing import Union
 
 Chance = Union[int, float, str, Fraction]
@@ -19,11 +20,32 @@ ALWAYS = 2**31
 """The parts of a chance that always happens."""
 
 
+MOST_CELLS, MOST_SPEED, MOST_STEPS, MOST_CARS = 100000, 35, 500000, 200000
+"""The greatest length of a lane in cells, maximum speed in cells per step, number of steps and number of cars of one
+input."""
+
+
+def whole(name: str, number: int, least: int, most: int) -> int:
+    """A whole number in its range; raises `TypeError` or `ValueError` with its name if it is not."""
+    try:
+        value = operator.index(number)
+    except TypeError:
+        raise TypeError(f"{name} must be a whole number, not {number!r}") from None
+    if not least <= value <= most:
+        raise ValueError(f"{name} must be between {least} and {most}, not {value}")
+    return value
+
+
+def _exact(number: Union[int, float, str, Fraction]) -> Fraction:
+    """The number as a fraction, also if it comes from numpy."""
+    return Fraction(number if isinstance(number, (str, Rational)) else float(number))
+
+
 def parts(chance: Chance) -> int:
-    """A chance in parts of 2147483648, the whole number nearest to it."""
-    exact = Fraction(chance)
+    """A probability times 2**31, to the nearest whole number."""
+    exact = _exact(chance)
     if not 0 <= exact <= 1:
-        raise ValueError(f"a chance is 0 to 1, and not {chance}")
+        raise ValueError(f"a probability must be between 0 and 1, not {chance}")
     return round(exact * ALWAYS)
 
 
@@ -40,8 +62,8 @@ def key_digits(key: Key) -> str:
 
 
 def cars_at(density: Density, cells: int) -> int:
-    """How many cars on so many cells come nearest to a density."""
-    exact = Fraction(density)
+    """The number of cars that comes nearest to a density on so many cells."""
+    exact = _exact(density)
     if not 0 <= exact <= 1:
-        raise ValueError(f"a density is 0 to 1 cars a cell, and not {density}")
+        raise ValueError(f"a density must be between 0 and 1 cars per cell, not {density}")
     return round(exact * cells)

@@ -8,10 +8,10 @@ from pathlib import Path
 STUDIES = Path(__file__).resolve().parents[1]
 sys.path[1:1] = [str(STUDIES), str(STUDIES.parent / "python")]
 
-from figure import Axis, Curve, Figure, Spot  # noqa: E402
 from study import Mean, Study  # noqa: E402
 
 from trlab import Nasch, Point, Sweep  # noqa: E402
+from trlab.figure import Axis, Curve, Figure, Spot  # noqa: E402
 
 LENGTH, BRAKE = 10000, "1/2"
 DENSITIES = [0.02, 0.04, 0.06, 0.07, 0.075, 0.08, 0.0825, 0.085, 0.0875, 0.09, 0.095, 0.1, 0.11, 0.12, 0.15]

@@ -8,10 +8,10 @@ from pathlib import Path
 STUDIES = Path(__file__).resolve().parents[1]
 sys.path[1:1] = [str(STUDIES), str(STUDIES.parent / "python")]
 
-from figure import Axis, Curve, Figure, Spot  # noqa: E402
 from study import Mean, Study  # noqa: E402
 
 from trlab import Nasch, Point, Rickert, Sweep  # noqa: E402
+from trlab.figure import Axis, Curve, Figure, Spot  # noqa: E402
 
 LENGTH, BRAKE = 5000, "1/2"  # cells of a lane of two; the one lane beside them has as many cells as both
 DENSITIES = [0.02, 0.04, 0.06, 0.07, 0.08, 0.085, 0.09, 0.1, 0.11, 0.12, 0.14, 0.16, 0.2, 0.25, 0.3, 0.4]

@@ -10,11 +10,11 @@ from pathlib import Path
 STUDIES = Path(__file__).resolve().parents[1]
 sys.path[1:1] = [str(STUDIES), str(STUDIES.parent / "python")]
 
-from figure import Axis, Curve, Figure, Spot  # noqa: E402
 from study import Mean, Study, read_rows, write_rows  # noqa: E402
 
 import trlab  # noqa: E402
 from trlab import Job, SlowToStart, Window, jam, moving  # noqa: E402
+from trlab.figure import Axis, Curve, Figure, Spot  # noqa: E402
 
 LIMIT, LENGTH, BRAKE, STOPPED_BRAKE = 5, 10000, 1 / 64, 3 / 4
 RULE = SlowToStart(BRAKE, STOPPED_BRAKE)

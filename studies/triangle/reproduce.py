@@ -8,10 +8,10 @@ from pathlib import Path
 STUDIES = Path(__file__).resolve().parents[1]
 sys.path[1:1] = [str(STUDIES), str(STUDIES.parent / "python")]
 
-from figure import Axis, Curve, Figure, Spot  # noqa: E402
 from study import Mean, Study  # noqa: E402
 
 from trlab import Nasch, Point, Sweep  # noqa: E402
+from trlab.figure import Axis, Curve, Figure, Spot  # noqa: E402
 
 LIMIT = 5
 # A multiple of 6, so that the top of the triangle, at density 1/6, is a count of cars.

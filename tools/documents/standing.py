@@ -141,9 +141,9 @@ def links_lead_somewhere():
 def versions_agree():
     """The version that the program tells is that of the Python module and of the newest changes."""
     told = re.search(r'VERSION: &str = "(\S+)', content("crates/trlab_command_line/src/help.rt"))[1]
-    module = re.search(r'^version = "(.*)"$', content("python/pyproject.toml"), re.M)[1]
+    module = re.search(r'^__version__ = "(.*)"$', content("python/trlab/_version.py"), re.M)[1]
     changes = re.search(r"^## (\d\S*)", content("CHANGELOG.md"), re.M)[1]
-    yield module == told, f"python/pyproject.toml has version {module}, the program {told}"
+    yield module == told, f"python/trlab/_version.py has version {module}, the program {told}"
     yield changes == told, f"CHANGELOG.md has version {changes}, the program {told}"
 
 

@@ -1,8 +1,12 @@
 """A figure as an SVG image, by the standard library alone: curves, dots, and points with their errors."""
 from __future__ import annotations
 
-from typing import Iterator, List, NamedTuple, Sequence, Tuple
+import statistics
+from typing import TYPE_CHECKING, Any, Dict, Iterator, List, Mapping, NamedTuple, Sequence, Tuple
 from xml.sax.saxutils import escape
+
+if TYPE_CHECKING:
+    from .results import Table
 
 LEFT, RIGHT, TOP, BOTTOM = 70, 600, 20, 380
 COLOURS = ["#0072b2", "#d55e00", "#009e73", "#cc79a7", "#e69f00", "#56b4e9", "#404040", "#a6761d"]
@@ -17,7 +21,8 @@ class Spot(NamedTuple):
 
 
 class Curve(NamedTuple):
-    """What is drawn in one colour: as a `line`, as small `dots`, or as `points` with bars of two standard errors."""
+    """Spots in one colour, drawn as `kind` says: a `line`, small `dots`, `points` with error bars of two standard errors,
+    or such points `joined` by a line."""
 
     name: str
     kind: str
@@ -32,7 +37,7 @@ class Axis(NamedTuple):
 
     def marks(self) -> List[float]:
         """Round numbers along it, 4 to 10 of them."""
-        step = 1000.0
+        step = 1000000.0
         while step * 4 > self.greatest:
             step /= 10
         step *= 5 if self.greatest / step > 20 else 2 if self.greatest / step > 10 else 1
@@ -56,6 +61,23 @@ class Figure(NamedTuple):
             parts.append(_text(RIGHT - 8, TOP + 18 * (number + 1), "end", curve.name, f' fill="{colour}"'))
         return "\n".join([*parts, "</svg>"]) + "\n"
 
+    def _repr_svg_(self) -> str:
+        return self.svg()
+
+    def draw(self, axes: Any) -> None:
+        """Draws the same on an axis of matplotlib."""
+        styles = {"line": "-", "dots": ",", "points": "o", "joined": "o-"}
+        for number, curve in enumerate(self.curves):
+            across, up = [spot.x for spot in curve.spots], [spot.y for spot in curve.spots]
+            bars = [2 * spot.error for spot in curve.spots] if curve.kind in ("points", "joined") else None
+            colour = COLOURS[number % len(COLOURS)]
+            axes.errorbar(across, up, yerr=bars, fmt=styles[curve.kind], color=colour, markersize=4, label=curve.name or None)
+        axes.set(
+            xlabel=self.across.title, ylabel=self.up.title, xlim=(0, self.across.greatest), ylim=(0, self.up.greatest)
+        )
+        if any(curve.name for curve in self.curves):
+            axes.legend()
+
     def _at(self, x: float, y: float) -> Tuple[float, float]:
         return LEFT + (RIGHT - LEFT) * x / self.across.greatest, BOTTOM - (BOTTOM - TOP) * y / self.up.greatest
 
@@ -75,9 +97,10 @@ class Figure(NamedTuple):
         yield _text(18, middle, "middle", self.up.title, f' transform="rotate(-90 18 {middle:.1f})"')
 
     def _drawn(self, curve: Curve, colour: str) -> Iterator[str]:
-        if curve.kind == "line":
+        if curve.kind in ("line", "joined"):
             points = " ".join("{:.1f},{:.1f}".format(*self._at(spot.x, spot.y)) for spot in curve.spots)
             yield f'<polyline fill="none" stroke="{colour}" stroke-width="1.5" points="{points}"/>'
+        if curve.kind == "line":
             return
         for spot in curve.spots:
             x, y = self._at(spot.x, spot.y)
@@ -86,6 +109,40 @@ class Figure(NamedTuple):
                 _, high = self._at(spot.x, spot.y + 2 * spot.error)
                 yield _line(x, low, x, high, colour)
             yield f'<circle cx="{x:.1f}" cy="{y:.1f}" r="{1 if curve.kind == "dots" else 2.5}" fill="{colour}"/>'
+
+
+def diagram(tables: Mapping[str, Table[Any]]) -> Figure:
+    """A figure with a curve for each table, in the order of their names.
+
+    Tables of sweeps are fundamental diagrams, flow against density: the points of one density are averaged, and their
+    error bars are two standard errors of the mean. Tables of series are drawn as flow against step. Raises `ValueError`
+    if there are tables of both kinds, or none."""
+    kinds = {"step" in table.kind._fields for table in tables.values()}
+    if len(kinds) != 1:
+        raise ValueError("a figure needs tables of sweeps, or tables of series, and not both")
+    is_series = kinds.pop()
+    curves = [(_series if is_series else _averages)(name, table) for name, table in tables.items()]
+    spots = [spot for curve in curves for spot in curve.spots]
+    across = max([spot.x for spot in spots], default=0.0) or 1.0
+    up = 1.05 * max([spot.y + 2 * spot.error for spot in spots], default=0.0) or 1.0
+    title = "step" if is_series else "density (cars per cell)"
+    return Figure(Axis(title, across), Axis("flow (cars per step)", up), curves)
+
+
+def _series(name: str, table: Table[Any]) -> Curve:
+    return Curve(name, "line", [Spot(row.step, row.passing) for row in table])
+
+
+def _averages(name: str, table: Table[Any]) -> Curve:
+    flows: Dict[float, List[float]] = {}
+    for row in table:
+        flows.setdefault(row.density, []).append(row.passing)
+    spots = []
+    for density in sorted(flows):
+        them = flows[density]
+        error = statistics.stdev(them) / len(them) ** 0.5 if len(them) > 1 else 0.0
+        spots.append(Spot(density, statistics.fmean(them), error))
+    return Curve(name, "joined", spots)
 
 
 def _line(x1: float, y1: float, x2: float, y2: float, colour: str) -> str:

@@ -1,0 +1,134 @@
+# A space-time diagram of the output of `trlab run`, as an SVG image:
+#
+#   ./trlab run < examples/jams.job | awk -f docs/spacetime.awk > jams.svg
+#
+# Time runs down. The colour of a car is its speed, and empty cells are white. Two lanes are drawn side by side.
+
+BEGIN {
+    signs = "0123456789abcdefghijklmnopqrstuvwxyz"
+    left = 64; top = 30; gap = 24
+    # Red, green and blue of the colour map viridis at nine equal distances, from dark violet to yellow.
+    split("68 1 84 71 45 123 59 82 139 44 114 142 33 145 140 40 174 128 94 201 98 173 220 48 253 231 37", map, " ")
+}
+
+$1 == "step" {
+    if (!steps++) first = $2
+    lane = 0
+    next
+}
+
+!steps {
+    print "this is not the output of trlab run: " $0 > "/dev/stderr"
+    failed = 1
+    exit 1
+}
+
+{
+    cells = length($0)
+    for (x = 0; x < cells; x += run) {
+        sign = substr($0, x + 1, 1)
+        for (run = 1; substr($0, x + run + 1, 1) == sign; run++) { }
+        if (sign != ".") draw(lane, index(signs, sign) - 1, x, run)
+    }
+    if (++lane > lanes) lanes = lane
+}
+
+# Adds neighbouring cars of one speed to the path of their lane and speed, from where the path ended before.
+function draw(lane, speed, x, run,  y) {
+    y = steps - 1
+    piece[lane, speed, y] = piece[lane, speed, y] \
+        "m" x - at_x[lane, speed] " " y - at_y[lane, speed] "h" run
+    at_x[lane, speed] = x + run
+    at_y[lane, speed] = y
+    if (speed > fastest) fastest = speed
+}
+
+function text(x, y, anchor, what,  more) {
+    printf "<text x=\"%.1f\" y=\"%.1f\" text-anchor=\"%s\"%s>%s</text>\n", x, y, anchor, more, what
+}
+
+function line(x1, y1, x2, y2) {
+    printf "<line x1=\"%.1f\" y1=\"%.1f\" x2=\"%.1f\" y2=\"%.1f\" stroke=\"#404040\"/>\n", x1, y1, x2, y2
+}
+
+# The colour of a speed, from dark for stopped cars to light for the fastest ones.
+function colour(speed,  at, k) {
+    at = fastest ? 8 * 0.92 * speed / fastest : 0
+    k = int(at)
+    return sprintf("#%02x%02x%02x", between(k, at - k, 1), between(k, at - k, 2), between(k, at - k, 3))
+}
+
+function between(k, part, channel) {
+    return int(map[3 * k + channel] + (map[3 * k + 3 + channel] - map[3 * k + channel]) * part + 0.5)
+}
+
+# The distance of marks, 1, 2 or 5 times a power of ten, that leaves this room between them.
+function mark_step(scale, room,  step, k) {
+    step = 1
+    for (k = 0; step * scale < room; k++) step *= k % 3 == 1 ? 2.5 : 2
+    return step
+}
+
+# A lane: its frame, a path for each speed, and its axis of positions.
+function panel(lane, x,  speed, y, step, mark) {
+    printf "<rect x=\"%.1f\" y=\"%d\" width=\"%.1f\" height=\"%.1f\" fill=\"white\" stroke=\"#b0b0b0\"/>\n", x, top, wide, high
+    printf "<g transform=\"translate(%.1f %d) scale(%.4f %.4f)\"%s>\n", x, top, across, down, \
+        (across < 1 || down < 1 ? "" : " shape-rendering=\"crispEdges\"")
+    for (speed = 0; speed <= fastest; speed++) {
+        if (!((lane, speed) in at_x)) continue
+        printf "<path stroke=\"%s\" d=\"M0 .5\n", colour(speed)
+        for (y = 0; y < steps; y++) if ((lane, speed, y) in piece) print piece[lane, speed, y]
+        print "\"/>"
+    }
+    print "</g>"
+    step = mark_step(across, 12 + 9 * length(cells))
+    for (mark = 0; mark < cells; mark += step) {
+        line(x + across * (mark + 0.5), top + high, x + across * (mark + 0.5), top + high + 5)
+        text(x + across * (mark + 0.5), top + high + 19, "middle", mark)
+    }
+    text(x + wide / 2, top + high + 40, "middle", "position (cells)")
+    if (lanes > 1) text(x + wide / 2, top - 9, "middle", "lane " lane)
+}
+
+function times(  step, mark, y) {
+    step = mark_step(down, 16)
+    mark = int(first / step) * step
+    if (mark < first) mark += step
+    for (; mark < first + steps; mark += step) {
+        y = top + down * (mark - first + 0.5)
+        line(left - 5, y, left, y)
+        text(left - 9, y + 4.5, "end", mark)
+    }
+    y = top + high / 2
+    text(16, y, "middle", "time (steps)", sprintf(" transform=\"rotate(-90 16 %.1f)\"", y))
+}
+
+function legend(x,  speed, y, title) {
+    for (speed = fastest; speed >= 0; speed--) {
+        y = top + box * (fastest - speed)
+        printf "<rect x=\"%.1f\" y=\"%.1f\" width=\"16\" height=\"%.1f\" fill=\"%s\"/>\n", x, y, box, colour(speed)
+        if (fastest < 12 || speed % 5 == 0) text(x + 22, y + box / 2 + 4.5, "start", speed)
+    }
+    text(x, top + box * (fastest + 1) + 20, "start", "speed")
+    text(x, top + box * (fastest + 1) + 36, "start", "(cells per step)")
+}
+
+END {
+    if (failed) exit 1
+    if (!cells) exit
+    fastest += 0
+    across = (lanes > 1 ? 300 : 600) / cells
+    if (across > 12) across = 12
+    down = steps * across > 700 ? 700 / steps : across
+    wide = across * cells; high = down * steps
+    box = fastest < 12 ? 18 : 216 / (fastest + 1)
+    right = left + lanes * wide + (lanes - 1) * gap
+    low = box * (fastest + 1) + 40 > high + 50 ? box * (fastest + 1) + 40 : high + 50
+    printf "<svg xmlns=\"http://www.w3.org/2000/svg\" viewBox=\"0 0 %.0f %.0f\" font-family=\"sans-serif\" font-size=\"13\">\n", \
+        right + 130, top + low
+    print "<rect width=\"100%\" height=\"100%\" fill=\"white\"/>"
+    for (lane = 0; lane < lanes; lane++) panel(lane, left + lane * (wide + gap))
+    times()
+    legend(right + 24)
+    print "</svg>"
+}

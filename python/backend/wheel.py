@@ -1,0 +1,119 @@
+"""Builds the Python package: the PEP 517 backend that pyproject.toml names, with the standard library only.
+
+A wheel contains the module, the packed programs of release/ for both processor levels, and the command `trlab`. Its
+bytes depend only on the files of the repository: nothing in it is compressed again, and no time is written down. An
+editable wheel contains only the path of python/, so that the module of the checkout is used."""
+import base64
+import hashlib
+import io
+import re
+import subprocess
+import sys
+import tarfile
+import zipfile
+from pathlib import Path
+
+TOP = Path(__file__).resolve().parents[2]
+MODULE = TOP / "python" / "trlab"
+RELEASE = TOP / "release"
+# The programs in it need x86-64 Linux with glibc 2.34 or later; the module itself runs with any Python 3.
+TAG = "py3-none-manylinux_2_34_x86_64"
+# The date of every file in an archive, the first one that the format can write.
+NO_DATE = (1980, 1, 1, 0, 0, 0)
+
+
+def version():
+    """The version, which the module states."""
+    return re.search(r'^__version__ = "(.*)"$', (MODULE / "_version.py").read_text(), re.M)[1]
+
+
+def metadata():
+    """What an installer is told of the package, from the table [project] of pyproject.toml."""
+    text = (TOP / "pyproject.toml").read_text()
+    summary, python = (re.search(rf'^{word} = "(.*)"$', text, re.M)[1] for word in ("description", "requires-python"))
+    lines = ["Metadata-Version: 2.1", "Name: trlab", f"Version: {version()}", f"Summary: {summary}"]
+    lines.append(f"Requires-Python: {python}")
+    extras = re.search(r"^\[project\.optional-dependencies\]\n(.*?)\n\n", text, re.M | re.S)[1]
+    for extra, packages in re.findall(r"^(\w+) = \[(.*)\]$", extras, re.M):
+        lines.append(f"Provides-Extra: {extra}")
+        lines += [f'Requires-Dist: {package}; extra == "{extra}"' for package in re.findall(r'"([^"]+)"', packages)]
+    return "".join(line + "\n" for line in lines)
+
+
+def information():
+    """The files that describe the package to an installer, by their paths in the wheel."""
+    command = re.search(r'^trlab = "(.*)"$', (TOP / "pyproject.toml").read_text(), re.M)[1]
+    folder = f"trlab-{version()}.dist-info"
+    return {
+        f"{folder}/METADATA": metadata().encode(),
+        f"{folder}/WHEEL": f"Wheel-Version: 1.0\nGenerator: trlab\nRoot-Is-Purelib: false\nTag: {TAG}\n".encode(),
+        f"{folder}/entry_points.txt": f"[console_scripts]\ntrlab = {command}\n".encode(),
+    }
+
+
+def module_files():
+    """The files of the module, by their paths in the wheel."""
+    files = [file for file in MODULE.rglob("*") if file.is_file() and "__pycache__" not in file.parts]
+    return {f"trlab/{file.relative_to(MODULE).as_posix()}": file.read_bytes() for file in files}
+
+
+def program_files():
+    """The packed programs, by their paths in the wheel."""
+    files = [RELEASE / "release.txt", *RELEASE.glob("trlab-x86-64-v*.gz")]
+    return {f"trlab/programs/{file.name}": file.read_bytes() for file in files}
+
+
+def is_of_these_sources():
+    """Whether the packed programs are those of the sources that are here; an archive of the package has none."""
+    if not (TOP / "crates.txt").exists():
+        return True
+    asked = subprocess.run([RELEASE / "sources"], capture_output=True, text=True)
+    return f"sources {asked.stdout.strip()}\n" in (RELEASE / "release.txt").read_text()
+
+
+def recorded(files):
+    """The files with their record, by which an installer checks them."""
+    folder = f"trlab-{version()}.dist-info"
+    lines = []
+    for path, content in sorted(files.items()):
+        digest = base64.urlsafe_b64encode(hashlib.sha256(content).digest()).rstrip(b"=").decode()
+        lines.append(f"{path},sha256={digest},{len(content)}\n")
+    return {**dict(sorted(files.items())), f"{folder}/RECORD": "".join([*lines, f"{folder}/RECORD,,\n"]).encode()}
+
+
+def written(folder, files):
+    """Writes a wheel of these files into a folder, and returns its name."""
+    name = f"trlab-{version()}-{TAG}.whl"
+    with zipfile.ZipFile(Path(folder) / name, "w", zipfile.ZIP_STORED) as wheel:
+        for path, content in recorded(files).items():
+            entry = zipfile.ZipInfo(path, NO_DATE)
+            entry.external_attr = 0o644 << 16
+            wheel.writestr(entry, content)
+    return name
+
+
+def build_wheel(wheel_directory, config_settings=None, metadata_directory=None):
+    """Builds the wheel that `pip install .` installs."""
+    if not is_of_these_sources():
+        print("trlab: the packed programs are those of the last release, not of the sources here", file=sys.stderr)
+    return written(wheel_directory, {**module_files(), **program_files(), **information()})
+
+
+def build_editable(wheel_directory, config_settings=None, metadata_directory=None):
+    """Builds the wheel that `pip install -e .` installs: it leads to the module of this checkout."""
+    return written(wheel_directory, {"trlab.pth": f"{MODULE.parent}\n".encode(), **information()})
+
+
+def build_sdist(sdist_directory, config_settings=None):
+    """Builds an archive from which the same wheel can be built."""
+    name = f"trlab-{version()}"
+    sources = [TOP / "pyproject.toml", Path(__file__), *(RELEASE / "release.txt", RELEASE / "sources")]
+    sources += [*RELEASE.glob("trlab-x86-64-v*.gz"), *(MODULE / path[len("trlab/") :] for path in module_files())]
+    with tarfile.open(Path(sdist_directory) / f"{name}.tar.gz", "w:gz", format=tarfile.PAX_FORMAT) as archive:
+        for source in sorted(sources):
+            archive.add(source, f"{name}/{source.relative_to(TOP)}")
+        described = metadata().encode()
+        entry = tarfile.TarInfo(f"{name}/PKG-INFO")
+        entry.size = len(described)
+        archive.addfile(entry, io.BytesIO(described))
+    return f"{name}.tar.gz"

@@ -1,0 +1,310 @@
+"""Trajectories: beside laws of the model, tables of `trlab series`, and slower counts from the characters of pictures."""
+import math
+import sys
+import unittest
+from dataclasses import replace
+from unittest import mock
+
+from tests.by_pictures import windows
+from tests.test_arrays import needs
+from tests.test_runs import HALF
+from trlab import Job, Nasch, Own, Picture, Pictures, Rickert, SlowToStart, jam, random
+from trlab.starts import SPEEDS
+
+ONE_LANE = [
+    Job(limit=5, length=40, cars=15, start=random(1), rule=Nasch(0.25), steps=60, key=7),
+    Job(limit=3, length=25, cars=20, start=random(2), rule=SlowToStart("1/64", 0.75), steps=50, key=1),
+    Job(limit=12, length=50, cars=4, start=jam, rule=Own(HALF), steps=60, at={30: Nasch(0.5)}),
+    Job(limit=5, length=8, cars=1, start=random(3), rule=Nasch(0.5), steps=40),
+    Job(limit=5, length=9, cars=9, rule=Nasch(0), steps=3),
+    Job(limit=1, length=1, cars=1, rule=Nasch(0), steps=3),
+    Job(limit=1, length=1, cars=0, rule=Nasch(0), steps=3),
+]
+TWO_LANES = [
+    Job(limit=5, length=30, lanes=2, cars=20, start=random(4), rule=Rickert(0.25, 1), steps=60, key=2),
+    Job(limit=2, length=12, lanes=2, cars=17, start=random(5, None), rule=Rickert("1/3", 0.5), steps=60, key=3),
+    Job(limit=5, length=40, lanes=2, cars=9, start=random(6), rule=Rickert(0.5, 1), steps=60, key=4),
+    Job(limit=5, length=20, lanes=2, cars=11, start=random(7), rule=Nasch(0.25), steps=30, key=5),
+]
+
+
+def speeds_at(picture, lane):
+    """The speed of the car in each taken cell."""
+    return {cell: SPEEDS.index(sign) for cell, sign in enumerate(picture.lanes[lane]) if sign != "."}
+
+
+def turned_cells(pictures):
+    """The cells of the cars of one lane by step, from their order alone: sorted, and turned by the laps begun since."""
+    laps, rows = 0, []
+    for picture in pictures:
+        on = speeds_at(picture, 0)
+        laps += sum(cell < speed for cell, speed in on.items()) if rows else 0
+        cells = sorted(on)
+        rows.append([cells[(car + laps) % len(cells)] for car in range(len(cells))])
+    return rows
+
+
+def stopped_neighbours(pictures, step, lane, cell):
+    """The stopped cars beside a stopped one, ahead and behind, and the same car one step later if it is stopped."""
+    length, lanes = len(pictures[0].lanes[0]), len(pictures[0].lanes)
+    yield step, lane, (cell + 1) % length
+    yield step, lane, (cell - 1) % length
+    if step + 1 < len(pictures):
+        yield step + 1, lane, cell
+        side = lanes - 1 - lane
+        # The car changed lanes if a car is beside its cell now, and was not before.
+        if pictures[step].lanes[side][cell] == "." and pictures[step + 1].lanes[side][cell] == "0":
+            yield step + 1, side, cell
+
+
+def components(pictures):
+    """The sets of stopped cars, as (row, lane, cell), that are connected: by painting one after the other."""
+    stopped = {
+        (row, lane, cell)
+        for row, picture in enumerate(pictures)
+        for lane, cells in enumerate(picture.lanes)
+        for cell, sign in enumerate(cells)
+        if sign == "0"
+    }
+    links = {it: set() for it in stopped}
+    for it in stopped:
+        for other in set(stopped_neighbours(pictures, *it)) & stopped:
+            links[it].add(other)
+            links[other].add(it)
+    while stopped:
+        found, border = set(), {stopped.pop()}
+        while border:
+            found |= border
+            border = {other for it in border for other in links[it]} - found
+        stopped -= found
+        yield found
+
+
+def trips(pictures, start, end):
+    """The trips on one lane, from every cell whose end a car passed, one after the other."""
+    passed = {}
+    cells = turned_cells(pictures)
+    length = len(pictures[0].lanes[0])
+    for row in range(1, len(pictures)):
+        on = speeds_at(pictures[row], 0)
+        for car, cell in enumerate(cells[row]):
+            for back in range(on[cell], 0, -1):
+                passed.setdefault(car, []).append((row, (cell - back) % length))
+    for car, marks in passed.items():
+        for place, (row, cell) in enumerate(marks):
+            later = [then for then, there in marks[place + 1:] if there == end]
+            if cell == start and later:
+                yield car, pictures[0].step + row, later[0] - row
+
+
+class Base:
+    """The tests, on lists and on arrays."""
+
+    def test_two_cars(self):
+        job = Job(limit=5, start=[0, None, 0] + 7 * [None], rule=Nasch(0), steps=4)
+        paths = job.run().trajectories()
+        self.assertEqual([list(row) for row in paths.cell], [[0, 2], [1, 3], [2, 5], [4, 8], [7, 2]])
+        self.assertEqual([list(row) for row in paths.distance], [[0, 2], [1, 3], [2, 5], [4, 8], [7, 12]])
+        self.assertEqual([list(row) for row in paths.speed], [[0, 0], [1, 1], [1, 2], [2, 3], [3, 4]])
+        self.assertEqual([list(row) for row in paths.headways()], [[1, 7], [1, 7], [2, 6], [3, 5], [4, 4]])
+        self.assertEqual((paths.detector(4), paths.detector(9)), ([0, 1, 0, 1], [0, 0, 0, 1]))
+        self.assertEqual(paths.travel_times(1, 3), [(0, 2, 1)])
+        self.assertEqual(paths.jams(), [(0, 1, 1, 1, True), (0, 1, 1, 1, True)])
+        self.assertEqual((repr(paths), len(paths), paths.cars), ("<trajectories of 2 cars, steps 0 to 4>", 5, 2))
+
+    def test_a_jam_dissolves(self):
+        # Three cars start one after the other, each two steps after the car ahead of it.
+        paths = Job(limit=5, start=[0, 0, 0] + 20 * [None], rule=Nasch(0), steps=9).run().trajectories()
+        self.assertEqual(paths.jams(), [(0, 3, 2 + 1, 3 + 2 + 1, True)])
+        self.assertEqual(Job(limit=5, start=[5] + 9 * [None], rule=Nasch(0), steps=9).run().trajectories().jams(), [])
+
+    def test_paths_are_those_of_the_pictures(self):
+        for job in ONE_LANE + TWO_LANES:
+            pictures = job.run()
+            paths = pictures.trajectories()
+            for row, picture in enumerate(pictures):
+                found = sorted(zip(paths.lane[row], paths.cell[row], paths.speed[row]))
+                there = [(lane, *it) for lane in range(len(picture.lanes)) for it in sorted(speeds_at(picture, lane).items())]
+                self.assertEqual(found, there)
+                self.assertEqual([way % paths.length for way in paths.distance[row]], list(paths.cell[row]))
+                if row:
+                    driven = [now - then for now, then in zip(paths.distance[row], paths.distance[row - 1])]
+                    self.assertEqual(driven, list(paths.speed[row]))
+
+    def test_nobody_overtakes_on_one_lane(self):
+        for job in ONE_LANE[:3]:
+            pictures = job.run()
+            paths = pictures.trajectories()
+            self.assertEqual([list(row) for row in paths.cell], turned_cells(pictures))
+            for places in 0, 1, 3, paths.cars + 1:
+                ahead = [(car + places) % paths.cars for car in range(paths.cars)]
+                self.assertTrue(all(list(row) == ahead for row in paths.ahead(places)))
+
+    def test_gaps_follow(self):
+        for job in ONE_LANE[:5]:
+            paths = job.run().trajectories()
+            gaps, leaders = paths.headways(), paths.ahead()
+            for row in range(1, len(paths)):
+                for car, leader in enumerate(leaders[row]):
+                    before, speed = gaps[row - 1][car], paths.speed[row]
+                    self.assertEqual(gaps[row][car] + speed[car], before + speed[leader])
+
+    def test_gaps_of_two_lanes_are_empty_cells(self):
+        for job in TWO_LANES:
+            pictures = job.run()
+            paths = pictures.trajectories()
+            for row, gaps in enumerate(paths.headways()):
+                for lane, cell, gap in zip(paths.lane[row], paths.cell[row], gaps):
+                    road = pictures[row].lanes[lane]
+                    ahead = road[cell + 1:] + road[:cell + 1]
+                    self.assertEqual(gap, len(ahead) - len(ahead.lstrip(".")))
+
+    def test_totals_are_those_of_the_series(self):
+        for job in ONE_LANE + TWO_LANES:
+            paths = job.run().trajectories()
+            moved = [(lane, v) for lanes, row in list(zip(paths.lane, paths.speed))[1:] for lane, v in zip(lanes, row)]
+            changes = sum(int(one != two) for rows in zip(paths.lane, paths.lane[1:]) for one, two in zip(*rows))
+            (window,) = job.series(every=job.steps)
+            self.assertEqual((window.distance, window.changes), (sum(v for _, v in moved), changes))
+            for lane, counts in (0, window[8:11]), (1, window[11:14]):
+                on = [v for its, v in moved if its == lane]
+                self.assertEqual((len(on), sum(on), on.count(0)), counts)
+
+    def test_all_detectors_count_the_distance(self):
+        for job in ONE_LANE[:4] + TWO_LANES:
+            paths = job.run().trajectories()
+            for lane in range(job.lanes):
+                counts = [paths.detector(cell, lane) for cell in range(job.length)]
+                self.assertLessEqual({number for row in counts for number in row}, {0, 1})
+                found = [sum(step) for step in zip(*counts)]
+                self.assertEqual(found, [row[8 + 3 * lane + 1] for row in job.series()])
+
+    def test_continuity_between_two_detectors(self):
+        for job in [*ONE_LANE[:3], TWO_LANES[3]]:
+            paths = job.run().trajectories()
+            for lane in range(job.lanes):
+                for first, second in (0, 7), (job.length - 2, 5):
+                    between = {cell % job.length for cell in range(first + 1, second + 1 + job.length * (second < first))}
+                    cars = [
+                        sum(cell in between and on == lane for cell, on in zip(cells, lanes))
+                        for cells, lanes in zip(paths.cell, paths.lane)
+                    ]
+                    steps = zip(cars, cars[1:], paths.detector(first, lane), paths.detector(second, lane))
+                    for before, after, came, left in steps:
+                        self.assertEqual(after + left, before + came)
+
+    def test_jams_are_painted_areas(self):
+        for job in ONE_LANE + TWO_LANES:
+            for pictures in job.run(), job.run()[2:]:
+                areas = []
+                for area in components(pictures):
+                    rows = [row for row, _, _ in area]
+                    is_cut = min(rows) == 0 or max(rows) == len(pictures) - 1
+                    areas.append((pictures[min(rows)].step, max(rows) - min(rows) + 1, len(area), is_cut))
+                found = pictures.trajectories().jams()
+                self.assertEqual(sorted((it.first, it.lifetime, it.size, it.is_cut) for it in found), sorted(areas))
+                self.assertEqual([it.first for it in found], sorted(it.first for it in found))
+
+    def test_cars_of_jams(self):
+        for job in ONE_LANE[:3]:
+            pictures = job.run()
+            cars = {(row, cell): car for row, cells in enumerate(turned_cells(pictures)) for car, cell in enumerate(cells)}
+            areas = [len({cars[row, cell] for row, _, cell in area}) for area in components(pictures)]
+            self.assertEqual(sorted(it.cars for it in pictures.trajectories().jams()), sorted(areas))
+
+    def test_travel_times_are_those_of_single_cells(self):
+        found = 0
+        for job in ONE_LANE[:4]:
+            pictures = job.run()[3:]
+            paths = pictures.trajectories()
+            for start, end in (0, job.length - 1), (job.length - 1, 0), (3, 3), (6, 2):
+                expected = sorted(trips(pictures, start, end))
+                self.assertEqual(sorted(paths.travel_times(start, end)), expected)
+                found += len(expected)
+        self.assertGreater(found, 100)
+
+    def test_travel_times_agree_with_detectors_on_two_lanes(self):
+        for job in TWO_LANES:
+            paths = job.run().trajectories()
+            begun = [sum(both) for both in zip(*(paths.detector(4, lane) for lane in range(2)))]
+            ended = [sum(both) for both in zip(*(paths.detector(9, lane) for lane in range(2)))]
+            found = paths.travel_times(4, 9)
+            for row in range(1, len(paths)):
+                self.assertLessEqual(sum(trip.start == row for trip in found), begun[row - 1])
+                self.assertLessEqual(sum(trip.start + trip.time == row for trip in found), ended[row - 1])
+            # A car is between the detectors at the end if its trip is not over.
+            inside = sum(4 < cell <= 9 for cell in paths.cell[-1])
+            self.assertEqual(sum(begun) - len(found), inside)
+
+    def test_speed_correlations(self):
+        paths = ONE_LANE[0].run().trajectories()
+        for places, later in (0, 0), (1, 0), (2, 3), (0, 5):
+            pairs = [
+                (int(paths.speed[row][car]), int(paths.speed[row + later][(car + places) % paths.cars]))
+                for row in range(len(paths) - later)
+                for car in range(paths.cars)
+            ]
+            means = [sum(column) / len(pairs) for column in zip(*pairs)]
+            moments = [
+                sum((pair[a] - means[a]) * (pair[b] - means[b]) for pair in pairs) for a, b in ((0, 1), (0, 0), (1, 1))
+            ]
+            self.assertAlmostEqual(paths.speed_correlation(places, later), moments[0] / math.sqrt(moments[1] * moments[2]))
+        self.assertEqual(paths.speed_correlation(), 1)
+        self.assertTrue(math.isnan(Job(limit=5, length=9, cars=0, rule=Nasch(0), steps=1).run().trajectories().speed_correlation()))
+
+    def test_numbers_out_of_range(self):
+        paths = ONE_LANE[0].run().trajectories()
+        for call in (
+            lambda: paths.detector(40), lambda: paths.detector(-1), lambda: paths.detector(0, 1), lambda: paths.ahead(-1),
+            lambda: paths.travel_times(0, 40), lambda: paths.speed_correlation(0, 61), lambda: paths.speed_correlation(0, -1),
+        ):
+            self.assertRaises(ValueError, call)
+
+    def test_other_pictures_are_rejected(self):
+        pictures = ONE_LANE[0].run()
+        with self.assertRaisesRegex(ValueError, "step 3 follows step 1: "):
+            Pictures([*pictures[:2], pictures[3]]).trajectories()
+        for wrong, said in (
+            (Pictures(), "no pictures"),
+            (Pictures([Picture(0, ("0..",)), Picture(1, ("0...",))]), "step 1 has another size"),
+            (Pictures([Picture(0, ("0..",)), Picture(1, ("0.0",))]), "the cars of step 1 do not come"),
+            (Pictures([Picture(0, ("0..",)), Picture(1, ("...",))]), "the cars of step 1 do not come"),
+            (Pictures([Picture(7, ("0..",)), Picture(8, (".1.",)), Picture(9, ("..0",))]), "the cars of step 9 do not"),
+            (Pictures([Picture(0, ("0.0",)), Picture(1, (".12",))]), "the cars of step 1 do not come"),
+            (Pictures([Picture(0, ("0..", "...")), Picture(1, ("..0", "..."))]), "the cars of step 1 do not come"),
+            (Pictures([Picture(0, ("0.0", "...")), Picture(1, (".1.", ".1."))]), "the cars of step 1 do not come"),
+        ):
+            with self.assertRaisesRegex(ValueError, said):
+                wrong.trajectories()
+
+    def test_a_car_that_changes_lanes(self):
+        pictures = Pictures([Picture(0, ("1...", "0.0.")), Picture(1, ("..2.", ".1.1")), Picture(2, ("1...", "2.1."))])
+        paths = pictures.trajectories()
+        self.assertEqual([list(row) for row in paths.lane], [[0, 1, 1], [0, 1, 1], [1, 1, 0]])
+        self.assertEqual([list(row) for row in paths.cell], [[0, 0, 2], [2, 1, 3], [0, 2, 0]])
+
+
+class ByLists(Base, unittest.TestCase):
+    def setUp(self):
+        without = mock.patch.dict(sys.modules, numpy=None)
+        without.start()
+        self.addCleanup(without.stop)
+
+    def test_kind(self):
+        self.assertIsInstance(ONE_LANE[0].run().trajectories().headways(), list)
+
+
+@needs("numpy")
+class ByArrays(Base, unittest.TestCase):
+    def test_kind(self):
+        paths = ONE_LANE[0].run().trajectories()
+        for grid in paths.lane, paths.cell, paths.distance, paths.speed, paths.headways(), paths.ahead():
+            self.assertEqual((grid.shape, grid.dtype.name), ((61, 15), "int32"))
+
+
+class Windows(unittest.TestCase):
+    def test_stopped_time_is_that_of_the_pictures(self):
+        # The size of all jams together is what the slow count has as stopped cars.
+        pictures = replace(ONE_LANE[0], steps=200).run()
+        counted = sum(it.stopped for it in windows(pictures)) + pictures[0].lanes[0].count("0")
+        self.assertEqual(sum(it.size for it in pictures.trajectories().jams()), counted)

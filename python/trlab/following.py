@@ -1,0 +1,121 @@
+"""Follows cars from picture to picture: with numpy, and without.
+
+A car at speed v came from the cell v behind it, of its own lane or of the other one. If both of these cells were taken,
+it came from its own lane, because a lane change needs an empty cell beside the car."""
+from __future__ import annotations
+
+from typing import TYPE_CHECKING, Any, Dict, List, Tuple
+
+from .starts import SPEEDS
+from .trajectories import Trajectories
+
+if TYPE_CHECKING:
+    import numpy
+
+    from .results import Picture, Pictures
+
+SPEED = {sign: speed for speed, sign in enumerate(SPEEDS)}
+
+
+def trajectories_of(pictures: Pictures) -> Trajectories:
+    """The trajectories of the cars in these pictures; raises `ValueError` if they are not consecutive pictures of one
+    run."""
+    _check_steps(pictures)
+    try:
+        import numpy  # noqa: F401
+    except ImportError:
+        grids = _followed(pictures)
+    else:
+        grids = _followed_by_numpy(pictures)
+    return Trajectories(pictures[0].step, len(pictures[0].lanes[0]), len(pictures[0].lanes), *grids)
+
+
+def _check_steps(pictures: Pictures) -> None:
+    if not pictures:
+        raise ValueError("there are no pictures")
+    sizes = [len(lane) for lane in pictures[0].lanes]
+    for before, after in zip(pictures, pictures[1:]):
+        if after.step != before.step + 1:
+            raise ValueError(f"step {after.step} follows step {before.step}: trajectories need the picture of every step")
+        if [len(lane) for lane in after.lanes] != sizes:
+            raise ValueError(f"the road of step {after.step} has another size")
+
+
+def _not_one_run(step: int) -> ValueError:
+    return ValueError(f"the cars of step {step} do not come from those of step {step - 1}: these are not pictures of one run")
+
+
+def _followed(pictures: Pictures) -> Tuple[List[List[int]], ...]:
+    """The rows of lanes, cells, distances and speeds."""
+    length, others = len(pictures[0].lanes[0]), len(pictures[0].lanes) - 1
+    places = {(lane, cell): car for car, (lane, cell, _) in enumerate(_cars(pictures[0]))}
+    cars = len(places)
+    rows: List[Tuple[List[int], ...]] = []
+    for picture in pictures:
+        row = tuple([0] * cars for _ in range(4))
+        found: Dict[Tuple[int, int], int] = {}
+        for lane, cell, speed in _cars(picture):
+            came = cell if picture is pictures[0] else (cell - speed) % length
+            car = places.get((lane, came), places.get((others - lane, came), -1))
+            if car >= 0:
+                found[lane, cell] = car
+                row[0][car], row[1][car], row[3][car] = lane, cell, speed
+                row[2][car] = rows[-1][2][car] + speed if rows else cell
+        if sorted(found.values()) != list(range(cars)) or len(found) != len(_cars(picture)):
+            raise _not_one_run(picture.step)
+        places = found
+        rows.append(row)
+    return tuple(list(column) for column in zip(*rows))
+
+
+def _cars(picture: Picture) -> List[Tuple[int, int, int]]:
+    """Lane, cell and speed of each car."""
+    return [
+        (lane, cell, SPEED[sign]) for lane, cells in enumerate(picture.lanes) for cell, sign in enumerate(cells) if sign != "."
+    ]
+
+
+def _followed_by_numpy(pictures: Pictures) -> Tuple[Any, ...]:
+    """The same as arrays."""
+    import numpy
+
+    road = pictures.to_numpy().astype(numpy.int32)
+    steps, lanes, length = road.shape
+    taken = (road >= 0).reshape(steps, lanes * length)
+    counts = taken.sum(axis=1)
+    if (counts != counts[0]).any():
+        raise _not_one_run(pictures[int(numpy.argmax(counts != counts[0]))].step)
+    cells = numpy.nonzero(taken)[1].reshape(steps, counts[0]).astype(numpy.int32)
+    speeds = numpy.take_along_axis(road.reshape(steps, -1), cells, axis=1)
+    order = _order(taken, cells, speeds, length, lanes, pictures[0].step)
+    lane, cell = numpy.divmod(numpy.take_along_axis(cells, order, axis=1), length)
+    speed = numpy.take_along_axis(speeds, order, axis=1)
+    distance = numpy.cumsum(numpy.concatenate([cell[:1], speed[1:]]), axis=0, dtype=numpy.int32)
+    return lane, cell, distance, speed
+
+
+def _order(
+    taken: numpy.ndarray[Any, Any], cells: numpy.ndarray[Any, Any], speeds: numpy.ndarray[Any, Any],
+    length: int, lanes: int, first: int,
+) -> numpy.ndarray[Any, Any]:
+    """By step and car, the car's place among the taken cells of that step, counted lane by lane.
+
+    `taken` says by step and cell which cells are taken; `cells` and `speeds` are those of the cars by step and place."""
+    import numpy
+
+    lane, cell = numpy.divmod(cells[1:], length)
+    own = lane * length + (cell - speeds[1:]) % length
+    side = (lanes - 1 - lane) * length + own % length
+    rows = numpy.arange(len(taken) - 1)[:, None]
+    came = numpy.where(taken[rows, own], own, side)
+    # The place before the step of the car that is at each place after it.
+    before = (numpy.cumsum(taken, axis=1, dtype=numpy.int32) - 1)[rows, came]
+    is_good = taken[rows, came].all(axis=1) & (numpy.sort(before, axis=1) == numpy.arange(cells.shape[1])).all(axis=1)
+    if not is_good.all():
+        raise _not_one_run(first + 1 + int(numpy.argmin(is_good)))
+    after = numpy.argsort(before, axis=1, kind="stable")
+    order = numpy.empty_like(cells)
+    order[0] = numpy.arange(cells.shape[1])
+    for step, place in enumerate(after):
+        order[step + 1] = place[order[step]]
+    return order

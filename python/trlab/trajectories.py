@@ -1,0 +1,221 @@
+"""Trajectories: which car is which in the pictures of a run, and what follows from that.
+
+The results are arrays if numpy is installed, otherwise lists of lists. Both are indexed `[step][car]`."""
+from __future__ import annotations
+
+import math
+from bisect import bisect_right
+from dataclasses import dataclass
+from typing import Any, Dict, Iterator, List, NamedTuple, Set, Tuple
+
+Grid = Any
+"""Whole numbers indexed `[step][car]`: an array of 32-bit integers if numpy is installed, otherwise a list of lists."""
+
+
+class Jam(NamedTuple):
+    """A jam: stopped cars that are connected in space and time.
+
+    It exists from step `first` on for `lifetime` steps. `cars` is the number of different cars in it, and `size` their
+    stopped time in car-steps. `is_cut` is True if it is in the first or the last picture: then it may have begun
+    earlier or ended later, and its lifetime, cars and size are lower bounds."""
+
+    first: int
+    lifetime: int
+    cars: int
+    size: int
+    is_cut: bool
+
+
+class Trip(NamedTuple):
+    """A trip of `car` between two detectors: it passes the first one in step `start`, and the second one `time` steps
+    later."""
+
+    car: int
+    start: int
+    time: int
+
+
+@dataclass(frozen=True, eq=False, repr=False)
+class Trajectories:
+    """The trajectory of every car. Cars are numbered from 0 as in the first picture: lane by lane, and by cell.
+
+    `lane`, `cell`, `distance` and `speed` are indexed `[step][car]`, with one row for each picture. Row 0 belongs to
+    the step `first`. `cell` is between 0 and `length` - 1. `distance` is in cells and not wrapped round the ring: the cell in
+    row 0 plus all speeds since. `speed` is in cells per step: the car drove this far in the step before the picture."""
+
+    first: int
+    length: int
+    lanes: int
+    lane: Grid
+    cell: Grid
+    distance: Grid
+    speed: Grid
+
+    @property
+    def cars(self) -> int:
+        """The number of cars."""
+        return len(self.cell[0])
+
+    def __len__(self) -> int:
+        return len(self.cell)
+
+    def __repr__(self) -> str:
+        return f"<trajectories of {self.cars} cars, steps {self.first} to {self.first + len(self) - 1}>"
+
+    def ahead(self, places: int = 1) -> Grid:
+        """The number of the car that is so many places ahead on the same lane, indexed `[step][car]`.
+
+        A lane with n cars is a ring, so n places ahead is the car itself. On one lane nobody overtakes, so all rows are
+        equal. Raises `ValueError` if `places` is negative."""
+        if places < 0:
+            raise ValueError(f"places must be at least 0, not {places}")
+        return _grid([_ahead(row, places, self.lanes) for row in self._rows("lane", "cell")])
+
+    def headways(self) -> Grid:
+        """The gap ahead of every car, indexed `[step][car]`: the number of empty cells between the car and the next one on
+        its lane, 0 to `length` - 1. A car alone on its lane has the gap `length` - 1."""
+        return _grid([
+            [(cells[leader] - cell - 1) % self.length for cell, leader in zip(cells, _ahead((lanes, cells), 1, self.lanes))]
+            for lanes, cells in self._rows("lane", "cell")
+        ])
+
+    def detector(self, cell: int, lane: int = 0) -> List[int]:
+        """The number of cars, 0 or 1, that pass the end of a cell of a lane in each step, without the first row.
+
+        A car at cell x that drove v cells passed the ends of the cells x - v to x - 1 of the lane where it is now.
+        Raises `ValueError` if the road has no such cell or lane."""
+        self._need_cell(cell)
+        if not 0 <= lane < self.lanes:
+            raise ValueError(f"lane must be between 0 and {self.lanes - 1}, not {lane}")
+        return [
+            sum(1 for x, on, v in zip(cells, lanes, speeds) if (x - 1 - cell) % self.length < v and on == lane)
+            for lanes, cells, speeds in list(self._rows("lane", "cell", "speed"))[1:]
+        ]
+
+    def travel_times(self, start: int, end: int) -> List[Trip]:
+        """The trips from the end of cell `start` to the end of cell `end`, on any lane, by car and time.
+
+        If both are the same cell, a trip is one lap. Trips that begin before the first picture or end after the last
+        are left out, so use many more steps than a trip takes: otherwise slow trips are missing. Raises `ValueError`
+        if the road has no such cell."""
+        self._need_cell(start)
+        self._need_cell(end)
+        between = (end - start - 1) % self.length + 1
+        trips = []
+        for car, passed in enumerate(zip(*_plain(self.distance))):
+            for place in range(passed[0] + (start - passed[0]) % self.length, passed[-1] - between, self.length):
+                begun, ended = bisect_right(passed, place), bisect_right(passed, place + between)
+                trips.append(Trip(car, self.first + begun, ended - begun))
+        return trips
+
+    def jams(self) -> List[Jam]:
+        """The jams, by their first step. A jam is a connected component of stopped cars in space and time.
+
+        Two stopped cars are connected if they are in neighbouring cells of one lane in the same step, or if they are
+        the same car in consecutive steps. Cars that were stopped in the first picture count as well. A jam in the first
+        or last picture is marked `is_cut`; leave these out of a mean, or make the window much longer than a jam."""
+        roots: List[int] = []
+        stopped = list(_stopped_clusters(self._rows("lane", "cell", "speed"), self.length, roots))
+        parts: Dict[int, _Part] = {}
+        for row, cars in enumerate(stopped):
+            for car, label in cars.items():
+                parts.setdefault(_root(roots, label), _Part(row, set(), [])).add(row, car)
+        return [part.jam(self.first, len(stopped) - 1) for part in parts.values()]
+
+    def speed_correlation(self, places: int = 0, later: int = 0) -> float:
+        """The correlation of speeds, -1 to 1, between a car and the car that is so many `places` ahead on its lane, whose
+        speed is taken `later` steps after that.
+
+        It is Pearson's coefficient over all cars and steps: `speed_correlation(places=k)` for k = 0, 1, 2.. is
+        the correlation in space, and `speed_correlation(later=t)` the autocorrelation in time. It is nan if one
+        of the speeds does not vary. Raises `ValueError` if `later` is not between 0 and the number of steps."""
+        if not 0 <= later < len(self):
+            raise ValueError(f"later must be between 0 and {len(self) - 1}, not {later}")
+        speeds, leaders = _plain(self.speed), _plain(self.ahead(places))
+        sums = [0] * 6
+        for row, follower, leader in zip(leaders, speeds, speeds[later:]):
+            for x, y in zip(follower, [leader[car] for car in row]):
+                for place, number in enumerate((1, x, y, x * x, y * y, x * y)):
+                    sums[place] += number
+        n, x, y, xx, yy, xy = sums
+        spread = (n * xx - x * x) * (n * yy - y * y)
+        return (n * xy - x * y) / math.sqrt(spread) if spread else math.nan
+
+    def _rows(self, *names: str) -> Iterator[Tuple[List[int], ...]]:
+        """Rows of these fields, side by side, as lists."""
+        return zip(*(_plain(getattr(self, name)) for name in names))
+
+    def _need_cell(self, cell: int) -> None:
+        if not 0 <= cell < self.length:
+            raise ValueError(f"a cell must be between 0 and {self.length - 1}, not {cell}")
+
+
+class _Part(NamedTuple):
+    """A jam while it is put together: its first row, its cars, and the row of each stopped car."""
+
+    first: int
+    cars: Set[int]
+    rows: List[int]
+
+    def add(self, row: int, car: int) -> None:
+        self.cars.add(car)
+        self.rows.append(row)
+
+    def jam(self, first: int, last_row: int) -> Jam:
+        is_cut = self.first == 0 or self.rows[-1] == last_row
+        return Jam(first + self.first, self.rows[-1] - self.first + 1, len(self.cars), len(self.rows), is_cut)
+
+
+def _stopped_clusters(
+    rows: Iterator[Tuple[List[int], ...]], length: int, roots: List[int]
+) -> Iterator[Dict[int, int]]:
+    """The label of each stopped car, row by row. Connected labels get the same root in `roots`."""
+    before: Dict[int, int] = {}
+    for lanes, cells, speeds in rows:
+        now: Dict[int, int] = {}
+        for car, speed in enumerate(speeds):
+            if speed == 0:
+                if car not in before:
+                    roots.append(len(roots))
+                now[car] = before.get(car, len(roots) - 1)
+        at = {(lanes[car], cells[car]): label for car, label in now.items()}
+        for (lane, cell), label in at.items():
+            _join(roots, label, at.get((lane, (cell + 1) % length), label))
+        yield now
+        before = now
+
+
+def _root(roots: List[int], label: int) -> int:
+    while roots[label] != label:
+        roots[label] = label = roots[roots[label]]
+    return label
+
+
+def _join(roots: List[int], one: int, other: int) -> None:
+    one, other = _root(roots, one), _root(roots, other)
+    roots[max(one, other)] = min(one, other)
+
+
+def _ahead(row: Tuple[List[int], ...], places: int, lanes: int) -> List[int]:
+    """The car so many places ahead of each car, from the lanes and the cells of all cars at one step."""
+    on, cells = row
+    leaders = [0] * len(cells)
+    for lane in range(lanes):
+        ring = sorted((car for car in range(len(cells)) if on[car] == lane), key=cells.__getitem__)
+        for place, car in enumerate(ring):
+            leaders[car] = ring[(place + places) % len(ring)]
+    return leaders
+
+
+def _plain(grid: Grid) -> List[List[int]]:
+    """A grid as lists."""
+    return grid if isinstance(grid, list) else grid.tolist()  # type: ignore[no-any-return]
+
+
+def _grid(rows: List[List[int]]) -> Grid:
+    """Lists as a grid."""
+    try:
+        import numpy
+    except ImportError:
+        return rows
+    return numpy.array(rows, dtype=numpy.int32)
