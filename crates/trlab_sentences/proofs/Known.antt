@@ -1,16 +1,13 @@
 -- Which numbers are known: the tests are computed for each number below 53, and no greater one passes any.
 use Rattle.std.proofs.Common.{◌≡◌, ◌∙◌, ℕ, zero, suc, ◌+◌, ◌-◌, ◌<◌, ◌≤◌, ◌&&◌, ◌||◌, not, refl, sym, ap, cond, subst, arith, inl, inr, List, [], ◌∷◌, Bool, true, false, Option, Some, nat_eq, nat_le, nat_lt}
-use Rattle.std.proofs.lemmas.Bool.{and_parts, false≢true, cases_eq, cases_lt, leb-true, le-leb, lt-leb, ltb-true, ne_eqb}
-use Rattle.std.specs.Prelude.{IfSome, is_some}
+use Rattle.std.proofs.lemmas.Bool.{and_parts, false≢true, cases_eq, cases_lt, leb-true, lt-leb, ltb-true, ne_eqb}
+use Rattle.std.specs.Prelude.{is_some}
 use Rattle.std.specs.List.{find, list_all, list_any}
-use Rattle.trlab_notes.specs.Reasons.{reason_number}
-use Rattle.trlab_notes.specs.declared.reason.Reason.{Reason}
-use Rattle.trlab_notes.specs.declared.reason.Reason.TheVariants as why
 use Rattle.trlab_texts.specs.Causes.{cause_number}
 use Rattle.trlab_texts.specs.declared.fault.Cause.{Cause}
 use Rattle.trlab_sentences.specs.Numbers.{cause_ranges, is_known, is_within}
 use Rattle.trlab_sentences.specs.declared.numbered.TheConstants.{CAUSES}
-use Rattle.trlab_sentences.specs.declared.topics.Topic.TheVariants.{Cause as OfCause, Reason as OfReason}
+use Rattle.trlab_sentences.specs.declared.topics.Topic.TheVariants.{Cause as OfCause}
 
 -- a test passes for each number below another
 abbrev all_below : (ℕ → Bool) → ℕ → Bool
@@ -68,15 +65,7 @@ none_numbered (cause ∷ causes) n h many =
     let other : nat_eq (cause_number cause) n ≡ false = ne_eqb (cause_number cause) n (λ is. absurd (omega (arith, ltb-true (cause_number cause) 53 both.0, is))) in
     rw (other, none_numbered causes n both.1 many) refl
 
--- what is found passes, and something is found exactly if something passes
-found_first : {X : Type 0} (p : X → Bool) (x : X) (others : Option X) (b : Bool) → p x ≡ b → IfSome others (λ y. p y ≡ true) → IfSome (cond b (Some x) others) (λ y. p y ≡ true)
-found_first p x others true is h = is
-found_first p x others false is h = h
-
-pub found : {X : Type 0} (p : X → Bool) (xs : List X) → IfSome (find p xs) (λ x. p x ≡ true)
-found p [] = tt
-found p (x ∷ xs) = found_first p x (find p xs) (p x) refl (found p xs)
-
+-- something is found exactly if something passes
 is_some-cond : {X : Type 0} (b : Bool) (x : X) (others : Option X) → is_some (cond b (Some x) others) ≡ (b || is_some others)
 is_some-cond true x others = refl
 is_some-cond false x others = refl
@@ -84,13 +73,6 @@ is_some-cond false x others = refl
 is_some-find : {X : Type 0} (p : X → Bool) (xs : List X) → is_some (find p xs) ≡ list_any p xs
 is_some-find p [] = refl
 is_some-find p (x ∷ xs) = is_some-cond (p x) x (find p xs) ∙ ap (λ b. p x || b) (is_some-find p xs)
-
-or_true : (b : Bool) → (b || true) ≡ true
-or_true true = refl
-or_true false = refl
-
-within : (n low high : ℕ) → low ≤ n → n ≤ high → is_within n (low, high) ≡ true
-within n low high from to = rw (le-leb low n from, le-leb n high to) refl
 
 -- the number of a cause of the list is known
 pub listed_is_known : (n : ℕ) → is_some (find (has_number n) CAUSES) ≡ true → is_known OfCause n ≡ true
@@ -100,12 +82,6 @@ listed_is_known n h =
       | inl few ↦ sym (agree n few) ∙ rw any refl
       | inr many ↦ absurd (false≢true (sym (none_numbered CAUSES n refl many) ∙ any))
     ]
-
--- and so is that of a reason
-pub reason_of_cause_is_known : (n reason : ℕ) → n ≡ 40 + reason → 1 ≤ reason → reason ≤ 12 → is_known OfCause n ≡ true
-reason_of_cause_is_known n reason is from to =
-    let among : is_within n (41, 52) ≡ true = within n 41 52 (omega (arith, is, from)) (omega (arith, is, to)) in
-    sym (agree n (omega (arith, is, to))) ∙ rw among (or_true (list_any (has_number n) CAUSES))
 
 -- no other number of a cause is known
 not_within : (n : ℕ) (b : Bool) → is_within n (41, 52) ≡ b → ((reason : ℕ) → n ≡ 40 + reason → ¬ ((1 ≤ reason) × (reason ≤ 12))) → b ≡ false
@@ -124,36 +100,3 @@ other_is_unknown n h none =
       | inl few ↦ sym (agree n few) ∙ rw (any, apart) refl
       | inr many ↦ none_within cause_ranges n refl many
     ]
-
--- the number of a reason is known, and no other one
-numbered_within : (reason : Reason) → (1 ≤ reason_number reason) × (reason_number reason ≤ 12)
-numbered_within why.Unreachable = (omega arith, omega arith)
-numbered_within why.WrongProgram = (omega arith, omega arith)
-numbered_within why.MaybeUnset = (omega arith, omega arith)
-numbered_within why.WrongValue = (omega arith, omega arith)
-numbered_within why.JumpsBack = (omega arith, omega arith)
-numbered_within why.JumpsOut = (omega arith, omega arith)
-numbered_within why.FallsOut = (omega arith, omega arith)
-numbered_within why.MaybeTooLarge = (omega arith, omega arith)
-numbered_within why.MaybeBelowZero = (omega arith, omega arith)
-numbered_within why.MaybeAboveGap = (omega arith, omega arith)
-numbered_within why.MaybeAboveLimit = (omega arith, omega arith)
-numbered_within why.MaybeOccupied = (omega arith, omega arith)
-
-or_false : (b : Bool) → (b || false) ≡ b
-or_false true = refl
-or_false false = refl
-
-pub reason_is_known : (reason : Reason) (n : ℕ) → reason_number reason ≡ n → is_known OfReason n ≡ true
-reason_is_known reason n is =
-    let both = numbered_within reason in
-    or_false (is_within n (1, 12)) ∙ within n 1 12 (omega (arith, both.0, is)) (omega (arith, both.1, is))
-
-apart_from : (n : ℕ) (b : Bool) → is_within n (1, 12) ≡ b → ¬ ((1 ≤ n) × (n ≤ 12)) → b ≡ false
-apart_from n false is none = refl
-apart_from n true is none =
-    let both = and_parts (nat_le 1 n) (nat_le n 12) is in
-    absurd (none (leb-true 1 n both.0, leb-true n 12 both.1))
-
-pub no_reason_is_known : (n : ℕ) → ¬ ((1 ≤ n) × (n ≤ 12)) → is_known OfReason n ≡ false
-no_reason_is_known n none = or_false (is_within n (1, 12)) ∙ apart_from n (is_within n (1, 12)) refl none
