@@ -13,12 +13,14 @@ A length is in cells, a time in steps, a speed in cells a step; a chance and a d
 `.text()` gives the text of a job or a sweep, and its table or pictures depend on that alone. No package is needed,
 except that `.to_numpy()` and `.to_pandas()` of results need numpy and pandas. `TRLAB` names the program; without it
 that of the package or of the checkout is used."""
+from .drift import Drift
 from .figure import Figure
 from .location import find_program
 from .many import map, read_tables, write_texts
 from .program import Failed, Refused, version
 from .results import Picture, Pictures, Point, Table, Window
 from .rules import Nasch, Own, Rickert, Rule, SlowToStart
+from .scale import Scale
 from .space_time import SpaceTime
 from .starts import Start, even, jam, moving, random
 from .texts import Accepted, Job, Sweep, check, explain
@@ -30,6 +32,7 @@ __all__ = [
     "Accepted",
     "Chance",
     "Density",
+    "Drift",
     "Failed",
     "Figure",
     "Jam",
@@ -43,6 +46,7 @@ __all__ = [
     "Refused",
     "Rickert",
     "Rule",
+    "Scale",
     "SlowToStart",
     "SpaceTime",
     "Start",

@@ -10,6 +10,7 @@ if TYPE_CHECKING:
     import numpy
     import pandas
 
+    from .drift import Drift
     from .figure import Figure
     from .space_time import SpaceTime
     from .trajectories import Trajectories
@@ -159,6 +160,15 @@ class Table(List[Row], Generic[Row]):
         from .figure import diagram
 
         return diagram({name: self})
+
+    def drift(self, column: str = "passing") -> Drift:
+        """Whether a series still drifts: the test of Geweke (1992). `trlab.drift` explains it.
+
+        `column` is what is tested: `passing` (the flow), `speed`, `stopped_share` or any column. Raises `ValueError` if the
+        series has fewer than 100 windows, or if this is the table of a sweep."""
+        from .drift import drift_of_series
+
+        return drift_of_series(self, column)
 
     def _repr_svg_(self) -> str:
         return self.plot().svg()

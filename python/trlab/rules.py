@@ -2,9 +2,9 @@
 from __future__ import annotations
 
 from dataclasses import dataclass
-from typing import List, Optional, Union
+from typing import Dict, Iterator, List, Mapping, Optional, Union
 
-from .units import Chance, parts
+from .units import Chance, parts, whole
 
 
 @dataclass(frozen=True)
@@ -61,12 +61,69 @@ class Own:
     motion: str
     change: Optional[str] = None
 
+    def __post_init__(self) -> None:
+        _judge("motion", self.motion)
+        if self.change is not None:
+            _judge("change", self.change)
+
     def lines(self) -> List[str]:
         changes = [] if self.change is None else _part("change", self.change)
         return ["rule own", *_part("motion", self.motion), *changes]
 
 
 Rule = Union[Nasch, SlowToStart, Rickert, Own]
+
+
+class Schedule(Mapping[int, Rule]):
+    """Rules by the step from which on they are in force, in the order of steps. It compares as a dict does, and has a hash
+    because nobody can change it."""
+
+    def __init__(self, rules: Mapping[int, Rule], steps: int) -> None:
+        """Raises `TypeError` or `ValueError` if a step is not a whole number from 0 to less than `steps`."""
+        for step, rule in rules.items():
+            whole("a step of `at`", step, 0)
+            if step >= steps:
+                raise ValueError(f"a step of `at` must be below `steps`, which is {steps}, not {step}")
+            need_rule(rule)
+        self._rules: Dict[int, Rule] = {int(step): rules[step] for step in sorted(rules)}
+
+    def __getitem__(self, step: int) -> Rule:
+        return self._rules[step]
+
+    def __iter__(self) -> Iterator[int]:
+        return iter(self._rules)
+
+    def __len__(self) -> int:
+        return len(self._rules)
+
+    def __hash__(self) -> int:
+        return hash(tuple(self._rules.items()))
+
+    def __repr__(self) -> str:
+        return repr(self._rules)
+
+
+def need_rule(rule: object) -> None:
+    """Raises `TypeError` if this is not a rule."""
+    if not isinstance(rule, (Nasch, SlowToStart, Rickert, Own)):
+        raise TypeError(f"a rule is Nasch, SlowToStart, Rickert or Own, not {rule!r}")
+
+
+def _judge(kind: str, program: object) -> None:
+    """Raises `TypeError` or `ValueError` if this cannot be the text of a program of this kind. Whether it is a safe
+    program is the verifier's to say: see `check`."""
+    if not isinstance(program, str):
+        raise TypeError(f"a {kind} program is a text, not {program!r}")
+    lines = program.strip("\n").split("\n")
+    other = "change" if kind == "motion" else "motion"
+    if not program.strip():
+        raise ValueError(f"the {kind} program is empty")
+    if lines[0] == other:
+        raise ValueError(f"this is a {other} program, and a {kind} program is needed")
+    if lines[0].startswith("code ") and len(lines) > 1:
+        raise ValueError("a program that is given as `code X` is one line")
+    if "end" in lines:
+        raise ValueError(f"the {kind} program has a line `end`: leave it out")
 
 
 def _part(kind: str, program: str) -> List[str]:

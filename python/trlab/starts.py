@@ -6,9 +6,11 @@ from __future__ import annotations
 
 import random as _random
 import warnings
-from dataclasses import dataclass
+from dataclasses import dataclass, replace
 from numbers import Integral
-from typing import List, Optional, Sequence, Tuple, cast
+from typing import Iterable, List, Optional, Sequence, Tuple, Union, cast
+
+from .units import MOST_KEY, MOST_SPEED, derived_key, whole
 
 SPEEDS = "0123456789abcdefghijklmnopqrstuvwxyz"
 """The characters of speeds in pictures, 0 to 35 cells a step."""
@@ -16,16 +18,33 @@ SPEEDS = "0123456789abcdefghijklmnopqrstuvwxyz"
 Lane = Sequence[Optional[int]]
 """The speed of the car in each cell, in cells a step, and None or -1 where the cell is empty."""
 
+PLACEMENTS = ("even", "jam", "random")
 
 @dataclass(frozen=True)
 class Start:
     """How cars are placed at first: `even`, `moving`, `jam` or `random(seed)`.
 
-    `speed` is the initial speed of all cars in cells per step; None means the maximum speed."""
+    `placement` is "even", "jam" or "random". `speed` is the initial speed of all cars in cells per step; None means the
+    maximum speed. `seed`, from 0 to 2**256 - 1, is for random cells only."""
 
     placement: str
     speed: Optional[int] = 0
     seed: Optional[int] = None
+
+    def __post_init__(self) -> None:
+        if self.placement not in PLACEMENTS:
+            raise ValueError(f"a placement is one of {', '.join(PLACEMENTS)}, not {self.placement!r}")
+        if self.speed is not None:
+            whole("speed", self.speed, 0, MOST_SPEED)
+        if self.placement == "random":
+            object.__setattr__(self, "seed", whole("seed", cast(int, self.seed), 0, MOST_KEY))
+        elif self.seed is not None:
+            raise ValueError(f"a seed is for random cells only, not for {self.placement!r}")
+
+    def judge(self, limit: int) -> None:
+        """Raises `ValueError` if the cars are faster than the limit."""
+        if self.speed is not None and self.speed > limit:
+            raise ValueError(f"all cars start with the speed {self.speed}, and the limit is {limit} cells per step")
 
     def taken(self, cars: int, cells: int) -> List[int]:
         """The cells that so many cars take, of so many."""
@@ -45,6 +64,14 @@ class Start:
         if lanes == 2 and cars > 1 and all(speed is None for speed in road[1]):
             warnings.warn(f"all {cars} cars start on lane 0")
         return list(road)
+
+    def of_point(self, number: int) -> Start:
+        """The initial state of a point of a sweep, from 0 on: random cells are drawn for each point.
+
+        Their seed is `derived_key("seed", seed, number)`, read as a hexadecimal number."""
+        if self.seed is None:
+            return self
+        return replace(self, seed=int(derived_key("seed", self.seed, number), 16))
 
 
 even = Start("even")
@@ -66,22 +93,68 @@ def random(seed: int, speed: Optional[int] = 0) -> Start:
     return Start("random", speed, seed)
 
 
-def lanes_of(road: object) -> Tuple[Lane, ...]:
-    """A road that is given as the speeds of one lane, or as those of two, with None for each empty cell."""
-    cells = list(cast(Sequence[object], road))
-    lanes = [cells] if all(cell is None or isinstance(cell, Integral) for cell in cells) else cells
-    read = [tuple(cast(Sequence[Optional[int]], lane)) for lane in lanes]
-    if not (1 <= len(read) <= 2 and all(cell is None or isinstance(cell, Integral) for lane in read for cell in lane)):
-        raise ValueError("a road is a list of speeds, with None for an empty cell, or two such lists")
-    return tuple(tuple(None if cell is None or cell < 0 else int(cell) for cell in lane) for lane in read)
+Road = Union[Lane, Sequence[Lane]]
+"""A road as its user writes it: a lane, or two lanes."""
+
+
+def lanes_of(road: object, limit: int = MOST_SPEED) -> Tuple[Lane, ...]:
+    """A road that is given as the speeds of one lane, or as those of two, with None for each empty cell.
+
+    Raises `ValueError` if it is anything else, or if a car is faster than `limit`."""
+    cells = _items(road)
+    lanes = [cells] if all(_is_cell(cell) for cell in cells) else [_items(lane) for lane in cells]
+    if not (1 <= len(lanes) <= 2 and all(lane and all(_is_cell(cell) for cell in lane) for lane in lanes)):
+        raise ValueError(_NO_ROAD)
+    if len({len(lane) for lane in lanes}) == 2:
+        raise ValueError(f"the lanes have {len(lanes[0])} and {len(lanes[1])} cells, and must have the same number")
+    return tuple(tuple(_speed(cast(Optional[int], cell), limit) for cell in lane) for lane in lanes)
+
+
+def roads_of(roads: object, length: int, lanes: int, limit: int) -> Tuple[Tuple[Lane, ...], ...]:
+    """A list of roads of one shape. Raises `ValueError`, with the number of the road, if one is something else."""
+    found = _items(roads)
+    if all(_is_cell(road) for road in found):
+        raise ValueError("`start` of a sweep is a list of roads, one for each point: for one road write `[road]`")
+    return tuple(_road_of(number, road, length, lanes, limit) for number, road in enumerate(found))
+
+
+def _road_of(number: int, road: object, length: int, lanes: int, limit: int) -> Tuple[Lane, ...]:
+    try:
+        read = lanes_of(road, limit)
+    except ValueError as error:
+        raise ValueError(f"road {number} of `start`: {error}") from None
+    if (len(read), len(read[0])) != (lanes, length):
+        shape = f"{len(read)} x {len(read[0])}"
+        raise ValueError(f"road {number} of `start` has {shape} cells, and the sweep has {lanes} x {length}")
+    return read
+
+
+def cars_on(road: Sequence[Lane]) -> int:
+    """The number of cars on a road that `lanes_of` has read."""
+    return sum(speed is not None for lane in road for speed in lane)
+
+
+_NO_ROAD = "a road is a list of speeds, with None for an empty cell, or two such lists"
+
+
+def _items(road: object) -> List[object]:
+    if isinstance(road, str) or not isinstance(road, Iterable):
+        raise ValueError(_NO_ROAD)
+    return list(road)
+
+
+def _is_cell(cell: object) -> bool:
+    return cell is None or isinstance(cell, Integral) and not isinstance(cell, bool)
+
+
+def _speed(cell: Optional[int], limit: int) -> Optional[int]:
+    if cell is None or cell < 0:
+        return None
+    if cell > limit:
+        raise ValueError(f"a car has the speed {cell}, and the limit is {limit} cells per step")
+    return int(cell)
 
 
 def picture(lane: Lane) -> str:
     """A lane in the characters of a text."""
-    return "".join("." if speed is None or speed < 0 else _sign(speed) for speed in lane)
-
-
-def _sign(speed: int) -> str:
-    if speed >= len(SPEEDS):
-        raise ValueError(f"a speed must be at most {len(SPEEDS) - 1} cells per step, not {speed}")
-    return SPEEDS[speed]
+    return "".join("." if speed is None or speed < 0 else SPEEDS[speed] for speed in lane)

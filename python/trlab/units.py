@@ -1,11 +1,12 @@
 """Chances, keys and densities as a person writes them, and the numbers that stand for them in texts."""
 from __future__ import annotations
 
+import hashlib
 import operator
 import re
 from fractions import Fraction
 from numbers import Rational
-from typing import Union
+from typing import Optional, Union
 
 Chance = Union[int, float, str, Fraction]
 """0 to 1: `0.25`, `"1/4"`, `"0.25"` or a `Fraction`."""
@@ -19,19 +20,23 @@ Key = Union[int, str]
 ALWAYS = 2**31
 """The parts of a chance that always happens."""
 
+MOST_CELLS, MOST_SPEED, MOST_STEPS, MOST_CARS, MOST_POINTS = 100000, 35, 500000, 200000, 200
+"""The greatest length of a lane in cells, maximum speed in cells per step, number of steps, number of cars and number of
+points of one input."""
 
-MOST_CELLS, MOST_SPEED, MOST_STEPS, MOST_CARS = 100000, 35, 500000, 200000
-"""The greatest length of a lane in cells, maximum speed in cells per step, number of steps and number of cars of one
-input."""
+MOST_KEY = 2**256 - 1
+"""The greatest key, and the greatest seed of random cells."""
 
 
-def whole(name: str, number: int, least: int, most: int) -> int:
+def whole(name: str, number: int, least: int, most: Optional[int] = None) -> int:
     """A whole number in its range; raises `TypeError` or `ValueError` with its name if it is not."""
     try:
         value = operator.index(number)
     except TypeError:
         raise TypeError(f"{name} must be a whole number, not {number!r}") from None
-    if not least <= value <= most:
+    if most is None and value < least:
+        raise ValueError(f"{name} must be at least {least}, not {value}")
+    if most is not None and not least <= value <= most:
         raise ValueError(f"{name} must be between {least} and {most}, not {value}")
     return value
 
@@ -56,9 +61,17 @@ def key_digits(key: Key) -> str:
             raise ValueError(f"a key is a number or 64 hexadecimal digits, and not {key!r}")
         return key
     number = operator.index(key)
-    if not 0 <= number < 2**256:
+    if not 0 <= number <= MOST_KEY:
         raise ValueError(f"a key is a number from 0 to 2**256 - 1, and not {key}")
     return f"{number:064x}"
+
+
+def derived_key(purpose: str, key: Key, number: int) -> str:
+    """The key that follows from another key, a purpose and a number: 64 hexadecimal digits.
+
+    It is the SHA-256 of the ASCII bytes of `trlab PURPOSE KEY NUMBER`, with KEY as 64 lower-case hexadecimal digits and
+    NUMBER in decimal. Different purposes and numbers give keys that have nothing to do with each other."""
+    return hashlib.sha256(f"trlab {purpose} {key_digits(key).lower()} {number}".encode("ascii")).hexdigest()
 
 
 def cars_at(density: Density, cells: int) -> int:

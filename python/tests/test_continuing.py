@@ -1,0 +1,132 @@
+"""Jobs that continue: from a picture, and beyond the steps of one input."""
+import hashlib
+import unittest
+from contextlib import contextmanager
+from dataclasses import replace
+from unittest import mock
+
+from tests.by_pictures import windows
+from trlab import Job, Nasch, Own, Picture, Rickert, SlowToStart, Sweep, Table, Window, jam, random
+
+HALF = Own("motion\nget r0, gap\ndiv r0, r0, 2\nget r1, limit\nmin r0, r0, r1\ngo r0\n")
+ONE = Job(limit=5, length=60, density=0.3, start=random(1), rule=Nasch(0.25), steps=50, key=7, at={10: Nasch(0.5), 30: HALF})
+TWO = Job(limit=3, length=40, lanes=2, cars=20, start=random(2), rule=Rickert(0.25, 1), steps=50, at={35: HALF})
+
+
+def digest(key, step):
+    return hashlib.sha256(f"trlab continued {key:064x} {step}".encode()).hexdigest()
+
+
+@contextmanager
+def short_inputs(steps):
+    """Inputs of at most so many steps."""
+    with mock.patch("trlab.texts.MOST_STEPS", steps), mock.patch("trlab.continuing.MOST_STEPS", steps):
+        yield
+
+
+class Continued(unittest.TestCase):
+    def test_it_begins_with_the_picture(self):
+        for job in ONE, TWO:
+            pictures = job.run()
+            for picture in pictures[0], pictures[29], pictures[-1]:
+                first, *later = job.continued(picture).run()
+                self.assertEqual((first.step, first.lanes), (0, picture.lanes))
+                self.assertEqual(len(later), job.steps)
+
+    def test_cars_keep_their_order_and_number(self):
+        pictures = ONE.run()
+        both = pictures + [it._replace(step=50 + it.step) for it in ONE.continued(pictures[-1]).run()[1:]]
+        self.assertEqual({len(it.lanes[0].replace(".", "")) for it in both}, {18})
+        # Every car of every picture came from the cell of a car before it, as many cells behind as its speed says.
+        both.trajectories()
+        self.assertRaises(ValueError, (both[:51] + [it._replace(step=51 + it.step) for it in both[:1]]).trajectories)
+
+    def test_its_rules_are_those_of_the_rest(self):
+        pictures, last = ONE.run(), Nasch(0.5)
+        for step, rule, at in (0, Nasch(0.25), {10: last, 30: HALF}), (9, Nasch(0.25), {1: last, 21: HALF}), (10, last, {20: HALF}):
+            job = ONE.continued(pictures[step])
+            self.assertEqual((job.rule, dict(job.at)), (rule, at))
+        self.assertEqual((ONE.continued(pictures[30]).rule, len(ONE.continued(pictures[30]).at)), (HALF, 0))
+        self.assertEqual(dict(ONE.continued(pictures[5], steps=5).at), {})
+        self.assertEqual(dict(ONE.continued(pictures[5], steps=6).at), {5: last})
+        at_once = replace(ONE, at={0: last})
+        self.assertEqual((at_once.continued(pictures[0]).rule, dict(at_once.continued(pictures[0]).at)), (last, {}))
+
+    def test_its_key(self):
+        picture = ONE.run()[20]
+        self.assertEqual(ONE.continued(picture).key, digest(7, 20))
+        self.assertEqual(ONE.continued(picture, key=8).key, 8)
+        self.assertEqual((ONE.continued(picture).steps, ONE.continued(picture, steps=3).steps), (50, 3))
+        # The same key draws the words of the steps 0, 1, and so on again, another one does not.
+        again = ONE.continued(ONE.run()[0], key=ONE.key).run()
+        self.assertEqual([it.lanes for it in again], [it.lanes for it in ONE.run()])
+        self.assertNotEqual([it.lanes for it in ONE.continued(ONE.run()[0]).run()], [it.lanes for it in ONE.run()])
+
+    def test_a_picture_beyond_the_run_is_rejected(self):
+        self.assertRaisesRegex(ValueError, "picture must be between 0 and 50, not 51", ONE.continued, Picture(51, ("0",)))
+
+
+class LongRuns(unittest.TestCase):
+    def test_pictures_are_those_of_the_inputs(self):
+        with short_inputs(20):
+            pictures = TWO.run()
+            first = replace(TWO, steps=20, at={}).run()
+            second = TWO.continued(first[-1], steps=20).run()
+            third = replace(TWO, steps=20, at={}).continued(first[-1], steps=30).continued(second[-1], steps=10).run()
+        self.assertEqual([it.step for it in pictures], list(range(51)))
+        self.assertEqual(pictures[:21], first)
+        self.assertEqual([it.lanes for it in pictures[20:41]], [it.lanes for it in second])
+        self.assertEqual(third[0].lanes, second[-1].lanes)
+
+    def test_rules_take_over_at_their_steps(self):
+        stop, go = Nasch(1), Nasch(0)
+        for change in 19, 20, 21, 40, 45:
+            job = Job(limit=1, length=60, cars=1, rule=go, steps=50, at={change: stop})
+            with short_inputs(20):
+                stopped = [it.step for it in job.pictures() if it.speeds()[0].count(0)]
+            self.assertEqual(stopped, [0, *range(change + 1, 51)])
+
+    def test_windows_are_those_of_the_pictures(self):
+        for job in ONE, TWO:
+            with short_inputs(20):
+                pictures = job.run()
+                for every, first in (1, 0), (5, 0), (7, 3), (10, 20), (25, 0), (6, 25), (40, 10), (3, 41), (51, 0), (5, 60):
+                    told = job.series(every=every, first=first, workers=2)
+                    with self.subTest(every=every, first=first):
+                        self.assertEqual(told, list(windows(pictures, every, first)))
+                        self.assertEqual((type(told), told.kind), (Table, Window))
+
+    def test_a_run_can_be_left(self):
+        with short_inputs(20):
+            pictures = ONE.pictures()
+            self.assertEqual([next(pictures).step for _ in range(25)], list(range(25)))
+            pictures.close()
+
+    def test_it_has_no_job_text(self):
+        job = replace(ONE, steps=500001)
+        self.assertRaisesRegex(ValueError, "at most 500000 steps, and this job has 500001", job.text)
+        self.assertEqual(hash(job), hash(replace(job)))
+        self.assertIn("steps 500000\n", replace(job, steps=500000).text())
+
+    def test_numbers_of_windows_are_judged(self):
+        job = replace(ONE, steps=500001)
+        self.assertRaisesRegex(ValueError, "every must be at least 1, not 0", job.series, every=0)
+        self.assertRaisesRegex(TypeError, "first must be a whole number", job.series, first=1.5)
+
+    def test_beyond_the_greatest_input(self):
+        job = Job(limit=1, length=3, cars=1, rule=Nasch(0.5), steps=1000010, at={500005: Nasch(0), 1000005: Nasch(1)})
+        windows = job.series(every=500005, first=0)
+        self.assertEqual([window.step for window in windows], [500005, 1000010])
+        self.assertEqual((windows[1].distance, windows[1].stopped), (500000, 5))
+        self.assertEqual((windows[0].steps, windows[0].distance + windows[0].stopped), (500005, 500005))
+        (last,) = job.series(every=2, first=1000007)
+        self.assertEqual((last.step, last.distance, last.stopped), (1000009, 0, 2))
+
+
+class LongSweeps(unittest.TestCase):
+    def test_points_are_counted_beyond_an_input(self):
+        sweep = Sweep(limit=3, length=40, rule=SlowToStart(0.25, 0.5), warm=13, measure=30, cars=[9], start=jam)
+        with short_inputs(20):
+            (point,) = sweep.sweep()
+            (window,) = windows(sweep.jobs()[0].run(), every=30, first=13)
+        self.assertEqual(point, window[1:8])

@@ -1,0 +1,151 @@
+"""Sweeps of any size and from any initial state: what each point is, and that it is what a job or an input of it gives."""
+import hashlib
+import unittest
+from dataclasses import replace
+from statistics import fmean, stdev
+
+from tests.test_arrays import needs
+from trlab import Job, Nasch, Point, Refused, Rickert, Sweep, Table, even, jam, moving, random
+
+SWEEP = Sweep(limit=5, length=60, rule=Nasch(0.25), warm=20, measure=100, cars=[10, 20, 20], key=7)
+ROAD = [0, None, 3, None, None]
+ROADS = Sweep(limit=5, length=5, rule=Nasch(0.25), warm=3, measure=8, start=[ROAD, [None, 2, None, 1, 0]])
+PAIRS = Sweep(limit=5, length=2, lanes=2, rule=Rickert(0, 1), warm=0, measure=9, start=3 * [[[0, None], [None, None]]])
+
+
+def digest(purpose, digits, number):
+    return hashlib.sha256(f"trlab {purpose} {digits} {number}".encode()).hexdigest()
+
+
+def lanes_of_points(sweep):
+    return ["|".join(job.run()[0].lanes) for job in sweep.jobs()]
+
+
+class InitialStates(unittest.TestCase):
+    def test_keys_and_seeds_are_those_of_the_formula(self):
+        sweep = replace(SWEEP, start=random(3, speed=1))
+        for number, job in enumerate(sweep.jobs()):
+            self.assertEqual(job.key, digest("point", f"{7:064x}", number))
+            self.assertEqual(job.start, random(int(digest("seed", f"{3:064x}", number), 16), speed=1))
+            self.assertEqual((job.steps, job.cars, job.rule), (120, sweep.cars[number], sweep.rule))
+        upper = replace(sweep, key=64 * "A").jobs()
+        self.assertEqual(upper, replace(sweep, key=64 * "a").jobs())
+        self.assertEqual(upper[1].key, digest("point", 64 * "a", 1))
+
+    def test_the_table_is_that_of_the_jobs(self):
+        for sweep in replace(SWEEP, start=random(3)), replace(SWEEP, start=jam), replace(SWEEP, start=moving), ROADS, PAIRS:
+            table = sweep.sweep()
+            self.assertEqual((type(table), table.kind, len(table)), (Table, Point, len(sweep.counts())))
+            self.assertEqual([type(point) for point in table], len(table) * [Point])
+            for point, job in zip(table, sweep.jobs()):
+                pictures = job.run()[sweep.warm + 1 :]
+                speeds = [speed for it in pictures for lane in it.speeds() for speed in lane if speed is not None]
+                self.assertEqual((point.steps, point.cells), (sweep.measure, sweep.length * sweep.lanes))
+                self.assertEqual((point.distance, point.stopped), (sum(speeds), speeds.count(0)))
+                self.assertEqual(point.cars * point.steps, len(speeds))
+            self.assertEqual(sweep.sweep(runners=3, workers=2), table)
+
+    def test_equal_counts_are_repetitions(self):
+        sweep = replace(SWEEP, cars=4 * [20], start=random(3))
+        self.assertEqual(len({job.key for job in sweep.jobs()}), 4)
+        self.assertEqual(len(set(lanes_of_points(sweep))), 4)
+        self.assertEqual(len({point[3:5] for point in sweep.sweep()}), 4)
+
+    def test_where_the_cars_are(self):
+        small = replace(SWEEP, length=6, cars=[2, 3])
+        self.assertEqual(lanes_of_points(replace(small, start=jam)), ["00....", "000..."])
+        self.assertEqual(lanes_of_points(replace(small, start=moving)), ["5..5..", "5.5.5."])
+        self.assertEqual(lanes_of_points(small), ["0..0..", "0.0.0."])
+        self.assertEqual(lanes_of_points(ROADS), ["0.3..", ".2.10"])
+        self.assertEqual((ROADS.counts(), PAIRS.counts()), ([2, 3], [1, 1, 1]))
+
+    def test_an_even_sweep_is_that_of_the_program(self):
+        self.assertEqual(replace(SWEEP, start=even), SWEEP)
+        self.assertNotEqual(replace(SWEEP, start=jam), SWEEP)
+        self.assertEqual([part.text() for part in SWEEP.parts()], [SWEEP.text()])
+
+    def test_it_has_no_sweep_text(self):
+        for sweep in replace(SWEEP, start=random(1)), replace(SWEEP, start=moving), ROADS:
+            self.assertRaisesRegex(ValueError, r"another start: use `jobs\(\)`", sweep.text)
+            self.assertRaisesRegex(ValueError, r"use `jobs\(\)`", sweep.parts)
+
+    def test_sweeps_compare_and_hash_by_value(self):
+        for one, other in (replace(SWEEP, start=random(1)), replace(SWEEP, start=random(1))), (ROADS, replace(ROADS)):
+            self.assertEqual((one, hash(one)), (other, hash(other)))
+        self.assertNotEqual(replace(SWEEP, start=random(1)), replace(SWEEP, start=random(2)))
+
+    def test_the_first_job_that_is_rejected(self):
+        with self.assertRaises(Refused) as caught:
+            replace(SWEEP, rule=Rickert(0, 0), start=jam).sweep(runners=2)
+        self.assertEqual(caught.exception.cause, 4)
+
+
+class Roads(unittest.TestCase):
+    def rejects(self, start, message, **values):
+        with self.assertRaisesRegex(ValueError, message):
+            replace(ROADS, start=start, **values)
+
+    def test_a_list_has_a_road_for_each_point(self):
+        self.rejects(ROAD, r"for one road write `\[road\]`")
+        self.rejects([], "for one road write")
+        self.rejects([ROAD, [0]], "road 1 of `start` has 1 x 1 cells, and the sweep has 1 x 5")
+        self.rejects([[ROAD, ROAD]], "road 0 of `start` has 2 x 5 cells, and the sweep has 1 x 5")
+        self.rejects([ROAD, ["0"]], "road 1 of `start`: a road is a list of speeds")
+        self.rejects([5 * [6]], "road 0 of `start`: a car has the speed 6, and the limit is 5")
+        self.rejects([ROAD], "leave `cars` and `densities` out", cars=[2])
+        self.rejects("even", "a road is a list of speeds")
+        self.assertRaisesRegex(ValueError, "has 1 x 2 cells, and the sweep has 2 x 2", replace, PAIRS, start=[[0, 0], [0, 0]])
+
+    @needs("numpy")
+    def test_roads_of_numpy(self):
+        import numpy
+
+        speeds = numpy.array([[0, -1, 3, -1, -1], [-1, 2, -1, 1, 0]])
+        self.assertEqual(replace(ROADS, start=speeds), ROADS)
+        pairs = numpy.full((3, 2, 2), -1)
+        pairs[:, 0, 0] = 0
+        self.assertEqual(replace(PAIRS, start=pairs), PAIRS)
+
+
+class Sizes(unittest.TestCase):
+    def test_more_points_than_an_input_has(self):
+        sweep = replace(SWEEP, length=10, warm=0, measure=5, cars=401 * [5])
+        first, second, third = sweep.parts()
+        self.assertEqual([len(part.cars) for part in (first, second, third)], [200, 200, 1])
+        self.assertEqual([first.key, second.key, third.key], [7, *(digest("part", f"{7:064x}", it) for it in (1, 2))])
+        table = sweep.sweep(runners=2)
+        self.assertEqual((type(table), len(table)), (Table, 401))
+        self.assertEqual(table[:200], first.sweep())
+        self.assertEqual(table[200:], second.sweep() + third.sweep())
+        self.assertNotEqual(table[200:400], table[:200])
+        self.assertRaisesRegex(ValueError, r"401 points of 5 steps: use `parts\(\)`", sweep.text)
+
+    def test_more_steps_than_an_input_has(self):
+        sweep = Sweep(limit=1, length=2, rule=Nasch(0), warm=100000, measure=100000, cars=[1, 0, 2])
+        self.assertEqual([part.cars for part in sweep.parts()], [(1, 0), (2,)])
+        self.assertEqual([point.distance for point in sweep.sweep()], [100000, 0, 0])
+        self.assertRaisesRegex(ValueError, r"3 points of 200000 steps: use `parts\(\)`", sweep.text)
+
+    def test_points_within_the_limits_are_one_input(self):
+        for points, steps in (200, 2500), (1, 500000), (2, 250000):
+            sweep = replace(SWEEP, warm=0, measure=steps, cars=points * [1])
+            self.assertEqual([part.text() for part in sweep.parts()], [sweep.text()])
+            self.assertEqual(len(replace(sweep, cars=(points + 1) * [1]).parts()), 2)
+
+    def test_a_point_of_more_steps_than_an_input_has(self):
+        sweep = Sweep(limit=1, length=2, rule=Nasch(0), warm=500000, measure=1, cars=[1, 2])
+        self.assertRaisesRegex(ValueError, r"500001: use `jobs\(\)`", sweep.text)
+        self.assertEqual([job.steps for job in sweep.jobs()], [500001, 500001])
+        self.assertEqual([point[:5] for point in sweep.sweep()], [(1, 2, 1, 1, 0), (2, 2, 1, 0, 2)])
+
+
+class Means(unittest.TestCase):
+    def test_points_are_independent_and_have_the_exact_mean(self):
+        # The stationary flow of three cars on eight cells, from all transition probabilities of this ring.
+        exact, shape = 387 / 1568, {"limit": 1, "length": 8, "rule": Nasch(0.25), "warm": 50, "measure": 200}
+        for start in random(1), jam, moving:
+            flows = [point.passing for point in Sweep(**shape, cars=200 * [3], start=start).sweep(runners=2)]
+            self.assertLess(abs(fmean(flows) - exact), 3 * stdev(flows) / 200**0.5)
+            # Neighbours in the table have nothing to do with each other: their correlation is within 3 / sqrt(200).
+            pairs = [(one - exact) * (other - exact) for one, other in zip(flows, flows[1:])]
+            self.assertLess(abs(fmean(pairs)) / stdev(flows) ** 2, 3 / 200**0.5)

@@ -1,0 +1,108 @@
+"""Jobs that go on: from a picture of a run, and beyond the steps of one input.
+
+A job of more than 500,000 steps is run as several inputs. Each of them begins with the last picture of the one before
+it, under the key that `Job.continued` derives. So its pictures depend only on the job, and never on the windows in which
+they are counted."""
+from __future__ import annotations
+
+from collections import deque
+from dataclasses import replace
+from itertools import islice
+from math import gcd
+from typing import TYPE_CHECKING, Callable, Iterator, List, NamedTuple, Optional
+
+from .program import ask_by_line
+from .results import Picture, Table, Window, pictures_in
+from .rules import Rule
+from .units import MOST_STEPS, Key, derived_key, whole
+
+if TYPE_CHECKING:
+    from .texts import Job
+
+
+def continued(job: Job, picture: Picture, key: Optional[Key], steps: Optional[int]) -> Job:
+    """See `Job.continued`."""
+    done = whole("the step of the picture", picture.step, 0, job.steps)
+    going = job.steps if steps is None else steps
+    return replace(
+        job,
+        start=tuple(picture.speeds()),
+        length=None,
+        lanes=1,
+        cars=None,
+        density=None,
+        rule=_rule_at(job, done),
+        at={step - done: rule for step, rule in job.at.items() if done < step < done + going},
+        steps=going,
+        key=derived_key("continued", job.key, done) if key is None else key,
+    )
+
+
+def _rule_at(job: Job, step: int) -> Rule:
+    """The rule that is in force at a step."""
+    reached = [first for first in job.at if first <= step]
+    return job.at[max(reached)] if reached else job.rule
+
+
+class _Part(NamedTuple):
+    """A part of a long run: how many steps came before it, and the job that is its input."""
+
+    offset: int
+    job: Job
+
+
+def _parts(job: Job, last_of: Callable[[Job], Picture]) -> Iterator[_Part]:
+    """The inputs of a job in their order; `last_of` returns the last picture of one, and is asked after its turn."""
+    offset = 0
+    while job.steps > MOST_STEPS:
+        part = replace(job, steps=MOST_STEPS, at={step: rule for step, rule in job.at.items() if step < MOST_STEPS})
+        yield _Part(offset, part)
+        job = continued(job, last_of(part), None, job.steps - MOST_STEPS)
+        offset += MOST_STEPS
+    yield _Part(offset, job)
+
+
+def pictures(job: Job, words: List[str]) -> Iterator[Picture]:
+    """The pictures of a job of more steps than one input has, one by one, with these options of `trlab run`."""
+    last: List[Picture] = []
+    for offset, part in _parts(job, lambda _: last.pop()):
+        for picture in pictures_in(ask_by_line(["run", *words], part.text())):
+            last[:] = [picture]
+            if picture.step or not offset:
+                yield picture._replace(step=offset + picture.step)
+
+
+def series(job: Job, every: int, first: int, words: List[str]) -> Table[Window]:
+    """The windows of a job of more steps than one input has, with these options of `trlab series`.
+
+    Windows may begin in one input and end in the next one, so they are put together from narrower windows, whose width
+    divides `every`, `first` and the steps of an input."""
+    whole("every", every, 1), whole("first", first, 0)
+    width = gcd(every, first, MOST_STEPS)
+    narrow = _narrow_windows(job, width, first, words)
+    groups = iter(lambda: list(islice(narrow, every // width)), [])
+    return Table(Window, [_sum(group) for group in groups if len(group) == every // width])
+
+
+def _narrow_windows(job: Job, width: int, first: int, words: List[str]) -> Iterator[Window]:
+    """All windows of so many steps from a step on, one by one."""
+    for offset, part in _parts(job, lambda it: _last_picture(it, words)):
+        if first < offset + part.steps:
+            options = ["--every", str(width), "--from", str(max(0, first - offset))]
+            for line in islice(ask_by_line(["series", *options, *words], part.text()), 1, None):
+                window = Window(*(int(word) for word in line.split(",")))
+                yield window._replace(step=offset + window.step)
+
+
+def _last_picture(job: Job, words: List[str]) -> Picture:
+    """The last picture of an input. Of its output only the last lines are kept."""
+    lines = deque(ask_by_line(["run", *words], job.text()), maxlen=1 + len(job.road()))
+    return next(pictures_in(lines))
+
+
+def _sum(windows: List[Window]) -> Window:
+    """The window of several that follow each other."""
+    total = Window(*(sum(column) for column in zip(*windows)))
+    last = windows[-1]
+    flow = total.distance * 1000000 // (last.cells * total.steps)
+    return total._replace(step=last.step, cars=last.cars, cells=last.cells, flow=flow)
