@@ -162,10 +162,10 @@ class Table(List[Row], Generic[Row]):
         return diagram({name: self})
 
     def drift(self, column: str = "passing") -> Drift:
-        """Whether a series still drifts: the test of Geweke (1992). `trlab.drift` explains it.
+        """Whether a series still drifts: the test of Schruben, Singh and Tierney (1983), which `trlab.drift` explains.
 
-        `column` is what is tested: `passing` (the flow), `speed`, `stopped_share` or any column. Raises `ValueError` if the
-        series has fewer than 100 windows, or if this is the table of a sweep."""
+        `column` is tested: `passing` (the flow), `speed`, `stopped_share` or any column. Raises `ValueError` if the series
+        has fewer than 40 windows, or if this is the table of a sweep."""
         from .drift import drift_of_series
 
         return drift_of_series(self, column)
