@@ -6,7 +6,7 @@ from dataclasses import replace
 from unittest import mock
 
 from tests.by_pictures import windows
-from trlab import Job, Nasch, Own, Picture, Rickert, SlowToStart, Sweep, Table, Window, jam, random
+from trlab import Job, Nasch, Own, Picture, Rickert, SlowToStart, Sweep, Table, Window, continuing, jam, random
 
 HALF = Own("motion\nget r0, gap\ndiv r0, r0, 2\nget r1, limit\nmin r0, r0, r1\ngo r0\n")
 ONE = Job(limit=5, length=60, density=0.3, start=random(1), rule=Nasch(0.25), steps=50, key=7, at={10: Nasch(0.5), 30: HALF})
@@ -77,6 +77,12 @@ class LongRuns(unittest.TestCase):
         self.assertEqual(pictures[:21], first)
         self.assertEqual([it.lanes for it in pictures[20:41]], [it.lanes for it in second])
         self.assertEqual(third[0].lanes, second[-1].lanes)
+
+    def test_every_nth_picture(self):
+        with short_inputs(20):
+            pictures = TWO.run()
+            for every, first in (1, 0), (1, 20), (7, 0), (7, 3), (20, 20), (3, 41), (60, 50), (1, 51):
+                self.assertEqual(list(continuing.pictures(TWO, every, first, [])), pictures[first::every])
 
     def test_rules_take_over_at_their_steps(self):
         stop, go = Nasch(1), Nasch(0)

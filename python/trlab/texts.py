@@ -87,7 +87,7 @@ class Job:
         """Iterate over the pictures while the program runs, for runs too long to hold in memory."""
         options = _option("workers", workers, 1)
         if self.steps > MOST_STEPS:
-            return continuing.pictures(self, options)
+            return continuing.pictures(self, 1, 0, options)
         return pictures_in(ask_by_line(["run", *options], self.text()))
 
     def series(self, every: int = 1, first: int = 0, workers: int = 1) -> Table[Window]:
