@@ -120,13 +120,12 @@ class LongRuns(unittest.TestCase):
         self.assertRaisesRegex(TypeError, "first must be a whole number", job.series, first=1.5)
 
     def test_beyond_the_greatest_input(self):
-        job = Job(limit=1, length=3, cars=1, rule=Nasch(0.5), steps=1000010, at={500005: Nasch(0), 1000005: Nasch(1)})
-        windows = job.series(every=500005, first=0)
-        self.assertEqual([window.step for window in windows], [500005, 1000010])
-        self.assertEqual((windows[1].distance, windows[1].stopped), (500000, 5))
-        self.assertEqual((windows[0].steps, windows[0].distance + windows[0].stopped), (500005, 500005))
-        (last,) = job.series(every=2, first=1000007)
-        self.assertEqual((last.step, last.distance, last.stopped), (1000009, 0, 2))
+        job = Job(limit=1, length=3, cars=1, rule=Nasch(0.5), steps=500020, at={499990: Nasch(0), 500010: Nasch(1)})
+        before, seam, after = job.series(every=10, first=499985)
+        self.assertEqual([it.step for it in (before, seam, after)], [499995, 500005, 500015])
+        self.assertEqual((seam.distance, seam.stopped, seam.flow), (10, 0, 333333))
+        self.assertEqual((after.distance, after.stopped, after.cars, after.steps), (5, 5, 1, 10))
+        self.assertTrue(5 <= before.distance <= 10)
 
 
 class LongSweeps(unittest.TestCase):

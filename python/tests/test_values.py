@@ -1,15 +1,20 @@
 """Inputs and results as Python values: they compare, hash, pickle, are cut and added, and are judged when they are made."""
 import builtins
+import hashlib
+import os
 import pickle
 import random as standard_random
 import re
+import tempfile
 import unittest
 from dataclasses import replace
+from pathlib import Path
+from unittest import mock
 
 import trlab
 from tests.test_arrays import needs
 from trlab import Job, Nasch, Own, Picture, Pictures, Point, Refused, Rickert, SlowToStart, Sweep, Table, Window
-from trlab import Failed, Start, check, explain, jam, random, version
+from trlab import Failed, Start, check, explain, find_program, jam, random, version
 from trlab.program import ask
 
 JOB = Job(limit=5, length=20, density=0.2, start=random(1), rule=Nasch(0.25), steps=9, at={4: Nasch(0)})
@@ -87,6 +92,9 @@ class Construction(unittest.TestCase):
         for name in "limit", "length", "warm", "measure":
             self.rejects(TypeError, re.escape(f"{name} must be a whole number, not 1000.0"), Sweep, **{**sweep, name: 1e3})
         self.rejects(ValueError, "at least one point", Sweep, **{**sweep, "cars": []})
+        for values in 20, "20":
+            self.rejects(TypeError, "cars must be a list with a number for each point", Sweep, **{**sweep, "cars": values})
+            self.rejects(TypeError, "densities must be a list", Sweep, **{**sweep, "cars": None, "densities": values})
 
     def test_the_greatest_numbers_are_those_of_the_program(self):
         words = ["limit 35", "length 100000", "lanes 1", "rule nasch 0", "warm 0", "measure 1", "cars 100000"]
@@ -179,4 +187,19 @@ class Words(unittest.TestCase):
         self.assertIn("cause 1", explain("road 2\n"))
 
     def test_the_version(self):
-        self.assertEqual(version().split("\n")[0], f"trlab {trlab.__version__}")
+        first, logic, digest = version().split("\n")
+        self.assertEqual(first, f"trlab {trlab.__version__}")
+        self.assertRegex(logic, "^proved in logic [0-9a-f]{16}$")
+        self.assertEqual(digest, f"SHA-256 {self.digest(find_program())}")
+
+    def test_the_program_behind_a_script(self):
+        program = find_program()
+        with tempfile.TemporaryDirectory() as folder:
+            script = Path(folder) / "trlab"
+            script.write_text(f'#!/bin/sh\n[ "$1" = --where ] && exec echo {program}\nexec {program} "$@"\n')
+            script.chmod(0o755)
+            with mock.patch.dict(os.environ, TRLAB=str(script)):
+                self.assertEqual((find_program(), version().split("\n")[2]), (str(script), f"SHA-256 {self.digest(program)}"))
+
+    def digest(self, program):
+        return hashlib.sha256(Path(program).read_bytes()).hexdigest()

@@ -6,7 +6,7 @@ import subprocess
 import tempfile
 from typing import IO, Iterator, NamedTuple, Optional, Sequence
 
-from .location import find_program
+from .location import find_program, program_sha256
 
 REFUSED = 1
 # `explain` reads a refused text as one of these commands does.
@@ -100,5 +100,6 @@ def explained(text: str, *words: str) -> subprocess.CompletedProcess[str]:
 
 
 def version() -> str:
-    """What `trlab --version` prints: the version of the program, and the logic in which it is proved."""
-    return ask(["--version"], "").rstrip("\n")
+    """What `trlab --version` prints, the version of the program and the logic in which it is proved; and on a third line the
+    SHA-256 of the program."""
+    return ask(["--version"], "") + f"SHA-256 {program_sha256()}"

@@ -3,7 +3,7 @@ from __future__ import annotations
 
 import warnings
 from dataclasses import dataclass, field
-from typing import Iterator, List, Mapping, NamedTuple, Optional, Sequence, Union, cast
+from typing import Any, Iterable, Iterator, List, Mapping, NamedTuple, Optional, Sequence, Tuple, Union, cast
 
 from . import continuing, sweeping
 from .program import ask, ask_by_line, explained
@@ -159,8 +159,7 @@ class Sweep:
         key_digits(self.key)
         need_rule(self.rule)
         for name in "cars", "densities":
-            if getattr(self, name) is not None:
-                object.__setattr__(self, name, tuple(getattr(self, name)))
+            object.__setattr__(self, name, _listed(name, getattr(self, name)))
         if isinstance(self.start, Start):
             self.start.judge(self.limit)
             if (self.cars is None) == (self.densities is None):
@@ -212,7 +211,8 @@ class Sweep:
         return sweeping.jobs(self)
 
     def sweep(self, runners: int = 1, workers: int = 1) -> Table[Point]:
-        """The table, a line for each point in their order. So many points at once are run side by side."""
+        """The table, a row for each point in their order. `runners` points are run at the same time, each with `workers`
+        threads; the table does not depend on these numbers."""
         if sweeping.is_of_jobs(self):
             return sweeping.table_of_jobs(self, runners, workers)
         options = _option("runners", runners, 1) + _option("workers", workers, 1)
@@ -246,6 +246,13 @@ def _option(name: str, number: int, unsaid: int) -> List[str]:
 def explain(text: Union[str, Job, Sweep]) -> str:
     """What `trlab explain` prints for an input: what a valid one will do, or what is wrong and how to repair it."""
     return explained(text if isinstance(text, str) else text.text()).stdout.rstrip("\n")
+
+
+def _listed(name: str, values: object) -> Optional[Tuple[Any, ...]]:
+    """The values of the points, as a tuple; raises `TypeError` if they are no list."""
+    if values is not None and (isinstance(values, str) or not isinstance(values, Iterable)):
+        raise TypeError(f"{name} must be a list with a number for each point, not {values!r}")
+    return None if values is None else tuple(values)
 
 
 def _count(cars: Optional[int], density: Optional[Density], cells: int) -> int:
