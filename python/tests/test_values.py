@@ -7,6 +7,7 @@ import random as standard_random
 import re
 import tempfile
 import unittest
+from concurrent.futures import ProcessPoolExecutor
 from dataclasses import replace
 from pathlib import Path
 from unittest import mock
@@ -47,6 +48,13 @@ class Values(unittest.TestCase):
         for error in caught.exception, Failed(4, "full"):
             copy = pickle.loads(pickle.dumps(error))
             self.assertEqual((type(copy), str(copy), vars(copy)), (type(error), str(error), vars(error)))
+
+    def test_errors_come_out_of_other_processes(self):
+        rejected = replace(JOB, rule=Rickert(0, 0))
+        with ProcessPoolExecutor(1) as processes:
+            with self.assertRaises(Refused) as caught:
+                list(processes.map(Job.run, [JOB, rejected]))
+        self.assertEqual((caught.exception.line, caught.exception.cause), (5, 4))
 
     def test_parts_and_sums_keep_their_type(self):
         table, pictures = SWEEP.sweep(), JOB.run()
@@ -107,6 +115,13 @@ class Construction(unittest.TestCase):
     def test_probabilities_are_judged_where_they_are_said(self):
         for call in (lambda: Nasch(25)), (lambda: SlowToStart(0, 2)), (lambda: Rickert(-1, 0)), (lambda: Rickert(0, "5/4")):
             self.assertRaises(ValueError, call)
+
+    def test_what_is_no_number(self):
+        for chance in "a quarter", "1/0", float("nan"), float("inf"):
+            self.rejects(ValueError, re.escape(f"a probability must be a number between 0 and 1, not {chance!r}"), Nasch, chance)
+            self.rejects(ValueError, "a density .* must be a number between 0 and 1", replace, JOB, density=chance)
+        self.rejects(TypeError, "a probability must be a number between 0 and 1, not None", Nasch, None)
+        self.rejects(TypeError, "a key is a whole number or 64 hexadecimal digits, and not 1.0", replace, JOB, key=1.0)
 
     def test_cars_or_a_density(self):
         for more in {}, {"cars": 1, "density": 0.1}:
