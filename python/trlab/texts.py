@@ -72,7 +72,7 @@ class Job:
 
     def run(self, workers: int = 1) -> Pictures:
         """The pictures of the road, of step 0 and after each step."""
-        return Pictures(self.pictures(workers))
+        return Pictures.read(ask(["run", *_option("workers", workers, 1)], self.text()))
 
     def pictures(self, workers: int = 1) -> Iterator[Picture]:
         """The same one by one while the program runs, for runs whose pictures are too many to keep."""
