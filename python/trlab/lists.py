@@ -60,7 +60,8 @@ class ResultList(MutableSequence[Item]):
 
     def sort(self, *, key: Optional[Callable[[Item], Any]] = None, reverse: bool = False) -> None:
         """Sorts the items in place, as `list.sort` does."""
-        self._list().sort(key=key, reverse=reverse)  # type: ignore[arg-type, type-var]
+        items: List[Any] = self._list()
+        items.sort(key=key, reverse=reverse)
 
     def copy(self: Me) -> Me:
         return self._like(list(self._held) if isinstance(self._held, list) else self._held)
@@ -74,8 +75,6 @@ class ResultList(MutableSequence[Item]):
         return [*other, *self]
 
     def __eq__(self, other: object) -> bool:
-        if isinstance(other, ResultList):
-            return self is other or list(self._held) == list(other._held)
-        return list(self._held) == other if isinstance(other, list) else NotImplemented
-
-    __hash__ = None  # type: ignore[assignment]
+        if isinstance(other, (ResultList, list)):
+            return self is other or [*self] == [*other]
+        return NotImplemented

@@ -5,7 +5,7 @@ from itertools import chain
 from typing import TYPE_CHECKING, Any, Iterable, Iterator, List, NamedTuple, Optional, Sequence, Type, TypeVar, Union
 
 from .lists import ResultList
-from .written import NUMBERS, Picture, WrittenPictures, WrittenRows, pictures_in, read_pictures
+from .written import Picture as Picture, WrittenPictures, WrittenRows, pictures_in as pictures_in, read_pictures, speeds_in
 
 if TYPE_CHECKING:
     import numpy
@@ -120,6 +120,8 @@ class Table(ResultList[Row]):
 
     def csv(self) -> str:
         """The table as the program writes it."""
+        if isinstance(self._held, WrittenRows):
+            return self._held.text()
         lines = [",".join(self.kind._fields)]
         lines += [",".join(map(str, row)) for row in self]
         return "".join(line + "\n" for line in lines)
@@ -196,37 +198,26 @@ class Pictures(ResultList[Picture]):
         if isinstance(self._held, WrittenPictures):
             return self._held.speeds()
         lanes = self[0].lanes if self else ()
-        return self._speeds().reshape(len(self), len(lanes), len(lanes[0]) if lanes else 0)
-
-    def _speeds(self) -> numpy.ndarray[Any, Any]:
-        """The speeds of all cells, picture by picture and lane by lane."""
-        import numpy
-
-        signs = bytearray("".join(lane for picture in self for lane in picture.lanes).encode())
-        return numpy.frombuffer(signs.translate(NUMBERS), dtype=numpy.int8)
+        speeds = speeds_in("".join(lane for picture in self for lane in picture.lanes))
+        return speeds.reshape(len(self), len(lanes), len(lanes[0]) if lanes else 0)
 
     def to_pandas(self) -> pandas.DataFrame:
         """A frame with a line for each car of each picture: `step`, `lane`, `cell` and `speed` in cells a step."""
         import numpy
         import pandas
 
-        speeds = self._held.speeds().reshape(-1) if isinstance(self._held, WrittenPictures) else self._speeds()
-        steps, lanes, lengths = self._shape()
+        # The step, the number and the length of each lane of all pictures.
+        lanes = [(picture.step, number, len(lane)) for picture in self for number, lane in enumerate(picture.lanes)]
+        steps, numbers, lengths = numpy.array(lanes, dtype=numpy.int64).reshape(-1, 3).T
+        speeds = speeds_in("".join(lane for picture in self for lane in picture.lanes))
         places, ends = numpy.flatnonzero(speeds >= 0), numpy.cumsum(lengths)
         counts = numpy.diff(numpy.searchsorted(places, ends), prepend=0)
         frame = numpy.empty((4, len(places)), dtype=numpy.int64)
-        for row, of_lane in enumerate((steps, lanes, ends - lengths)):
+        for row, of_lane in enumerate((steps, numbers, ends - lengths)):
             frame[row] = numpy.repeat(of_lane, counts)
-        frame[2] = places - frame[2]
+        numpy.subtract(places, frame[2], out=frame[2])
         frame[3] = speeds[places]
         return pandas.DataFrame(frame.T, columns=["step", "lane", "cell", "speed"], copy=False)
-
-    def _shape(self) -> Any:
-        """Arrays with the step, the number and the length of each lane of all pictures."""
-        import numpy
-
-        lanes = [(picture.step, number, len(lane)) for picture in self for number, lane in enumerate(picture.lanes)]
-        return numpy.array(lanes, dtype=numpy.int64).reshape(-1, 3).T
 
     def space_time(self) -> SpaceTime:
         """The space-time diagram: `.svg()` with axes and a legend, `.png()`, or `.draw(axes)` on an axis of matplotlib.

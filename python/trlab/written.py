@@ -16,8 +16,8 @@ if TYPE_CHECKING:
 HEADING = re.compile("step ([0-9]+)\n")
 BLOCK = 1 << 20
 
-NUMBERS = bytes(SPEEDS.find(chr(sign)) % 256 for sign in range(256))
-"""The speed of each character of a picture, as a signed byte: -1 if it is not one of a car."""
+# The speed of each character as a signed byte: -1 for an empty cell and a line feed, -2 for any other character.
+NUMBERS = bytes(255 if chr(sign) in ".\n" else SPEEDS.find(chr(sign)) % 255 for sign in range(256))
 
 
 class WrittenRows(Sequence[Any]):
@@ -45,6 +45,13 @@ class WrittenRows(Sequence[Any]):
         place = next(place for place, line in enumerate(lines) if not row.fullmatch(line) or place == len(lines) - 1)
         wrong = f"is not a row of {self.kind.__name__}s" if place < len(lines) - 1 else "is cut off"
         return f"line {place + 2} of the table {wrong}: {_shown(lines[place])}"
+
+    def text(self) -> str:
+        """The table as it was read."""
+        return ",".join(self.kind._fields) + "\n" + self.lines.decode()
+
+    def __reduce__(self) -> Any:
+        return WrittenRows, (self.kind, self.text().encode())
 
     def __len__(self) -> int:
         return self.lines.count(b"\n")
@@ -94,7 +101,8 @@ class WrittenPictures(Sequence[Picture]):
 
     def __iter__(self) -> Iterator[Picture]:
         # As `Picture` does, but without a call of Python for each of them.
-        return map(partial(tuple.__new__, Picture), zip(self.steps, zip(*map(self._lane, range(self.lanes)))))
+        make: Any = partial(tuple.__new__, Picture)
+        return map(make, zip(self.steps, zip(*map(self._lane, range(self.lanes)))))
 
     def _lane(self, number: int) -> Iterator[str]:
         """A lane of each picture."""
@@ -109,21 +117,34 @@ class WrittenPictures(Sequence[Picture]):
         return Picture(steps, tuple(road.split("\n")[:-1]))
 
     def __reduce__(self) -> Any:
-        return list, (list(self),)
+        return read_pictures, ("".join(map("step {}\n{}".format, self.steps, self._roads(self.places))),)
+
+    def _roads(self, places: List[int]) -> Iterator[str]:
+        """All lanes of the pictures at these places, each lane with its line feed."""
+        size = self.lanes * (self.length + 1)
+        return (self.text[at:at + size] for at in places)
 
     def speeds(self) -> Array:
-        """The speed by picture, lane and cell, and -1 where the cell is empty."""
+        """The speed by picture, lane and cell, and -1 for an empty cell; raises `ValueError` if a cell is neither."""
         import numpy
 
-        size = self.lanes * (self.length + 1)
         found = numpy.empty((len(self), self.lanes, self.length), dtype=numpy.int8)
-        at_once = BLOCK // size + 1
+        at_once = BLOCK // (self.lanes * (self.length + 1)) + 1
         for first in range(0, len(self), at_once):
-            places = self.places[first:first + at_once]
-            signs = "".join([self.text[at:at + size] for at in places]).encode()
-            lanes = numpy.frombuffer(signs.translate(NUMBERS), dtype=numpy.int8)
-            found[first:first + at_once] = lanes.reshape(len(places), self.lanes, -1)[:, :, :-1]
+            roads = speeds_in("".join(self._roads(self.places[first:first + at_once])))
+            found[first:first + at_once] = roads.reshape(-1, self.lanes, self.length + 1)[:, :, :-1]
         return found
+
+
+def speeds_in(signs: str) -> Array:
+    """The speed of each character, and -1 for an empty cell or a line feed; raises `ValueError` if it is neither."""
+    import numpy
+
+    found = numpy.frombuffer(bytearray(signs, "utf-8").translate(NUMBERS), dtype=numpy.int8)
+    if (found < -1).any():
+        wrong = next(sign for sign in signs if sign not in SPEEDS + ".\n")
+        raise ValueError(f"a cell is empty or has a speed, and is not {wrong!r}")
+    return found
 
 
 def read_pictures(text: str) -> Sequence[Picture]:
@@ -143,7 +164,8 @@ def _regular(text: str) -> Optional[WrittenPictures]:
     every = int(second[1]) - int(first[1]) if second else 1
     if length < 1 or every < 1 or len(road) != lanes * (length + 1):
         return None
-    begin, step, places = 0, int(first[1]), []
+    begin, step = 0, int(first[1])
+    places: List[int] = []
     while begin < len(text):
         # Pictures whose steps have as many digits are equally long.
         heading = len(f"step {step}\n")
