@@ -53,19 +53,24 @@ class Tables(unittest.TestCase):
             for place, text in (2, wrong + second), (3, first + wrong + second), (3, first + wrong):
                 with self.assertRaisesRegex(ValueError, f"line {place} of the table is not a row of Points: '"):
                     Table.read(Point, heading + text)
-        for text in "", "cars\n", POINTS[1:]:
-            self.assertRaisesRegex(ValueError, "not the heading of Points", Table.read, Point, text)
+        for text in "cars\n", POINTS[1:], "a" + POINTS:
+            self.assertRaisesRegex(ValueError, "not the heading of Points: '", Table.read, Point, text)
 
     def test_a_table_that_is_cut_off(self):
-        heading = POINTS.index("\n") + 1
         for end in range(len(POINTS)):
             text = POINTS[:end]
             if text.count("\n") and text.endswith("\n"):
                 # Only the number of rows tells that a table lacks whole lines.
                 self.assertEqual(len(Table.read(Point, text)), text.count("\n") - 1)
             else:
-                wanted = "heading" if end < heading - 1 else "cut off"
-                self.assertRaisesRegex(ValueError, wanted, Table.read, Point, text)
+                self.assertRaisesRegex(ValueError, "cut off", Table.read, Point, text)
+
+    def test_more_than_a_block(self):
+        many = POINTS + 20000 * POINTS.partition("\n")[2]
+        table = Table.read(Point, many.replace("\n", "\r\n"))
+        self.assertEqual((table, table.csv()), (20001 * self.rows, many))
+        self.assertRaisesRegex(ValueError, "line 40004 of the table is not a row", Table.read, Point, many + "1,2\n")
+        self.assertRaisesRegex(ValueError, "line 40004 of the table is cut off: '1,2'", Table.read, Point, many + "1,2")
 
     @needs("numpy")
     def test_arrays(self):
@@ -159,6 +164,11 @@ class Runs(unittest.TestCase):
                 self.assertEqual((array.tolist(), array.dtype, array.flags.writeable), (wanted, "int8", True))
             self.assertEqual(pictures[2:99:3].to_numpy().tolist(), wanted[2:99:3])
         self.assertEqual(Pictures().to_numpy().shape, (0, 0, 0))
+        long = Job(limit=5, length=1000, cars=100, rule=Nasch("1/4"), steps=700).run()
+        self.assertEqual(long.to_numpy().tolist(), Pictures([*long]).to_numpy().tolist())
+        for wrong in "?", "A", "\xe9":
+            for pictures in Pictures.read(RUN.replace("0.1", f"0{wrong}1")), Pictures([Picture(0, (wrong,))]):
+                self.assertRaisesRegex(ValueError, f"not '[{wrong}]'", pictures.to_numpy)
 
     @needs("pandas")
     def test_frames(self):

@@ -116,12 +116,12 @@ class Table(ResultList[Row]):
         """The table that `trlab sweep` (`Point`) or `trlab series` (`Window`) has written.
 
         Raises `ValueError` with the line if the text is not such a table, or if it is cut off."""
-        return cls(kind, WrittenRows(kind, text.encode() if isinstance(text, str) else text))
+        return cls(kind, WrittenRows(kind, _plain(text)))
 
     def csv(self) -> str:
         """The table as the program writes it."""
         if isinstance(self._held, WrittenRows):
-            return self._held.text()
+            return self._held.text
         lines = [",".join(self.kind._fields)]
         lines += [",".join(map(str, row)) for row in self]
         return "".join(line + "\n" for line in lines)
@@ -187,7 +187,7 @@ class Pictures(ResultList[Picture]):
         """The pictures that `trlab run` has written.
 
         Raises `ValueError` with the line if the text is not the output of a run, or if it is cut off."""
-        return cls(read_pictures(text if isinstance(text, str) else text.decode()))
+        return cls(read_pictures(_plain(text)))
 
     def text(self) -> str:
         """The pictures as the program writes them."""
@@ -242,3 +242,7 @@ class Pictures(ResultList[Picture]):
 
         return trajectories_of(self)
 
+
+def _plain(text: Union[str, bytes]) -> str:
+    """A text with line feeds, also if it comes from a file of another system."""
+    return (text if isinstance(text, str) else text.decode()).replace("\r\n", "\n")

@@ -14,7 +14,7 @@ if TYPE_CHECKING:
     Array = numpy.ndarray[Any, Any]
 
 HEADING = re.compile("step ([0-9]+)\n")
-BLOCK = 1 << 20
+BLOCK = 1 << 18
 
 # The speed of each character as a signed byte: -1 for an empty cell and a line feed, -2 for any other character.
 NUMBERS = bytes(255 if chr(sign) in ".\n" else SPEEDS.find(chr(sign)) % 255 for sign in range(256))
@@ -26,35 +26,41 @@ class WrittenRows(Sequence[Any]):
     `kind` is a named tuple of whole numbers. Raises `ValueError` if the text has another heading, a line that is not a
     row, or a last line without an end."""
 
-    def __init__(self, kind: Any, text: bytes) -> None:
-        heading, _, self.lines = text.partition(b"\n")
-        if heading != ",".join(kind._fields).encode():
-            raise ValueError(f"this is not the heading of {kind.__name__}s: {_shown(heading.decode(errors='replace'))}")
-        self.kind, self.columns = kind, len(kind._fields)
-        # The characters that separate the numbers of all rows, and all these numbers as one row that begins with a comma.
-        separators = self.lines.translate(None, b"0123456789")
-        numbers = b"," + self.lines.replace(b"\n", b",")
-        is_table = separators == (b"," * (self.columns - 1) + b"\n") * len(self) and b",," not in numbers
-        if not (is_table and text.endswith(b"\n")):
-            raise ValueError(self._fault())
+    def __init__(self, kind: Any, text: str) -> None:
+        self.kind, self.columns, self.text, self._length = kind, len(kind._fields), text, 0
+        heading = ",".join(kind._fields) + "\n"
+        if not text.startswith(heading):
+            wrong = "the table is cut off in" if heading.startswith(text) else f"this is not the heading of {kind.__name__}s:"
+            raise ValueError(f"{wrong} {_shown(text.split(chr(10), 1)[0])}")
+        for block in self._blocks():
+            rows = block.count(b"\n")
+            # The characters that separate the numbers of these rows, and all the numbers after a comma each.
+            separators, numbers = block.translate(None, b"0123456789"), b"," + block.replace(b"\n", b",")
+            if separators != (b"," * (self.columns - 1) + b"\n") * rows or b",," in numbers or not block.endswith(b"\n"):
+                raise ValueError(self._fault())
+            self._length += rows
+
+    def _blocks(self) -> Iterator[bytes]:
+        """The rows in blocks of whole lines."""
+        begin = self.text.index("\n") + 1
+        while begin < len(self.text):
+            end = self.text.rfind("\n", begin, begin + BLOCK) + 1 or len(self.text)
+            yield self.text[begin:end].encode()
+            begin = end
 
     def _fault(self) -> str:
         """Says which line is not a row."""
         row = re.compile("[0-9]+(,[0-9]+){%d}" % (self.columns - 1))
-        lines = self.lines.decode(errors="replace").split("\n")
-        place = next(place for place, line in enumerate(lines) if not row.fullmatch(line) or place == len(lines) - 1)
+        lines = self.text.split("\n")
+        place = next(place for place, line in enumerate(lines) if place and not row.fullmatch(line) or place == len(lines) - 1)
         wrong = f"is not a row of {self.kind.__name__}s" if place < len(lines) - 1 else "is cut off"
-        return f"line {place + 2} of the table {wrong}: {_shown(lines[place])}"
-
-    def text(self) -> str:
-        """The table as it was read."""
-        return ",".join(self.kind._fields) + "\n" + self.lines.decode()
+        return f"line {place + 1} of the table {wrong}: {_shown(lines[place])}"
 
     def __reduce__(self) -> Any:
-        return WrittenRows, (self.kind, self.text().encode())
+        return WrittenRows, (self.kind, self.text)
 
     def __len__(self) -> int:
-        return self.lines.count(b"\n")
+        return self._length
 
     def __iter__(self) -> Iterator[Any]:
         return iter(self.rows)
@@ -64,14 +70,19 @@ class WrittenRows(Sequence[Any]):
 
     @cached_property
     def rows(self) -> List[Any]:
-        return [self.kind._make(map(int, line.split(b","))) for line in self.lines.split(b"\n")[:-1]]
+        make = self.kind._make
+        return [make(map(int, line.split(b","))) for block in self._blocks() for line in block.split(b"\n")[:-1]]
 
     def numbers(self) -> Array:
         """The numbers of all rows, one after the other."""
         import numpy
 
-        count = len(self) * self.columns
-        found = numpy.fromstring(self.lines.replace(b"\n", b","), dtype=numpy.int64, count=count, sep=",")
+        found, filled = numpy.empty(len(self) * self.columns, dtype=numpy.int64), 0
+        for block in self._blocks():
+            count = block.count(b"\n") * self.columns
+            numbers = block.replace(b"\n", b",")
+            found[filled:filled + count] = numpy.fromstring(numbers, dtype=numpy.int64, count=count, sep=",")
+            filled += count
         if (found == numpy.iinfo(numpy.int64).max).any():
             raise OverflowError("a number of the table needs more than 64 bits")
         return found
