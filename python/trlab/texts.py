@@ -81,6 +81,8 @@ class Job:
 
     def run(self, workers: int = 1) -> Pictures:
         """The pictures of the road, of step 0 and after each step."""
+        if self.steps > MOST_STEPS:
+            return Pictures(self.pictures(workers))
         return Pictures.read(ask(["run", *_option("workers", workers, 1)], self.text()))
 
     def pictures(self, workers: int = 1) -> Iterator[Picture]:
