@@ -9,6 +9,7 @@ import tempfile
 import unittest
 from concurrent.futures import ProcessPoolExecutor
 from dataclasses import replace
+from multiprocessing import Pool
 from pathlib import Path
 from unittest import mock
 
@@ -55,6 +56,8 @@ class Values(unittest.TestCase):
             with self.assertRaises(Refused) as caught:
                 list(processes.map(Job.run, [JOB, rejected]))
         self.assertEqual((caught.exception.line, caught.exception.cause), (5, 4))
+        with Pool(1) as processes:
+            self.assertRaises(Refused, processes.map_async(Job.run, [JOB, rejected]).get, timeout=60)
 
     def test_parts_and_sums_keep_their_type(self):
         table, pictures = SWEEP.sweep(), JOB.run()

@@ -18,7 +18,7 @@ from __future__ import annotations
 from itertools import accumulate
 from math import atan, cos, exp, inf, lgamma, pi, sqrt
 from statistics import fmean, variance
-from typing import NamedTuple, Sequence
+from typing import List, NamedTuple, Sequence
 
 from .results import Row, Table, Window
 
@@ -82,6 +82,6 @@ def tails_of_t(t: float, freedom: float) -> float:
     With t = sqrt(freedom) tan(angle) its density becomes a power of a cosine."""
     low, parts = atan(abs(t) / sqrt(freedom)), 1000
     width = (pi / 2 - low) / parts
-    heights = [cos(low + width * part) ** (freedom - 1) for part in range(parts)] + [0.0 ** (freedom - 1)]
+    heights: List[float] = [cos(low + width * part) ** (freedom - 1) for part in range(parts)] + [0.0 ** (freedom - 1)]
     area = width / 3 * (heights[0] + 4 * sum(heights[1::2]) + 2 * sum(heights[2:-1:2]) + heights[-1])
     return min(1.0, 2 * area * exp(lgamma((freedom + 1) / 2) - lgamma(freedom / 2)) / sqrt(pi))
