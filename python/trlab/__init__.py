@@ -14,11 +14,15 @@ A length is in cells, a time in steps, a speed in cells a step; a chance and a d
 except that `.to_numpy()` and `.to_pandas()` of results need numpy and pandas. `TRLAB` names the program; without it
 that of the package or of the checkout is used."""
 from .figure import Figure
+from .frame import Frame
 from .location import find_program
-from .many import map, read_tables, write_texts
-from .program import Failed, Refused, version
+from .files import read_tables, write_texts
+from .grid import Grid, key_for
+from .many import map, results
+from .program import Refused, version
 from .results import Picture, Pictures, Point, Table, Window
 from .rules import Nasch, Own, Rickert, Rule, SlowToStart
+from .running import Failed
 from .space_time import SpaceTime
 from .starts import Start, even, jam, moving, random
 from .texts import Accepted, Job, Sweep, check, explain
@@ -32,6 +36,8 @@ __all__ = [
     "Density",
     "Failed",
     "Figure",
+    "Frame",
+    "Grid",
     "Jam",
     "Job",
     "Key",
@@ -57,8 +63,10 @@ __all__ = [
     "explain",
     "find_program",
     "jam",
+    "key_for",
     "moving",
     "read_tables",
+    "results",
     "version",
     "write_texts",
 ]

@@ -3,10 +3,10 @@ from __future__ import annotations
 
 import re
 import subprocess
-import tempfile
 from typing import IO, Iterator, NamedTuple, Optional, Sequence
 
 from .location import find_program
+from .running import output_of
 
 REFUSED = 1
 # `explain` reads a refused text as one of these commands does.
@@ -30,17 +30,6 @@ class Refused(Exception):
         return self.explanation or self.answer
 
 
-class Failed(Exception):
-    """The program ended with an error that is not a rejected input: its exit `status`, and what it `said`."""
-
-    def __init__(self, status: int, said: str) -> None:
-        super().__init__(status, said)
-        self.status, self.said = status, said
-
-    def __str__(self) -> str:
-        return f"trlab ended with status {self.status}: {self.said.strip()}"
-
-
 class _Pair(NamedTuple):
     first: Optional[int]
     second: Optional[int]
@@ -58,29 +47,14 @@ def ask(words: Sequence[str], text: str) -> str:
 
 def ask_by_line(words: Sequence[str], text: str) -> Iterator[str]:
     """The same line by line while the program runs, so that no more than a line is kept."""
-    with tempfile.TemporaryFile("w+") as source, tempfile.TemporaryFile("w+") as told:
-        source.write(text)
-        source.seek(0)
-        with subprocess.Popen(
-            [find_program(), *words], stdin=source, stdout=subprocess.PIPE, stderr=told, text=True
-        ) as running:
-            assert running.stdout is not None
-            try:
-                yield from _lines_of(running.stdout, words, text)
-            except BaseException:
-                # Also if the caller is interrupted or wants no more: the program does not go on without a reader.
-                running.kill()
-                raise
-            finally:
-                running.stdout.close()
-        if running.returncode != 0:
-            told.seek(0)
-            raise Failed(running.returncode, told.read())
+    with output_of(words, text) as output:
+        yield from _lines_of(output, words, text)
 
 
-def _lines_of(output: IO[str], words: Sequence[str], text: str) -> Iterator[str]:
+def _lines_of(output: IO[bytes], words: Sequence[str], text: str) -> Iterator[str]:
     """The lines of an output; raises `Refused` if it says that the input is rejected."""
-    for number, line in enumerate(output):
+    for number, written in enumerate(output):
+        line = written.decode()
         if number == 0 and line.startswith(("fault ", "refused ")):
             raise Refused(line.rstrip("\n"), _explain(words[0], text))
         yield line
