@@ -19,10 +19,9 @@ from .location import find_program
 from .files import read_tables, write_texts
 from .grid import Grid, key_for
 from .many import map, results
-from .program import Refused, version
+from .program import Failed, Refused, version
 from .results import Picture, Pictures, Point, Table, Window
 from .rules import Nasch, Own, Rickert, Rule, SlowToStart
-from .running import Failed
 from .space_time import SpaceTime
 from .starts import Start, even, jam, moving, random
 from .texts import Accepted, Job, Sweep, check, explain

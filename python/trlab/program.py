@@ -3,10 +3,11 @@ from __future__ import annotations
 
 import re
 import subprocess
-from typing import IO, Iterator, NamedTuple, Optional, Sequence
+from itertools import chain
+from typing import Iterator, NamedTuple, Optional, Sequence
 
 from .location import find_program
-from .running import output_of
+from .running import Failed as Failed, output_of
 
 REFUSED = 1
 # `explain` reads a refused text as one of these commands does.
@@ -42,22 +43,24 @@ def _numbers(form: str, answer: str) -> _Pair:
 
 def ask(words: Sequence[str], text: str) -> str:
     """What the program writes for these words, with this input on standard input."""
-    return "".join(ask_by_line(words, text))
+    with output_of(words, text) as output:
+        told = output.read().decode()
+        _raise_if_refused(told, words, text)
+    return told
 
 
 def ask_by_line(words: Sequence[str], text: str) -> Iterator[str]:
     """The same line by line while the program runs, so that no more than a line is kept."""
     with output_of(words, text) as output:
-        yield from _lines_of(output, words, text)
+        first = output.readline().decode()
+        _raise_if_refused(first, words, text)
+        yield from chain([first] if first else [], map(bytes.decode, output))
 
 
-def _lines_of(output: IO[bytes], words: Sequence[str], text: str) -> Iterator[str]:
-    """The lines of an output; raises `Refused` if it says that the input is rejected."""
-    for number, written in enumerate(output):
-        line = written.decode()
-        if number == 0 and line.startswith(("fault ", "refused ")):
-            raise Refused(line.rstrip("\n"), _explain(words[0], text))
-        yield line
+def _raise_if_refused(begun: str, words: Sequence[str], text: str) -> None:
+    """Raises `Refused` if an output begins with a line that says that the input is rejected."""
+    if begun.startswith(("fault ", "refused ")):
+        raise Refused(begun.partition("\n")[0], _explain(words[0], text))
 
 
 def _explain(word: str, text: str) -> str:
