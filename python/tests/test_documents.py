@@ -14,13 +14,13 @@ BLOCK = "sbatch --quiet --wait study/array.sh\n"
 
 
 class Clusters(unittest.TestCase):
-    def missing(self, lines):
+    def missing(self, lines, seconds=60):
         """What the check says that a block needs, if the only sbatch is a script of these lines."""
         loader = importlib.machinery.SourceFileLoader("studies_check", str(CHECK))
         with mock.patch.dict(os.environ, TRLAB=find_program()):
             check = importlib.util.module_from_spec(importlib.util.spec_from_loader("studies_check", loader))
             loader.exec_module(check)
-        check.SECONDS_FOR_A_CLUSTER = 0.5
+        check.SECONDS_FOR_A_CLUSTER = seconds
         with tempfile.TemporaryDirectory() as folder:
             if lines is not None:
                 script = Path(folder) / "sbatch"
@@ -40,7 +40,7 @@ class Clusters(unittest.TestCase):
 
     def test_no_answer(self):
         wanted = "sbatch is installed, but no cluster answers within 0.5 seconds"
-        self.assertEqual(self.missing("exec /bin/sleep 30"), wanted)
+        self.assertEqual(self.missing("exec /bin/sleep 30", 0.5), wanted)
 
     def test_a_cluster(self):
         self.assertIsNone(self.missing('[ "$1" = --test-only ] && echo "sbatch: Job 1 to start at now" >&2'))

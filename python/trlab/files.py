@@ -14,9 +14,9 @@ from .units import whole
 
 _ARRAY = """#!/bin/sh
 #SBATCH --array=1-{tasks} --cpus-per-task=1 --output={folder}/slurm-%A_%a.out
-# Task i of the array runs up to {per_task} of the {inputs} inputs that array.txt lists; without a task number this script
-# runs all of them, one after the other. A result is there as a whole or not at all: trlab writes to a hidden file, which is
-# moved into place if trlab ends with status 0. Inputs with a result are skipped.
+# Task i of the array runs up to {per_task} of the {inputs} inputs that array.txt lists. Without a task number this
+# script runs all of them, one after the other. A result is complete or absent: trlab writes to a hidden file, which is
+# moved into place if trlab ends with status 0. Inputs that have a result are skipped.
 cd -- {folder} || exit 1
 last=$((${{SLURM_ARRAY_TASK_ID:-1}} * {per_task}))
 lines="$((last - {per_task} + 1)),${{last}}p"
@@ -61,16 +61,16 @@ def write_texts(
         sbatch folder/array.sh
 
     A task of the array passes `per_task` inputs to the program with these words, for example `["series", "--every",
-    "100"]`, and writes `folder/NAME.csv` (`folder/NAME.out` for `run`). A killed task leaves no result, and a task that is
-    started again skips inputs that have one. Slurm's own messages go to `folder/slurm-*.out`. Clusters limit the number of
-    tasks, often to 1001: with more inputs use `per_task`.
+    "100"]`, and writes `folder/NAME.csv` (`folder/NAME.out` for `run`). A result is complete or absent, also if a
+    task is killed, and a task that is started again skips inputs that have one. Slurm's own messages go to
+    `folder/slurm-*.out`. Clusters limit the number of tasks, often to 1001: with more inputs use `per_task`.
 
     Without Slurm `sh folder/array.sh` runs all inputs, one after the other, and GNU parallel runs N tasks side by side:
 
         seq N | parallel SLURM_ARRAY_TASK_ID={} sh folder/array.sh
 
-    `program` is the path of trlab where the tasks run, by default its path here. Raises `FileExistsError` if the folder has
-    a result of another input or of other words under one of these names."""
+    `program` is the path of trlab on the machines of the tasks, by default its path here. Raises `FileExistsError` if
+    the folder has a result of another input or of other words under one of these names."""
     place = Path(folder).expanduser().resolve()
     count = whole("per_task", per_task, 1, 10**9)
     kind, result = ("sweep" if words[0] == "sweep" else "job"), ("out" if words[0] == "run" else "csv")
@@ -99,10 +99,10 @@ def read_tables(
 ) -> Dict[str, Table[Row]]:
     """The tables `folder/NAME.csv` of such tasks by their names; `kind` is `Point` or `Window`.
 
-    Pass the `texts` that you gave to `write_texts`: then the tables have their order, and each of them has to be whole, with
-    all points of its sweep, or all windows of its job. Raises one `ValueError` that names every missing, empty, short or
-    damaged file. Without `texts` every table of the folder is read, and a table that ends after a whole row counts as
-    whole."""
+    Pass the `texts` that you gave to `write_texts`: then the tables have their order, and each of them has to be
+    whole, with all points of its sweep, or all windows of its job. Raises one `ValueError` that names every missing,
+    empty, short or damaged file. Without `texts` every table of the folder is read, and a table that ends after a
+    whole row counts as whole."""
     place = Path(folder).expanduser()
     names = sorted(file.stem for file in place.glob("[!.]*.csv")) if texts is None else list(texts)
     found: Dict[str, Table[Row]] = {}
@@ -143,7 +143,7 @@ def _write(file: Path, content: str) -> None:
 
 
 def _read(place: Path, name: str, kind: type[Row], text: Union[None, Job, Sweep]) -> Table[Row]:
-    """A table; raises `ValueError` with what is wrong with it, as the end of a sentence about its file."""
+    """A table; raises `ValueError` with its fault, as the end of a sentence about its file."""
     try:
         content = (place / f"{name}.csv").read_text()
     except FileNotFoundError:

@@ -24,9 +24,9 @@ Columns = Dict[str, Any]
 class Frame(Sequence[Any]):
     """Rows with the same columns, like a table of named tuples: `frame[0].flow` is a number, `for row in frame` works.
 
-    `columns` are the names of all columns. `axes` are those that say which row it is: the parameters, and `step`, `density`
-    or `point` if there are several rows for each choice of parameters. `errors` has the exceptions that were kept, by
-    parameters."""
+    `columns` are the names of all columns. `axes` are those that say which row it is: the parameters, and `step`,
+    `density` or `point` if there are several rows for each choice of parameters. `errors` has the exceptions that
+    were kept, by parameters."""
 
     def __init__(
         self, axes: Iterable[str], rows: Iterable[Mapping[str, Any]], errors: Optional[Mapping[Any, Exception]] = None
@@ -65,9 +65,9 @@ class Frame(Sequence[Any]):
     def means(self, axis: str, of: Optional[Iterable[str]] = None) -> Frame:
         """The mean along an axis, for example `frame.means("seed")`: one row for each choice of the other axes.
 
-        Every column of numbers, or every column in `of`, holds its mean, and `NAME_error` the standard error of that mean:
-        the standard deviation of the n values divided by the square root of n, or NaN if n is 1. `count` is n. The errors
-        are right if the values are independent, as those of different keys are."""
+        Every column of numbers, or every column in `of`, holds its mean, and `NAME_error` the standard error of that
+        mean: the standard deviation of the n values divided by the square root of n, or NaN if n is 1. `count` is n.
+        The errors are right if the values are independent, as those of different keys are."""
         if axis not in self.axes:
             raise ValueError(f"{axis!r} is not an axis of the frame: these are {', '.join(self.axes)}")
         others = [name for name in self.axes if name != axis]
@@ -110,7 +110,7 @@ class Frame(Sequence[Any]):
         return pandas.DataFrame(self._rows, columns=list(self.columns))
 
     def to_xarray(self) -> Any:
-        """The dataset of xarray whose dimensions are the axes; NaN where there is no row. It needs pandas too."""
+        """The dataset of xarray whose dimensions are the axes; NaN if a row is missing. It needs pandas too."""
         return self.to_pandas().set_index(list(self.axes)).to_xarray()
 
 
@@ -161,8 +161,8 @@ def frame_of(results: Mapping[Any, Any], names: Sequence[str]) -> Frame:
 
 
 def _inner_axis(results: Sequence[Sequence[Columns]], names: Sequence[str]) -> Optional[str]:
-    """What tells the rows of one result apart: the step of a window, the density of a point if all results have the same
-    different ones, or else the number of the row."""
+    """The column that distinguishes the rows of one result: the step of windows, or the density of points if it differs
+    within a result and all results have the same ones, or else the number of the row."""
     if all(len(rows) <= 1 for rows in results):
         return None
     if all("step" in row for rows in results for row in rows):

@@ -1,4 +1,4 @@
-"""A grid of parameters with repetitions: one input for each choice, with a key of its own, and one frame of all results."""
+"""A grid of parameters with repetitions: an input and a key for each choice, and one frame of all results."""
 from __future__ import annotations
 
 import itertools
@@ -15,8 +15,8 @@ from .frame import Frame, frame_of
 from .many import results as results_of
 from .texts import Job, Sweep
 
-# Columns of results that a parameter must not hide. One may be named `density` or `cars`: then it is the parameter's value.
-_TAKEN = {"flow", "speed", "stopped_share", "cells", "steps", "step", "distance", "stopped", "changes", "point", "count"}
+# Columns of results that a parameter must not hide. `density` and `cars` are allowed: the column is the parameter then.
+_TAKEN = set("flow speed stopped_share cells steps step distance stopped changes point count".split())
 
 
 class Grid:
@@ -32,12 +32,14 @@ class Grid:
             print(row.chance, row.density, row.flow, row.flow_error)
 
     `make` gets each parameter by its name, and `key`, a number below 2**256. The values of a parameter are numbers or
-    texts; other values, such as rules, need a name each: `rule={"nasch": Nasch(0.25), "slow": SlowToStart("1/64", 0.75)}`.
-    Frames have these names.
+    texts; other values, such as rules, need a name each, which frames show:
 
-    The key depends on the names and values of the parameters only (`key_for`): a choice keeps its key if the grid grows,
-    and different choices have independent random numbers. If `make` takes the key from a part of the choice instead, for
-    example `key=seed`, then all choices of one seed share their random numbers, and differences are less noisy."""
+        rule={"nasch": Nasch(0.25), "slow": SlowToStart("1/64", 0.75)}
+
+    The key depends on the names and values of the parameters only (`key_for`): a choice keeps its key if the grid
+    grows, and different choices have independent random numbers. If `make` takes the key from a part of the choice
+    instead, for example `key=seed`, then all choices of one seed share their random numbers, and differences are less
+    noisy."""
 
     def __init__(self, make: Callable[..., Any], /, **parameters: Union[Iterable[Any], Mapping[str, Any]]) -> None:
         values = {name: _named_values(name, given) for name, given in parameters.items()}
@@ -60,8 +62,8 @@ class Grid:
     def run(self, **options: Any) -> Frame:
         """Runs all inputs, with the options of `trlab.results`, and returns one frame of all results.
 
-        A result is a table, a number, a named tuple or mapping, or a list of those. With `errors="keep"` choices without a
-        result are in `frame.errors`."""
+        A result is a table, a number, a named tuple or mapping, or a list of those. With `errors="keep"` choices
+        without a result are in `frame.errors`."""
         found = dict(self.results(**options))
         return frame_of({choice: found[choice] for choice in self.inputs}, self.names)
 
@@ -84,9 +86,9 @@ class Grid:
 def key_for(**parameters: Union[int, float, str, Fraction]) -> str:
     """The key of named values, 64 hexadecimal digits: the same for equal values, in every version of Python.
 
-    It is the SHA-256 of one line `name=value` for each parameter, sorted by name, each ending in a line feed. A value is
-    written as a fraction in lowest terms (`3`, `1/4`, so that 0.25 and `Fraction(1, 4)` have the same key), or as a JSON
-    string in ASCII."""
+    It is the SHA-256 of one line `name=value` for each parameter, sorted by name, each ending in a line feed. A value
+    is written as a fraction in lowest terms (`3`, `1/4`, so that 0.25 and `Fraction(1, 4)` have the same key), or as
+    a JSON string in ASCII."""
     lines = [f"{name}={_written(name, value)}\n" for name, value in sorted(parameters.items())]
     return sha256("".join(lines).encode()).hexdigest()
 

@@ -72,29 +72,31 @@ def results(
 
     `texts` is a mapping of names to jobs or sweeps, or a list, whose names are the numbers 0, 1, 2 and so on.
 
-    `call` is the function that is applied to each input. Without it a sweep gives its table, and a job its pictures. For
-    other results pass a function, for example `lambda job: job.series(every=100, first=1000)`. It should return a whole
-    result, not an iterator.
+    `call` is the function that is applied to each input. Without it a sweep gives its table, and a job its pictures.
+    For other results pass a function, for example `lambda job: job.series(every=100, first=1000)`. It should return a
+    whole result, not an iterator.
 
-    `cache` is a folder that keeps what the program writes, one file per call of the program. If a run is interrupted or
-    killed, even by `kill -9`, start it again with the same folder: what was finished is read, not computed. The name of a
-    file is the SHA-256 of the program's arguments, the input and the program, so that a changed input, call or program
-    never gets an old result, and a damaged file is never used. `call` itself is applied again. Several runs, on several
-    machines too, may share a folder.
+    `cache` is a folder that keeps the outputs of the program, one file per call of the program. If a run is
+    interrupted or killed, even by `kill -9`, start it again with the same folder: finished outputs are read, not
+    computed. The name of a file is the SHA-256 of the program's arguments, the input and the program, so a changed
+    input, argument or program never gets an old result. A damaged file is never used. `call` itself is applied again.
+    Several runs, also on several machines, may share a folder.
 
-    `executor` is any executor of `concurrent.futures`, which you shut down yourself. Without it threads are used, each of
-    which waits for one process of the program. With executors of other processes (`ProcessPoolExecutor`, dask's
-    `client.get_executor()`, `mpi4py.futures.MPIPoolExecutor`, joblib's `get_reusable_executor()`) `call` must be a
-    function at the top level of a module, unless the executor can send others.
+    `executor` is any executor of `concurrent.futures`, which you shut down yourself. Without it threads are used,
+    each of which waits for one process of the program. With executors of other processes (`ProcessPoolExecutor`,
+    dask's `client.get_executor()`, `mpi4py.futures.MPIPoolExecutor`, joblib's `get_reusable_executor()`) `call` must
+    be a function at the top level of a module, unless the executor can send others.
 
-    `progress=True` writes a line to standard error; a function is called with the numbers of finished and of all inputs.
+    `progress=True` writes a line to standard error; a function is called with the numbers of finished and of all
+    inputs.
 
-    `errors="raise"` raises the first exception of a call, such as `Refused` for a rejected input; `errors="keep"` yields
-    the exception in place of the result, and goes on.
+    `errors="raise"` raises the first exception of a call, such as `Refused` for a rejected input; `errors="keep"`
+    yields the exception in place of the result, and goes on.
 
-    At most `at_once` inputs run at a time: without it as many as there are processors, or as many as the executor takes.
-    After an exception, Ctrl-C or a loop that is left early no process of the program goes on. If a variable holds the
-    iterator itself, call its `.close()` in such a case; else the processes are stopped when Python exits."""
+    At most `at_once` inputs run at a time: without it as many as there are processors, or as many as the executor
+    takes. After an exception, Ctrl-C or a loop that is left early no process of the program goes on. If a variable
+    holds the iterator itself, call its `.close()` in such a case; else the processes are stopped when Python
+    exits."""
     if errors not in ("raise", "keep"):
         raise ValueError(f'errors must be "raise" or "keep", not {errors!r}')
     if at_once is not None:
@@ -166,7 +168,7 @@ def _results(
 def _running(
     executor: Optional[Executor], cache: Optional[Cache], at_once: Optional[int], futures: Dict[Future[Any], Any]
 ) -> Iterator[Tuple[Executor, Lease, Optional[int]]]:
-    """The executor, the lease of the run, and how many inputs it gets at first; at the end nothing of the run goes on."""
+    """The executor, the lease of the run, and how many inputs it gets at first. At the end nothing of it goes on."""
     now = setting()
     processes = Processes(None if now is None else now.processes)
     # A run inside a task of another run leaves the other processors to the other tasks.

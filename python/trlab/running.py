@@ -59,7 +59,7 @@ class Processes:
 
 
 class Setting(NamedTuple):
-    """Where calls of the program belong: to which processes, and to which cache."""
+    """The processes and the cache that calls of the program belong to."""
 
     processes: Processes
     cache: Optional[Cache]
