@@ -189,6 +189,23 @@ class Killed(unittest.TestCase):
             third, _ = child(MANY, str(cache), TRLAB=program).communicate()
         self.assertEqual(json.loads(third.splitlines()[-1]), json.loads(written.splitlines()[-1]))
 
+    def test_programs_that_a_killed_run_left_are_killed_by_the_next_one(self):
+        with tempfile.TemporaryDirectory() as cache:
+            running = child(LONG, "threads", "interrupt", cache)
+            self.assertEqual(running.stdout.readline(), "first\n")
+            self.assertTrue(until(lambda: len(marked(running.mark, trlab.find_program())) == 3))
+            mine = child(LONG, "threads", "interrupt", cache)
+            self.assertEqual(mine.stdout.readline(), "first\n")
+            self.assertTrue(until(lambda: len(marked(mine.mark, trlab.find_program())) == 3))
+            running.kill()
+            running.communicate()
+            self.assertEqual(len(marked(running.mark)), 3)
+            Cache(cache).create()
+            self.assertTrue(until(lambda: not marked(running.mark)))
+            self.assertEqual(len(marked(mine.mark, trlab.find_program())), 3)
+            self.assertEqual(len([file for file in Path(cache).iterdir() if file.name.startswith(".new")]), 3)
+            end(mine)
+
     def test_only_files_of_ended_processes_are_removed(self):
         with tempfile.TemporaryDirectory() as folder:
             mine, other = new_path(Path(folder), "new"), Path(folder) / ".new-trlab-another_machine-1-1-00"

@@ -28,7 +28,7 @@ class Cache:
         self.folder = Path(folder).expanduser().absolute()
 
     def create(self) -> None:
-        """Creates the folder if it is not there, and removes files that a killed process began in it."""
+        """Creates the folder if it is not there, and removes everything that a killed process began in it."""
         self.folder.mkdir(parents=True, exist_ok=True)
         remove_left(self.folder)
 

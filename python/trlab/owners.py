@@ -4,10 +4,11 @@ from __future__ import annotations
 import functools
 import os
 import secrets
+import signal
 import socket
 import tempfile
 from pathlib import Path
-from typing import NamedTuple, Optional
+from typing import NamedTuple, Optional, Set
 
 _SIGN = "-trlab-"
 
@@ -28,11 +29,30 @@ def new_path(folder: Path, kind: str) -> Path:
 
 
 def remove_left(folder: Path) -> None:
-    """Removes the files of `new_path` whose processes were on this machine and have ended."""
-    for file in folder.glob(f".*{_SIGN}{machine()}-*-*"):
-        number = file.name.split("-")[-2]
-        if number.isdecimal() and not _is_running(int(number)):
-            file.unlink(missing_ok=True)
+    """Removes the files of `new_path` whose processes were on this machine and have ended.
+
+    A process that was killed may have left programs that still write to them: these are killed."""
+    left = [file for file in folder.resolve().glob(f".*{_SIGN}{machine()}-*-*") if _is_left(file)]
+    if left:
+        _kill_writers({str(file) for file in left})
+    for file in left:
+        file.unlink(missing_ok=True)
+
+
+def _is_left(file: Path) -> bool:
+    number = file.name.split("-")[-2]
+    return number.isdecimal() and not _is_running(int(number))
+
+
+def _kill_writers(files: Set[str]) -> None:
+    """Kills the processes whose standard output is one of these files."""
+    for process in Path("/proc").glob("[0-9]*"):
+        try:
+            if os.readlink(process / "fd" / "1") in files:
+                os.kill(int(process.name), signal.SIGKILL)
+        except OSError:
+            # It has ended, or belongs to somebody else.
+            continue
 
 
 def _is_running(number: int) -> bool:
