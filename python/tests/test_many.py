@@ -1,5 +1,6 @@
 """Many inputs side by side: results as they finish, exceptions, progress, and the executors that run them."""
 import io
+import logging
 import multiprocessing
 import shutil
 import subprocess
@@ -8,6 +9,7 @@ import tempfile
 import threading
 import time
 import unittest
+import warnings
 from concurrent.futures import ProcessPoolExecutor, ThreadPoolExecutor
 from concurrent.futures.process import BrokenProcessPool
 from dataclasses import replace
@@ -160,9 +162,11 @@ class Executors(unittest.TestCase):
     def test_dask(self):
         from distributed import Client
 
-        for options in {"processes": False}, {"processes": True}:
-            with self.subTest(**options), Client(n_workers=2, threads_per_worker=1, dashboard_address=None, **options) as client:
-                with client.get_executor() as pool:
+        shape = {"n_workers": 2, "threads_per_worker": 1, "dashboard_address": None, "silence_logs": logging.CRITICAL}
+        for processes in False, True:
+            with self.subTest(processes=processes), warnings.catch_warnings():
+                warnings.simplefilter("ignore")
+                with Client(**shape, processes=processes) as client, client.get_executor() as pool:
                     self.try_executor(pool)
 
     @needs("mpi4py")

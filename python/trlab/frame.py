@@ -77,10 +77,10 @@ class Frame(Sequence[Any]):
         measured = self._measured() if of is None else [self._checked(name) for name in of]
         rows = []
         for place, group in groups.items():
-            row: Columns = {**dict(zip(others, place)), "count": len(group)}
+            means: Columns = {**dict(zip(others, place)), "count": len(group)}
             for name in measured:
-                row[name], row[f"{name}_error"] = mean_and_error([getattr(it, name) for it in group])
-            rows.append(row)
+                means[name], means[f"{name}_error"] = mean_and_error([getattr(row, name) for row in group])
+            rows.append(means)
         return Frame(others, rows)
 
     def _measured(self) -> List[str]:

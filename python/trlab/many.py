@@ -183,9 +183,10 @@ def _running(
         # Threads of our own always have an input at hand while the caller looks at a result.
         yield pool, lease, at_once if executor is not None else 2 * count
     finally:
-        lease.end()
         processes.stop()
-        wait([future for future in futures if not future.cancel()], timeout=10)
+        running = [future for future in futures if not future.cancel()]
+        lease.end()
+        wait(running, timeout=10)
         if executor is None:
             pool.shutdown()
         del _RUNS[lease.path]
@@ -213,12 +214,15 @@ def _processes_of(lease: Lease) -> Iterator[Processes]:
         yield _RUNS.get(lease.path) or Processes(is_stopped=True)
         return
     processes, ended = Processes(), threading.Event()
-    if lease.can_be_seen():
-        threading.Thread(target=_watch_lease, args=(lease, processes, ended), daemon=True).start()
-    try:
+    if not lease.can_be_seen():
         yield processes
-    finally:
-        ended.set()
+        return
+    with lease.task():
+        threading.Thread(target=_watch_lease, args=(lease, processes, ended), daemon=True).start()
+        try:
+            yield processes
+        finally:
+            ended.set()
 
 
 def _watch_lease(lease: Lease, processes: Processes, ended: threading.Event) -> None:

@@ -7,8 +7,10 @@ import secrets
 import signal
 import socket
 import tempfile
+import time
+from contextlib import contextmanager
 from pathlib import Path
-from typing import NamedTuple, Optional, Set
+from typing import Iterator, NamedTuple, Optional, Set
 
 _SIGN = "-trlab-"
 
@@ -78,7 +80,21 @@ class Lease(NamedTuple):
         Path(self.path).touch()
 
     def end(self) -> None:
-        Path(self.path).unlink(missing_ok=True)
+        """Ends the run, and waits until its tasks in other processes have noticed it, for 10 seconds at most."""
+        path, latest = Path(self.path), time.monotonic() + 10
+        path.unlink(missing_ok=True)
+        while any(path.parent.glob(f"{path.name}.*")) and time.monotonic() < latest:
+            time.sleep(0.02)
+
+    @contextmanager
+    def task(self) -> Iterator[None]:
+        """Marks, for the end of the run, that a task of this process is running."""
+        mark = Path(f"{self.path}.{machine()}-{os.getpid()}-{secrets.token_hex(8)}")
+        mark.touch()
+        try:
+            yield
+        finally:
+            mark.unlink(missing_ok=True)
 
     def is_here(self) -> bool:
         """Whether the run belongs to this process."""
