@@ -3,12 +3,11 @@ from __future__ import annotations
 
 import re
 import subprocess
-import tempfile
-from contextlib import contextmanager
 from itertools import chain
-from typing import IO, Iterator, NamedTuple, Optional, Sequence
+from typing import Iterator, NamedTuple, Optional, Sequence
 
 from .location import find_program, program_sha256
+from .running import Failed as Failed, output_of
 
 REFUSED = 1
 # `explain` reads a refused text as one of these commands does.
@@ -32,17 +31,6 @@ class Refused(Exception):
         return self.explanation or self.answer
 
 
-class Failed(Exception):
-    """The program ended with an error that is not a rejected input: its exit `status`, and what it `said`."""
-
-    def __init__(self, status: int, said: str) -> None:
-        super().__init__(status, said)
-        self.status, self.said = status, said
-
-    def __str__(self) -> str:
-        return f"trlab ended with status {self.status}: {self.said.strip()}"
-
-
 class _Pair(NamedTuple):
     first: Optional[int]
     second: Optional[int]
@@ -55,7 +43,7 @@ def _numbers(form: str, answer: str) -> _Pair:
 
 def ask(words: Sequence[str], text: str) -> str:
     """What the program writes for these words, with this input on standard input."""
-    with _output(words, text) as output:
+    with output_of(words, text) as output:
         told = output.read().decode()
         _raise_if_refused(told, words, text)
     return told
@@ -63,31 +51,10 @@ def ask(words: Sequence[str], text: str) -> str:
 
 def ask_by_line(words: Sequence[str], text: str) -> Iterator[str]:
     """The same line by line while the program runs, so that no more than a line is kept."""
-    with _output(words, text) as output:
+    with output_of(words, text) as output:
         first = output.readline().decode()
         _raise_if_refused(first, words, text)
         yield from chain([first] if first else [], map(bytes.decode, output))
-
-
-@contextmanager
-def _output(words: Sequence[str], text: str) -> Iterator[IO[bytes]]:
-    """The standard output of the program; raises `Failed` if the program ends with an error."""
-    with tempfile.TemporaryFile("w+") as source, tempfile.TemporaryFile("w+") as told:
-        source.write(text)
-        source.seek(0)
-        with subprocess.Popen([find_program(), *words], stdin=source, stdout=subprocess.PIPE, stderr=told) as running:
-            assert running.stdout is not None
-            try:
-                yield running.stdout
-            except BaseException:
-                # Also if the caller is interrupted or wants no more: the program does not go on without a reader.
-                running.kill()
-                raise
-            finally:
-                running.stdout.close()
-        if running.returncode != 0:
-            told.seek(0)
-            raise Failed(running.returncode, told.read())
 
 
 def _raise_if_refused(begun: str, words: Sequence[str], text: str) -> None:
