@@ -21,7 +21,6 @@ COMMANDS = {
     "script": ("POST", "execute/sync", "ExecuteScript"),
     "find": ("POST", "element", "FindElement"),
     "keys": ("POST", "element/{id}/value", "ElementSendKeys"),
-    "clear": ("POST", "element/{id}/clear", "ElementClear"),
     "actions": ("POST", "actions", "PerformActions"),
     "window": ("GET", "window", "GetWindowHandle"),
     "open": ("POST", "window/new", "NewWindow"),
@@ -68,7 +67,7 @@ class Chromium:
         self.driver = subprocess.Popen(
             [shutil.which("chromedriver"), "--port=0"], stdout=subprocess.PIPE, stderr=subprocess.DEVNULL, text=True
         )
-        port = next(int(line.rsplit(" ", 1)[1].rstrip(".\n")) for line in self.driver.stdout if "on port" in line)
+        port = next(int(line.rsplit(" ", 1)[1].rstrip(".\n")) for line in self.driver.stdout if "successfully on port" in line)
         self.talk = http.client.HTTPConnection("127.0.0.1", port, timeout=120)
         words = ["--headless=new", "--no-sandbox", "--disable-gpu", "--hide-scrollbars", f"--window-size={width},{height}"]
         options = {"binary": CHROMIUM, "args": words + ["--force-prefers-reduced-motion"] * calm}
@@ -230,8 +229,9 @@ class Window:
     def type(self, selector, *keys):
         self.command("keys", id=self.find(selector), text="".join(keys))
 
-    def clear(self, selector):
-        self.command("clear", id=self.find(selector))
+    def select(self, selector):
+        """Select the text of a control, so that typing replaces it."""
+        self.js("document.querySelector(arguments[0]).select()", selector)
 
     def keys(self, *keys):
         """Keys for the page itself, with no control in focus."""

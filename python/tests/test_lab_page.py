@@ -15,6 +15,7 @@ import trlab
 from tests.browsers import Keys, Window, missing
 from trlab import Job, Nasch, Rickert, SlowToStart
 from trlab.lab import Lab, server
+from trlab.lab.__main__ import fragment
 from trlab.program import ask
 from trlab.results import Pictures, Window as Row, Table, pictures_in
 
@@ -36,16 +37,13 @@ class Pages:
     @classmethod
     def setUpClass(cls):
         cls.lab = Lab()
-        cls.thread = threading.Thread(target=cls.lab.serve_forever, kwargs={"poll_interval": 0.05})
-        cls.thread.start()
+        cls.addClassCleanup(cls.lab.close)
+        thread = threading.Thread(target=cls.lab.serve_forever, kwargs={"poll_interval": 0.05}, daemon=True)
+        thread.start()
+        cls.addClassCleanup(thread.join)
+        cls.addClassCleanup(cls.lab.shutdown)
         cls.page = Window(cls.browser, cls.lab.address)
-
-    @classmethod
-    def tearDownClass(cls):
-        cls.page.close()
-        cls.lab.shutdown()
-        cls.lab.close()
-        cls.thread.join()
+        cls.addClassCleanup(cls.page.close)
 
     def setUp(self):
         self.page.get("about:blank")
@@ -62,7 +60,7 @@ class Pages:
     def pause(self):
         if self.page.text("play") == "Pause":
             self.page.click("play")
-        self.hold(lambda: self.page.js("return lab.player.scene && lab.player.scene.step === lab.player.step && !lab.player.stale"))
+        self.hold(lambda: self.page.js("const it = lab.player; return it.scene?.step === it.step && it.phase === 1 && !it.moving && !it.stale"))
 
     def run_to(self, step):
         """Play fast to a step at least, and pause."""
@@ -118,8 +116,8 @@ class Pages:
         seen = self.page.js("""const {film, step, car} = lab.player, cars = [];
             for (let now = film.first; now <= step; now++) cars.push(film.follow(car, now));
             return cars.map(it => [it.step, it.lane, it.cell])""")
-        first = [(0, trip.lanes[0], trip.cells[0]) for trip in trips].index(tuple(seen[0]))
-        self.assertEqual(seen, [[step, trips[first].lanes[step], trips[first].cells[step]] for step in range(len(seen))])
+        car = list(zip(trips.lane[0], trips.cell[0])).index(tuple(seen[0][1:]))
+        self.assertEqual(seen, [[step, trips.lane[step][car], trips.cell[step][car]] for step in range(len(seen))])
         self.assertEqual(self.page.js("return document.getElementById('follow').ariaPressed"), "true")
         self.assertIn("You follow the car in lane", self.page.text("car"))
         self.page.keys(Keys.UP)
@@ -237,7 +235,7 @@ class Pages:
     def agree(self):
         """The controls, the sentence and the file say the same, and trlab accepts it."""
         text = self.page.job()
-        self.assertTrue(ask(["explain", "run"], text).startswith("This is a"))
+        ask(["explain", "run"], text)
         lanes = [line[5:] for line in text.splitlines() if line.startswith("lane ")]
         cars = sum(len(lane) - lane.count(".") for lane in lanes)
         shown = self.page.js("""return Object.fromEntries(['cars', 'length', 'limit', 'lanes'].map(name =>
@@ -247,10 +245,10 @@ class Pages:
             self.assertEqual(set(shown[name]), {value}, name)
 
     def test_the_sentence(self):
-        self.page.clear(".lead [data-set=cars]")
+        self.page.select(".lead [data-set=cars]")
         self.page.type(".lead [data-set=cars]", "200", Keys.ENTER)
         self.assertEqual(self.page.job(), self.job_of(cars=200))
-        self.page.clear(".lead [data-model=nasch] [data-set=p]")
+        self.page.select(".lead [data-model=nasch] [data-set=p]")
         self.page.type(".lead [data-model=nasch] [data-set=p]", "0", Keys.ENTER)
         self.assertIn("rule nasch 0\n", self.page.job())
 
@@ -381,7 +379,7 @@ class Pages:
         self.page.click("link")
         self.hold(lambda: "#job=" in self.page.url())
         job, link = self.page.job(), self.page.url()
-        self.assertEqual(trlab.lab.__main__.fragment(link), link[link.index("#"):])
+        self.assertEqual(fragment(link), link[link.index("#"):])
         self.page.get("about:blank")
         self.page.get(link)
         self.hold(lambda: self.page.js("return window.lab?.player.step >= 0"))

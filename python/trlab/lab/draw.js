@@ -108,18 +108,18 @@ export function drawRing(pen, size, view) {
     pen.stroke();
   }
   drawArrow(pen, middle, outer - film.lanes * (tall + 5) - 12);
-  const thick = pen.lineWidth = clamp(turn * (outer - 12) * 0.72, 1.7, 12), call = marksOf(view, 1500), car = carNow(view);
+  const thick = clamp(turn * (outer - 12) * 0.72, 1.7, 12), call = marksOf(view, 1500), car = carNow(view);
+  for (const [style, more, wide] of car ? [["#fff", 4, thick + 6], [INK, 3, thick + 3]] : []) {
+    Object.assign(pen, { strokeStyle: style, lineWidth: wide });
+    pen.beginPath();
+    line(...car, more);
+    pen.stroke();
+  }
+  pen.lineWidth = thick;
   for (let v = film.limit; v >= 0; v--) {
     pen.strokeStyle = paint(v, film.limit);
     pen.beginPath();
     call(v, (x, lane) => line(x, lane));
-    pen.stroke();
-  }
-  if (!car) return;
-  for (const [style, more, wide] of [["#fff", 4, thick + 6], [INK, 3, thick + 3]]) {
-    Object.assign(pen, { strokeStyle: style, lineWidth: wide });
-    pen.beginPath();
-    line(...car, more);
     pen.stroke();
   }
 }

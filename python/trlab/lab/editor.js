@@ -6,7 +6,7 @@ import { upTo } from "./job.js";
  * words about it; the known facts before each line; and the maximum number of instructions of a program. */
 export function readExplanation(said) {
   const lines = said.trim().split("\n"), accepted = !/^(fault|refused)/.test(said), facts = new Map();
-  // The line before the reason is the rejected one; a fault names its line at once. The words are what follows.
+  // The line before the reason is the rejected one; a fault names its line at once. The words follow.
   const [reason, cause] = [/^Reason \d/, /^Cause \d/].map(form => lines.findIndex(line => form.test(line)));
   const line = accepted ? 0 : +/line (\d+)/.exec(reason > 0 ? lines[reason - 1] : said)[1];
   let known = []; // the facts come above the line that they hold before

@@ -115,13 +115,15 @@ function again(what) {
   begin();
   show(true);
 }
+/** Make a control of the sentence as wide as its text, if the browser does not. */
+const fit = place => place.closest(".lead") && !CSS.supports("field-sizing: content") && (place.style.width = `${Math.max(1, place.value.length)}ch`);
 /** Show the job in the controls and in the sentence above them. A control that has the focus keeps its text, unless forced. */
 function show(force = false) {
   const rule = shown = inForce(), values = { ...job, model: rule.model, p: rule.p, q: rule.q }, own = rule.model === "own";
   for (const place of document.querySelectorAll("[data-set]")) {
     if (!force && document.activeElement === place && place.tagName === "INPUT") continue;
     place.value = values[place.dataset.set];
-    if (place.closest(".lead")) place.style.width = `${Math.max(1, place.value.length)}ch`;
+    fit(place);
   }
   $("cars").parentNode.querySelector("[type=range]").max = job.length * job.lanes;
   for (const slider of document.querySelectorAll(".field [type=range]")) slider.value = slider.parentNode.querySelector("input").value;
@@ -130,7 +132,7 @@ function show(force = false) {
   $("rings").textContent = job.lanes === 2 ? "two rings" : "a ring";
   $("p").parentNode.hidden = own;
   $("q").parentNode.hidden = rule.model !== "vdr" && rule.model !== "rickert";
-  $("q").parentNode.querySelector("label").textContent = rule.model === "vdr" ? "When stopped" : "Lane-change probability";
+  $("q").parentNode.querySelector("label").textContent = rule.model === "vdr" ? "When stopped" : "Lane changes";
   $("start").querySelector("[value=file]").hidden = !job.road;
   $("own").hidden = !own;
   $("changepart").hidden = job.lanes === 1;
@@ -301,7 +303,7 @@ function listen() {
   for (const place of document.querySelectorAll("[data-set]")) {
     place.addEventListener("change", () => set(place.dataset.set, place.value));
     if (!place.closest(".lead")) continue;
-    place.addEventListener("input", () => place.style.width = `${Math.max(1, place.value.length)}ch`);
+    place.addEventListener("input", () => fit(place));
     place.addEventListener("keydown", event => event.key === "Enter" && place.blur());
   }
   $("controls").addEventListener("submit", event => event.preventDefault());
@@ -322,7 +324,10 @@ function listen() {
     set("density", clamp((x - across(0)) / (across(1) - across(0)), 0, 1).toFixed(3));
   };
   addEventListener("hashchange", openLink);
-  addEventListener("visibilitychange", () => document.hidden && player.run && !player.run.over && player.rest());
+  // A hidden page draws nothing, and a page that is left may be kept for the way back: neither needs a run.
+  for (const name of ["visibilitychange", "pagehide"]) {
+    addEventListener(name, () => (document.hidden || name === "pagehide") && player.run && !player.run.over && player.rest());
+  }
 }
 async function start() {
   examples = await (await fetch("examples")).json();

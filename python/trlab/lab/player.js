@@ -1,5 +1,5 @@
 // The player: the clock that shows the snapshots of a run, and the controls that play it. The page and exported files use
-// it. Whoever owns the player gives it runs, and hears of new snapshots.
+// it: their owner passes runs to the player, and is called for new snapshots.
 
 import { clamp, upTo } from "./job.js";
 import { Film, Run } from "./film.js";
@@ -51,7 +51,8 @@ export class Player {
       if (!this.run && !this.over) this.begin(this.open);
       const shot = this.run?.take();
       if (!shot) return false;
-      this.hear.shot?.(film.push(shot));
+      const kept = film.push(shot);
+      this.hear.shot?.(kept);
     }
     return this.show(this.step + 1);
   }
