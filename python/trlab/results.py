@@ -242,6 +242,15 @@ class Pictures(ResultList[Picture]):
         shown = [Picture(it.step, tuple(lane[:400] for lane in it.lanes)) for it in self[-300:]]
         return Pictures(shown).space_time().svg() if shown else None
 
+    def html(self, limit: Optional[int] = None, title: str = "") -> str:
+        """A web page that plays these snapshots: one file, which needs no server and no network.
+
+        The colours range from speed 0 to `limit` (in cells per step), or to the highest speed if it is None. Raises
+        `ValueError` if the snapshots do not begin at step 0."""
+        from .lab.export import page_of
+
+        return page_of(self, limit, title)
+
     def trajectories(self) -> Trajectories:
         """The trajectory of every car, with its lane, cell, distance and speed at each step.
 
