@@ -9,9 +9,9 @@
     job = Job(limit=5, length=100, density=0.2, start=random(1), rule=Nasch(0.25), steps=50, key=7)
     print(job.run()[-1].lanes[0])
 
-A length is in cells, a time in steps, a speed in cells a step; a chance and a density (cars a cell) are 0 to 1.
-`.text()` gives the text of a job or a sweep, and its table or pictures depend on that alone. No package is needed,
-except that `.to_numpy()` and `.to_pandas()` of results need numpy and pandas. `TRLAB` names the program; without it
+Lengths are in cells, times in steps, speeds in cells per step; probabilities and densities (cars per cell) are between 0
+and 1. `.text()` returns the input file of a job or a sweep, and its results depend only on this file. No package is
+needed, except that `.to_numpy()` and `.to_pandas()` of results need numpy and pandas. `TRLAB` names the program; without it
 that of the package or of the checkout is used."""
 from .drift import Drift
 from .figure import Figure

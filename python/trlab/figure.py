@@ -1,4 +1,4 @@
-"""A figure as an SVG image, by the standard library alone: curves, dots, and points with their errors."""
+"""A figure as an SVG image, with the standard library only: curves, dots, and points with error bars."""
 from __future__ import annotations
 
 import statistics
@@ -30,7 +30,7 @@ class Curve(NamedTuple):
 
 
 class Axis(NamedTuple):
-    """What an axis shows, and its greatest value; its least is 0."""
+    """The title of an axis and its maximum. The minimum is 0."""
 
     title: str
     greatest: float

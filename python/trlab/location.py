@@ -1,4 +1,4 @@
-"""Where the program is: named by `TRLAB`, packed in the installed package, in the checkout, or on the `PATH`."""
+"""Find the program: named by `TRLAB`, packed in the installed package, in the checkout, or on the `PATH`."""
 from __future__ import annotations
 
 import atexit

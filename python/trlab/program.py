@@ -1,4 +1,4 @@
-"""The program: what it answers to an input."""
+"""Calls of the program, and its errors."""
 from __future__ import annotations
 
 import re
@@ -17,7 +17,7 @@ _READ_AS = {"series": "run"}
 class Refused(Exception):
     """An input that the program rejects.
 
-    `answer` is what the command wrote, `explanation` what `trlab explain` prints for the input. For a faulty input
+    `answer` is the output of the command, `explanation` that of `trlab explain` for the same input. For a faulty input
     `line` (from 1) and `cause` are numbers; for a program that the verifier rejects, `pc` (from 0) is the instruction and
     `reason` a number. The others are None."""
 
@@ -42,7 +42,7 @@ def _numbers(form: str, answer: str) -> _Pair:
 
 
 def ask(words: Sequence[str], text: str) -> str:
-    """What the program writes for these words, with this input on standard input."""
+    """The output of the program for these arguments and this input."""
     with output_of(words, text) as output:
         told = output.read().decode()
         _raise_if_refused(told, words, text)
@@ -50,7 +50,7 @@ def ask(words: Sequence[str], text: str) -> str:
 
 
 def ask_by_line(words: Sequence[str], text: str) -> Iterator[str]:
-    """The same line by line while the program runs, so that no more than a line is kept."""
+    """Iterate over the lines of the output while the program runs, keeping one line at a time."""
     with output_of(words, text) as output:
         first = output.readline().decode()
         _raise_if_refused(first, words, text)
@@ -64,19 +64,18 @@ def _raise_if_refused(begun: str, words: Sequence[str], text: str) -> None:
 
 
 def _explain(word: str, text: str) -> str:
-    """What `trlab explain` prints for a rejected input."""
+    """The explanation of a rejected input."""
     told = explained(text, _READ_AS.get(word, word))
     return told.stdout.rstrip("\n") if told.returncode == REFUSED else ""
 
 
 def explained(text: str, *words: str) -> subprocess.CompletedProcess[str]:
-    """What `trlab explain` does with an input, read as these words say or as its own first line says."""
+    """The outcome of `trlab explain` for an input, read as for this command, or as its first word says."""
     return subprocess.run(
         [find_program(), "explain", *words], input=text, stdout=subprocess.PIPE, stderr=subprocess.PIPE, text=True
     )
 
 
 def version() -> str:
-    """What `trlab --version` prints, the version of the program and the logic in which it is proved; and on a third line the
-    SHA-256 of the program."""
+    """The version of the program, the logic in which it is proved, and the SHA-256 of the program, one per line."""
     return ask(["--version"], "") + f"SHA-256 {program_sha256()}"

@@ -18,7 +18,7 @@ if TYPE_CHECKING:
 
 
 class _Counted:
-    """What a line of any table tells of its cars. (Counts are of all lanes together.)"""
+    """The numbers of cars in a row of any table. Counts are for all lanes together."""
 
     __slots__ = ()
     cars: int
@@ -29,22 +29,22 @@ class _Counted:
 
     @property
     def density(self) -> float:
-        """Cars a cell."""
+        """Cars per cell."""
         return self.cars / self.cells
 
     @property
     def passing(self) -> float:
-        """The flow: cars a step past one cell of one lane."""
+        """The flow: cars per step past one cell of one lane."""
         return self.distance / (self.cells * self.steps)
 
     @property
     def speed(self) -> float:
-        """The mean speed in cells a step; 0 where there is no car."""
+        """The mean speed in cells per step, or 0 if there is no car."""
         return self.distance / (self.cars * self.steps) if self.cars else 0.0
 
     @property
     def stopped_share(self) -> float:
-        """The share of stopped cars, 0 to 1; 0 where there is no car."""
+        """The share of stopped cars, 0 to 1, or 0 if there is no car."""
         return self.stopped / (self.cars * self.steps) if self.cars else 0.0
 
 
@@ -59,7 +59,7 @@ class _PointColumns(NamedTuple):
 
 
 class Point(_PointColumns, _Counted):
-    """A line of a sweep's table: what was counted on one road in the steps that are measured.
+    """A row of a sweep's table: the counts on one road during the measured steps.
 
     `distance` is in cells; `stopped` and `changes` count over cars and steps; `flow` is in millionths of a car a step,
     rounded down."""
@@ -85,7 +85,7 @@ class _WindowColumns(NamedTuple):
 
 
 class Window(_WindowColumns, _Counted):
-    """A line of a series: what was counted in so many steps, up to the picture `step`.
+    """A row of a series: the counts of a window of `steps` steps, which ends with the picture of `step`.
 
     Units are those of a `Point`. `cars0`, `distance0` and `stopped0` are sums, over the roads after the steps, of what
     is on lane 0 then: the cars, their speeds, the stopped cars; those that end in 1 are of lane 1."""
@@ -204,7 +204,7 @@ class Pictures(ResultList[Picture]):
         return "".join(f"step {it.step}\n" + "".join(lane + "\n" for lane in it.lanes) for it in self)
 
     def to_numpy(self) -> numpy.ndarray[Any, Any]:
-        """An array by picture, lane and cell: the speed in cells a step, and -1 where the cell is empty."""
+        """An array by picture, lane and cell: the speed in cells per step, or -1 if the cell is empty."""
         if isinstance(self._held, WrittenPictures):
             return self._held.speeds()
         lanes = self[0].lanes if self else ()
@@ -212,7 +212,7 @@ class Pictures(ResultList[Picture]):
         return speeds.reshape(len(self), len(lanes), len(lanes[0]) if lanes else 0)
 
     def to_pandas(self) -> pandas.DataFrame:
-        """A frame with a line for each car of each picture: `step`, `lane`, `cell` and `speed` in cells a step."""
+        """A frame with one row per car and picture: `step`, `lane`, `cell` and `speed` in cells per step."""
         import numpy
         import pandas
 

@@ -1,4 +1,4 @@
-"""Rules: what the cars do in a step. Each knows the lines by which a text says it."""
+"""Rules for the cars, and the lines that state them in an input file."""
 from __future__ import annotations
 
 from dataclasses import dataclass
@@ -40,7 +40,7 @@ class SlowToStart:
 class Rickert:
     """The rule of Rickert, Nagel, Schreckenberg and Latour (1996), for two lanes.
 
-    `brake` is the chance to brake, `change` that to cross where the rule allows it, 0 to 1."""
+    `brake` is the probability to brake, `change` the probability to change lanes if the rule allows it, 0 to 1."""
 
     brake: Chance
     change: Chance

@@ -1,4 +1,4 @@
-"""Starts: where the cars of a job are in its first picture, and how fast.
+"""Initial states: the cells and speeds of the cars at the start of a job.
 
 The cells of a road are counted across its lanes: on two lanes cell 0 is on lane 0, cell 1 beside it on lane 1,
 cell 2 on lane 0 and so on."""
@@ -13,10 +13,10 @@ from typing import Iterable, List, Optional, Sequence, Tuple, Union, cast
 from .units import MOST_KEY, MOST_SPEED, derived_key, whole
 
 SPEEDS = "0123456789abcdefghijklmnopqrstuvwxyz"
-"""The characters of speeds in pictures, 0 to 35 cells a step."""
+"""The characters of speeds in pictures, 0 to 35 cells per step."""
 
 Lane = Sequence[Optional[int]]
-"""The speed of the car in each cell, in cells a step, and None or -1 where the cell is empty."""
+"""The speed of the car in each cell, in cells per step; None or -1 for an empty cell."""
 
 PLACEMENTS = ("even", "jam", "random")
 
@@ -47,7 +47,7 @@ class Start:
             raise ValueError(f"all cars start with the speed {self.speed}, and the limit is {limit} cells per step")
 
     def taken(self, cars: int, cells: int) -> List[int]:
-        """The cells that so many cars take, of so many."""
+        """The cells of `cars` cars on a road of `cells` cells."""
         if self.placement == "random":
             numbers = _random.Random(self.seed)
             order = sorted((numbers.random(), cell) for cell in range(cells))
@@ -55,7 +55,7 @@ class Start:
         return list(range(cars)) if self.placement == "jam" else [car * cells // cars for car in range(cars)]
 
     def on_lanes(self, cars: int, length: int, lanes: int, limit: int) -> List[Lane]:
-        """The lanes of the road, with so many cars in all."""
+        """The lanes of the road with `cars` cars in total."""
         if not 0 <= cars <= length * lanes:
             raise ValueError(f"{cars} cars do not fit on {length * lanes} cells")
         road: List[List[Optional[int]]] = [[None] * length for _ in range(lanes)]

@@ -1,4 +1,4 @@
-"""Job texts, sweep texts and check texts, and what comes of them."""
+"""Jobs, sweeps and driver programs: their input files, and their results."""
 from __future__ import annotations
 
 import warnings
@@ -15,7 +15,7 @@ from .units import MOST_CARS, MOST_CELLS, MOST_SPEED, MOST_STEPS, Density, Key, 
 
 @dataclass(frozen=True)
 class Job:
-    """A road, a rule and so many steps.
+    """A road, a rule and a number of steps.
 
     The road has `lanes` lanes of `length` cells and `cars` cars in all, or as many as come nearest to `density`, in
     cars per cell, placed as `start` says. Or `start` is the road itself: a list with the speed of the car in
@@ -231,7 +231,7 @@ class Accepted(NamedTuple):
 
 
 def check(program: str) -> Accepted:
-    """What the verifier says of a driver program, whose text begins with `motion` or `change`, or is `code X`."""
+    """Verify a driver program: text that begins with `motion` or `change`, or one line `code X`."""
     first, _, written = ask(["check"], program.lstrip("\n")).partition("\n")
     return Accepted(int(first.split(" ")[-1]), written)
 
@@ -246,7 +246,7 @@ def _option(name: str, number: int, unsaid: int) -> List[str]:
 
 
 def explain(text: Union[str, Job, Sweep]) -> str:
-    """What `trlab explain` prints for an input: what a valid one will do, or what is wrong and how to repair it."""
+    """The explanation of an input: the work of a valid one, or the error and how to fix it."""
     return explained(text if isinstance(text, str) else text.text()).stdout.rstrip("\n")
 
 

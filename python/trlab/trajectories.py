@@ -63,7 +63,7 @@ class Trajectories:
         return f"<trajectories of {self.cars} cars, steps {self.first} to {self.first + len(self) - 1}>"
 
     def ahead(self, places: int = 1) -> Grid:
-        """The number of the car that is so many places ahead on the same lane, indexed `[step][car]`.
+        """The number of the car that is `places` places ahead on the same lane, indexed `[step][car]`.
 
         A lane with n cars is a ring, so n places ahead is the car itself. On one lane nobody overtakes, so all rows are
         equal. Raises `ValueError` if `places` is negative."""
@@ -123,8 +123,8 @@ class Trajectories:
         return [part.jam(self.first, len(stopped) - 1) for part in parts.values()]
 
     def speed_correlation(self, places: int = 0, later: int = 0) -> float:
-        """The correlation of speeds, -1 to 1, between a car and the car that is so many `places` ahead on its lane, whose
-        speed is taken `later` steps after that.
+        """The correlation of speeds, -1 to 1, between a car and the car `places` places ahead on its lane, `later` steps
+        later.
 
         It is Pearson's coefficient over all cars and steps: `speed_correlation(places=k)` for k = 0, 1, 2.. is
         the correlation in space, and `speed_correlation(later=t)` the autocorrelation in time. It is nan if one

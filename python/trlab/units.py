@@ -1,4 +1,4 @@
-"""Chances, keys and densities as a person writes them, and the numbers that stand for them in texts."""
+"""Probabilities, keys and densities as you write them, and their numbers in input files."""
 from __future__ import annotations
 
 import hashlib
@@ -18,7 +18,7 @@ Key = Union[int, str]
 """The key of the random words: a number from 0 to 2**256 - 1, or 64 hexadecimal digits."""
 
 ALWAYS = 2**31
-"""The parts of a chance that always happens."""
+"""The number in input files for the probability 1."""
 
 MOST_CELLS, MOST_SPEED, MOST_STEPS, MOST_CARS, MOST_POINTS = 100000, 35, 500000, 200000, 200
 """The greatest length of a lane in cells, maximum speed in cells per step, number of steps, number of cars and number of
@@ -83,5 +83,5 @@ def derived_key(purpose: str, key: Key, number: int) -> str:
 
 
 def cars_at(density: Density, cells: int) -> int:
-    """The number of cars that comes nearest to a density on so many cells."""
+    """The number of cars on `cells` cells that is nearest to a density."""
     return round(_share("a density (cars per cell)", density) * cells)

@@ -95,7 +95,7 @@ class Picture(NamedTuple):
     lanes: Tuple[str, ...]
 
     def speeds(self) -> List[List[Optional[int]]]:
-        """Of each lane the speed of the car in each cell, in cells a step, and None where the cell is empty."""
+        """Speeds by lane and cell, in cells per step; None for an empty cell."""
         return [[None if cell == "." else SPEEDS.index(cell) for cell in lane] for lane in self.lanes]
 
 
