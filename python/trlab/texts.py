@@ -81,7 +81,9 @@ class Job:
 
     def run(self, workers: int = 1) -> Pictures:
         """The pictures of the road, of step 0 and after each step."""
-        return Pictures(self.pictures(workers))
+        if self.steps > MOST_STEPS:
+            return Pictures(self.pictures(workers))
+        return Pictures.read(ask(["run", *_option("workers", workers, 1)], self.text()))
 
     def pictures(self, workers: int = 1) -> Iterator[Picture]:
         """Iterate over the pictures while the program runs, for runs too long to hold in memory."""
