@@ -9,7 +9,7 @@ from contextlib import contextmanager
 from pathlib import Path
 from typing import IO, Iterator, Optional, Sequence, Union
 
-from .location import find_program
+from .location import find_program, sha256_of_program
 from .owners import new_path, remove_left
 from .running import Failed, started
 
@@ -108,19 +108,7 @@ def program_identity() -> Sequence[str]:
 def _identity(path: str, changed: int, size: int, number: int) -> Sequence[str]:
     """The version and SHA-256 of a program, which is read once as long as the file does not change."""
     version = subprocess.run([path, "--version"], stdin=subprocess.DEVNULL, stdout=subprocess.PIPE, check=True).stdout
-    return version.decode().split("\n")[0], hashlib.sha256(_program_behind(path).read_bytes()).hexdigest()
-
-
-def _program_behind(path: str) -> Path:
-    """The program that a script such as `./trlab` runs, or the file itself."""
-    with open(path, "rb") as file:
-        if file.read(2) != b"#!":
-            return Path(path)
-    asked = subprocess.run(
-        [path, "--where"], stdin=subprocess.DEVNULL, stdout=subprocess.PIPE, stderr=subprocess.DEVNULL, text=True
-    )
-    named = Path(asked.stdout.rstrip("\n"))
-    return named if asked.returncode == 0 and named.is_absolute() and named.is_file() else Path(path)
+    return version.decode().split("\n")[0], sha256_of_program(path)
 
 
 def _heading(key: str, digest: str) -> bytes:

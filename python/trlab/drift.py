@@ -11,8 +11,9 @@ means of 20 batches of consecutive windows; so `p` is that of Student's distribu
 
 The batches must be nearly independent: a batch, which is 1/40 of the series, must be longer than the time after which the
 flow forgets a fluctuation. Otherwise the test finds drifts where there are none. A small `p` means that the start is still
-felt: leave out more steps (`first`). A large one does not prove that nothing drifts: a drift that is much smaller than the
-noise of the series goes unnoticed, and so does a start that the road remembers for longer than the series."""
+felt: leave out more steps (`first`). A large `p` does not prove that nothing drifts, because a drift that is much smaller
+than the noise of the series goes unnoticed. Then test several series under different keys: if none drifts, the sum of their
+`z`, divided by the square root of their number, has nearly the standard normal distribution."""
 from __future__ import annotations
 
 from itertools import accumulate

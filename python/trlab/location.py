@@ -35,16 +35,22 @@ def find_program() -> str:
     return _named(named) if named else _packed() or _of_checkout() or _on_path() or _nowhere()
 
 
-def program_sha256() -> str:
-    """The SHA-256 of the program, 64 hexadecimal digits. If `TRLAB` names a script such as `./trlab`, it is that of the
-    program which the script runs."""
-    path = find_program()
+def sha256_of_program(path: str) -> str:
+    """The SHA-256 of a program, 64 hexadecimal digits. That of a script such as `./trlab` is the one of the program which
+    the script runs."""
+    return hashlib.sha256(_program_behind(path).read_bytes()).hexdigest()
+
+
+def _program_behind(path: str) -> Path:
+    """The program that a script such as `./trlab` runs, or the file itself."""
     with open(path, "rb") as file:
-        is_script = file.read(2) == b"#!"
-    if is_script:
-        asked = subprocess.run([path, "--where"], stdin=subprocess.DEVNULL, stdout=subprocess.PIPE, text=True, check=True)
-        path = asked.stdout.rstrip("\n")
-    return hashlib.sha256(Path(path).read_bytes()).hexdigest()
+        if file.read(2) != b"#!":
+            return Path(path)
+    asked = subprocess.run(
+        [path, "--where"], stdin=subprocess.DEVNULL, stdout=subprocess.PIPE, stderr=subprocess.DEVNULL, text=True
+    )
+    named = Path(asked.stdout.rstrip("\n"))
+    return named if asked.returncode == 0 and named.is_absolute() and named.is_file() else Path(path)
 
 
 def _named(name: str) -> str:

@@ -6,7 +6,7 @@ import subprocess
 from itertools import chain
 from typing import Iterator, NamedTuple, Optional, Sequence
 
-from .location import find_program, program_sha256
+from .location import find_program, sha256_of_program
 from .running import Failed as Failed, output_of
 
 REFUSED = 1
@@ -78,4 +78,4 @@ def explained(text: str, *words: str) -> subprocess.CompletedProcess[str]:
 
 def version() -> str:
     """The version of the program, the logic in which it is proved, and the SHA-256 of the program, one per line."""
-    return ask(["--version"], "") + f"SHA-256 {program_sha256()}"
+    return ask(["--version"], "") + f"SHA-256 {sha256_of_program(find_program())}"

@@ -133,9 +133,10 @@ class Sweep:
       cells; `cars` and `densities` are left out. For 20 repetitions from one road write `20 * [road]`.
 
     **An even initial state biases the mean**, because the road remembers it for thousands of steps. With `limit=1`, 10,000
-    cells, `warm=3000`, `measure=2000` and 16 points per density (0.1, 0.3, 0.5 and 0.8), the mean flow of even sweeps was
-    0.10 to 0.16 percent above the exact one for `Nasch("1/4")`, and 0.20 to 0.27 percent above it for `Nasch("1/2")`: 5 to
-    10 standard errors. No series shows this as a drift. Take `random(seed)` if the third digit matters.
+    cells, `warm=3000` and `measure=2000`, the mean flow of 16 points was above the exact one by 0.12 to 0.17 percent for
+    `Nasch("1/4")` and by 0.19 to 0.30 percent for `Nasch("1/2")`, at the densities 0.1, 0.3, 0.5 and 0.8: 5 to 15 standard
+    errors. From `random(1)` it was below the exact one by 0.02 to 0.09 percent. A single series rarely shows this as a
+    drift. If the third digit matters, run a sweep from both states and take a `warm` for which they agree.
 
     The points of an even sweep within the limits of one input (200 points; 500,000 steps of all points together) are
     those of `trlab sweep` for `.text()`. Beyond these limits `.parts()` are run one after the other. From any other
