@@ -166,9 +166,9 @@ class Runs(unittest.TestCase):
         self.assertEqual(Pictures().to_numpy().shape, (0, 0, 0))
         long = Job(limit=5, length=1000, cars=100, rule=Nasch("1/4"), steps=700).run()
         self.assertEqual(long.to_numpy().tolist(), Pictures([*long]).to_numpy().tolist())
-        for wrong in "?", "A", "\xe9":
-            for pictures in Pictures.read(RUN.replace("0.1", f"0{wrong}1")), Pictures([Picture(0, (wrong,))]):
-                self.assertRaisesRegex(ValueError, f"not '[{wrong}]'", pictures.to_numpy)
+        for wrong in "?", "A", "\xe9", "\n":
+            for pictures in Pictures.read(RUN[:-3] + wrong + "0\n"), Pictures([Picture(0, (wrong,))]):
+                self.assertRaisesRegex(ValueError, "neither a speed nor a dot", pictures.to_numpy)
 
     @needs("pandas")
     def test_frames(self):

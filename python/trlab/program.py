@@ -55,8 +55,13 @@ def _numbers(form: str, answer: str) -> _Pair:
 
 def ask(words: Sequence[str], text: str) -> str:
     """What the program writes for these words, with this input on standard input."""
+    return ask_for_bytes(words, text).decode()
+
+
+def ask_for_bytes(words: Sequence[str], text: str) -> bytes:
+    """The same as it is written."""
     with _output(words, text) as output:
-        told = output.read().decode()
+        told = output.read()
         _raise_if_refused(told, words, text)
     return told
 
@@ -64,9 +69,9 @@ def ask(words: Sequence[str], text: str) -> str:
 def ask_by_line(words: Sequence[str], text: str) -> Iterator[str]:
     """The same line by line while the program runs, so that no more than a line is kept."""
     with _output(words, text) as output:
-        first = output.readline().decode()
+        first = output.readline()
         _raise_if_refused(first, words, text)
-        yield from chain([first] if first else [], map(bytes.decode, output))
+        yield from map(bytes.decode, chain([first] if first else [], output))
 
 
 @contextmanager
@@ -90,10 +95,10 @@ def _output(words: Sequence[str], text: str) -> Iterator[IO[bytes]]:
             raise Failed(running.returncode, told.read())
 
 
-def _raise_if_refused(begun: str, words: Sequence[str], text: str) -> None:
+def _raise_if_refused(begun: bytes, words: Sequence[str], text: str) -> None:
     """Raises `Refused` if an output begins with a line that says that the input is rejected."""
-    if begun.startswith(("fault ", "refused ")):
-        raise Refused(begun.partition("\n")[0], _explain(words[0], text))
+    if begun.startswith((b"fault ", b"refused ")):
+        raise Refused(begun.partition(b"\n")[0].decode(), _explain(words[0], text))
 
 
 def _explain(word: str, text: str) -> str:

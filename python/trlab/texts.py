@@ -5,7 +5,7 @@ import warnings
 from dataclasses import dataclass, field
 from typing import Iterator, List, Mapping, NamedTuple, Optional, Sequence, Union, cast
 
-from .program import ask, ask_by_line, explained
+from .program import ask, ask_by_line, ask_for_bytes, explained
 from .results import Picture, Pictures, Point, Table, Window, pictures_in
 from .rules import Rule
 from .starts import Lane, Start, even, lanes_of, picture
@@ -72,7 +72,7 @@ class Job:
 
     def run(self, workers: int = 1) -> Pictures:
         """The pictures of the road, of step 0 and after each step."""
-        return Pictures.read(ask(["run", *_option("workers", workers, 1)], self.text()))
+        return Pictures.read(ask_for_bytes(["run", *_option("workers", workers, 1)], self.text()))
 
     def pictures(self, workers: int = 1) -> Iterator[Picture]:
         """The same one by one while the program runs, for runs whose pictures are too many to keep."""
