@@ -208,6 +208,7 @@ def _has_headings(text: bytes, steps: range, places: range) -> bool:
 
 
 def _has_line_feeds(text: bytes, places: range) -> bool:
+    """Whether a line feed is at each of these places."""
     return {*map(text.__getitem__, places)} == {LINE_FEED}
 
 
@@ -229,6 +230,7 @@ def pictures_in(lines: Iterable[str]) -> Iterator[Picture]:
     # Missing lanes of the last picture are empty.
     for group in zip(*[chain(begun, lines, [""] * count)] * (count + 1)):
         heading, step = group[0], group[0][5:-1]
+        road: Tuple[str, ...]
         if count == 1:
             # Most roads have one lane, which is read without a list.
             is_road, road = group[1].find("\n") == length, (group[1][:length],)
@@ -244,10 +246,10 @@ def pictures_in(lines: Iterable[str]) -> Iterator[Picture]:
 
 def _picture_fault(heading: str, lanes: List[str], length: int) -> str:
     """Says why these lines are not a picture with lanes of such a length."""
-    if not HEADING.fullmatch(heading.encode()):
+    if heading.endswith("\n") and not HEADING.fullmatch(heading.encode()):
         return f"this is not the heading of a picture of a run: {_shown(heading)}"
-    if not all(lane.endswith("\n") for lane in lanes):
-        return f"the output of the run is cut off in the picture of {heading.strip()}"
+    if not all(line.endswith("\n") for line in (heading, *lanes)):
+        return f"the output of the run is cut off in the picture of {_shown(heading)}"
     wrong = next(lane for lane in lanes if len(lane) != length + 1)
     return f"a lane of {heading.strip()} is not as long as the first lane of the run: {_shown(wrong)}"
 
