@@ -43,8 +43,13 @@ def _numbers(form: str, answer: str) -> _Pair:
 
 def ask(words: Sequence[str], text: str) -> str:
     """The output of the program for these arguments and this input."""
+    return ask_for_bytes(words, text).decode()
+
+
+def ask_for_bytes(words: Sequence[str], text: str) -> bytes:
+    """The same output as bytes."""
     with output_of(words, text) as output:
-        told = output.read().decode()
+        told = output.read()
         _raise_if_refused(told, words, text)
     return told
 
@@ -52,15 +57,15 @@ def ask(words: Sequence[str], text: str) -> str:
 def ask_by_line(words: Sequence[str], text: str) -> Iterator[str]:
     """Iterate over the lines of the output while the program runs, keeping one line at a time."""
     with output_of(words, text) as output:
-        first = output.readline().decode()
+        first = output.readline()
         _raise_if_refused(first, words, text)
-        yield from chain([first] if first else [], map(bytes.decode, output))
+        yield from map(bytes.decode, chain([first] if first else [], output))
 
 
-def _raise_if_refused(begun: str, words: Sequence[str], text: str) -> None:
+def _raise_if_refused(begun: bytes, words: Sequence[str], text: str) -> None:
     """Raises `Refused` if an output begins with a line that says that the input is rejected."""
-    if begun.startswith(("fault ", "refused ")):
-        raise Refused(begun.partition("\n")[0], _explain(words[0], text))
+    if begun.startswith((b"fault ", b"refused ")):
+        raise Refused(begun.partition(b"\n")[0].decode(), _explain(words[0], text))
 
 
 def _explain(word: str, text: str) -> str:

@@ -117,7 +117,7 @@ class Table(ResultList[Row]):
         """The table that `trlab sweep` (`Point`) or `trlab series` (`Window`) has written.
 
         Raises `ValueError` with the line if the text is not such a table, or if it is cut off."""
-        return cls(kind, WrittenRows(kind, _plain(text)))
+        return cls(kind, WrittenRows(kind, _plain(text).decode()))
 
     def csv(self) -> str:
         """The table as the program writes it."""
@@ -262,6 +262,7 @@ class Pictures(ResultList[Picture]):
         return trajectories_of(self)
 
 
-def _plain(text: Union[str, bytes]) -> str:
+def _plain(text: Union[str, bytes]) -> bytes:
     """A text with line feeds, also if it comes from a file of another system."""
-    return (text if isinstance(text, str) else text.decode()).replace("\r\n", "\n")
+    plain = text.encode() if isinstance(text, str) else text
+    return plain.replace(b"\r\n", b"\n") if b"\r" in plain else plain

@@ -6,7 +6,7 @@ from dataclasses import dataclass, field
 from typing import Any, Iterable, Iterator, List, Mapping, NamedTuple, Optional, Sequence, Tuple, Union, cast
 
 from . import continuing, sweeping
-from .program import ask, ask_by_line, explained
+from .program import ask, ask_by_line, ask_for_bytes, explained
 from .results import Picture, Pictures, Point, Table, Window, pictures_in
 from .rules import Rule, Schedule, need_rule
 from .starts import Lane, Road, Start, cars_on, even, lanes_of, picture, roads_of
@@ -83,7 +83,7 @@ class Job:
         """The pictures of the road, of step 0 and after each step."""
         if self.steps > MOST_STEPS:
             return Pictures(self.pictures(workers))
-        return Pictures.read(ask(["run", *_option("workers", workers, 1)], self.text()))
+        return Pictures.read(ask_for_bytes(["run", *_option("workers", workers, 1)], self.text()))
 
     def pictures(self, workers: int = 1) -> Iterator[Picture]:
         """Iterate over the pictures while the program runs, for runs too long to hold in memory."""

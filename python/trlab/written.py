@@ -3,7 +3,7 @@ from __future__ import annotations
 
 import re
 from functools import cached_property, partial
-from itertools import islice
+from itertools import chain, islice
 from typing import TYPE_CHECKING, Any, Iterable, Iterator, List, NamedTuple, Optional, Sequence, Tuple
 
 from .starts import SPEEDS
@@ -13,11 +13,13 @@ if TYPE_CHECKING:
 
     Array = numpy.ndarray[Any, Any]
 
-HEADING = re.compile("step ([0-9]+)\n")
+HEADING = re.compile(b"step ([0-9]+)\n")
 BLOCK = 1 << 18
 
-# The speed of each character as a signed byte: -1 for an empty cell and a line feed, -2 for any other character.
-NUMBERS = bytes(255 if chr(sign) in ".\n" else SPEEDS.find(chr(sign)) % 255 for sign in range(256))
+LINE_FEED = 10
+
+# The speed of each character as a signed byte: -1 for an empty cell, -2 for a character that no cell has.
+NUMBERS = bytes(255 if chr(sign) == "." else SPEEDS.find(chr(sign)) % 255 for sign in range(256))
 
 
 class WrittenRows(Sequence[Any]):
@@ -104,7 +106,7 @@ class WrittenPictures(Sequence[Picture]):
 
     The lanes of each step, all of `length` cells and a line feed, begin at its place in the text."""
 
-    def __init__(self, text: str, steps: range, places: List[int], lanes: int, length: int) -> None:
+    def __init__(self, text: bytes, steps: range, places: List[int], lanes: int, length: int) -> None:
         self.text, self.steps, self.places, self.lanes, self.length = text, steps, places, lanes, length
 
     def __len__(self) -> int:
@@ -117,20 +119,22 @@ class WrittenPictures(Sequence[Picture]):
 
     def _lane(self, number: int) -> Iterator[str]:
         """A lane of each picture."""
-        shift = number * (self.length + 1)
-        return (self.text[at + shift:at + shift + self.length] for at in self.places)
+        begin = number * (self.length + 1)
+        end = begin + self.length
+        return (self.text[at + begin:at + end].decode() for at in self.places)
 
     def __getitem__(self, place: Any) -> Any:
         steps = self.steps[place]
         if isinstance(steps, range):
             return WrittenPictures(self.text, steps, self.places[place], self.lanes, self.length)
         road = self.text[self.places[place]:self.places[place] + self.lanes * (self.length + 1)]
-        return Picture(steps, tuple(road.split("\n")[:-1]))
+        return Picture(steps, tuple(road.decode().split("\n")[:-1]))
 
     def __reduce__(self) -> Any:
-        return read_pictures, ("".join(map("step {}\n{}".format, self.steps, self._roads(self.places))),)
+        headings = map(b"step %d\n".__mod__, self.steps)
+        return read_pictures, (b"".join(chain.from_iterable(zip(headings, self._roads(self.places)))),)
 
-    def _roads(self, places: List[int]) -> Iterator[str]:
+    def _roads(self, places: List[int]) -> Iterator[bytes]:
         """All lanes of the pictures at these places, each lane with its line feed."""
         size = self.lanes * (self.length + 1)
         return (self.text[at:at + size] for at in places)
@@ -142,36 +146,40 @@ class WrittenPictures(Sequence[Picture]):
         found = numpy.empty((len(self), self.lanes, self.length), dtype=numpy.int8)
         at_once = BLOCK // (self.lanes * (self.length + 1)) + 1
         for first in range(0, len(self), at_once):
-            roads = speeds_in("".join(self._roads(self.places[first:first + at_once])))
-            found[first:first + at_once] = roads.reshape(-1, self.lanes, self.length + 1)[:, :, :-1]
-        return found
+            roads = b"".join(self._roads(self.places[first:first + at_once])).translate(NUMBERS)
+            lanes = numpy.frombuffer(roads, dtype=numpy.int8).reshape(-1, self.lanes, self.length + 1)
+            found[first:first + at_once] = lanes[:, :, :-1]
+        return checked_speeds(found)
 
 
 def speeds_in(signs: str) -> Array:
-    """The speed of each character, and -1 for an empty cell or a line feed; raises `ValueError` if it is neither."""
+    """The speed of each character, and -1 for an empty cell; raises `ValueError` if it is neither."""
     import numpy
 
-    found = numpy.frombuffer(bytearray(signs, "utf-8").translate(NUMBERS), dtype=numpy.int8)
-    if (found < -1).any():
-        wrong = next(sign for sign in signs if sign not in SPEEDS + ".\n")
-        raise ValueError(f"a cell is empty or has a speed, and is not {wrong!r}")
-    return found
+    return checked_speeds(numpy.frombuffer(bytearray(signs.encode().translate(NUMBERS)), dtype=numpy.int8))
 
 
-def read_pictures(text: str) -> Sequence[Picture]:
+def checked_speeds(speeds: Array) -> Array:
+    """The same speeds; raises `ValueError` if one is not that of a cell."""
+    if speeds.min(initial=0) < -1:
+        raise ValueError("a cell has a character that is neither a speed nor a dot")
+    return speeds
+
+
+def read_pictures(text: bytes) -> Sequence[Picture]:
     """The pictures in the output of a run; raises `ValueError` if it is not one, or cut off."""
     found = _regular(text)
-    return list(pictures_in(text.splitlines(True))) if found is None else found
+    return list(pictures_in(text.decode().splitlines(True))) if found is None else found
 
 
-def _regular(text: str) -> Optional[WrittenPictures]:
+def _regular(text: bytes) -> Optional[WrittenPictures]:
     """The pictures if all have one shape, and follow each other at equal distances of steps; None if they do not."""
     first = HEADING.match(text)
     if not first:
         return None
     second = HEADING.search(text, first.end())
     road = text[first.end():second.start() if second else len(text)]
-    lanes, length = road.count("\n"), road.find("\n")
+    lanes, length = road.count(b"\n"), road.find(b"\n")
     every = int(second[1]) - int(first[1]) if second else 1
     if length < 1 or every < 1 or len(road) != lanes * (length + 1):
         return None
@@ -182,23 +190,26 @@ def _regular(text: str) -> Optional[WrittenPictures]:
         heading = len(f"step {step}\n")
         size = heading + len(road)
         steps = range(step, 10 ** (heading - 6), every)[:(len(text) - begin) // size]
-        if not steps or not _has_pictures(text, begin, steps, size, length):
+        end = begin + size * len(steps)
+        if not steps or not _has_headings(text, steps, range(begin, end, size)):
             return None
-        places += range(begin + heading, begin + size * len(steps), size)
-        begin, step = begin + size * len(steps), steps[-1] + every
-    if text.count("\n") != len(places) * (1 + lanes):
-        return None
+        if not all(_has_line_feeds(text, range(begin + at, end, size)) for at in range(heading + length, size, length + 1)):
+            return None
+        places += range(begin + heading, end, size)
+        begin, step = end, steps[-1] + every
     return WrittenPictures(text, range(int(first[1]), step, every), places, lanes, length)
 
 
-def _has_pictures(text: str, begin: int, steps: range, size: int, length: int) -> bool:
-    """Whether a text has from a place on the pictures of these steps, which have as many digits: their headings, and the
-    line feeds of lanes of so many cells. Each picture has `size` characters."""
-    places = range(begin, begin + size * len(steps), size)
-    return all(map(text.startswith, map("step {}\n".format, steps), places)) and all(
-        text[begin + end:places.stop:size] == "\n" * len(steps)
-        for end in range(len(f"step {steps[0]}\n") + length, size, length + 1)
-    )
+def _has_headings(text: bytes, steps: range, places: range) -> bool:
+    """Whether the headings of these steps, which have as many digits, are at these places."""
+    length = len(f"step {steps[0]}\n")
+    found = b"".join([text[place:place + length] for place in places])
+    return found == ("step %d\n" * len(steps) % (*steps,)).encode()
+
+
+def _has_line_feeds(text: bytes, places: range) -> bool:
+    """Whether a line feed is at each of these places."""
+    return {*map(text.__getitem__, places)} == {LINE_FEED}
 
 
 def pictures_in(lines: Iterable[str]) -> Iterator[Picture]:
@@ -207,31 +218,39 @@ def pictures_in(lines: Iterable[str]) -> Iterator[Picture]:
     Raises `ValueError` if a line is not one of a picture, or if the output is cut off: all pictures have the same number
     of lanes and cells."""
     lines = iter(lines)
-    heading, lanes, behind = next(lines, ""), [], ""
+    # The lines up to the second heading, which shows how many lanes there are.
+    begun = [*islice(lines, 1)]
     for line in lines:
+        begun.append(line)
         if line.startswith("step "):
-            behind = line
             break
-        lanes.append(line)
-    lengths = len(lanes) * [len("".join(lanes[:1]))]
-    while heading:
-        step = heading[5:-1]
-        is_picture = heading.startswith("step ") and step.isdecimal() and lengths and lengths == [*map(len, lanes)]
-        if not (is_picture and lanes[-1].endswith("\n")):
+    count = sum(not line.startswith("step ") for line in begun) or 1
+    length = max(1, "".join(begun[1:2]).find("\n"))
+    make: Any = partial(tuple.__new__, Picture)
+    # Missing lanes of the last picture are empty.
+    for group in zip(*[chain(begun, lines, [""] * count)] * (count + 1)):
+        heading, step = group[0], group[0][5:-1]
+        road: Tuple[str, ...]
+        if count == 1:
+            # Most roads have one lane, which is read without a list.
+            is_road, road = group[1].find("\n") == length, (group[1][:length],)
+        else:
+            road = tuple([lane[:length] for lane in group[1:] if lane.find("\n") == length])
+            is_road = len(road) == count
+        if not (is_road and heading.startswith("step ") and step.isdecimal()):
             # The end of the output may say why it is cut off.
             next(lines, "")
-            raise ValueError(_picture_fault(heading, lanes, lengths))
-        yield Picture(int(step), tuple([lane[:-1] for lane in lanes]))
-        heading, lanes, behind = behind or next(lines, ""), [*islice(lines, len(lengths))], ""
+            raise ValueError(_picture_fault(heading, [*group[1:]], length))
+        yield make((int(step), road))
 
 
-def _picture_fault(heading: str, lanes: List[str], lengths: List[int]) -> str:
-    """Says why these lines are not a picture with lanes of such lengths."""
-    if not HEADING.fullmatch(heading):
+def _picture_fault(heading: str, lanes: List[str], length: int) -> str:
+    """Says why these lines are not a picture with lanes of such a length."""
+    if heading.endswith("\n") and not HEADING.fullmatch(heading.encode()):
         return f"this is not the heading of a picture of a run: {_shown(heading)}"
-    if len(lanes) < (len(lengths) or 1) or not lanes[-1].endswith("\n"):
-        return f"the output of the run is cut off in the picture of {heading.strip()}"
-    wrong = next(lane for lane, length in zip(lanes, lengths) if len(lane) != length)
+    if not all(line.endswith("\n") for line in (heading, *lanes)):
+        return f"the output of the run is cut off in the picture of {_shown(heading)}"
+    wrong = next(lane for lane in lanes if len(lane) != length + 1)
     return f"a lane of {heading.strip()} is not as long as the first lane of the run: {_shown(wrong)}"
 
 
