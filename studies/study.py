@@ -5,7 +5,6 @@ import argparse
 import csv
 import shutil
 import statistics
-from hashlib import sha256
 from pathlib import Path
 from typing import Callable, Dict, Iterable, List, Mapping, NamedTuple, Sequence, Type, TypeVar, Union
 
@@ -15,6 +14,7 @@ from trlab.figure import Figure
 
 Text = TypeVar("Text", Job, Sweep)
 Row = TypeVar("Row", Point, Window)
+Result = TypeVar("Result")
 
 
 class Mean(NamedTuple):
@@ -51,20 +51,29 @@ class Study(NamedTuple):
     def table(
         self, file: str, kind: Type[Row], texts: Mapping[str, Text], call: Callable[[Text], Iterable[Row]]
     ) -> Dict[str, List[Row]]:
-        """The lines of a table by the names of their texts: as a file has them, or after all texts were run.
+        """The rows of a table by the names of their texts: as a file has them, or after all texts were run.
 
-        A long run that was cut off does not run a text twice when it is started again."""
+        A run that was stopped or killed continues where it stopped when it is started again."""
         if not self.is_drawn_only:
             self.write_texts(texts)
-            parts = self.folder / f"{file}.parts"
-            tables = zip(texts, trlab.map(lambda text: kept(parts, kind, text, call), texts.values()))
-            lines = [[name, *line] for name, lines in tables for line in lines]
-            write_rows(self.folder / file, ["text", *kind._fields], lines)
-            shutil.rmtree(parts)
+            tables = self.results(texts, call)
+            rows = [[name, *row] for name in texts for row in tables[name]]
+            write_rows(self.folder / file, ["text", *kind._fields], rows)
         found: Dict[str, List[Row]] = {}
         for name, *numbers in read_rows(self.folder / file):
             found.setdefault(name, []).append(kind(*(int(number) for number in numbers)))
         return found
+
+    def results(self, texts: Mapping[str, Text], call: Callable[[Text], Result]) -> Dict[str, Result]:
+        """The results of a call by the names of the texts.
+
+        What the program writes is kept in `outputs.parts` until the study is complete (`draw`). The name of each part is
+        the digest of the call of the program, the text and the program, so that a changed study never gets an old part."""
+        return dict(trlab.results(texts, call=call, cache=self.parts, progress=True))
+
+    @property
+    def parts(self) -> Path:
+        return self.folder / "outputs.parts"
 
     def write_texts(self, texts: Mapping[str, Union[Job, Sweep]]) -> None:
         """Writes texts beside the tables; of jobs that differ in their key alone those of key 1."""
@@ -77,27 +86,20 @@ class Study(NamedTuple):
                 (place / f"{name}.job").write_text(text.text())
 
     def draw(self, figure: Figure, name: str = "figure.svg") -> None:
+        """Draws a figure from the finished tables. The parts that they were made of are no longer needed."""
         (self.folder / name).write_text(figure.svg())
-
-
-def kept(
-    folder: Path, kind: Type[Row], text: Union[Job, Sweep], call: Callable[[Text], Iterable[Row]]
-) -> List[List[str]]:
-    """The lines of one text, whose file has the digest of the text as its name, since the text alone decides them."""
-    file = folder / f"{sha256(text.text().encode()).hexdigest()}.csv"
-    if not file.exists():
-        begun = file.with_suffix(".begun")
-        write_rows(begun, kind._fields, call(text))
-        begun.replace(file)
-    return read_rows(file)
+        shutil.rmtree(self.parts, ignore_errors=True)
 
 
 def write_rows(file: Path, heading: Sequence[str], rows: Iterable[Sequence[object]]) -> None:
+    """Writes a table, which is moved into its place as a whole."""
     file.parent.mkdir(parents=True, exist_ok=True)
-    with open(file, "w", newline="") as out:
+    new = file.with_name(f"{file.name}.parts")
+    with open(new, "w", newline="") as out:
         table = csv.writer(out, lineterminator="\n")
         table.writerow(heading)
         table.writerows(rows)
+    new.replace(file)
 
 
 def read_rows(file: Path) -> List[List[str]]:

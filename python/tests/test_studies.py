@@ -3,18 +3,21 @@ import contextlib
 import importlib.util
 import io
 import itertools
+import subprocess
 import sys
 import tempfile
 import unittest
 from dataclasses import replace
 from functools import lru_cache
 from pathlib import Path
-from shutil import copytree
+from shutil import copytree, which
 from typing import Dict, List, NamedTuple, Set
 from unittest import mock
 
+from tests.processes import calls, logging_program
 from tests.test_runs import knows_series
 from trlab import Nasch, Point, Sweep, random
+from trlab.figure import Axis, Figure
 
 STUDIES = Path(__file__).resolve().parents[2] / "studies"
 
@@ -137,23 +140,36 @@ class Studies(unittest.TestCase):
 
         shape = {"limit": 5, "length": 10, "rule": Nasch(0), "warm": 0, "measure": 1}
         sweeps = {f"{cars}_cars": Sweep(**shape, cars=[cars]) for cars in (1, 2, 3)}
-        asked, missing = [], {3}
 
-        def call(sweep):
-            asked.append(sweep.cars[0])
-            if sweep.cars[0] in missing:
+        def is_cut_off(sweep):
+            if sweep.cars == (3,):
                 raise OSError("cut off")
             return sweep.sweep()
 
-        with tempfile.TemporaryDirectory() as folder:
-            study = Study(Path(folder), is_full=False, is_drawn_only=False)
-            with self.assertRaises(OSError):
-                study.table("table.csv", Point, sweeps, call)
-            missing.clear()
-            found = study.table("table.csv", Point, sweeps, call)
+        def other_call(sweep):
+            return sweep.sweep(runners=2)
+
+        with tempfile.TemporaryDirectory() as folder, tempfile.TemporaryDirectory() as beside:
+            with mock.patch.dict("os.environ", TRLAB=str(logging_program(beside))):
+                study = Study(Path(folder), is_full=False, is_drawn_only=False)
+                with contextlib.redirect_stderr(io.StringIO()):
+                    self.assertRaises(OSError, study.table, "table.csv", Point, sweeps, is_cut_off)
+                    done = len(list((Path(folder) / "outputs.parts").iterdir()))
+                    for call, new_calls in (Sweep.sweep, 3 - done), (Sweep.sweep, 0), (other_call, 3):
+                        before = calls(beside, "sweep")
+                        found = study.table("table.csv", Point, sweeps, call)
+                        self.assertEqual(calls(beside, "sweep") - before, new_calls)
             self.assertEqual([point.cars for points in found.values() for point in points], [1, 2, 3])
-            self.assertEqual(sorted(asked), [1, 2, 3, 3])
-            self.assertEqual({file.name for file in Path(folder).iterdir()}, {"table.csv", "texts"})
+            self.assertLessEqual(done, 2)
+            study.draw(Figure(Axis("a", 1.0), Axis("b", 1.0), []))
+            self.assertEqual({file.name for file in Path(folder).iterdir()}, {"table.csv", "texts", "figure.svg"})
+
+    def test_parts_are_not_in_git(self):
+        top = STUDIES.parent
+        if not (top / ".git").exists() or not which("git"):
+            self.skipTest("this is not a checkout")
+        for path in "studies/1992/outputs.parts", "studies/1992/full/outputs.parts":
+            self.assertEqual(subprocess.run(["git", "check-ignore", "-q", path], cwd=top).returncode, 0)
 
     def test_a_branch_comes_out_again(self):
         if not knows_series():

@@ -15,8 +15,11 @@ except that `.to_numpy()` and `.to_pandas()` of results need numpy and pandas. `
 that of the package or of the checkout is used."""
 from .drift import Drift
 from .figure import Figure
+from .frame import Frame
 from .location import find_program
-from .many import map, read_tables, write_texts
+from .files import read_tables, write_texts
+from .grid import Grid, key_for
+from .many import map, results
 from .program import Failed, Refused, version
 from .results import Picture, Pictures, Point, Table, Window
 from .rules import Nasch, Own, Rickert, Rule, SlowToStart
@@ -35,6 +38,8 @@ __all__ = [
     "Drift",
     "Failed",
     "Figure",
+    "Frame",
+    "Grid",
     "Jam",
     "Job",
     "Key",
@@ -61,8 +66,10 @@ __all__ = [
     "explain",
     "find_program",
     "jam",
+    "key_for",
     "moving",
     "read_tables",
+    "results",
     "version",
     "write_texts",
 ]

@@ -1,65 +1,247 @@
-"""Many texts: over processes here, and by files elsewhere."""
+"""Many inputs, side by side: results as they finish, kept in a folder, with threads or any other executor."""
 from __future__ import annotations
 
+import atexit
+import functools
+import itertools
 import os
-import shlex
-from concurrent.futures import ThreadPoolExecutor
+import threading
+from concurrent.futures import BrokenExecutor, Executor, Future, ThreadPoolExecutor, wait
+from contextlib import contextmanager
 from pathlib import Path
-from typing import Callable, Dict, Iterable, List, Mapping, Optional, Sequence, TypeVar, Union
+from queue import SimpleQueue
+from typing import Any, Callable, Dict, Iterable, Iterator, List, Mapping, Optional, Tuple, TypeVar, Union, overload
 
-from .location import find_program
-from .results import Row, Table
+from .cache import Cache
+from .owners import Lease
+from .progress import Line, Progress, reporter
+from .running import Processes, Setting, set_to, setting
 from .texts import Job, Sweep
+from .units import whole
 
-Text = TypeVar("Text", Job, Sweep)
+Text = TypeVar("Text")
+Name = TypeVar("Name")
 Result = TypeVar("Result")
 
-_ARRAY = """#!/bin/sh
-#SBATCH --cpus-per-task=1 --output={folder}/slurm-%A_%a.out
-text=$(ls {folder}/*.{kind} | sed -n "${{SLURM_ARRAY_TASK_ID}}p")
-{command} < "$text" > "${{text%.{kind}}}.csv"
-"""
+# The processes of the runs that go on in this process, by the path of their lease.
+_RUNS: Dict[str, Processes] = {}
+
+
+def table_or_pictures(text: Union[Job, Sweep]) -> Any:
+    """The table of a sweep, or the pictures of a job."""
+    return text.sweep() if isinstance(text, Sweep) else text.run()
+
+
+@overload
+def results(
+    texts: Mapping[Name, Text],
+    call: Optional[Callable[[Text], Any]] = ...,
+    cache: Union[None, str, Path] = ...,
+    executor: Optional[Executor] = ...,
+    progress: Progress = ...,
+    errors: str = ...,
+    at_once: Optional[int] = ...,
+) -> Iterator[Tuple[Name, Any]]: ...
+
+
+@overload
+def results(
+    texts: Iterable[Text],
+    call: Optional[Callable[[Text], Any]] = ...,
+    cache: Union[None, str, Path] = ...,
+    executor: Optional[Executor] = ...,
+    progress: Progress = ...,
+    errors: str = ...,
+    at_once: Optional[int] = ...,
+) -> Iterator[Tuple[int, Any]]: ...
+
+
+def results(
+    texts: Any,
+    call: Optional[Callable[[Any], Any]] = None,
+    cache: Union[None, str, Path] = None,
+    executor: Optional[Executor] = None,
+    progress: Progress = None,
+    errors: str = "raise",
+    at_once: Optional[int] = None,
+) -> Iterator[Tuple[Any, Any]]:
+    """Runs many inputs side by side, and yields the name and the result of each as it finishes:
+
+        for name, table in trlab.results(sweeps, cache="study/cache", progress=True):
+            print(name, table[0].flow)
+
+    `texts` is a mapping of names to jobs or sweeps, or a list, whose names are the numbers 0, 1, 2 and so on.
+
+    `call` is the function that is applied to each input. Without it a sweep gives its table, and a job its pictures.
+    For other results pass a function, for example `lambda job: job.series(every=100, first=1000)`. It should return a
+    whole result, not an iterator.
+
+    `cache` is a folder that keeps the outputs of the program, one file per call of the program. If a run is
+    interrupted or killed, even by `kill -9`, start it again with the same folder: finished outputs are read, not
+    computed. The name of a file is the SHA-256 of the program's arguments, the input and the program, so a changed
+    input, argument or program never gets an old result. A damaged file is never used. `call` itself is applied again.
+    Several runs, also on several machines, may share a folder.
+
+    `executor` is any executor of `concurrent.futures`, which you shut down yourself. Without it threads are used,
+    each of which waits for one process of the program. With executors of other processes (`ProcessPoolExecutor`,
+    dask's `client.get_executor()`, `mpi4py.futures.MPIPoolExecutor`, joblib's `get_reusable_executor()`) `call` must
+    be a function at the top level of a module, unless the executor can send others.
+
+    `progress=True` writes a line to standard error; a function is called with the numbers of finished and of all
+    inputs.
+
+    `errors="raise"` raises the first exception of a call, such as `Refused` for a rejected input; `errors="keep"`
+    yields the exception in place of the result, and goes on.
+
+    At most `at_once` inputs run at a time: without it as many as there are processors, or as many as the executor
+    takes. After an exception, Ctrl-C or a loop that is left early no process of the program goes on. If a variable
+    holds the iterator itself, call its `.close()` in such a case; else the processes are stopped when Python
+    exits."""
+    if errors not in ("raise", "keep"):
+        raise ValueError(f'errors must be "raise" or "keep", not {errors!r}')
+    if at_once is not None:
+        whole("at_once", at_once, 1, 10**6)
+    named = dict(texts) if isinstance(texts, Mapping) else dict(enumerate(texts))
+    if call is None:
+        for name, text in named.items():
+            if not isinstance(text, (Job, Sweep)):
+                raise TypeError(f"input {name!r} is not a Job or a Sweep: {text!r}")
+    kept, report = _cache_for(cache), reporter(progress)
+    return _results(named, call or table_or_pictures, kept, executor, report, errors == "keep", at_once)
 
 
 def map(call: Callable[[Text], Result], texts: Iterable[Text], at_once: Optional[int] = None) -> List[Result]:
-    """What a call answers to each text, in their order, as `map(Sweep.sweep, sweeps)`.
+    """Applies `call` to every input and returns the results in order, for example `map(Sweep.sweep, sweeps)`.
 
-    So many at a time run side by side, each in a process of the program, or as many as there are processors. If one
-    fails, what the first of them raised is raised."""
-    with ThreadPoolExecutor(at_once or len(os.sched_getaffinity(0))) as threads:
-        return list(threads.map(call, texts))
-
-
-def write_texts(
-    folder: Union[str, Path],
-    texts: Mapping[str, Union[Job, Sweep]],
-    words: Sequence[str] = ("sweep",),
-    program: Optional[str] = None,
-) -> Path:
-    """Writes each text as `folder/NAME.sweep`, or `folder/NAME.job` where the words are not those of a sweep, and
-    `folder/array.sh`, the script of a Slurm array, which it returns.
-
-    The task i of the array gives the i-th text by name to the program with these words, and writes `folder/NAME.csv`.
-    What Slurm itself tells of it goes to `folder/slurm-*.out`:
-
-        sbatch --array=1-N folder/array.sh
-
-    Without Slurm GNU parallel does the same:
-
-        seq N | parallel SLURM_ARRAY_TASK_ID={} sh folder/array.sh
-
-    `program` is its path where the tasks run; where it is not said, the path that it has here."""
-    place = Path(folder).resolve()
-    place.mkdir(parents=True, exist_ok=True)
-    kind = "sweep" if words[0] == "sweep" else "job"
-    for name, text in texts.items():
-        (place / f"{name}.{kind}").write_text(text.text())
-    command = shlex.join([program or find_program(), *words])
-    script = place / "array.sh"
-    script.write_text(_ARRAY.format(folder=shlex.quote(str(place)), kind=kind, command=command))
-    return script
+    At most `at_once` inputs run at a time, by default as many as there are processors. If a call raises an exception,
+    the others are stopped and it is raised. `results` can do more: it keeps results, and yields each as it finishes."""
+    found = dict(results(list(texts), call, at_once=at_once))
+    return [found[place] for place in range(len(found))]
 
 
-def read_tables(folder: Union[str, Path], kind: type[Row]) -> Dict[str, Table[Row]]:
-    """The tables `folder/NAME.csv` of such tasks by their names; `kind` is `Point` or `Window`."""
-    return {file.stem: Table.read(kind, file.read_text()) for file in sorted(Path(folder).glob("*.csv"))}
+def _cache_for(folder: Union[None, str, Path]) -> Optional[Cache]:
+    """The cache in a folder; without one that of the task in which this runs, if it does."""
+    if folder is None:
+        now = setting()
+        return None if now is None else now.cache
+    cache = Cache(folder)
+    cache.create()
+    return cache
+
+
+def _results(
+    named: Mapping[Any, Any],
+    call: Callable[[Any], Any],
+    cache: Optional[Cache],
+    executor: Optional[Executor],
+    report: Optional[Callable[[int, int], object]],
+    are_errors_kept: bool,
+    at_once: Optional[int],
+) -> Iterator[Tuple[Any, Any]]:
+    finished: SimpleQueue[Future[Any]] = SimpleQueue()
+    names: Dict[Future[Any], Any] = {}
+    inputs = iter(named.items())
+    with _running(executor, cache, at_once, names) as (pool, lease, waiting):
+
+        def submit(count: Optional[int]) -> None:
+            for name, text in itertools.islice(inputs, count):
+                future = pool.submit(_task, call, text, cache, lease)
+                names[future] = name
+                future.add_done_callback(finished.put)
+
+        submit(waiting)
+        try:
+            for done in range(1, len(named) + 1):
+                future = finished.get()
+                name = names.pop(future)
+                found = _found(future, are_errors_kept)
+                submit(1)
+                if report is not None:
+                    report(done, len(named))
+                yield name, found
+        finally:
+            if isinstance(report, Line):
+                report.end()
+
+
+@contextmanager
+def _running(
+    executor: Optional[Executor], cache: Optional[Cache], at_once: Optional[int], futures: Dict[Future[Any], Any]
+) -> Iterator[Tuple[Executor, Lease, Optional[int]]]:
+    """The executor, the lease of the run, and how many inputs it gets at first. At the end nothing of it goes on."""
+    now = setting()
+    processes = Processes(None if now is None else now.processes)
+    # A run inside a task of another run leaves the other processors to the other tasks.
+    count = at_once or (len(os.sched_getaffinity(0)) if now is None else 1)
+    pool = executor or ThreadPoolExecutor(count, "trlab")
+    lease = Lease.new(None if cache is None else cache.folder)
+    _RUNS[lease.path] = processes
+    _stop_at_exit()
+    try:
+        if executor is not None:
+            lease.begin()
+        # Threads of our own always have an input at hand while the caller looks at a result.
+        yield pool, lease, at_once if executor is not None else 2 * count
+    finally:
+        processes.stop()
+        running = [future for future in futures if not future.cancel()]
+        lease.end()
+        wait(running, timeout=10)
+        if executor is None:
+            pool.shutdown()
+        del _RUNS[lease.path]
+
+
+def _found(future: Future[Any], are_errors_kept: bool) -> Any:
+    """The result of a call, or its exception if these are kept; one of the executor itself is always raised."""
+    error = future.exception()
+    if are_errors_kept and isinstance(error, Exception) and not isinstance(error, BrokenExecutor):
+        return error
+    return future.result()
+
+
+def _task(call: Callable[[Any], Any], text: Any, cache: Optional[Cache], lease: Lease) -> Any:
+    """Applies a call to an input, in whatever thread, process or machine the executor runs it."""
+    with _processes_of(lease) as processes, set_to(Setting(processes, cache)):
+        return call(text)
+
+
+@contextmanager
+def _processes_of(lease: Lease) -> Iterator[Processes]:
+    """The processes of a run. In another process they are stopped from here when the run has ended."""
+    if lease.is_here():
+        # A task that begins after its run has ended belongs to nothing.
+        yield _RUNS.get(lease.path) or Processes(is_stopped=True)
+        return
+    processes, ended = Processes(), threading.Event()
+    if not lease.can_be_seen():
+        yield processes
+        return
+    with lease.task():
+        threading.Thread(target=_watch_lease, args=(lease, processes, ended), daemon=True).start()
+        try:
+            yield processes
+        finally:
+            ended.set()
+
+
+def _watch_lease(lease: Lease, processes: Processes, ended: threading.Event) -> None:
+    """Stops processes when the run that they belong to has ended elsewhere."""
+    while not lease.is_over():
+        if ended.wait(0.1):
+            return
+    processes.stop()
+
+
+@functools.lru_cache(maxsize=None)
+def _stop_at_exit() -> None:
+    """Has all runs stopped when Python exits, also those whose iterators are still held.
+
+    Executors wait for their threads at an earlier time than that of `atexit`, so that this must come before."""
+    getattr(threading, "_register_atexit", atexit.register)(_stop_all)
+
+
+def _stop_all() -> None:
+    for path, processes in list(_RUNS.items()):
+        Path(path).unlink(missing_ok=True)
+        processes.stop()

@@ -3,10 +3,11 @@ from __future__ import annotations
 
 import re
 import subprocess
-import tempfile
-from typing import IO, Iterator, NamedTuple, Optional, Sequence
+from itertools import chain
+from typing import Iterator, NamedTuple, Optional, Sequence
 
 from .location import find_program
+from .running import Failed as Failed, output_of
 
 REFUSED = 1
 # `explain` reads a refused text as one of these commands does.
@@ -30,17 +31,6 @@ class Refused(Exception):
         return self.explanation or self.answer
 
 
-class Failed(Exception):
-    """The program ended with an error that is not a rejected input: its exit `status`, and what it `said`."""
-
-    def __init__(self, status: int, said: str) -> None:
-        super().__init__(status, said)
-        self.status, self.said = status, said
-
-    def __str__(self) -> str:
-        return f"trlab ended with status {self.status}: {self.said.strip()}"
-
-
 class _Pair(NamedTuple):
     first: Optional[int]
     second: Optional[int]
@@ -53,37 +43,24 @@ def _numbers(form: str, answer: str) -> _Pair:
 
 def ask(words: Sequence[str], text: str) -> str:
     """What the program writes for these words, with this input on standard input."""
-    return "".join(ask_by_line(words, text))
+    with output_of(words, text) as output:
+        told = output.read().decode()
+        _raise_if_refused(told, words, text)
+    return told
 
 
 def ask_by_line(words: Sequence[str], text: str) -> Iterator[str]:
     """The same line by line while the program runs, so that no more than a line is kept."""
-    with tempfile.TemporaryFile("w+") as source, tempfile.TemporaryFile("w+") as told:
-        source.write(text)
-        source.seek(0)
-        with subprocess.Popen(
-            [find_program(), *words], stdin=source, stdout=subprocess.PIPE, stderr=told, text=True
-        ) as running:
-            assert running.stdout is not None
-            try:
-                yield from _lines_of(running.stdout, words, text)
-            except BaseException:
-                # Also if the caller is interrupted or wants no more: the program does not go on without a reader.
-                running.kill()
-                raise
-            finally:
-                running.stdout.close()
-        if running.returncode != 0:
-            told.seek(0)
-            raise Failed(running.returncode, told.read())
+    with output_of(words, text) as output:
+        first = output.readline().decode()
+        _raise_if_refused(first, words, text)
+        yield from chain([first] if first else [], map(bytes.decode, output))
 
 
-def _lines_of(output: IO[str], words: Sequence[str], text: str) -> Iterator[str]:
-    """The lines of an output; raises `Refused` if it says that the input is rejected."""
-    for number, line in enumerate(output):
-        if number == 0 and line.startswith(("fault ", "refused ")):
-            raise Refused(line.rstrip("\n"), _explain(words[0], text))
-        yield line
+def _raise_if_refused(begun: str, words: Sequence[str], text: str) -> None:
+    """Raises `Refused` if an output begins with a line that says that the input is rejected."""
+    if begun.startswith(("fault ", "refused ")):
+        raise Refused(begun.partition("\n")[0], _explain(words[0], text))
 
 
 def _explain(word: str, text: str) -> str:

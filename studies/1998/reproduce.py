@@ -12,7 +12,6 @@ sys.path[1:1] = [str(STUDIES), str(STUDIES.parent / "python")]
 
 from study import Mean, Study, read_rows, write_rows  # noqa: E402
 
-import trlab  # noqa: E402
 from trlab import Job, SlowToStart, Window, jam, moving  # noqa: E402
 from trlab.figure import Axis, Curve, Figure, Spot  # noqa: E402
 
@@ -89,8 +88,8 @@ def lives_by_length(study):
     if not study.is_drawn_only:
         jobs = lives(study.is_full)
         study.write_texts(jobs)
-        found = zip(jobs.items(), trlab.map(life, jobs.values()))
-        write_rows(file, ["text", "length", "life"], ([name, job.length, steps] for (name, job), steps in found))
+        found = study.results(jobs, life)
+        write_rows(file, ["text", "length", "life"], [[name, job.length, found[name]] for name, job in jobs.items()])
     by_length = {}
     for _, length, steps in read_rows(file):
         by_length.setdefault(int(length), []).append(int(steps))

@@ -1,0 +1,266 @@
+"""Outputs that are kept in a folder: whole or not there, whatever is killed; and no process is left."""
+import json
+import os
+import signal
+import tempfile
+import time
+import unittest
+from dataclasses import replace
+from pathlib import Path
+from unittest import mock
+
+import trlab
+from tests.processes import calls, child, end, logging_program, marked, until
+from trlab import Failed, Job, Nasch, Refused, Rickert, Sweep
+from trlab.cache import Cache, key_of
+from trlab.owners import new_path
+
+SHAPE = Sweep(limit=5, length=100, rule=Nasch(0.25), warm=10, measure=20, cars=[10, 20])
+SWEEPS = {f"key_{key}": replace(SHAPE, key=key) for key in range(5)}
+JOB = Job(limit=5, length=20, cars=4, rule=Nasch(0.25), steps=9)
+
+# Some 0.1 seconds for each of 30 sweeps.
+MANY = """
+import json, sys, trlab
+shape = {"limit": 5, "length": 10000, "rule": trlab.Nasch(0.25), "warm": 500, "measure": 500}
+sweeps = {key: trlab.Sweep(**shape, cars=[1000], key=key) for key in range(30)}
+found = {}
+for key, table in trlab.results(sweeps, cache=sys.argv[1], at_once=2):
+    found[key] = list(table[0])
+    print(key, flush=True)
+print(json.dumps(sorted(found.items())), flush=True)
+"""
+
+# Runs that would take minutes, in threads or in processes; what happens to the script after the first result differs.
+LONG = """
+import sys, time, trlab
+from concurrent.futures import ProcessPoolExecutor, ThreadPoolExecutor
+job = trlab.Job(limit=5, length=20000, density=0.2, rule=trlab.Nasch(0.25), steps=500000)
+short = trlab.Job(limit=5, length=10, cars=1, rule=trlab.Nasch(0), steps=1)
+kind = {"threads": lambda: None, "pool": lambda: ThreadPoolExecutor(3), "processes": lambda: ProcessPoolExecutor(3)}
+pool = kind[sys.argv[1]]()
+options = {"call": trlab.Job.series, "executor": pool, "cache": sys.argv[3], "at_once": 4}
+if sys.argv[2] == "hold":
+    held = trlab.results([short, *3 * [job]], **options)
+    next(held)
+    print("first", flush=True)
+    time.sleep(0.5)
+    raise KeyError
+try:
+    for name, table in trlab.results([short, *3 * [job]], **options):
+        print("first", flush=True)
+        if sys.argv[2] == "raise":
+            time.sleep(0.5)
+            raise KeyError(name)
+        if sys.argv[2] == "break":
+            time.sleep(0.5)
+            break
+except BaseException as error:
+    print(type(error).__name__, flush=True)
+print("over", flush=True)
+time.sleep(60)
+"""
+
+
+class Keys(unittest.TestCase):
+    def test_a_call_an_input_or_a_program_that_changes_has_another_key(self):
+        with tempfile.TemporaryDirectory() as folder:
+            keys = [key_of(["series"], "a"), key_of(["series", "--every", "2"], "a"), key_of(["series"], "b")]
+            with mock.patch.dict("os.environ", TRLAB=str(other_version(folder))):
+                keys.append(key_of(["series"], "a"))
+        keys += [key_of(["series", "a"], ""), key_of(["seriesa"], "")]
+        self.assertEqual(len(set(keys)), 6)
+        self.assertEqual(key_of(["series"], "a"), keys[0])
+
+    def test_a_program_that_is_replaced_under_its_path_has_another_key(self):
+        with tempfile.TemporaryDirectory() as folder:
+            keys = set()
+            for version in "1", "2":
+                with mock.patch.dict("os.environ", TRLAB=str(other_version(folder, version))):
+                    keys.add(key_of(["series"], "a"))
+        self.assertEqual(len(keys), 2)
+
+    def test_a_script_has_the_key_of_the_program_that_it_runs(self):
+        with tempfile.TemporaryDirectory() as folder:
+            keys = set()
+            for version in "1", "2":
+                behind = other_version(folder, version)
+                script = Path(folder) / "script"
+                script.write_text(f'#!/bin/sh\n[ "$1" = --where ] && echo {behind} || echo trlab 0\n')
+                script.chmod(0o755)
+                with mock.patch.dict("os.environ", TRLAB=str(script)):
+                    keys.add(key_of(["series"], "a"))
+        self.assertEqual(len(keys), 2)
+
+
+def other_version(folder, version="0"):
+    path = Path(folder) / f"trlab_{version}"
+    path.write_text(f"#!/bin/sh\necho trlab {version}\n")
+    path.chmod(0o755)
+    return path
+
+
+class Kept(unittest.TestCase):
+    def setUp(self):
+        self.folder = Path(self.enterContext_(tempfile.TemporaryDirectory()))
+        self.enterContext_(mock.patch.dict("os.environ", TRLAB=str(logging_program(self.folder))))
+        self.cache = self.folder / "cache"
+        self.wanted = {name: sweep.sweep() for name, sweep in SWEEPS.items()}
+        self.before = calls(self.folder, "sweep")
+
+    def enterContext_(self, manager):
+        entered = manager.__enter__()
+        self.addCleanup(manager.__exit__, None, None, None)
+        return entered
+
+    def new_calls(self):
+        """Runs all sweeps, compares their tables, and says how many calls of the program that took."""
+        before = calls(self.folder, "sweep")
+        self.assertEqual(dict(trlab.results(SWEEPS, cache=self.cache)), self.wanted)
+        self.assertEqual([file.name for file in self.cache.iterdir() if file.name.startswith(".")], [])
+        return calls(self.folder, "sweep") - before
+
+    def test_a_second_run_calls_nothing(self):
+        self.assertEqual((self.new_calls(), self.new_calls()), (5, 0))
+        self.assertEqual(len(list(self.cache.glob("*.out"))), 5)
+
+    def test_what_a_call_makes_of_an_output_is_made_again(self):
+        steps = [
+            dict(trlab.results([JOB], cache=self.cache, call=lambda job: job.series(every=3)[place].step))[0]
+            for place in range(3)
+        ]
+        self.assertEqual((steps, calls(self.folder, "series")), ([3, 6, 9], 1))
+
+    def test_a_damaged_file_is_never_a_result(self):
+        self.new_calls()
+        one, other, *_ = sorted(self.cache.glob("*.out"))
+        whole = one.read_bytes()
+        foreign = other.read_bytes()
+        damaged = [b"", whole[:10], whole[:150], whole[:-1], whole + b"1", foreign, b"cars,cells\n"]
+        damaged += [whole[:at] + bytes([whole[at] ^ 1]) + whole[at + 1:] for at in (0, 20, 100, 143, 144, len(whole) - 2)]
+        for content in damaged:
+            with self.subTest(content=content[:160]):
+                one.write_bytes(content)
+                self.assertEqual(self.new_calls(), 1)
+                self.assertEqual(one.read_bytes(), whole)
+
+    def test_a_rejected_input_and_a_failed_run_are_not_kept(self):
+        for _ in range(2):
+            self.assertRaises(Refused, list, trlab.results([replace(JOB, rule=Rickert(0, 0))], cache=self.cache))
+            with self.assertRaises(Failed):
+                list(trlab.results([JOB], call=lambda job: job.run(workers=17), cache=self.cache))
+        self.assertEqual((calls(self.folder, "run"), list(self.cache.iterdir())), (4, []))
+
+    def test_pictures_one_by_one(self):
+        for _ in range(2):
+            found = dict(trlab.results([JOB], call=lambda job: next(job.pictures()), cache=self.cache))
+            self.assertEqual(found, {0: JOB.run()[0]})
+        self.assertEqual(len(list(self.cache.iterdir())), 1)
+
+    def test_outputs_can_be_read_by_those_who_can_read_the_folder(self):
+        self.new_calls()
+        before = os.umask(0o027)
+        try:
+            Cache(self.cache).path(key_of(["sweep"], SHAPE.text())).unlink()
+            self.new_calls()
+        finally:
+            os.umask(before)
+        modes = {file.stat().st_mode & 0o777 for file in self.cache.iterdir()}
+        self.assertIn(0o640, modes)
+
+
+class Killed(unittest.TestCase):
+    def test_a_killed_run_goes_on_where_it_stopped(self):
+        with tempfile.TemporaryDirectory() as folder:
+            program = str(logging_program(folder))
+            cache = Path(folder) / "cache"
+            killed = child(MANY, str(cache), TRLAB=program)
+            for _ in range(7):
+                killed.stdout.readline()
+            killed.kill()
+            killed.communicate()
+            self.assertTrue(until(lambda: not marked(killed.mark)))
+            whole, done = list(cache.glob("*.out")), calls(folder, "sweep")
+            self.assertTrue(7 <= len(whole) <= done < 30, (len(whole), done))
+            second = child(MANY, str(cache), TRLAB=program)
+            written, _ = second.communicate()
+            self.assertEqual(calls(folder, "sweep"), done + 30 - len(whole))
+            self.assertEqual([file.name for file in cache.iterdir() if not file.name.endswith(".out")], [])
+            third, _ = child(MANY, str(cache), TRLAB=program).communicate()
+        self.assertEqual(json.loads(third.splitlines()[-1]), json.loads(written.splitlines()[-1]))
+
+    def test_programs_that_a_killed_run_left_are_killed_by_the_next_one(self):
+        with tempfile.TemporaryDirectory() as cache:
+            running = child(LONG, "threads", "interrupt", cache)
+            self.assertEqual(running.stdout.readline(), "first\n")
+            self.assertTrue(until(lambda: len(marked(running.mark, trlab.find_program())) == 3))
+            mine = child(LONG, "threads", "interrupt", cache)
+            self.assertEqual(mine.stdout.readline(), "first\n")
+            self.assertTrue(until(lambda: len(marked(mine.mark, trlab.find_program())) == 3))
+            running.kill()
+            running.communicate()
+            self.assertEqual(len(marked(running.mark)), 3)
+            Cache(cache).create()
+            self.assertTrue(until(lambda: not marked(running.mark)))
+            self.assertEqual(len(marked(mine.mark, trlab.find_program())), 3)
+            self.assertEqual(len([file for file in Path(cache).iterdir() if file.name.startswith(".new")]), 3)
+            end(mine)
+
+    def test_only_files_of_ended_processes_are_removed(self):
+        with tempfile.TemporaryDirectory() as folder:
+            mine, other = new_path(Path(folder), "new"), Path(folder) / ".new-trlab-another_machine-1-1-00"
+            number = str(os.getpid())
+            ended = Path(str(mine).replace(f"-{number}-", "-999999999-"))
+            for path in mine, other, ended:
+                path.touch()
+            Cache(folder).create()
+            self.assertEqual([path.exists() for path in (mine, other, ended)], [True, True, False])
+
+
+class Stopped(unittest.TestCase):
+    """After Ctrl-C, an exception, a loop that is left, or an exit of Python, no process of trlab goes on."""
+
+    def try_one(self, executor, ending):
+        with tempfile.TemporaryDirectory() as cache:
+            running = child(LONG, executor, ending, cache)
+            try:
+                self.assertEqual(running.stdout.readline(), "first\n")
+                self.assertTrue(until(lambda: len(marked(running.mark, trlab.find_program())) == 3))
+                if ending == "interrupt":
+                    running.send_signal(signal.SIGINT)
+                begun = time.monotonic()
+                lines = [running.stdout.readline()]
+                while lines[-1] not in ("over\n", ""):
+                    lines.append(running.stdout.readline())
+                self.assertLess(time.monotonic() - begun, 30)
+                self.assertEqual(marked(running.mark, trlab.find_program()), [])
+                self.assertEqual(sorted(file.name[:5] for file in Path(cache).iterdir()), [key_of_short()[:5]])
+                return lines
+            finally:
+                end(running)
+
+    def test_all_ways(self):
+        wanted = {"interrupt": ["KeyboardInterrupt\n", "over\n"], "raise": ["KeyError\n", "over\n"], "break": ["over\n"], "hold": [""]}
+        for executor in "threads", "pool", "processes":
+            for ending, lines in wanted.items():
+                with self.subTest(executor=executor, ending=ending):
+                    self.assertEqual(self.try_one(executor, ending), lines)
+
+    def test_a_killed_run_leaves_nothing_in_other_processes(self):
+        with tempfile.TemporaryDirectory() as cache:
+            running = child(LONG, "processes", "interrupt", cache)
+            self.assertEqual(running.stdout.readline(), "first\n")
+            self.assertTrue(until(lambda: len(marked(running.mark, trlab.find_program())) == 3))
+            running.kill()
+            running.wait()
+            self.assertTrue(until(lambda: not marked(running.mark, trlab.find_program())))
+            end(running)
+
+
+def key_of_short():
+    """The key of the short job in `LONG`."""
+    return key_of(["series"], Job(limit=5, length=10, cars=1, rule=Nasch(0), steps=1).text())
+
+
+if __name__ == "__main__":
+    unittest.main()

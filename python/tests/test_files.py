@@ -1,0 +1,204 @@
+"""Inputs and tables as files: `array.sh` leaves whole results only, and `read_tables` names each one that is not."""
+import os
+import shutil
+import signal
+import subprocess
+import tempfile
+import unittest
+from dataclasses import replace
+from pathlib import Path
+
+from tests.processes import calls, child, end, logging_program, marked, until
+from trlab import Job, Nasch, Point, Rickert, Sweep, Window, find_program, read_tables, write_texts
+
+SHAPE = Sweep(limit=5, length=100, rule=Nasch(0.25), warm=10, measure=20, cars=[10, 20])
+SWEEPS = {f"key {key}": replace(SHAPE, key=key) for key in range(5)}
+JOB = Job(limit=5, length=20, cars=4, rule=Nasch(0.25), steps=10)
+LONG = replace(JOB, length=20000, cars=4000, steps=500000)
+# A child process of Python, whose mark its own children have, becomes the shell that runs a script.
+SHELL = "import os, sys; os.execvp('sh', ['sh', *sys.argv[1:]])"
+
+
+class Folder(unittest.TestCase):
+    def setUp(self):
+        self.place = tempfile.mkdtemp(prefix="a blank ")
+        self.addCleanup(shutil.rmtree, self.place)
+        self.folder = Path(self.place) / "array"
+
+    def task(self, script, number=None):
+        """Runs a task of an array, or all of it, and returns the exit status and what it wrote to standard error."""
+        environment = {name: value for name, value in os.environ.items() if name != "SLURM_ARRAY_TASK_ID"}
+        if number is not None:
+            environment["SLURM_ARRAY_TASK_ID"] = str(number)
+        ran = subprocess.run(["sh", script], env=environment, stdout=subprocess.PIPE, stderr=subprocess.PIPE, text=True)
+        self.assertEqual(ran.stdout, "")
+        return ran.returncode, ran.stderr
+
+    def results(self):
+        return sorted(file.name for file in self.folder.glob("*.csv"))
+
+
+class Arrays(Folder):
+    def test_a_task_runs_one_input(self):
+        script = write_texts(self.folder, SWEEPS)
+        self.assertEqual((self.task(script, 2), self.results()), ((0, ""), ["key 1.csv"]))
+        self.assertEqual((self.task(script, 6), self.results()), ((0, ""), ["key 1.csv"]))
+        self.assertEqual(self.task(script), (0, ""))
+        self.assertEqual(read_tables(self.folder, Point, SWEEPS), {name: it.sweep() for name, it in SWEEPS.items()})
+        self.assertEqual([file.name for file in self.folder.iterdir() if file.name.startswith(".")], [])
+
+    def test_a_task_runs_several_inputs(self):
+        script = write_texts(self.folder, SWEEPS, per_task=2)
+        self.assertIn("#SBATCH --array=1-3 ", script.read_text())
+        self.assertEqual((self.task(script, 3), self.results()), ((0, ""), ["key 4.csv"]))
+        self.assertEqual((self.task(script, 1), self.results()), ((0, ""), ["key 0.csv", "key 1.csv", "key 4.csv"]))
+
+    def test_whole_results_are_skipped(self):
+        script = write_texts(self.folder, SWEEPS, program=str(logging_program(self.place)))
+        self.task(script, 1)
+        before = (self.folder / "key 0.csv").stat().st_ino
+        for _ in range(2):
+            self.assertEqual(self.task(script), (0, ""))
+        self.assertEqual((calls(self.place, "sweep"), (self.folder / "key 0.csv").stat().st_ino), (5, before))
+
+    def test_a_rejected_input_has_no_result(self):
+        jobs = {"wrong": replace(JOB, rule=Rickert(0, 0)), "good": JOB}
+        script = write_texts(self.folder, jobs, ["series"], per_task=2)
+        wanted = "wrong.job has no result, trlab ended with status 1: fault line 5 cause 4\n"
+        self.assertEqual((self.task(script, 1), self.results()), ((1, wanted), ["good.csv"]))
+
+    def test_an_output_that_is_cut_off_is_no_result(self):
+        cuts = Path(self.place) / "cuts"
+        cuts.write_text(f'#!/bin/sh\n"{find_program()}" "$@" | head -c 100\nexit 3\n')
+        cuts.chmod(0o755)
+        script = write_texts(self.folder, SWEEPS, program=str(cuts))
+        status, said = self.task(script, 1)
+        self.assertEqual((status, self.results()), (3, []))
+        self.assertTrue(said.startswith("key 0.sweep has no result, trlab ended with status 3: cars,cells"), said)
+
+    def test_a_killed_task_leaves_no_result(self):
+        script = write_texts(self.folder, {"long": LONG, "short": JOB}, ["series"], per_task=2)
+        for sent in signal.SIGTERM, signal.SIGKILL:
+            with self.subTest(signal=sent):
+                shell = child(SHELL, str(script), SLURM_ARRAY_TASK_ID="1")
+                new = lambda: [file for file in self.folder.glob(".long.new.*") if file.stat().st_size > 100000]
+                self.assertTrue(until(new))
+                if sent == signal.SIGTERM:
+                    shell.terminate()
+                    self.assertEqual(shell.wait(), 143)
+                    self.assertTrue(until(lambda: not marked(shell.mark)))
+                    self.assertEqual(list(self.folder.glob(".*")), [])
+                end(shell)
+                self.assertEqual(self.results(), [])
+        write_texts(self.folder, {"long": replace(LONG, steps=10), "short": JOB}, ["series"])
+        self.assertEqual((self.task(script), self.results()), ((0, ""), ["long.csv", "short.csv"]))
+        self.assertEqual(list(self.folder.glob(".*")), [])
+
+    def test_gnu_parallel(self):
+        if not shutil.which("parallel"):
+            self.skipTest("GNU parallel is not installed")
+        script = write_texts(self.folder, SWEEPS, per_task=2)
+        line = f"seq 3 | parallel SLURM_ARRAY_TASK_ID={{}} sh \"'{script}'\""
+        self.assertEqual(os.system(line), 0)
+        self.assertEqual(read_tables(self.folder, Point, SWEEPS), {name: it.sweep() for name, it in SWEEPS.items()})
+
+    def test_pictures_have_another_ending(self):
+        script = write_texts(self.folder, {"a": JOB}, ["run"])
+        self.assertEqual(self.task(script), (0, ""))
+        self.assertTrue((self.folder / "a.out").read_text().startswith("step 0\n"))
+
+    def test_names_that_no_file_can_have(self):
+        for name in "", "a/b", ".a", "a\nb":
+            self.assertRaises(ValueError, write_texts, self.folder, {name: SHAPE})
+        self.assertRaises(ValueError, write_texts, self.folder, SWEEPS, per_task=0)
+
+    def test_a_result_of_another_input_is_not_kept(self):
+        self.task(write_texts(self.folder, SWEEPS), 1)
+        write_texts(self.folder, SWEEPS)
+        changed = {**SWEEPS, "key 0": replace(SHAPE, measure=21)}
+        self.assertRaisesRegex(FileExistsError, "key 0.csv", write_texts, self.folder, changed)
+        self.assertRaisesRegex(FileExistsError, "key 0.csv", write_texts, self.folder, SWEEPS, ["sweep", "--runners", "2"])
+        write_texts(self.folder, {**SWEEPS, "key 1": replace(SHAPE, measure=21)})
+
+
+class Tables(Folder):
+    def setUp(self):
+        super().setUp()
+        self.task(write_texts(self.folder, SWEEPS))
+        self.wanted = {name: it.sweep() for name, it in SWEEPS.items()}
+
+    def fault(self, texts=SWEEPS, kind=Point):
+        """What is raised, after its first line."""
+        with self.assertRaises(ValueError) as caught:
+            read_tables(self.folder, kind, texts)
+        first, *others = str(caught.exception).split("\n")
+        self.assertEqual(first, f"{len(others)} of {len(texts or self.wanted)} tables in {self.folder} cannot be used:")
+        return [line.strip() for line in others]
+
+    def test_all_faults_in_one_error(self):
+        whole = (self.folder / "key 0.csv").read_bytes()
+        lines = whole.split(b"\n")
+        (self.folder / "key 0.csv").unlink()
+        for number, content in {1: b"", 2: whole[:-1], 3: b"\n".join(lines[:-2]) + b"\n", 4: b"a,b\n1,2\n"}.items():
+            (self.folder / f"key {number}.csv").write_bytes(content)
+        self.assertEqual(
+            self.fault()[:4],
+            [
+                "key 0.csv is missing",
+                "key 1.csv is empty",
+                "key 2.csv is cut off in the middle of a line",
+                "key 3.csv is short: it has 1 of 2 points",
+            ],
+        )
+        self.assertRegex(self.fault()[4], "^key 4.csv is damaged: .*a,b")
+
+    def test_every_cut_of_a_table_is_found(self):
+        file = self.folder / "key 0.csv"
+        whole = file.read_bytes()
+        for length in range(len(whole)):
+            file.write_bytes(whole[:length])
+            with self.subTest(length=length):
+                self.assertEqual(len(self.fault()), 1)
+
+    def test_without_inputs(self):
+        self.assertEqual(read_tables(self.folder, Point), self.wanted)
+        (self.folder / "key 3.csv").write_text("")
+        self.assertEqual(self.fault(None), ["key 3.csv is empty"])
+
+    def test_the_order_of_the_inputs(self):
+        turned = dict(reversed(SWEEPS.items()))
+        self.assertEqual(list(read_tables(self.folder, Point, turned)), list(turned))
+        self.assertEqual(list(read_tables(self.folder, Point, {"key 3": SWEEPS["key 3"]})), ["key 3"])
+
+    def test_a_table_of_another_input(self):
+        others = {"key 0": replace(SHAPE, key=99), "key 1": SWEEPS["key 1"]}
+        self.assertEqual(self.fault(others), ["key 0.csv is the result of another input, key 0.sweep"])
+        for file in self.folder.glob("*.sweep"):
+            file.unlink()
+        for other in replace(SHAPE, cars=[10]), replace(SHAPE, cars=[10, 30]), replace(SHAPE, measure=21):
+            self.assertEqual(self.fault({"key 0": other}), ["key 0.csv has other points than its sweep"])
+
+    def test_every_cut_of_a_series_is_found(self):
+        for every, first in (1, 0), (3, 0), (3, 1), (4, 1), (10, 0):
+            words = ["series", "--every", str(every), "--from", str(first)]
+            folder = self.folder / f"{every} {first}"
+            self.task(write_texts(folder, {"a": JOB}, words))
+            whole = (folder / "a.csv").read_text()
+            self.assertEqual(read_tables(folder, Window, {"a": JOB})["a"].csv(), whole)
+            for length in range(len(whole)):
+                (folder / "a.csv").write_text(whole[:length])
+                with self.subTest(every=every, first=first, length=length), self.assertRaises(ValueError):
+                    read_tables(folder, Window, {"a": JOB})
+
+    def test_a_short_series(self):
+        self.folder /= "series"
+        self.task(write_texts(self.folder, {"a": JOB}, ["series"]))
+        lines = (self.folder / "a.csv").read_text().splitlines(keepends=True)
+        (self.folder / "a.csv").write_text("".join(lines[:5]))
+        self.assertEqual(self.fault({"a": JOB}, Window), ["a.csv is short: its last window ends after 4 of 10 steps"])
+        (self.folder / "a.csv").write_text("".join(lines[:3] + lines[4:]))
+        self.assertEqual(self.fault({"a": JOB}, Window), ["a.csv has other windows than its job"])
+
+
+if __name__ == "__main__":
+    unittest.main()

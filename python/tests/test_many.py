@@ -1,0 +1,197 @@
+"""Many inputs side by side: results as they finish, exceptions, progress, and the executors that run them."""
+import io
+import logging
+import multiprocessing
+import shutil
+import subprocess
+import sys
+import tempfile
+import threading
+import time
+import unittest
+import warnings
+from concurrent.futures import ProcessPoolExecutor, ThreadPoolExecutor
+from concurrent.futures.process import BrokenProcessPool
+from dataclasses import replace
+from pathlib import Path
+from unittest import mock
+
+import trlab
+from tests.processes import PYTHON, calls, logging_program
+from tests.test_arrays import needs
+from trlab import Failed, Job, Nasch, Refused, Rickert, Sweep
+
+SHAPE = Sweep(limit=5, length=100, rule=Nasch(0.25), warm=10, measure=20, cars=[10, 20])
+SWEEPS = {f"key_{key}": replace(SHAPE, key=key) for key in range(5)}
+JOB = Job(limit=5, length=20, cars=4, rule=Nasch(0.25), steps=9)
+WRONG = replace(JOB, rule=Rickert(0, 0))
+
+
+def windows(job):
+    """A call at the top level of a module, which executors of processes can send."""
+    return job.series(every=3)
+
+
+def ends_its_process(job):
+    import os
+
+    os._exit(3)
+
+
+class Results(unittest.TestCase):
+    def test_names_and_results(self):
+        self.assertEqual(dict(trlab.results(SWEEPS)), {name: it.sweep() for name, it in SWEEPS.items()})
+        found = dict(trlab.results([SHAPE, JOB]))
+        self.assertEqual(found, {0: SHAPE.sweep(), 1: JOB.run()})
+        self.assertEqual(list(trlab.results([])), [])
+        self.assertEqual(sorted(trlab.results(range(3), call=lambda number: number + 1)), [(0, 1), (1, 2), (2, 3)])
+
+    def test_the_first_that_finishes_comes_first(self):
+        is_over = threading.Event()
+
+        def call(number):
+            self.assertTrue(number > 0 or is_over.wait(10))
+            return number
+
+        found = trlab.results([0, 1, 2], call=call, at_once=2)
+        self.assertEqual(sorted([next(found)[0], next(found)[0]]), [1, 2])
+        is_over.set()
+        self.assertEqual(next(found), (0, 0))
+
+    def test_so_many_at_once(self):
+        lock, running, most = threading.Lock(), [], []
+
+        def call(number):
+            with lock:
+                running.append(number)
+                most.append(len(running))
+            time.sleep(0.02)
+            with lock:
+                running.remove(number)
+
+        for options in {"at_once": 2}, {"at_once": 2, "executor": ThreadPoolExecutor(5)}:
+            most.clear()
+            self.assertEqual(len(list(trlab.results(range(12), call=call, **options))), 12)
+            self.assertEqual(max(most), 2)
+
+    def test_what_is_asked_wrongly(self):
+        self.assertRaisesRegex(ValueError, "errors", trlab.results, SWEEPS, errors="ignore")
+        self.assertRaisesRegex(ValueError, "at_once", trlab.results, SWEEPS, at_once=0)
+        self.assertRaisesRegex(TypeError, "input 'a'", trlab.results, {"a": "sweep 1"})
+
+
+class Exceptions(unittest.TestCase):
+    def test_a_rejected_input_is_raised(self):
+        with self.assertRaises(Refused):
+            list(trlab.results({"good": JOB, "wrong": WRONG}))
+        with self.assertRaises(Refused):
+            trlab.map(Job.run, [JOB, WRONG])
+
+    def test_a_rejected_input_is_kept(self):
+        found = dict(trlab.results({"good": JOB, "wrong": WRONG, "also_good": replace(JOB, key=1)}, errors="keep"))
+        self.assertEqual((found["good"], found["also_good"]), (JOB.run(), replace(JOB, key=1).run()))
+        self.assertEqual((type(found["wrong"]), found["wrong"].cause), (Refused, 4))
+
+    def test_an_error_of_the_call_is_kept(self):
+        found = dict(trlab.results([1, 0], call=lambda number: 1 / number, errors="keep"))
+        self.assertEqual((found[0], type(found[1])), (1, ZeroDivisionError))
+
+    def test_a_broken_executor_is_always_raised(self):
+        with ProcessPoolExecutor(1, multiprocessing.get_context("fork")) as pool:
+            with self.assertRaises(BrokenProcessPool):
+                list(trlab.results([JOB], call=ends_its_process, executor=pool, errors="keep"))
+
+
+class Progress(unittest.TestCase):
+    def test_a_function(self):
+        told = []
+        list(trlab.results(SWEEPS, progress=lambda done, total: told.append((done, total))))
+        self.assertEqual(told, [(number, 5) for number in range(1, 6)])
+
+    def test_lines(self):
+        with mock.patch.object(sys, "stderr", io.StringIO()) as errors:
+            list(trlab.results(range(1000), call=abs, progress=True))
+            list(trlab.results(range(3), call=abs))
+        lines = errors.getvalue().splitlines()
+        self.assertEqual(len(lines), 101)
+        self.assertRegex(lines[0], "^1 of 1000 done, 0:0[0-9]$")
+        self.assertRegex(lines[-1], "^1000 of 1000 done, ")
+
+    def test_a_line_on_a_terminal(self):
+        with mock.patch.object(sys, "stderr", io.StringIO()) as errors:
+            errors.isatty = lambda: True
+            list(trlab.results(range(3), call=abs, progress=True))
+        self.assertRegex(errors.getvalue(), "^\r1 of 3 done, 0:00\r2 of 3 done, 0:00\r3 of 3 done, 0:00\n$")
+
+
+class Executors(unittest.TestCase):
+    """Every executor gives the same results, and all of them keep these in the cache."""
+
+    JOBS = {key: replace(JOB, key=key) for key in range(6)}
+
+    def try_executor(self, pool):
+        wanted = {key: windows(job) for key, job in self.JOBS.items()}
+        with tempfile.TemporaryDirectory() as folder:
+            kept = []
+            for _ in range(2):
+                self.assertEqual(dict(trlab.results(self.JOBS, call=windows, cache=folder, executor=pool)), wanted)
+                kept.append({file.name: file.stat().st_ino for file in Path(folder).iterdir()})
+        self.assertEqual((len(kept[0]), kept[1]), (len(self.JOBS), kept[0]))
+        found = dict(trlab.results({**self.JOBS, -1: WRONG}, call=windows, executor=pool, errors="keep"))
+        self.assertEqual((type(found.pop(-1)), found), (Refused, wanted))
+
+    def test_threads(self):
+        with ThreadPoolExecutor(3) as pool:
+            self.try_executor(pool)
+
+    def test_processes(self):
+        for way in "fork", "spawn":
+            with ProcessPoolExecutor(2, multiprocessing.get_context(way)) as pool:
+                with self.subTest(way=way):
+                    self.try_executor(pool)
+
+    @needs("joblib")
+    def test_loky(self):
+        from joblib.externals.loky import get_reusable_executor
+
+        pool = get_reusable_executor(max_workers=2)
+        self.try_executor(pool)
+        pool.shutdown()
+
+    @needs("distributed")
+    def test_dask(self):
+        from distributed import Client
+
+        shape = {"n_workers": 2, "threads_per_worker": 1, "dashboard_address": None, "silence_logs": logging.CRITICAL}
+        for processes in False, True:
+            with self.subTest(processes=processes), warnings.catch_warnings():
+                warnings.simplefilter("ignore")
+                with Client(**shape, processes=processes) as client, client.get_executor() as pool:
+                    self.try_executor(pool)
+
+    @needs("mpi4py")
+    def test_mpi(self):
+        if not shutil.which("mpiexec"):
+            self.skipTest("mpiexec is not installed")
+        script = PYTHON / "tests" / "with_mpi.py"
+        words = ["mpiexec", "--allow-run-as-root", "--oversubscribe", "-n", "3", sys.executable, "-m", "mpi4py.futures"]
+        ran = subprocess.run([*words, str(script)], stdout=subprocess.PIPE, stderr=subprocess.STDOUT, text=True, timeout=100)
+        self.assertEqual((ran.returncode, ran.stdout.strip()[-2:]), (0, "OK"), ran.stdout)
+
+
+class Nested(unittest.TestCase):
+    def test_a_run_inside_a_call_uses_its_cache(self):
+        def both(key):
+            return trlab.map(Sweep.sweep, [replace(SHAPE, key=key), replace(SHAPE, key=key + 1)])
+
+        with tempfile.TemporaryDirectory() as folder:
+            program = logging_program(folder)
+            with mock.patch.dict("os.environ", TRLAB=str(program)):
+                for _ in range(2):
+                    found = dict(trlab.results([0, 10], call=both, cache=f"{folder}/cache"))
+            self.assertEqual(calls(folder, "sweep"), 4)
+        self.assertEqual(found, {place: both(10 * place) for place in range(2)})
+
+
+if __name__ == "__main__":
+    unittest.main()
