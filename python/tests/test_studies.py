@@ -8,13 +8,15 @@ import sys
 import tempfile
 import unittest
 from dataclasses import replace
+from functools import lru_cache
 from pathlib import Path
 from shutil import copytree, which
+from typing import Dict, List, NamedTuple, Set
 from unittest import mock
 
 from tests.processes import calls, logging_program
 from tests.test_runs import knows_series
-from trlab import Nasch, Point, Sweep
+from trlab import Nasch, Point, Sweep, random
 from trlab.figure import Axis, Figure
 
 STUDIES = Path(__file__).resolve().parents[2] / "studies"
@@ -32,6 +34,8 @@ def script(name, top=STUDIES):
 def texts(name):
     """The texts of a study that stand in files of their own, by the names of these."""
     module = script(name)
+    if name == "exact":
+        return module.texts(False)
     if name == "1998":
         jobs = {**module.branches(False), **module.lives(False)}
         return {f"{text}.job": job for text, job in jobs.items() if job.key == 1}
@@ -39,16 +43,26 @@ def texts(name):
     return {f"{text}.sweep": sweep for text, sweep in sweeps.items()}
 
 
+class Drawn(NamedTuple):
+    """Of a study that is drawn again from its tables: the names of the figures in its folder, the new figures by their
+    names, and the printed lines."""
+
+    names: Set[str]
+    figures: Dict[str, str]
+    printed: List[str]
+
+
+@lru_cache(maxsize=None)
 def drawn(name):
-    """The figures of a study, drawn again from its tables, by their names."""
     with tempfile.TemporaryDirectory() as folder:
         copytree(STUDIES, folder, dirs_exist_ok=True)
-        before = {file.name for file in (Path(folder) / name).glob("*.svg")}
+        names, out = {file.name for file in (Path(folder) / name).glob("*.svg")}, io.StringIO()
         for file in (Path(folder) / name).glob("*.svg"):
             file.unlink()
-        with mock.patch.object(sys, "argv", ["reproduce.py", "--draw"]), contextlib.redirect_stdout(io.StringIO()):
+        with mock.patch.object(sys, "argv", ["reproduce.py", "--draw"]), contextlib.redirect_stdout(out):
             script(name, Path(folder)).main()
-        return before, {file.name: file.read_text() for file in (Path(folder) / name).glob("*.svg")}
+        figures = {file.name: file.read_text() for file in (Path(folder) / name).glob("*.svg")}
+        return Drawn(names, figures, out.getvalue().splitlines())
 
 
 def rows(file):
@@ -59,31 +73,38 @@ def rows(file):
 
 class Studies(unittest.TestCase):
     def test_texts_are_those_of_the_scripts(self):
-        for name in "1992", "1996", "1998", "triangle":
+        for name in "1992", "1996", "1998", "exact", "triangle":
             with self.subTest(study=name):
                 there = {file.name: file.read_text() for file in (STUDIES / name / "texts").iterdir()}
                 self.assertEqual(there, {file: text.text() for file, text in texts(name).items()})
 
     def test_figures_are_those_of_the_tables(self):
-        for name in "1992", "1996", "1998", "triangle":
+        for name in "1992", "1996", "1998", "exact", "triangle":
             with self.subTest(study=name):
-                before, figures = drawn(name)
-                self.assertEqual(set(figures), before)
-                for file, figure in figures.items():
+                found = drawn(name)
+                self.assertEqual(set(found.figures), found.names)
+                for file, figure in found.figures.items():
                     self.assertEqual(figure, (STUDIES / name / file).read_text())
 
-    def test_a_page_has_the_means_of_its_tables(self):
-        script("1992")
+    def test_pages_have_the_rows_that_their_scripts_print(self):
+        for name in "1992", "1996", "1998", "exact", "triangle":
+            page = (STUDIES / name / "README.md").read_text().splitlines()
+            rows_printed = [line for line in drawn(name).printed if line.startswith(("| ", "- "))]
+            self.assertGreater(len(rows_printed), 10)
+            for line in rows_printed:
+                with self.subTest(study=name):
+                    self.assertIn(line, page)
+
+    def test_the_page_of_1992_has_the_means_of_the_full_tables(self):
+        module = script("1992")
         from study import read_rows
 
         page = (STUDIES / "1992" / "README.md").read_text()
-        for file in "table.csv", "full_table.csv":
-            tables = {}
-            for name, *numbers in read_rows(STUDIES / "1992" / file):
-                tables.setdefault(name, []).append(Point(*map(int, numbers)))
-            for density, flow in script("1992").means(tables).items():
+        for file, form in ("full_table.csv", "| {} | {:.6f} ± {:.6f} |"), ("full_random.csv", "| {1:.6f} ± {2:.6f} |"):
+            points = [Point(*map(int, row[1:])) for row in read_rows(STUDIES / "1992" / file)]
+            for density, flow in module.means({"full": points}).items():
                 with self.subTest(file=file, density=density):
-                    self.assertIn(f"| {density} | {flow.value:.5f} ± {flow.error:.5f} |", page)
+                    self.assertIn(form.format(density, flow.value, flow.error), page)
 
     def test_first_points_come_out_again(self):
         # A point is the same whatever points come after it.
@@ -94,6 +115,25 @@ class Studies(unittest.TestCase):
                 first = replace(sweep, cars=sweep.counts()[:2], densities=None)
                 with self.subTest(study=name, text=text):
                     self.assertEqual(Sweep.sweep(first).csv().splitlines()[1:], table[text][:2])
+
+    def test_first_points_of_random_initial_states_come_out_again(self):
+        for name in "1992", "1996", "triangle":
+            module, table = script(name), rows(STUDIES / name / "random.csv")
+            from random_starts import last_steps
+
+            jobs = module.random_texts(False)
+            self.assertEqual(list(table), list(jobs))
+            for text, job in itertools.islice(jobs.items(), 2):
+                with self.subTest(study=name, text=text):
+                    (point,) = last_steps(module.MEASURE)(job)
+                    self.assertEqual([",".join(map(str, point))], table[text])
+
+    def test_random_initial_states_are_those_of_a_sweep(self):
+        from random_starts import by_sweep, from_random, last_steps
+
+        sweep = Sweep(limit=5, length=30, rule=Nasch("1/4"), warm=10, measure=20, cars=[4, 4, 7], key=5)
+        points = {name: last_steps(20)(job) for name, job in from_random({"a_key5": sweep}).items()}
+        self.assertEqual(by_sweep(points), {"a_key5": replace(sweep, start=random(5)).sweep()})
 
     def test_what_was_cut_off_goes_on_where_it_stopped(self):
         script("1992")

@@ -1,0 +1,122 @@
+"""The exact study: its solutions are right, trlab agrees with them for fixed keys, and a wrong model is found out."""
+import sys
+import unittest
+from fractions import Fraction
+from itertools import product
+from pathlib import Path
+
+sys.path.insert(1, str(Path(__file__).resolve().parents[2] / "studies"))
+
+from exact.chain import by_elimination, by_iteration, chain, expected_distance, first_state, stationary
+from exact.closed import flow_of_long_ring, flow_of_ring
+from exact.models import NagelSchreckenberg, Rickert, VelocityDependent
+from exact.ring import next_states
+from exact.rings import RINGS, WALKS
+from exact.sums import Sums
+from exact.transitions import counted, groups, judged
+
+QUARTER, HALF = Fraction(1, 4), Fraction(1, 2)
+NAMED = {ring.name: ring for ring in (*RINGS, *WALKS)}
+
+
+def flow(model, length, cars):
+    """The exact flow of a ring of one lane."""
+    return stationary(chain(first_state(length, 1, cars), model)).distance / length
+
+
+class Solutions(unittest.TestCase):
+    def test_known_flows(self):
+        self.assertEqual(flow(NagelSchreckenberg(QUARTER, 1), 8, 3), Fraction(387, 1568))
+        self.assertEqual(flow(NagelSchreckenberg(QUARTER, 1), 8, 4), Fraction(735, 2656))
+        self.assertEqual(flow(NagelSchreckenberg(QUARTER, 2), 8, 3), Fraction(16892588640919, 41121521625632))
+
+    def test_a_car_without_others(self):
+        # It drives at v_max, or at v_max - 1 with probability p; if it is stopped by p0 it has to start again.
+        self.assertEqual(flow(NagelSchreckenberg(QUARTER, 3), 7, 1), (3 - QUARTER) / 7)
+        moving = (1 - HALF) / (1 - HALF + QUARTER)  # v_max 1: starts with 1 - p0, stops with p
+        self.assertEqual(flow(VelocityDependent(QUARTER, HALF, 1), 5, 1), moving / 5)
+
+    def test_elimination_is_in_balance_and_iteration_agrees(self):
+        for name in "nasch_1_4_v1_4_on_8", "nasch_1_2_v2_3_on_9", "careful_v3_4_on_9":
+            ring = NAMED[name]
+            rows = chain(first_state(ring.length, ring.lanes, ring.cars), ring.model).rows
+            self.assertTrue(all(sum(row.values()) == 1 for row in rows))
+            shares, after = by_elimination(rows), [Fraction(0)] * len(rows)
+            for share, row in zip(shares, rows):
+                for target, chance in row.items():
+                    after[target] += share * chance
+            self.assertEqual(after, shares)
+            self.assertLess(max(abs(float(a) - b) for a, b in zip(shares, by_iteration(rows))), 1e-13)
+
+    def test_small_rings_forget_their_start_before_they_are_measured(self):
+        for ring in RINGS[:8]:
+            found = chain(first_state(ring.length, ring.lanes, ring.cars), ring.model)
+            exact = float(stationary(found, most_states=0).distance)
+            with self.subTest(ring=ring.name):
+                self.assertLess(abs(expected_distance(found, 300) - exact), 1e-5)
+                self.assertGreater(abs(expected_distance(found, 1) - exact), 1e-3)
+
+    def test_the_formula_for_v_max_1_holds_on_every_small_ring(self):
+        for p, length in product((QUARTER, HALF, Fraction(3, 4)), range(2, 8)):
+            for cars in range(1, length):
+                exact = float(flow(NagelSchreckenberg(p, 1), length, cars))
+                self.assertAlmostEqual(flow_of_ring(float(p), length, cars), exact, places=14)
+        self.assertAlmostEqual(flow_of_ring(0.25, 100000, 30000), flow_of_long_ring(0.25, 0.3), places=5)
+
+    def test_a_step_by_hand(self):
+        # Both cars have room for one cell, and move with 3/4 each.
+        odds = {(".1.1.",): 9, (".10..",): 3, ("0..1.",): 3, ("0.0..",): 1}
+        found = next_states(("0.0..",), NagelSchreckenberg(QUARTER, 1))
+        self.assertEqual(found, {state: Fraction(parts, 16) for state, parts in odds.items()})
+
+    def test_a_lane_change_by_hand(self):
+        # The first car is hindered and changes lanes with 1/2. Whoever has room then moves with 3/4.
+        stays = {("0.1..", "....."): 12, ("00...", "....."): 4}
+        changes = {("..1..", ".1..."): 9, (".0...", ".1..."): 3, ("..1..", "0...."): 3, (".0...", "0...."): 1}
+        found = next_states(("11...", "....."), Rickert(QUARTER, HALF, 1))
+        self.assertEqual(found, {state: Fraction(parts, 32) for state, parts in {**stays, **changes}.items()})
+
+
+class Runs(unittest.TestCase):
+    def z(self, ring, model, number):
+        """z of the flow, the stopped cars and the lane changes of a ring, compared with a model."""
+        exact = stationary(chain(first_state(ring.length, ring.lanes, ring.cars), model), most_states=100)
+        sums = Sums.of(ring.sweep(number, points=100, warm=300, measure=1000).sweep())
+        return [sums.z(name, float(mean)) for name, mean in exact._asdict().items()]
+
+    def test_flows(self):
+        for name in "nasch_1_4_v1_3_on_8", "vdr_1_64_v2_4_on_10", "careful_v3_4_on_9", "rickert_1_4_v2_3_on_2x7":
+            ring = NAMED[name]
+            for number in (1, 2)[: 3 - ring.lanes]:
+                distance, stopped, changes = self.z(ring, ring.model, number)
+                with self.subTest(ring=name, number=number):
+                    self.assertLess(abs(distance), 4)
+                    self.assertLess(abs(stopped), 4)
+                    self.assertLess(abs(changes or 0), 4)
+                    self.assertEqual(changes is None, ring.lanes == 1)
+
+    def test_transitions(self):
+        for name in "nasch_1_4_v2_4_on_10", "vdr_1_64_v3_3_on_8", "careful_v3_4_on_9", "rickert_1_4_v2_3_on_2x7":
+            ring = NAMED[name]
+            verdict = judged(counted(it.lanes for it in ring.job(1, 10000).pictures()), ring.model)
+            with self.subTest(ring=name):
+                self.assertEqual(verdict.impossible, 0)
+                self.assertGreater(verdict.freedom, 50)
+                self.assertTrue(0.0001 < verdict.share_below() < 0.9999, verdict)
+
+    def test_a_wrong_model_is_found_out(self):
+        ring = NAMED["nasch_1_4_v1_4_on_8"]
+        counts = counted(it.lanes for it in ring.job(1, 20000).pictures())
+        self.assertGreater(abs(self.z(ring, NagelSchreckenberg(Fraction(17, 64), 1), 1)[0]), 4)
+        self.assertGreater(judged(counts, NagelSchreckenberg(Fraction(5, 16), 1)).share_below(), 0.9999)
+        self.assertGreater(judged(counts, NagelSchreckenberg(Fraction(0), 1)).impossible, 1000)
+
+    def test_groups_are_expected_often_enough(self):
+        odds = {("a",): Fraction(1, 100), ("b",): Fraction(9, 100), ("c",): Fraction(9, 10)}
+        self.assertEqual(groups(odds, 1000), [[("a",)], [("b",)], [("c",)]])
+        self.assertEqual(groups(odds, 60), [[("a",), ("b",)], [("c",)]])
+        self.assertEqual(groups(odds, 5), [[("a",), ("b",), ("c",)]])
+
+
+if __name__ == "__main__":
+    unittest.main()

@@ -1,0 +1,137 @@
+"""The stationary state of a small ring: its Markov chain of states up to rotation, solved exactly.
+
+Grassmann, Taksar and Heyman (1985) eliminate the states one by one without a subtraction, here in fractions. Chains of
+many states are solved by iteration in floating point numbers."""
+from __future__ import annotations
+
+from fractions import Fraction
+from typing import Any, Dict, List, NamedTuple, Sequence, Tuple, Union
+
+from exact.ring import EMPTY, State, steps
+
+Number = Union[Fraction, float]
+Row = Dict[int, Fraction]
+MOST_STATES = 256
+"""The most states of a chain that is solved in fractions, unless the caller wants more."""
+
+
+class Means(NamedTuple):
+    """Means per step, over all cars of the ring: cells driven, stopped cars, lane changes."""
+
+    distance: Number
+    stopped: Number
+    changes: Number
+
+
+class Chain(NamedTuple):
+    """The transition probabilities from each state, and the means over the steps from it."""
+
+    rows: List[Row]
+    means: List[Means]
+
+
+def canonical(state: State) -> State:
+    """The rotation of a state that comes last in the order of strings. So rotated rings are one state."""
+    return max(tuple(lane[cell:] + lane[:cell] for lane in state) for cell in range(len(state[0])))
+
+
+def first_state(length: int, lanes: int, cars: int) -> State:
+    """Evenly spaced, stopped cars; the cells of two lanes are counted in turns."""
+    taken = {car * length * lanes // cars for car in range(cars)}
+    return tuple(
+        "".join("0" if cell * lanes + lane in taken else EMPTY for cell in range(length)) for lane in range(lanes)
+    )
+
+
+def chain(first: State, model: Any) -> Chain:
+    """The chain of all states that the ring can reach."""
+    numbers = {canonical(first): 0}
+    states, rows, means = [canonical(first)], [], []
+    for state in states:
+        row: Row = {}
+        distance = stopped = changes = Fraction(0)
+        for probability, after, cells, crossed in steps(state, model):
+            after = canonical(after)
+            if after not in numbers:
+                numbers[after] = len(states)
+                states.append(after)
+            row[numbers[after]] = row.get(numbers[after], Fraction(0)) + probability
+            distance += probability * cells
+            stopped += probability * sum(lane.count("0") for lane in after)
+            changes += probability * crossed
+        rows.append(row)
+        means.append(Means(distance, stopped, changes))
+    return Chain(rows, means)
+
+
+def by_elimination(rows: Sequence[Row]) -> List[Fraction]:
+    """The stationary probabilities in fractions. (If states are left to which the chain never returns, they have 0.)"""
+    left = [dict(row) for row in rows]
+    shares: List[Row] = []
+    last = len(left) - 1
+    while last > 0:
+        to_others = sum(chance for state, chance in left[last].items() if state < last)
+        if not to_others:  # the chain never leaves the states from here on
+            break
+        shares.append(eliminated(left, last, to_others))
+        last -= 1
+    weights = [Fraction(0)] * last + [Fraction(1)]
+    for share in reversed(shares):
+        weights.append(sum((weights[state] * part for state, part in share.items()), Fraction(0)))
+    total = sum(weights)
+    return [weight / total for weight in weights]
+
+
+def eliminated(left: List[Row], last: int, to_others: Fraction) -> Row:
+    """Leaves out the last state: the others go straight to where it leads. Returns how often each of them came to it,
+    as a share of the times that it left."""
+    share: Row = {}
+    for state in range(last):
+        if last in left[state]:
+            share[state] = left[state].pop(last) / to_others
+            for target, chance in left[last].items():
+                if target < last:
+                    left[state][target] = left[state].get(target, Fraction(0)) + share[state] * chance
+    return share
+
+
+def arrows(rows: Sequence[Row]) -> List[List[Tuple[int, float]]]:
+    """For each state the states that lead to it, each with the probability of that transition."""
+    found: List[List[Tuple[int, float]]] = [[] for _ in rows]
+    for state, row in enumerate(rows):
+        for target, chance in row.items():
+            found[target].append((state, float(chance)))
+    return found
+
+
+def step(now: Sequence[float], into: Sequence[Sequence[Tuple[int, float]]]) -> List[float]:
+    """The probabilities of the states one step later."""
+    return [sum([now[state] * chance for state, chance in its]) for its in into]
+
+
+def by_iteration(rows: Sequence[Row], accuracy: float = 1e-16) -> List[float]:
+    """The stationary probabilities in floating point numbers: steps from equal ones, until none changes them."""
+    into, now, moved = arrows(rows), [1 / len(rows)] * len(rows), 1.0
+    while moved > accuracy:
+        after = step(now, into)
+        moved, now = max(abs(new - old) for new, old in zip(after, now)), after
+    total = sum(now)
+    return [share / total for share in now]
+
+
+def expected_distance(found: Chain, steps: int) -> float:
+    """The mean of the cells driven in the step after so many, from the first state."""
+    into, now = arrows(found.rows), [1.0] + [0.0] * (len(found.rows) - 1)
+    for _ in range(steps):
+        now = step(now, into)
+    return sum(share * float(means.distance) for share, means in zip(now, found.means))
+
+
+def stationary(found: Chain, most_states: int = MOST_STATES) -> Means:
+    """The means of the stationary state, as fractions if the chain has at most so many states."""
+    shares: Sequence[Number]
+    if len(found.rows) <= most_states:
+        shares = by_elimination(found.rows)
+    else:
+        shares = by_iteration(found.rows)
+    return Means(*(sum(share * mean for share, mean in zip(shares, column)) for column in zip(*found.means)))

@@ -1,0 +1,106 @@
+"""Every next state of a ring, with its exact probability: all lane changes at once, then all motions at once.
+
+A state is a tuple of lanes, and a lane is a string as in the papers' figures: `.` is an empty cell, a digit a car and
+its speed."""
+from __future__ import annotations
+
+from fractions import Fraction
+from functools import lru_cache
+from itertools import product
+from typing import Any, Dict, Iterator, List, NamedTuple, Tuple
+
+from exact.models import Seen, Side
+
+State = Tuple[str, ...]
+EMPTY = "."
+
+
+class Outcome(NamedTuple):
+    """One way in which a step can go."""
+
+    probability: Fraction
+    state: State
+    distance: int  # cells driven by all cars
+    changes: int  # lane changes
+
+
+def cars_on(lane: str) -> Iterator[int]:
+    """The cells of the cars."""
+    return (cell for cell, sign in enumerate(lane) if sign != EMPTY)
+
+
+def gap(lane: str, cell: int, way: int = 1) -> int:
+    """The number of empty cells from a cell to the next car, ahead (way 1) or behind (way -1)."""
+    others = len(lane) - 1
+    return next((k for k in range(others) if lane[(cell + way * (k + 1)) % len(lane)] != EMPTY), others)
+
+
+def leader(lane: str, cell: int) -> int:
+    """The speed of the next car ahead of a car; its own speed if there is no other."""
+    return int(lane[(cell + gap(lane, cell) + 1) % len(lane)])
+
+
+def lane_of(length: int, speeds: Dict[int, int]) -> str:
+    """The lane with cars of these speeds, by cell."""
+    return "".join(str(speeds[cell]) if cell in speeds else EMPTY for cell in range(length))
+
+
+def motions(state: State, model: Any) -> Iterator[Outcome]:
+    """All ways in which the cars can move."""
+    cars, odds = [], []
+    for number, lane in enumerate(state):
+        for cell in cars_on(lane):
+            cars.append((number, cell))
+            odds.append(model.motion(Seen(int(lane[cell]), gap(lane, cell), leader(lane, cell))).items())
+    for chosen in product(*odds):
+        probability, distance = Fraction(1), 0
+        lanes: List[Dict[int, int]] = [{} for _ in state]
+        for (number, cell), (speed, chance) in zip(cars, chosen):
+            lanes[number][(cell + speed) % len(state[0])] = speed
+            probability *= chance
+            distance += speed
+        yield Outcome(probability, tuple(lane_of(len(state[0]), lane) for lane in lanes), distance, 0)
+
+
+def side(state: State, number: int, cell: int) -> Side:
+    """What a car sees before a lane change."""
+    lane, other = state[number], state[1 - number]
+    back = gap(other, cell, -1)
+    return Side(int(lane[cell]), gap(lane, cell), leader(lane, cell), gap(other, cell), back, number)
+
+
+def lane_changes(state: State, model: Any) -> Iterator[Outcome]:
+    """All ways in which the cars can change lanes."""
+    if len(state) == 1:
+        yield Outcome(Fraction(1), state, 0, 0)
+        return
+    cars, odds = [], []
+    for number, lane in enumerate(state):
+        for cell in cars_on(lane):
+            chance = model.change(side(state, number, cell)) if state[1 - number][cell] == EMPTY else Fraction(0)
+            cars.append((number, cell))
+            odds.append([(new, p) for new, p in ((1 - number, chance), (number, 1 - chance)) if p])
+    for chosen in product(*odds):
+        probability, changes = Fraction(1), 0
+        lanes: List[Dict[int, int]] = [{} for _ in state]
+        for (number, cell), (new, chance) in zip(cars, chosen):
+            lanes[new][cell] = int(state[number][cell])
+            probability *= chance
+            changes += new != number
+        yield Outcome(probability, tuple(lane_of(len(state[0]), lane) for lane in lanes), 0, changes)
+
+
+def steps(state: State, model: Any) -> Iterator[Outcome]:
+    """All ways in which a step can go; several may end in the same state."""
+    for changed in lane_changes(state, model):
+        for moved in motions(changed.state, model):
+            yield Outcome(changed.probability * moved.probability, moved.state, moved.distance, changed.changes)
+
+
+@lru_cache(maxsize=None)
+def next_states(state: State, model: Any) -> Dict[State, Fraction]:
+    """The probability of each next state."""
+    found: Dict[State, Fraction] = {}
+    for outcome in steps(state, model):
+        found[outcome.state] = found.get(outcome.state, Fraction(0)) + outcome.probability
+    return found
