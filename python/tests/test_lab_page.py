@@ -54,8 +54,9 @@ class Pages:
     def tearDown(self):
         self.assertEqual(self.page.errors(), [])
 
-    def hold(self, condition, seconds=15, message=None):
-        self.assertTrue(self.page.within(seconds, condition), message or self.page.text("fault"))
+    def hold(self, condition, seconds=15):
+        if not self.page.within(seconds, condition):
+            self.fail(self.page.js("return document.getElementById('fault')?.textContent") or "it does not become true")
 
     def pause(self):
         if self.page.text("play") == "Pause":
