@@ -233,7 +233,7 @@ class Window:
 
     def select(self, selector):
         """Select the text of a control, so that typing replaces it."""
-        self.js("document.querySelector(arguments[0]).select()", selector)
+        self.js("const it = document.querySelector(arguments[0]); it.focus(); it.select()", selector)
 
     def keys(self, *keys):
         """Keys for the page itself, with no control in focus."""
