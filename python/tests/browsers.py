@@ -118,7 +118,8 @@ class Firefox:
         words = ["--headless", "--marionette", "--remote-allow-system-access", "--no-remote", "--profile", self.folder.name]
         self.driver = subprocess.Popen([FIREFOX, *words, "about:blank"], stdout=subprocess.DEVNULL, stderr=subprocess.DEVNULL)
         port = int(until(60, self.active_port))
-        self.stream = until(20, lambda: self.connected(port)).makefile("rwb")
+        self.socket = until(20, lambda: self.connected(port))
+        self.stream = self.socket.makefile("rwb")
         self.number, self.seen = 0, 0
         self.read()
         self.send("WebDriver:NewSession", {"capabilities": {"alwaysMatch": {}}})
@@ -182,6 +183,7 @@ class Firefox:
         except Failure:
             pass
         self.stream.close()
+        self.socket.close()
         self.driver.wait(60)
         self.folder.cleanup()
 
@@ -231,7 +233,7 @@ class Window:
 
     def select(self, selector):
         """Select the text of a control, so that typing replaces it."""
-        self.js("document.querySelector(arguments[0]).select()", selector)
+        self.js("const it = document.querySelector(arguments[0]); it.focus(); it.select()", selector)
 
     def keys(self, *keys):
         """Keys for the page itself, with no control in focus."""

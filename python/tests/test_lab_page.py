@@ -54,8 +54,9 @@ class Pages:
     def tearDown(self):
         self.assertEqual(self.page.errors(), [])
 
-    def hold(self, condition, seconds=15, message=None):
-        self.assertTrue(self.page.within(seconds, condition), message or self.page.text("fault"))
+    def hold(self, condition, seconds=15):
+        if not self.page.within(seconds, condition):
+            self.fail(self.page.js("return document.getElementById('fault')?.textContent") or "it does not become true")
 
     def pause(self):
         if self.page.text("play") == "Pause":
@@ -172,8 +173,10 @@ class Pages:
         self.assertEqual(self.page.js("return lab.marks.length"), 1)
         self.page.click("one")
         self.assertEqual(self.page.step(), 40)
+        self.page.set("rate", 20, "input")
         self.page.click("play")
-        self.hold(lambda: self.page.step() < 40 or self.page.text("play") == "Pause")
+        self.hold(lambda: self.page.step() < 40 and self.page.text("play") == "Pause")
+        self.page.set("rate", 100, "input")
         self.hold(lambda: self.page.step() == 40 and self.page.text("play") == "Play")
 
     def test_a_long_run_is_bounded(self):
@@ -246,10 +249,10 @@ class Pages:
 
     def test_the_sentence(self):
         self.page.select(".lead [data-set=cars]")
-        self.page.type(".lead [data-set=cars]", "200", Keys.ENTER)
+        self.page.press(*"200", Keys.ENTER)
         self.assertEqual(self.page.job(), self.job_of(cars=200))
         self.page.select(".lead [data-model=nasch] [data-set=p]")
-        self.page.type(".lead [data-model=nasch] [data-set=p]", "0", Keys.ENTER)
+        self.page.press("0", Keys.ENTER)
         self.assertIn("rule nasch 0\n", self.page.job())
 
     def test_sliders(self):

@@ -157,7 +157,7 @@ class Page(BaseHTTPRequestHandler):
     def allowed(self) -> Optional[str]:
         """The requested name, if the request comes from a page of this server; otherwise the request is refused."""
         host, origin = self.headers.get("Host"), self.headers.get("Origin")
-        origins = {f"http://{host}"} if self.command == "POST" else {f"http://{host}", None}
+        origins: Set[Optional[str]] = {f"http://{host}"} if self.command == "POST" else {f"http://{host}", None}
         own = host in self.server.hosts and origin in origins
         token, slash, name = self.path[1:].partition("?")[0].partition("/")
         if own and slash and secrets.compare_digest(token.encode(), self.server.token.encode()):
