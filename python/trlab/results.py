@@ -117,7 +117,8 @@ class Table(ResultList[Row]):
         """The table that `trlab sweep` (`Point`) or `trlab series` (`Window`) has written.
 
         Raises `ValueError` with the line if the text is not such a table, or if it is cut off."""
-        return cls(kind, WrittenRows(kind, _plain(text).decode()))
+        plain = text if isinstance(text, str) else text.decode()
+        return cls(kind, WrittenRows(kind, plain.replace("\r\n", "\n") if "\r" in plain else plain))
 
     def csv(self) -> str:
         """The table as the program writes it."""
@@ -197,7 +198,8 @@ class Pictures(ResultList[Picture]):
         """The pictures that `trlab run` has written.
 
         Raises `ValueError` with the line if the text is not the output of a run, or if it is cut off."""
-        return cls(read_pictures(_plain(text)))
+        plain = text.encode() if isinstance(text, str) else text
+        return cls(read_pictures(plain.replace(b"\r\n", b"\n") if b"\r" in plain else plain))
 
     def text(self) -> str:
         """The pictures as the program writes them."""
@@ -260,9 +262,3 @@ class Pictures(ResultList[Picture]):
         from .following import trajectories_of
 
         return trajectories_of(self)
-
-
-def _plain(text: Union[str, bytes]) -> bytes:
-    """A text with line feeds, also if it comes from a file of another system."""
-    plain = text.encode() if isinstance(text, str) else text
-    return plain.replace(b"\r\n", b"\n") if b"\r" in plain else plain
