@@ -54,7 +54,7 @@ class Pages:
     def tearDown(self):
         self.assertEqual(self.page.errors(), [])
 
-    def hold(self, condition, seconds=15):
+    def hold(self, condition, seconds=60):
         if not self.page.within(seconds, condition):
             self.fail(self.page.js("return document.getElementById('fault')?.textContent") or "it does not become true")
 
@@ -68,7 +68,9 @@ class Pages:
         self.page.set("rate", 100, "input")
         if self.page.text("play") == "Play":
             self.page.click("play")
-        self.hold(lambda: self.page.step() >= step, 30)
+        self.page.later("""const it = lab.player;
+            await new Promise(go => { const look = () => it.step >= words[0] ? go() : requestAnimationFrame(look); look(); });
+            if (it.playing) it.setPlaying(false)""", step)
         self.pause()
 
     def open(self, text, name="a.job"):
@@ -79,6 +81,7 @@ class Pages:
     def test_every_snapshot_is_that_of_the_run(self):
         self.run_to(300)
         shots = self.page.js(SHOTS)
+        self.assertEqual(shots[0][0], 0)
         for (step, cells, *_), picture in zip(shots, pictures(self.page.job())):
             self.assertEqual((step, cells), (picture.step, "".join(picture.lanes)))
         rows = Table.read(Row, ask(["series"], self.page.job()))
@@ -292,7 +295,7 @@ class Pages:
                 if kind == "job":
                     self.hold(lambda: self.page.job() == text)
                 elif kind == "sweep":
-                    self.hold(lambda: self.page.js("return lab.table") == ask(["sweep"], text), 60)
+                    self.hold(lambda: self.page.js("return lab.table") == ask(["sweep"], text))
                     self.assertEqual(self.page.js("return lab.marks.at(-1).points.length"), text.count("\ncars "))
                 else:
                     self.hold(lambda: text in self.page.job())
@@ -342,7 +345,7 @@ class Pages:
 
     def test_a_sweep(self):
         self.page.click("sweep")
-        self.hold(lambda: self.page.js("return lab.marks.at(-1)?.points.length") == 30, 60)
+        self.hold(lambda: self.page.js("return lab.marks.at(-1)?.points.length") == 30)
         self.assertTrue(self.page.js("return lab.table").startswith("cars,cells,steps,distance,stopped,changes,flow\n20,1000,300,"))
         dots = self.page.js("return document.querySelectorAll('#diagram circle').length")
         self.assertGreaterEqual(dots, 30)
@@ -368,7 +371,7 @@ class Pages:
         self.assertEqual(self.saved("savetable"), ask(["series"], self.page.job()))
         self.assertEqual(self.page.js("return savedAs"), "series.csv")
         self.page.click("sweep")
-        self.hold(lambda: not self.page.js("return document.getElementById('savesweep').disabled"), 60)
+        self.hold(lambda: not self.page.js("return document.getElementById('savesweep').disabled"))
         self.assertEqual(self.saved("savesweep"), self.page.js("return lab.table"))
         self.page.click("follow")
         for name in "spacetime", "diagram", "curves", "ring", "road":
@@ -412,7 +415,7 @@ class Pages:
         self.hold(lambda: len(self.lab.children) == 1)
         for child in list(self.lab.children):
             os.kill(child.pid, signal.SIGKILL)
-        self.hold(lambda: self.page.text("fault") != "", 30)
+        self.hold(lambda: self.page.text("fault") != "")
         self.page.errors()  # the browser reports the cut stream too
         self.page.set("length", 1000)
         self.hold(lambda: self.page.text("fault") == "" and self.page.step() > 2)
@@ -465,6 +468,7 @@ class Pages:
     # For everyone
 
     def test_names_and_order(self):
+        self.pause()
         nameless = self.page.js("""return [...document.querySelectorAll('input, select, button, [role=textbox], summary, canvas, svg, section, form')]
             .filter(it => it.type !== 'file' && !(it.ariaLabel || it.getAttribute('aria-labelledby') || it.labels?.length || it.textContent.trim() || it.closest('.texts, .top')))
             .map(it => it.outerHTML.slice(0, 80))""")
@@ -491,7 +495,7 @@ class Pages:
     def test_a_narrow_page_without_motion(self):
         page = Window(self.browser, self.lab.address, 400, 800, calm=True)
         try:
-            self.assertTrue(page.within(10, lambda: page.js("return window.lab?.player.step >= 0")))
+            self.assertTrue(page.within(60, lambda: page.js("return window.lab?.player.step >= 0")))
             time.sleep(0.5)
             self.assertEqual((page.step(), page.text("play")), (0, "Play"))
             wide, inner = page.js("return [document.documentElement.scrollWidth, innerWidth]")
