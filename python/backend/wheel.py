@@ -1,8 +1,8 @@
 """Builds the Python package: the PEP 517 backend that pyproject.toml names, with the standard library only.
 
-A wheel contains the module, the packed programs of release/ for both processor levels, and the command `trlab`. Its
-bytes depend only on the files of the repository: nothing in it is compressed again, and no time is written down. An
-editable wheel contains only the path of python/, so that the module of the checkout is used."""
+A wheel contains the module, the examples, the packed programs of release/ for both processor levels, and the commands
+`trlab` and `trlab-lab`. Its bytes depend only on the files of the repository: nothing in it is compressed again, and no
+time is written down. An editable wheel contains only the path of python/, so that the module of the checkout is used."""
 import base64
 import hashlib
 import io
@@ -16,6 +16,7 @@ from pathlib import Path
 TOP = Path(__file__).resolve().parents[2]
 MODULE = TOP / "python" / "trlab"
 RELEASE = TOP / "release"
+EXAMPLES = TOP / "examples"
 # The programs in it need x86-64 Linux with glibc 2.34 or later; the module itself runs with any Python 3.
 TAG = "py3-none-manylinux_2_34_x86_64"
 # The date of every file in an archive, the first one that the format can write.
@@ -42,12 +43,14 @@ def metadata():
 
 def information():
     """The files that describe the package to an installer, by their paths in the wheel."""
-    command = re.search(r'^trlab = "(.*)"$', (TOP / "pyproject.toml").read_text(), re.M)[1]
+    text = (TOP / "pyproject.toml").read_text()
+    scripts = re.findall(r'^([\w-]+) = "([\w.]+:\w+)"$', re.search(r"^\[project\.scripts\]\n(.*)", text, re.M | re.S)[1], re.M)
+    commands = "".join(f"{name} = {place}\n" for name, place in scripts)
     folder = f"trlab-{version()}.dist-info"
     return {
         f"{folder}/METADATA": metadata().encode(),
         f"{folder}/WHEEL": f"Wheel-Version: 1.0\nGenerator: trlab\nRoot-Is-Purelib: false\nTag: {TAG}\n".encode(),
-        f"{folder}/entry_points.txt": f"[console_scripts]\ntrlab = {command}\n".encode(),
+        f"{folder}/entry_points.txt": f"[console_scripts]\n{commands}".encode(),
     }
 
 
@@ -55,6 +58,12 @@ def module_files():
     """The files of the module, by their paths in the wheel."""
     files = [file for file in MODULE.rglob("*") if file.is_file() and "__pycache__" not in file.parts]
     return {f"trlab/{file.relative_to(MODULE).as_posix()}": file.read_bytes() for file in files}
+
+
+def example_files():
+    """The examples that the page of trlab-lab offers, by their paths in the wheel."""
+    files = [file for file in EXAMPLES.iterdir() if file.suffix in {".job", ".sweep", ".rule"}]
+    return {f"trlab/lab/examples/{file.name}": file.read_bytes() for file in files}
 
 
 def program_files():
@@ -96,7 +105,7 @@ def build_wheel(wheel_directory, config_settings=None, metadata_directory=None):
     """Builds the wheel that `pip install .` installs."""
     if not is_of_these_sources():
         print("trlab: the packed programs are those of the last release, not of the sources here", file=sys.stderr)
-    return written(wheel_directory, {**module_files(), **program_files(), **information()})
+    return written(wheel_directory, {**module_files(), **example_files(), **program_files(), **information()})
 
 
 def build_editable(wheel_directory, config_settings=None, metadata_directory=None):
@@ -109,6 +118,7 @@ def build_sdist(sdist_directory, config_settings=None):
     name = f"trlab-{version()}"
     sources = [TOP / "pyproject.toml", Path(__file__), *(RELEASE / "release.txt", RELEASE / "sources")]
     sources += [*RELEASE.glob("trlab-x86-64-v*.gz"), *(MODULE / path[len("trlab/") :] for path in module_files())]
+    sources += [EXAMPLES / Path(path).name for path in example_files()]
     with tarfile.open(Path(sdist_directory) / f"{name}.tar.gz", "w:gz", format=tarfile.PAX_FORMAT) as archive:
         for source in sorted(sources):
             archive.add(source, f"{name}/{source.relative_to(TOP)}")

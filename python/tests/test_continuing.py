@@ -6,7 +6,7 @@ from dataclasses import replace
 from unittest import mock
 
 from tests.by_pictures import windows
-from trlab import Job, Nasch, Own, Picture, Rickert, SlowToStart, Sweep, Table, Window, jam, random
+from trlab import Job, Nasch, Own, Picture, Rickert, SlowToStart, Sweep, Table, Window, continuing, jam, random
 
 HALF = Own("motion\nget r0, gap\ndiv r0, r0, 2\nget r1, limit\nmin r0, r0, r1\ngo r0\n")
 ONE = Job(limit=5, length=60, density=0.3, start=random(1), rule=Nasch(0.25), steps=50, key=7, at={10: Nasch(0.5), 30: HALF})
@@ -78,6 +78,12 @@ class LongRuns(unittest.TestCase):
         self.assertEqual([it.lanes for it in pictures[20:41]], [it.lanes for it in second])
         self.assertEqual(third[0].lanes, second[-1].lanes)
 
+    def test_every_nth_picture(self):
+        with short_inputs(20):
+            pictures = TWO.run()
+            for every, first in (1, 0), (1, 20), (7, 0), (7, 3), (20, 20), (3, 41), (60, 50), (1, 51):
+                self.assertEqual(list(continuing.pictures(TWO, every, first, [])), pictures[first::every])
+
     def test_rules_take_over_at_their_steps(self):
         stop, go = Nasch(1), Nasch(0)
         for change in 19, 20, 21, 40, 45:
@@ -114,13 +120,12 @@ class LongRuns(unittest.TestCase):
         self.assertRaisesRegex(TypeError, "first must be a whole number", job.series, first=1.5)
 
     def test_beyond_the_greatest_input(self):
-        job = Job(limit=1, length=3, cars=1, rule=Nasch(0.5), steps=1000010, at={500005: Nasch(0), 1000005: Nasch(1)})
-        windows = job.series(every=500005, first=0)
-        self.assertEqual([window.step for window in windows], [500005, 1000010])
-        self.assertEqual((windows[1].distance, windows[1].stopped), (500000, 5))
-        self.assertEqual((windows[0].steps, windows[0].distance + windows[0].stopped), (500005, 500005))
-        (last,) = job.series(every=2, first=1000007)
-        self.assertEqual((last.step, last.distance, last.stopped), (1000009, 0, 2))
+        job = Job(limit=1, length=3, cars=1, rule=Nasch(0.5), steps=500020, at={499990: Nasch(0), 500010: Nasch(1)})
+        before, seam, after = job.series(every=10, first=499985)
+        self.assertEqual([it.step for it in (before, seam, after)], [499995, 500005, 500015])
+        self.assertEqual((seam.distance, seam.stopped, seam.flow), (10, 0, 333333))
+        self.assertEqual((after.distance, after.stopped, after.cars, after.steps), (5, 5, 1, 10))
+        self.assertTrue(5 <= before.distance <= 10)
 
 
 class LongSweeps(unittest.TestCase):

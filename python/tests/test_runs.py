@@ -130,8 +130,8 @@ class Refusals(unittest.TestCase):
 
     def test_a_sweep_with_a_fault(self):
         with self.assertRaises(Refused) as caught:
-            Sweep(limit=5, length=10, rule=Nasch(0), warm=500000, measure=1, cars=[1]).sweep()
-        self.assertEqual(caught.exception.cause, 7)
+            Sweep(limit=5, length=10, rule=Rickert(0, 1), warm=1, measure=1, cars=[1]).sweep()
+        self.assertEqual((caught.exception.line, caught.exception.cause), (6, 4))
 
     def test_a_program(self):
         self.assertEqual(check(HALF), (5, HALF.partition("\n")[2]))

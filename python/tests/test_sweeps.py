@@ -74,6 +74,9 @@ class InitialStates(unittest.TestCase):
             self.assertEqual((one, hash(one)), (other, hash(other)))
         self.assertNotEqual(replace(SWEEP, start=random(1)), replace(SWEEP, start=random(2)))
 
+    def test_runners_are_one_or_more(self):
+        self.assertRaisesRegex(ValueError, "runners must be at least 1, not 0", replace(SWEEP, start=jam).sweep, runners=0)
+
     def test_the_first_job_that_is_rejected(self):
         with self.assertRaises(Refused) as caught:
             replace(SWEEP, rule=Rickert(0, 0), start=jam).sweep(runners=2)

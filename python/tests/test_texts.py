@@ -66,8 +66,6 @@ class Starts(unittest.TestCase):
         two = Job(limit=5, start=[[0, -1], [None, 5]], rule=Nasch(0), steps=0)
         self.assertIn("\nlane 0.\nlane .5\n", two.text())
 
-        self.assertRaises(ValueError, Job(limit=35, start=[36], rule=Nasch(0), steps=0).text)
-
     def test_a_road_says_its_cars_itself(self):
         self.assertRaises(ValueError, Job, limit=5, start=[0, None], cars=1, rule=Nasch(0), steps=0)
 

@@ -1,15 +1,22 @@
 """Inputs and results as Python values: they compare, hash, pickle, are cut and added, and are judged when they are made."""
 import builtins
+import hashlib
+import os
 import pickle
 import random as standard_random
 import re
+import tempfile
 import unittest
+from concurrent.futures import ProcessPoolExecutor
 from dataclasses import replace
+from multiprocessing import Pool
+from pathlib import Path
+from unittest import mock
 
 import trlab
 from tests.test_arrays import needs
 from trlab import Job, Nasch, Own, Picture, Pictures, Point, Refused, Rickert, SlowToStart, Sweep, Table, Window
-from trlab import Failed, check, explain, jam, random, version
+from trlab import Failed, Start, check, explain, find_program, jam, random, version
 from trlab.program import ask
 
 JOB = Job(limit=5, length=20, density=0.2, start=random(1), rule=Nasch(0.25), steps=9, at={4: Nasch(0)})
@@ -43,6 +50,15 @@ class Values(unittest.TestCase):
             copy = pickle.loads(pickle.dumps(error))
             self.assertEqual((type(copy), str(copy), vars(copy)), (type(error), str(error), vars(error)))
 
+    def test_errors_come_out_of_other_processes(self):
+        rejected = replace(JOB, rule=Rickert(0, 0))
+        with ProcessPoolExecutor(1) as processes:
+            with self.assertRaises(Refused) as caught:
+                list(processes.map(Job.run, [JOB, rejected]))
+        self.assertEqual((caught.exception.line, caught.exception.cause), (5, 4))
+        with Pool(1) as processes:
+            self.assertRaises(Refused, processes.map_async(Job.run, [JOB, rejected]).get, timeout=60)
+
     def test_parts_and_sums_keep_their_type(self):
         table, pictures = SWEEP.sweep(), JOB.run()
         for part in table[:2], table[::-1], table + table[1:], table.copy():
@@ -68,22 +84,28 @@ class Values(unittest.TestCase):
 
 
 class Construction(unittest.TestCase):
-    def rejects(self, error, name, call, **values):
+    def rejects(self, error, name, call, *others, **values):
         with self.assertRaisesRegex(error, name):
-            call(**values)
+            call(*others, **values)
 
     def test_numbers_are_in_their_ranges(self):
         job = dict(limit=5, length=10, cars=1, rule=Nasch(0), steps=1)
         for name, values in {
-            "limit": (0, 36), "length": (0, 100001), "steps": (-1, 500001), "lanes": (0, 3), "cars": (-1, 11), "key": (-1, 2**256)
+            "limit": (0, 36), "length": (0, 100001), "steps": (-1,), "lanes": (0, 3), "cars": (-1, 11), "key": (-1, 2**256)
         }.items():
             for value in values:
                 self.rejects(ValueError, name, Job, **{**job, name: value})
         for name in "limit", "length", "steps", "cars":
             self.rejects(TypeError, re.escape(f"{name} must be a whole number, not 1.0"), Job, **{**job, name: 1.0})
         sweep = dict(limit=5, length=10, rule=Nasch(0), warm=0, measure=1, cars=[1])
-        for name, value in dict(warm=500001, measure=0, cars=[11]).items():
+        for name, value in dict(warm=-1, measure=0, cars=[11], length=100001, limit=36, lanes=3, key="7").items():
             self.rejects(ValueError, name, Sweep, **{**sweep, name: value})
+        for name in "limit", "length", "warm", "measure":
+            self.rejects(TypeError, re.escape(f"{name} must be a whole number, not 1000.0"), Sweep, **{**sweep, name: 1e3})
+        self.rejects(ValueError, "at least one point", Sweep, **{**sweep, "cars": []})
+        for values in 20, "20":
+            self.rejects(TypeError, "cars must be a list with a number for each point", Sweep, **{**sweep, "cars": values})
+            self.rejects(TypeError, "densities must be a list", Sweep, **{**sweep, "cars": None, "densities": values})
 
     def test_the_greatest_numbers_are_those_of_the_program(self):
         words = ["limit 35", "length 100000", "lanes 1", "rule nasch 0", "warm 0", "measure 1", "cars 100000"]
@@ -97,13 +119,68 @@ class Construction(unittest.TestCase):
         for call in (lambda: Nasch(25)), (lambda: SlowToStart(0, 2)), (lambda: Rickert(-1, 0)), (lambda: Rickert(0, "5/4")):
             self.assertRaises(ValueError, call)
 
+    def test_what_is_no_number(self):
+        for chance in "a quarter", "1/0", float("nan"), float("inf"):
+            self.rejects(ValueError, re.escape(f"a probability must be a number between 0 and 1, not {chance!r}"), Nasch, chance)
+            self.rejects(ValueError, "a density .* must be a number between 0 and 1", replace, JOB, density=chance)
+        self.rejects(TypeError, "a probability must be a number between 0 and 1, not None", Nasch, None)
+        self.rejects(TypeError, "a key is a whole number or 64 hexadecimal digits, and not 1.0", replace, JOB, key=1.0)
+
     def test_cars_or_a_density(self):
         for more in {}, {"cars": 1, "density": 0.1}:
             self.assertRaises(ValueError, Job, limit=5, length=10, rule=Nasch(0), steps=1, **more)
 
     def test_a_road_has_one_lane_or_two(self):
-        for road in [[[[0]]]], [[0], [0], [0]], ["0"], [0.5]:
-            self.assertRaises((TypeError, ValueError), Job, limit=5, start=road, rule=Nasch(0), steps=1)
+        job = dict(limit=5, rule=Nasch(0), steps=1)
+        for road in [[[[0]]]], [[0], [0], [0]], ["0"], [0.5], [True, False], [], [[0], []], "0", 7:
+            self.rejects(ValueError, "a road is a list of speeds", Job, **job, start=road)
+        self.rejects(ValueError, "the lanes have 2 and 1 cells", Job, **job, start=[[0, 0], [0]])
+
+    def test_no_car_is_faster_than_the_limit(self):
+        job = dict(limit=5, rule=Nasch(0), steps=1)
+        for start in [6], [[None], [36]]:
+            self.rejects(ValueError, "the limit is 5 cells per step", Job, **job, start=start)
+        self.rejects(ValueError, "the speed 6, and the limit is 5", Job, **job, length=9, cars=1, start=random(1, speed=6))
+        self.rejects(ValueError, "the speed 6, and the limit is 5", replace, SWEEP, start=random(1, speed=6))
+
+    def test_a_start_is_one_of_those_that_are_known(self):
+        self.rejects(ValueError, "one of even, jam, random, not 'everywhere'", Start, placement="everywhere")
+        self.rejects(TypeError, "seed must be a whole number, not None", Start, placement="random")
+        for seed in -1, 2**256:
+            self.rejects(ValueError, "seed must be between 0", random, seed=seed)
+        self.rejects(ValueError, "a seed is for random cells only", Start, placement="jam", seed=1)
+        self.rejects(TypeError, "speed must be a whole number", random, seed=1, speed=0.5)
+        self.rejects(ValueError, "speed must be between 0 and 35, not 36", random, seed=1, speed=36)
+
+    def test_later_rules_have_steps_of_the_run(self):
+        job = dict(limit=5, length=10, cars=1, rule=Nasch(0), steps=9)
+        self.rejects(ValueError, "must be below `steps`, which is 9, not 9", Job, **job, at={9: Nasch(1)})
+        self.rejects(ValueError, "a step of `at` must be at least 0, not -1", Job, **job, at={-1: Nasch(1)})
+        self.rejects(TypeError, "a step of `at` must be a whole number, not 1.5", Job, **job, at={1.5: Nasch(1)})
+        self.rejects(TypeError, "not 'nasch'", Job, **job, at={1: "nasch"})
+        self.rejects(TypeError, "a rule is Nasch, SlowToStart, Rickert or Own, not 0.25", Job, **{**job, "rule": 0.25})
+        self.rejects(TypeError, "a rule is Nasch, SlowToStart, Rickert or Own, not None", replace, SWEEP, rule=None)
+
+    def test_later_rules_cannot_be_changed(self):
+        rules = {4: Nasch(1), 2: Nasch(0)}
+        job = Job(limit=5, length=10, cars=1, rule=Nasch(0), steps=9, at=rules)
+        rules[5] = Nasch(0.5)
+        self.assertEqual((job.at, list(job.at), len(job.at)), ({2: Nasch(0), 4: Nasch(1)}, [2, 4], 2))
+        with self.assertRaises(TypeError):
+            job.at[3] = Nasch(0)
+        self.assertEqual((job.at, hash(job)), (replace(job).at, hash(replace(job))))
+        self.assertEqual(pickle.loads(pickle.dumps(job.at)), job.at)
+
+    def test_programs_are_judged_where_they_are_said(self):
+        for program, error, message in (
+            ("", ValueError, "the motion program is empty"), (" \n", ValueError, "is empty"),
+            ("change\nstay\n", ValueError, "this is a change program, and a motion program is needed"),
+            (STOP + "end\n", ValueError, "a line `end`: leave it out"),
+            ("code 54\ngo r0", ValueError, "is one line"), (STOP.splitlines(), TypeError, "a text, not"),
+        ):
+            self.rejects(error, message, Own, motion=program)
+        self.rejects(ValueError, "this is a motion program, and a change program is needed", Own, motion=STOP, change=STOP)
+        self.assertEqual(Own("code 54\n").lines(), ["rule own", "code 54"])
 
     def test_programs_between_triple_quotes(self):
         self.assertEqual(check("\n" + STOP), check(STOP))
@@ -117,7 +194,9 @@ class Construction(unittest.TestCase):
         self.assertEqual(densities.text(), replace(SWEEP, cars=[0, 10, 20]).text())
         self.assertEqual(replace(SWEEP, cars=numpy.array([1, 2, 4])).text(), SWEEP.text())
         self.assertEqual(Nasch(numpy.float32(0.25)).lines(), Nasch(0.25).lines())
-        self.assertRaises(ValueError, Job, limit=5, start=numpy.zeros((3, 1, 1), int), rule=Nasch(0), steps=1)
+        self.assertEqual((random(numpy.int64(3)), hash(random(numpy.int64(3)))), (random(3), hash(random(3))))
+        for shape in (3, 1, 1), (3, 4):
+            self.rejects(ValueError, "a road is a list", Job, limit=5, start=numpy.zeros(shape, int), rule=Nasch(0), steps=1)
 
 
 class Words(unittest.TestCase):
@@ -126,4 +205,19 @@ class Words(unittest.TestCase):
         self.assertIn("cause 1", explain("road 2\n"))
 
     def test_the_version(self):
-        self.assertEqual(version().split("\n")[0], f"trlab {trlab.__version__}")
+        first, logic, digest = version().split("\n")
+        self.assertEqual(first, f"trlab {trlab.__version__}")
+        self.assertRegex(logic, "^proved in logic [0-9a-f]{16}$")
+        self.assertEqual(digest, f"SHA-256 {self.digest(find_program())}")
+
+    def test_the_program_behind_a_script(self):
+        program = find_program()
+        with tempfile.TemporaryDirectory() as folder:
+            script = Path(folder) / "trlab"
+            script.write_text(f'#!/bin/sh\n[ "$1" = --where ] && exec echo {program}\nexec {program} "$@"\n')
+            script.chmod(0o755)
+            with mock.patch.dict(os.environ, TRLAB=str(script)):
+                self.assertEqual((find_program(), version().split("\n")[2]), (str(script), f"SHA-256 {self.digest(program)}"))
+
+    def digest(self, program):
+        return hashlib.sha256(Path(program).read_bytes()).hexdigest()

@@ -62,14 +62,18 @@ def _parts(job: Job, last_of: Callable[[Job], Picture]) -> Iterator[_Part]:
     yield _Part(offset, job)
 
 
-def pictures(job: Job, words: List[str]) -> Iterator[Picture]:
-    """The pictures of a job of more steps than one input has, one by one, with these options of `trlab run`."""
+def pictures(job: Job, every: int, first: int, words: List[str]) -> Iterator[Picture]:
+    """Every `every`-th picture from the step `first` on, one by one, of a job of more steps than one input has, with these
+    options of `trlab run`."""
+    whole("every", every, 1), whole("first", first, 0)
     last: List[Picture] = []
     for offset, part in _parts(job, lambda _: last.pop()):
         for picture in pictures_in(ask_by_line(["run", *words], part.text())):
             last[:] = [picture]
-            if picture.step or not offset:
-                yield picture._replace(step=offset + picture.step)
+            # The first picture of a part is the last one of the part before it.
+            step = offset + picture.step
+            if (picture.step or not offset) and step >= first and (step - first) % every == 0:
+                yield picture._replace(step=step)
 
 
 def series(job: Job, every: int, first: int, words: List[str]) -> Table[Window]:
@@ -79,9 +83,7 @@ def series(job: Job, every: int, first: int, words: List[str]) -> Table[Window]:
     divides `every`, `first` and the steps of an input."""
     whole("every", every, 1), whole("first", first, 0)
     width = gcd(every, first, MOST_STEPS)
-    narrow = _narrow_windows(job, width, first, words)
-    groups = iter(lambda: list(islice(narrow, every // width)), [])
-    return Table(Window, [_sum(group) for group in groups if len(group) == every // width])
+    return Table(Window, list(_joined(_narrow_windows(job, width, first, words), every // width)))
 
 
 def _narrow_windows(job: Job, width: int, first: int, words: List[str]) -> Iterator[Window]:
@@ -100,9 +102,13 @@ def _last_picture(job: Job, words: List[str]) -> Picture:
     return next(pictures_in(lines))
 
 
-def _sum(windows: List[Window]) -> Window:
-    """The window of several that follow each other."""
-    total = Window(*(sum(column) for column in zip(*windows)))
-    last = windows[-1]
-    flow = total.distance * 1000000 // (last.cells * total.steps)
-    return total._replace(step=last.step, cars=last.cars, cells=last.cells, flow=flow)
+def _joined(narrow: Iterator[Window], count: int) -> Iterator[Window]:
+    """The windows of `count` that follow each other, each as one; those that are left over at the end are left out."""
+    for last in narrow:
+        sums, found = list(last), 1
+        for found, last in enumerate(islice(narrow, count - 1), 2):
+            sums = [one + other for one, other in zip(sums, last)]
+        if found == count:
+            total = Window(*sums)
+            flow = total.distance * 1000000 // (last.cells * total.steps)
+            yield total._replace(step=last.step, cars=last.cars, cells=last.cells, flow=flow)

@@ -1,38 +1,41 @@
-"""Does a series still drift? The test of Geweke (1992), with the standard library only.
+"""Does a series still drift? The test of Schruben, Singh and Tierney (1983), with the standard library only.
 
-It compares the means of the first 10 percent and of the last 50 percent of the windows: J. Geweke, Evaluating the accuracy
-of sampling-based approaches to the calculation of posterior moments, Bayesian Statistics 4, 169-193 (1992). The variances
-of the two means are estimated by batch means: the series is cut into 100 batches, of which the first part has 10 and the
-last part 50. Because these are few, `p` is that of Student's distribution, with the degrees of freedom of Welch (1947).
+L. W. Schruben, H. Singh and L. Tierney, Optimal tests for initialization bias in simulation output, Operations Research
+31, 1167-1178 (1983). The test statistic of a series of n values, with S(k) the sum of its first k deviations from the mean, is
 
-The batches must be nearly independent: a batch, which is 1 percent of the series, must be longer than the time after which
-the flow forgets a fluctuation. Otherwise the test finds drifts where there are none. A small `p` means that the start is
-still felt: leave out more steps (`first`). A large one does not prove that nothing drifts: a drift that is much smaller
-than the noise of the series goes unnoticed, and a road may keep the memory of its start for longer than the series."""
+    z = -sqrt(45) / (n^1.5 sigma) * sum over k from 1 to n of (1 - k / n) S(k)
+
+It gives most weight to the beginning. For a long stationary series it has the standard normal distribution, if sigma^2 / n
+is the variance of the mean. Here sigma is estimated from the last half of the series, where a start is felt least, by the
+means of 20 batches of consecutive windows; so `p` is that of Student's distribution with 19 degrees of freedom.
+
+The batches must be nearly independent: a batch, which is 1/40 of the series, must be longer than the time after which the
+flow forgets a fluctuation. Otherwise the test finds drifts where there are none. A small `p` means that the start is still
+felt: leave out more steps (`first`). A large `p` does not prove that nothing drifts, because a drift that is much smaller
+than the noise of the series goes unnoticed. Then test several series under different keys: if none drifts, the sum of their
+`z`, divided by the square root of their number, has nearly the standard normal distribution."""
 from __future__ import annotations
 
+from itertools import accumulate
 from math import atan, cos, exp, inf, lgamma, pi, sqrt
 from statistics import fmean, variance
 from typing import List, NamedTuple, Sequence
 
 from .results import Row, Table, Window
 
-BATCHES = 100
-"""A series is cut into so many batches, of equal numbers of windows."""
+BATCHES = 20
+"""The last half of a series is cut into so many batches of equal numbers of windows."""
 
-FIRST, LAST = 10, 50
-"""The batches at its start and at its end whose means are compared."""
+FEWEST = 2 * BATCHES
+"""The windows that a series needs at least."""
 
 
 class Drift(NamedTuple):
     """What `Table.drift` finds.
 
-    `first` and `last` are the means of the first 10 percent and of the last 50 percent of the series. `z` is their
-    difference (`first` less `last`) in standard errors, and `p` the probability, 0 to 1, that a stationary series has
-    a difference at least as large."""
+    `z` is above 0 if the series rises, and below 0 if it falls; `p`, 0 to 1, is the probability that a stationary series
+    has a `z` at least as far from 0."""
 
-    first: float
-    last: float
     z: float
     p: float
 
@@ -50,36 +53,36 @@ def drift_of_series(table: Table[Row], column: str) -> Drift:
 
 
 def drift_of(values: Sequence[float]) -> Drift:
-    """The test for the values of a series, in their order. Raises `ValueError` if there are fewer than 100."""
-    length = len(values) // BATCHES
-    if length == 0:
+    """The test for the values of a series, in their order. Raises `ValueError` if they are fewer than 40."""
+    count = len(values)
+    if count < FEWEST:
         raise ValueError(
-            f"the test for drift needs at least {BATCHES} windows, and this series has {len(values)}: "
+            f"the test for drift needs at least {FEWEST} windows, and this series has {count}: "
             "take fewer steps per window (`every`) or more steps"
         )
-    first = _batch_means(values[: FIRST * length], length)
-    last = _batch_means(values[-LAST * length :], length)
-    of_first, of_last = variance(first) / FIRST, variance(last) / LAST
-    difference, error = fmean(first) - fmean(last), sqrt(of_first + of_last)
-    if error == 0:
-        z, p = (0.0, 1.0) if difference == 0 else (inf if difference > 0 else -inf, 0.0)
-        return Drift(fmean(first), fmean(last), z, p)
-    # The degrees of freedom of a difference of two means with unequal variances (Welch 1947).
-    freedom = (of_first + of_last) ** 2 / (of_first**2 / (FIRST - 1) + of_last**2 / (LAST - 1))
-    z = difference / error
-    return Drift(fmean(first), fmean(last), z, tails_of_t(z, freedom))
+    if min(values) == max(values):
+        return Drift(0.0, 1.0)
+    mean, sigma = fmean(values), _sigma(values[count // 2 :])
+    sums = accumulate(value - mean for value in values)
+    rise = -sqrt(45) / count**1.5 * sum((1 - place / count) * total for place, total in enumerate(sums, 1))
+    if sigma == 0:
+        return Drift(inf if rise > 0 else -inf, 0.0)
+    return Drift(rise / sigma, tails_of_t(rise / sigma, BATCHES - 1))
 
 
-def _batch_means(values: Sequence[float], length: int) -> List[float]:
-    return [fmean(values[first : first + length]) for first in range(0, len(values), length)]
+def _sigma(values: Sequence[float]) -> float:
+    """The standard deviation of one value that has nothing to do with the others, by batch means of these."""
+    length = len(values) // BATCHES
+    last = values[-BATCHES * length :]
+    return sqrt(length * variance([fmean(last[first : first + length]) for first in range(0, len(last), length)]))
 
 
 def tails_of_t(t: float, freedom: float) -> float:
     """The probability that a number of Student's distribution is further from 0 than `t`, by Simpson's rule.
 
-    With t = sqrt(freedom) tan(angle) the density becomes a power of a cosine."""
+    With t = sqrt(freedom) tan(angle) its density becomes a power of a cosine."""
     low, parts = atan(abs(t) / sqrt(freedom)), 1000
     width = (pi / 2 - low) / parts
-    heights = [cos(low + width * part) ** (freedom - 1) for part in range(parts)] + [0.0 ** (freedom - 1)]
+    heights: List[float] = [cos(low + width * part) ** (freedom - 1) for part in range(parts)] + [0.0 ** (freedom - 1)]
     area = width / 3 * (heights[0] + 4 * sum(heights[1::2]) + 2 * sum(heights[2:-1:2]) + heights[-1])
     return min(1.0, 2 * area * exp(lgamma((freedom + 1) / 2) - lgamma(freedom / 2)) / sqrt(pi))

@@ -51,6 +51,10 @@ class Figure(NamedTuple):
     up: Axis
     curves: Sequence[Curve]
 
+    def __repr__(self) -> str:
+        number = f"{len(self.curves)} curve{'' if len(self.curves) == 1 else 's'}"
+        return f"<figure of {self.up.title} against {self.across.title}, {number}>"
+
     def svg(self) -> str:
         """The image."""
         head = '<svg xmlns="http://www.w3.org/2000/svg" viewBox="0 0 620 440" font-family="sans-serif" font-size="13">'

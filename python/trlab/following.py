@@ -4,6 +4,7 @@ A car at speed v came from the cell v behind it, of its own lane or of the other
 it came from its own lane, because a lane change needs an empty cell beside the car."""
 from __future__ import annotations
 
+from itertools import islice
 from typing import TYPE_CHECKING, Any, Dict, List, Tuple
 
 from .starts import SPEEDS
@@ -34,7 +35,7 @@ def _check_steps(pictures: Pictures) -> None:
     if not pictures:
         raise ValueError("there are no pictures")
     sizes = [len(lane) for lane in pictures[0].lanes]
-    for before, after in zip(pictures, pictures[1:]):
+    for before, after in zip(pictures, islice(pictures, 1, None)):
         if after.step != before.step + 1:
             raise ValueError(f"step {after.step} follows step {before.step}: trajectories need the picture of every step")
         if [len(lane) for lane in after.lanes] != sizes:
@@ -55,7 +56,7 @@ def _followed(pictures: Pictures) -> Tuple[List[List[int]], ...]:
         row = tuple([0] * cars for _ in range(4))
         found: Dict[Tuple[int, int], int] = {}
         for lane, cell, speed in _cars(picture):
-            came = cell if picture is pictures[0] else (cell - speed) % length
+            came = (cell - speed) % length if rows else cell
             car = places.get((lane, came), places.get((others - lane, came), -1))
             if car >= 0:
                 found[lane, cell] = car

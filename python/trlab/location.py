@@ -35,6 +35,18 @@ def find_program() -> str:
     return _named(named) if named else _packed() or _of_checkout() or _on_path() or _nowhere()
 
 
+def program_sha256() -> str:
+    """The SHA-256 of the program, 64 hexadecimal digits. If `TRLAB` names a script such as `./trlab`, it is that of the
+    program which the script runs."""
+    path = find_program()
+    with open(path, "rb") as file:
+        is_script = file.read(2) == b"#!"
+    if is_script:
+        asked = subprocess.run([path, "--where"], stdin=subprocess.DEVNULL, stdout=subprocess.PIPE, text=True, check=True)
+        path = asked.stdout.rstrip("\n")
+    return hashlib.sha256(Path(path).read_bytes()).hexdigest()
+
+
 def _named(name: str) -> str:
     path = Path(name).expanduser().absolute()
     if not path.is_file():

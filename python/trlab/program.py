@@ -6,7 +6,7 @@ import subprocess
 from itertools import chain
 from typing import Iterator, NamedTuple, Optional, Sequence
 
-from .location import find_program
+from .location import find_program, program_sha256
 from .running import Failed as Failed, output_of
 
 REFUSED = 1
@@ -77,5 +77,6 @@ def explained(text: str, *words: str) -> subprocess.CompletedProcess[str]:
 
 
 def version() -> str:
-    """What `trlab --version` prints: the version of the program, and the logic in which it is proved."""
-    return ask(["--version"], "").rstrip("\n")
+    """What `trlab --version` prints, the version of the program and the logic in which it is proved; and on a third line the
+    SHA-256 of the program."""
+    return ask(["--version"], "") + f"SHA-256 {program_sha256()}"

@@ -1,10 +1,11 @@
 """Results: tables as lists of named tuples, and the pictures of a run."""
 from __future__ import annotations
 
-from typing import TYPE_CHECKING, Any, Generic, Iterable, Iterator, List, NamedTuple, Optional, Sequence, Tuple, Type
-from typing import TypeVar
+from itertools import chain
+from typing import TYPE_CHECKING, Any, Iterable, Iterator, List, NamedTuple, Optional, Sequence, Type, TypeVar, Union
 
-from .starts import SPEEDS
+from .lists import ResultList
+from .written import Picture as Picture, WrittenPictures, WrittenRows, pictures_in as pictures_in, read_pictures, speeds_in
 
 if TYPE_CHECKING:
     import numpy
@@ -95,60 +96,59 @@ class Window(_WindowColumns, _Counted):
 Row = TypeVar("Row", Point, Window)
 
 
-class Table(List[Row], Generic[Row]):
-    """The lines of a table, in their order."""
+class Table(ResultList[Row]):
+    """The rows of a table, in their order.
 
-    def __init__(self, kind: Type[Row], rows: Sequence[Row] = ()) -> None:
-        super().__init__()
-        self.extend(rows)
+    A table can be used like a list, and can be changed. A table that was read keeps the text, from which `to_numpy()`
+    and `to_pandas()` make arrays at once. The rows are made when the first of them is needed."""
+
+    def __init__(self, kind: Type[Row], rows: Iterable[Row] = ()) -> None:
         self.kind: Type[Row] = kind
+        self._held = rows if isinstance(rows, WrittenRows) else list(rows)
+
+    def _like(self, items: Sequence[Row]) -> Table[Row]:
+        return Table(self.kind, items)
 
     def __repr__(self) -> str:
         return f"<table of {len(self)} {self.kind.__name__}s>"
 
-    # A part of a table, or two tables one after the other, are tables of the same kind.
-    def __getitem__(self, place: Any) -> Any:
-        found = super().__getitem__(place)
-        return Table(self.kind, found) if isinstance(place, slice) else found
-
-    def __add__(self, other: Any) -> Any:
-        return Table(self.kind, [*self, *other])
-
-    def copy(self) -> Table[Row]:
-        return Table(self.kind, self)
-
-    def __reduce__(self) -> Any:
-        return Table, (self.kind, list(self))
-
     @classmethod
-    def read(cls, kind: Type[Row], text: str) -> Table[Row]:
-        """The table that a program has written."""
-        heading, *lines = text.splitlines()
-        if tuple(heading.split(",")) != kind._fields:
-            raise ValueError(f"this is not the heading of {kind.__name__}s: {heading}")
-        return cls(kind, [kind(*(int(word) for word in line.split(","))) for line in lines])
+    def read(cls, kind: Type[Row], text: Union[str, bytes]) -> Table[Row]:
+        """The table that `trlab sweep` (`Point`) or `trlab series` (`Window`) has written.
+
+        Raises `ValueError` with the line if the text is not such a table, or if it is cut off."""
+        return cls(kind, WrittenRows(kind, _plain(text)))
 
     def csv(self) -> str:
         """The table as the program writes it."""
+        if isinstance(self._held, WrittenRows):
+            return self._held.text
         lines = [",".join(self.kind._fields)]
-        lines += [",".join(str(number) for number in row) for row in self]
+        lines += [",".join(map(str, row)) for row in self]
         return "".join(line + "\n" for line in lines)
 
     def to_numpy(self) -> numpy.ndarray[Any, Any]:
         """An array of records of whole numbers: `table.to_numpy()["flow"]` is a column."""
         import numpy
 
-        return numpy.array([tuple(row) for row in self], dtype=[(name, numpy.int64) for name in self.kind._fields])
+        if isinstance(self._held, WrittenRows):
+            numbers = self._held.numbers()
+        else:
+            count = len(self) * len(self.kind._fields)
+            numbers = numpy.fromiter(chain.from_iterable(self), dtype=numpy.int64, count=count)
+        return numbers.view([(name, numpy.int64) for name in self.kind._fields])
 
     def to_pandas(self) -> pandas.DataFrame:
         """A frame with the columns of the table, and with `density` (cars per cell), `speed` (mean speed in cells per
         step) and `stopped_share` (0 to 1). In it `flow` is in cars per step, not in millionths."""
         import pandas
 
-        frame = pandas.DataFrame([tuple(row) for row in self], columns=self.kind._fields)
-        for name, column in (("density", "density"), ("flow", "passing"), ("speed", "speed")):
-            frame[name] = [getattr(row, column) for row in self]
-        frame["stopped_share"] = [row.stopped_share for row in self]
+        frame = pandas.DataFrame(self.to_numpy())
+        car_steps = frame["cars"] * frame["steps"]
+        frame["density"] = frame["cars"] / frame["cells"]
+        frame["flow"] = frame["distance"] / (frame["cells"] * frame["steps"])
+        for name, counted in ("speed", "distance"), ("stopped_share", "stopped"):
+            frame[name] = (frame[counted] / car_steps).where(car_steps > 0, 0.0)
         return frame
 
     def plot(self, name: str = "") -> Figure:
@@ -162,10 +162,10 @@ class Table(List[Row], Generic[Row]):
         return diagram({name: self})
 
     def drift(self, column: str = "passing") -> Drift:
-        """Whether a series still drifts: the test of Geweke (1992). `trlab.drift` explains it.
+        """Whether a series still drifts: the test of Schruben, Singh and Tierney (1983), which `trlab.drift` explains.
 
-        `column` is what is tested: `passing` (the flow), `speed`, `stopped_share` or any column. Raises `ValueError` if the
-        series has fewer than 100 windows, or if this is the table of a sweep."""
+        `column` is tested: `passing` (the flow), `speed`, `stopped_share` or any column. Raises `ValueError` if the series
+        has fewer than 40 windows, or if this is the table of a sweep."""
         from .drift import drift_of_series
 
         return drift_of_series(self, column)
@@ -174,19 +174,17 @@ class Table(List[Row], Generic[Row]):
         return self.plot().svg()
 
 
-class Picture(NamedTuple):
-    """The road at a step: each lane in characters, `.` an empty cell, `0` to `9` and `a` to `z` a car and its speed."""
+class Pictures(ResultList[Picture]):
+    """The pictures of a run, of step 0 and after each step.
 
-    step: int
-    lanes: Tuple[str, ...]
+    They can be used like a list, and can be changed. Pictures of a run are kept as one byte per cell, and a `Picture` is
+    made each time you ask for one."""
 
-    def speeds(self) -> List[List[Optional[int]]]:
-        """Of each lane the speed of the car in each cell, in cells a step, and None where the cell is empty."""
-        return [[None if cell == "." else SPEEDS.index(cell) for cell in lane] for lane in self.lanes]
+    def __init__(self, pictures: Iterable[Picture] = ()) -> None:
+        self._held = pictures if isinstance(pictures, WrittenPictures) else list(pictures)
 
-
-class Pictures(List[Picture]):
-    """The pictures of a run, of step 0 and after each step."""
+    def _like(self, items: Sequence[Picture]) -> Pictures:
+        return Pictures(items)
 
     def __repr__(self) -> str:
         if not self:
@@ -194,39 +192,42 @@ class Pictures(List[Picture]):
         lanes = self[0].lanes
         return f"<{len(self)} pictures of {len(lanes)} x {len(lanes[0])} cells, steps {self[0].step} to {self[-1].step}>"
 
-    # A part of the pictures, or those of two runs one after the other, are pictures too.
-    def __getitem__(self, place: Any) -> Any:
-        found = super().__getitem__(place)
-        return Pictures(found) if isinstance(place, slice) else found
+    @classmethod
+    def read(cls, text: Union[str, bytes]) -> Pictures:
+        """The pictures that `trlab run` has written.
 
-    def __add__(self, other: Any) -> Any:
-        return Pictures([*self, *other])
+        Raises `ValueError` with the line if the text is not the output of a run, or if it is cut off."""
+        return cls(read_pictures(_plain(text)))
 
-    def copy(self) -> Pictures:
-        return Pictures(self)
+    def text(self) -> str:
+        """The pictures as the program writes them."""
+        return "".join(f"step {it.step}\n" + "".join(lane + "\n" for lane in it.lanes) for it in self)
 
     def to_numpy(self) -> numpy.ndarray[Any, Any]:
         """An array by picture, lane and cell: the speed in cells a step, and -1 where the cell is empty."""
-        import numpy
-
-        numbers = numpy.full(256, -1, dtype=numpy.int8)
-        numbers[list(SPEEDS.encode())] = range(len(SPEEDS))
-        cells = "".join(lane for picture in self for lane in picture.lanes).encode()
-        lanes = len(self[0].lanes) if self else 0
-        return numbers[numpy.frombuffer(cells, dtype=numpy.uint8)].reshape(len(self), lanes, -1)
+        if isinstance(self._held, WrittenPictures):
+            return self._held.speeds()
+        lanes = self[0].lanes if self else ()
+        speeds = speeds_in("".join(lane for picture in self for lane in picture.lanes))
+        return speeds.reshape(len(self), len(lanes), len(lanes[0]) if lanes else 0)
 
     def to_pandas(self) -> pandas.DataFrame:
         """A frame with a line for each car of each picture: `step`, `lane`, `cell` and `speed` in cells a step."""
+        import numpy
         import pandas
 
-        cars = [
-            (picture.step, lane, cell, SPEEDS.index(sign))
-            for picture in self
-            for lane, cells in enumerate(picture.lanes)
-            for cell, sign in enumerate(cells)
-            if sign != "."
-        ]
-        return pandas.DataFrame(cars, columns=["step", "lane", "cell", "speed"])
+        # The step, the number and the length of each lane of all pictures.
+        lanes = [(picture.step, number, len(lane)) for picture in self for number, lane in enumerate(picture.lanes)]
+        steps, numbers, lengths = numpy.array(lanes, dtype=numpy.int64).reshape(-1, 3).T
+        speeds = speeds_in("".join(lane for picture in self for lane in picture.lanes))
+        places, ends = numpy.flatnonzero(speeds >= 0), numpy.cumsum(lengths)
+        counts = numpy.diff(numpy.searchsorted(places, ends), prepend=0)
+        frame = numpy.empty((4, len(places)), dtype=numpy.int64)
+        for row, of_lane in enumerate((steps, numbers, ends - lengths)):
+            frame[row] = numpy.repeat(of_lane, counts)
+        numpy.subtract(places, frame[2], out=frame[2])
+        frame[3] = speeds[places]
+        return pandas.DataFrame(frame.T, columns=["step", "lane", "cell", "speed"], copy=False)
 
     def space_time(self) -> SpaceTime:
         """The space-time diagram: `.svg()` with axes and a legend, `.png()`, or `.draw(axes)` on an axis of matplotlib.
@@ -241,6 +242,15 @@ class Pictures(List[Picture]):
         shown = [Picture(it.step, tuple(lane[:400] for lane in it.lanes)) for it in self[-300:]]
         return Pictures(shown).space_time().svg() if shown else None
 
+    def html(self, limit: Optional[int] = None, title: str = "") -> str:
+        """A web page that plays these snapshots: one file, which needs no server and no network.
+
+        The colours range from speed 0 to `limit` (in cells per step), or to the highest speed if it is None. Raises
+        `ValueError` if the snapshots do not begin at step 0."""
+        from .lab.export import page_of
+
+        return page_of(self, limit, title)
+
     def trajectories(self) -> Trajectories:
         """The trajectory of every car, with its lane, cell, distance and speed at each step.
 
@@ -252,16 +262,6 @@ class Pictures(List[Picture]):
         return trajectories_of(self)
 
 
-def pictures_in(lines: Iterable[str]) -> Iterator[Picture]:
-    """The pictures that stand in the output of a run, one by one."""
-    step: Optional[int] = None
-    lanes: List[str] = []
-    for line in lines:
-        if not line.startswith("step "):
-            lanes.append(line.rstrip("\n"))
-            continue
-        if step is not None:
-            yield Picture(step, tuple(lanes))
-        step, lanes = int(line[5:]), []
-    if step is not None:
-        yield Picture(step, tuple(lanes))
+def _plain(text: Union[str, bytes]) -> str:
+    """A text with line feeds, also if it comes from a file of another system."""
+    return (text if isinstance(text, str) else text.decode()).replace("\r\n", "\n")

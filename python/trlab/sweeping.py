@@ -6,7 +6,7 @@ from typing import TYPE_CHECKING, Any, Dict, List
 
 from .results import Point, Table
 from .starts import Start, even
-from .units import MOST_POINTS, MOST_STEPS, derived_key
+from .units import MOST_POINTS, MOST_STEPS, derived_key, whole
 
 if TYPE_CHECKING:
     from .texts import Job, Sweep
@@ -69,6 +69,8 @@ def _initial_states(sweep: Sweep) -> List[Dict[str, Any]]:
 def table_of_jobs(sweep: Sweep, runners: int, workers: int) -> Table[Point]:
     """The table of a sweep whose points are jobs, so many side by side."""
     from .many import map
+
+    whole("runners", runners, 1)
 
     def point(job: Job) -> Point:
         (window,) = job.series(every=sweep.measure, first=sweep.warm, workers=workers)

@@ -3,7 +3,7 @@ from __future__ import annotations
 
 import warnings
 from dataclasses import dataclass, field
-from typing import Iterator, List, Mapping, NamedTuple, Optional, Sequence, Union, cast
+from typing import Any, Iterable, Iterator, List, Mapping, NamedTuple, Optional, Sequence, Tuple, Union, cast
 
 from . import continuing, sweeping
 from .program import ask, ask_by_line, explained
@@ -81,13 +81,15 @@ class Job:
 
     def run(self, workers: int = 1) -> Pictures:
         """The pictures of the road, of step 0 and after each step."""
-        return Pictures(self.pictures(workers))
+        if self.steps > MOST_STEPS:
+            return Pictures(self.pictures(workers))
+        return Pictures.read(ask(["run", *_option("workers", workers, 1)], self.text()))
 
     def pictures(self, workers: int = 1) -> Iterator[Picture]:
         """Iterate over the pictures while the program runs, for runs too long to hold in memory."""
         options = _option("workers", workers, 1)
         if self.steps > MOST_STEPS:
-            return continuing.pictures(self, options)
+            return continuing.pictures(self, 1, 0, options)
         return pictures_in(ask_by_line(["run", *options], self.text()))
 
     def series(self, every: int = 1, first: int = 0, workers: int = 1) -> Table[Window]:
@@ -131,9 +133,10 @@ class Sweep:
       cells; `cars` and `densities` are left out. For 20 repetitions from one road write `20 * [road]`.
 
     **An even initial state biases the mean**, because the road remembers it for thousands of steps. With `limit=1`, 10,000
-    cells, `warm=3000`, `measure=2000` and 16 points per density (0.1, 0.3, 0.5 and 0.8), the mean flow of even sweeps was
-    0.10 to 0.16 percent above the exact one for `Nasch("1/4")`, and 0.20 to 0.27 percent above it for `Nasch("1/2")`: 5 to
-    10 standard errors. No series shows this as a drift. Take `random(seed)` if the third digit matters.
+    cells, `warm=3000` and `measure=2000`, the mean flow of 16 points was above the exact one by 0.12 to 0.17 percent for
+    `Nasch("1/4")` and by 0.19 to 0.30 percent for `Nasch("1/2")`, at the densities 0.1, 0.3, 0.5 and 0.8: 5 to 15 standard
+    errors. From `random(1)` it was below the exact one by 0.02 to 0.09 percent. A single series rarely shows this as a
+    drift. If the third digit matters, run a sweep from both states and take a `warm` for which they agree.
 
     The points of an even sweep within the limits of one input (200 points; 500,000 steps of all points together) are
     those of `trlab sweep` for `.text()`. Beyond these limits `.parts()` are run one after the other. From any other
@@ -159,8 +162,7 @@ class Sweep:
         key_digits(self.key)
         need_rule(self.rule)
         for name in "cars", "densities":
-            if getattr(self, name) is not None:
-                object.__setattr__(self, name, tuple(getattr(self, name)))
+            object.__setattr__(self, name, _listed(name, getattr(self, name)))
         if isinstance(self.start, Start):
             self.start.judge(self.limit)
             if (self.cars is None) == (self.densities is None):
@@ -212,7 +214,8 @@ class Sweep:
         return sweeping.jobs(self)
 
     def sweep(self, runners: int = 1, workers: int = 1) -> Table[Point]:
-        """The table, a line for each point in their order. So many points at once are run side by side."""
+        """The table, a row for each point in their order. `runners` points are run at the same time, each with `workers`
+        threads; the table does not depend on these numbers."""
         if sweeping.is_of_jobs(self):
             return sweeping.table_of_jobs(self, runners, workers)
         options = _option("runners", runners, 1) + _option("workers", workers, 1)
@@ -246,6 +249,13 @@ def _option(name: str, number: int, unsaid: int) -> List[str]:
 def explain(text: Union[str, Job, Sweep]) -> str:
     """What `trlab explain` prints for an input: what a valid one will do, or what is wrong and how to repair it."""
     return explained(text if isinstance(text, str) else text.text()).stdout.rstrip("\n")
+
+
+def _listed(name: str, values: object) -> Optional[Tuple[Any, ...]]:
+    """The values of the points, as a tuple; raises `TypeError` if they are no list."""
+    if values is not None and (isinstance(values, str) or not isinstance(values, Iterable)):
+        raise TypeError(f"{name} must be a list with a number for each point, not {values!r}")
+    return None if values is None else tuple(values)
 
 
 def _count(cars: Optional[int], density: Optional[Density], cells: int) -> int:

@@ -6,13 +6,13 @@ import operator
 import re
 from fractions import Fraction
 from numbers import Rational
-from typing import Optional, Union
+from typing import Optional, SupportsFloat, Union
 
-Chance = Union[int, float, str, Fraction]
-"""0 to 1: `0.25`, `"1/4"`, `"0.25"` or a `Fraction`."""
+Chance = Union[SupportsFloat, str]
+"""A probability, 0 to 1: `0.25`, `"1/4"`, `"0.25"`, a `Fraction` or a number of numpy."""
 
-Density = Union[int, float, str, Fraction]
-"""Cars a cell, 0 to 1, written as a chance is."""
+Density = Chance
+"""Cars per cell, 0 to 1, written as a probability is."""
 
 Key = Union[int, str]
 """The key of the random words: a number from 0 to 2**256 - 1, or 64 hexadecimal digits."""
@@ -41,17 +41,22 @@ def whole(name: str, number: int, least: int, most: Optional[int] = None) -> int
     return value
 
 
-def _exact(number: Union[int, float, str, Fraction]) -> Fraction:
-    """The number as a fraction, also if it comes from numpy."""
-    return Fraction(number if isinstance(number, (str, Rational)) else float(number))
+def _share(name: str, number: Chance) -> Fraction:
+    """A number from 0 to 1 as a fraction, also if it comes from numpy; raises `ValueError` with its name if it is not."""
+    try:
+        exact = Fraction(number if isinstance(number, (str, Rational)) else float(number))
+    except (ValueError, ZeroDivisionError, OverflowError):
+        raise ValueError(f"{name} must be a number between 0 and 1, not {number!r}") from None
+    except TypeError:
+        raise TypeError(f"{name} must be a number between 0 and 1, not {number!r}") from None
+    if not 0 <= exact <= 1:
+        raise ValueError(f"{name} must be between 0 and 1, not {number}")
+    return exact
 
 
 def parts(chance: Chance) -> int:
     """A probability times 2**31, to the nearest whole number."""
-    exact = _exact(chance)
-    if not 0 <= exact <= 1:
-        raise ValueError(f"a probability must be between 0 and 1, not {chance}")
-    return round(exact * ALWAYS)
+    return round(_share("a probability", chance) * ALWAYS)
 
 
 def key_digits(key: Key) -> str:
@@ -60,7 +65,10 @@ def key_digits(key: Key) -> str:
         if not re.fullmatch("[0-9a-fA-F]{64}", key):
             raise ValueError(f"a key is a number or 64 hexadecimal digits, and not {key!r}")
         return key
-    number = operator.index(key)
+    try:
+        number = operator.index(key)
+    except TypeError:
+        raise TypeError(f"a key is a whole number or 64 hexadecimal digits, and not {key!r}") from None
     if not 0 <= number <= MOST_KEY:
         raise ValueError(f"a key is a number from 0 to 2**256 - 1, and not {key}")
     return f"{number:064x}"
@@ -76,7 +84,4 @@ def derived_key(purpose: str, key: Key, number: int) -> str:
 
 def cars_at(density: Density, cells: int) -> int:
     """The number of cars that comes nearest to a density on so many cells."""
-    exact = _exact(density)
-    if not 0 <= exact <= 1:
-        raise ValueError(f"a density must be between 0 and 1 cars per cell, not {density}")
-    return round(exact * cells)
+    return round(_share("a density (cars per cell)", density) * cells)

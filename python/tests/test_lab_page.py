@@ -1,0 +1,525 @@
+"""The page of trlab-lab in real browsers: each picture is that of `trlab run`, each control works, and nothing fails."""
+import http.server
+import math
+import os
+import signal
+import tempfile
+import threading
+import time
+import unittest
+from pathlib import Path
+from urllib.parse import urlsplit
+from xml.etree import ElementTree
+
+import trlab
+from tests.browsers import Keys, Window, missing
+from trlab import Job, Nasch, Rickert, SlowToStart
+from trlab.lab import Lab, server
+from trlab.lab.__main__ import fragment
+from trlab.program import ask
+from trlab.results import Pictures, Window as Row, Table, pictures_in
+
+SPEEDS = "0123456789abcdefghijklmnopqrstuvwxyz"
+KEY = "key " + "0" * 64
+SHOTS = """const {film} = lab.player;
+return film.shots.map(it => [it.step, String.fromCharCode(...it.cells), it.flow, it.speed, it.stopped])"""
+
+
+def pictures(text):
+    return Pictures(pictures_in(ask(["run"], text).splitlines(True)))
+
+
+class Pages:
+    """The tests, in one browser with one page that is loaded again for each of them."""
+
+    browser = ""
+
+    @classmethod
+    def setUpClass(cls):
+        cls.lab = Lab()
+        cls.addClassCleanup(cls.lab.close)
+        thread = threading.Thread(target=cls.lab.serve_forever, kwargs={"poll_interval": 0.05}, daemon=True)
+        thread.start()
+        cls.addClassCleanup(thread.join)
+        cls.addClassCleanup(cls.lab.shutdown)
+        cls.page = Window(cls.browser, cls.lab.address)
+        cls.addClassCleanup(cls.page.close)
+
+    def setUp(self):
+        self.page.get("about:blank")
+        self.page.get(self.lab.address)
+        self.hold(lambda: self.page.js("return window.lab !== undefined && lab.player.film !== null && lab.player.step >= 0"))
+        self.page.errors()
+
+    def tearDown(self):
+        self.assertEqual(self.page.errors(), [])
+
+    def hold(self, condition, seconds=15, message=None):
+        self.assertTrue(self.page.within(seconds, condition), message or self.page.text("fault"))
+
+    def pause(self):
+        if self.page.text("play") == "Pause":
+            self.page.click("play")
+        self.hold(lambda: self.page.js("const it = lab.player; return it.scene?.step === it.step && it.phase === 1 && !it.moving && !it.stale"))
+
+    def run_to(self, step):
+        """Play fast to a step at least, and pause."""
+        self.page.set("rate", 100, "input")
+        if self.page.text("play") == "Play":
+            self.page.click("play")
+        self.hold(lambda: self.page.step() >= step, 30)
+        self.pause()
+
+    def open(self, text, name="a.job"):
+        self.page.js("lab.open(arguments[0], arguments[1])", name, text)
+
+    # The picture
+
+    def test_every_snapshot_is_that_of_the_run(self):
+        self.run_to(300)
+        shots = self.page.js(SHOTS)
+        for (step, cells, *_), picture in zip(shots, pictures(self.page.job())):
+            self.assertEqual((step, cells), (picture.step, "".join(picture.lanes)))
+        rows = Table.read(Row, ask(["series"], self.page.job()))
+        for (step, _, flow, speed, stopped), row in zip(shots[1:], rows):
+            self.assertEqual((step, flow, speed, stopped), (row.step, row.passing, row.speed, row.stopped_share))
+
+    def test_every_dot_is_that_of_the_run(self):
+        for lanes, length in (1, 100), (2, 80):
+            rule = Rickert(0.25, 0.5) if lanes == 2 else Nasch(0.25)
+            self.open(Job(limit=5, length=length, lanes=lanes, density=0.3, start=trlab.random(3), rule=rule, steps=400, key=5).text())
+            self.hold(lambda: self.page.js("return lab.job.length") == length)
+            self.run_to(60)
+            step, found = self.page.step(), pictures(self.page.job())
+            drawn, [top, high] = self.page.js("""const {film, step} = lab.player, canvas = document.getElementById('spacetime');
+                const {top, high} = lab.rows(), pen = canvas.getContext('2d'), lines = [];
+                for (let now = top; now <= step; now++) for (let lane = 0; lane < film.lanes; lane++) {
+                    const y = Math.floor((now - top + (lane + 0.5) / film.lanes) * high), row = [];
+                    for (let x = 0; x < film.length; x++) row.push([...pen.getImageData((x + 0.5) * canvas.width / film.length, y, 1, 1).data].join());
+                    lines.push(row);
+                }
+                return [lines, [top, high]]""")
+            colours = self.page.js("return Object.fromEntries([0, 1, 2, 3, 4, 5].map(v => [lab.colour(v / 5).join() + ',255', String(v)]))")
+            wanted = [lane for picture in found[top:step + 1] for lane in picture.lanes]
+            self.assertEqual(["".join(colours.get(it, ".") for it in row) for row in drawn], wanted)
+            road = self.page.js("""const {film} = lab.player, canvas = document.getElementById('band'), pen = canvas.getContext('2d');
+                const tall = film.lanes === 2 ? 24 : 30, first = (canvas.height - tall * film.lanes) / 2;
+                return Array.from({length: film.lanes}, (_, lane) => Array.from({length: film.length}, (_, x) =>
+                    [...pen.getImageData((x + 0.5) * canvas.width / film.length, first + (lane + 0.5) * tall, 1, 1).data].join()))""")
+            self.assertEqual(["".join(colours.get(it, ".") for it in row) for row in road], list(found[step].lanes))
+
+    def test_a_followed_car_is_one_car(self):
+        self.page.set("model", "rickert")
+        self.run_to(150)
+        self.page.click("follow")
+        trips = pictures(self.page.job()).trajectories()
+        seen = self.page.js("""const {film, step, car} = lab.player, cars = [];
+            for (let now = film.first; now <= step; now++) cars.push(film.follow(car, now));
+            return cars.map(it => [it.step, it.lane, it.cell])""")
+        car = list(zip(trips.lane[0], trips.cell[0])).index(tuple(seen[0][1:]))
+        self.assertEqual(seen, [[step, trips.lane[step][car], trips.cell[step][car]] for step in range(len(seen))])
+        self.assertEqual(self.page.js("return document.getElementById('follow').ariaPressed"), "true")
+        self.assertIn("You follow the car in lane", self.page.text("car"))
+        self.page.keys(Keys.UP)
+        self.assertNotEqual(self.page.js("return lab.player.car.cell"), seen[-1][2])
+        self.page.keys(Keys.ESCAPE)
+        self.assertIsNone(self.page.js("return lab.player.car"))
+
+    def test_a_click_follows_a_car(self):
+        self.run_to(50)
+        lane = pictures(self.page.job())[self.page.step()].lanes[0]
+        cell = next(k for k, sign in enumerate(lane) if sign != "." and k > 80)
+        angle = 2 * math.pi * (cell + 0.5) / 1000
+        self.page.click_at("ring", 150 + 135 * math.sin(angle), 150 - 135 * math.cos(angle))
+        near = lambda: abs(self.page.js("return lab.player.car?.cell ?? -99") - cell) <= 4
+        self.hold(near)
+        self.page.keys(Keys.ESCAPE)
+        width = self.page.js("return document.getElementById('band').clientWidth")
+        self.page.click_at("band", width * (cell + 0.5) / 1000, 10)
+        self.hold(near)
+        self.page.keys(Keys.ESCAPE)
+        step = self.page.step()
+        self.page.click_at("spacetime", width * (cell + 0.5) / 1000, step - self.page.js("return lab.rows().top"))
+        self.hold(near)
+
+    # Playback
+
+    def test_playback(self):
+        self.pause()
+        step = self.page.step()
+        self.page.click("one")
+        self.hold(lambda: self.page.step() == step + 1)
+        self.page.keys(Keys.RIGHT)
+        self.hold(lambda: self.page.step() == step + 2)
+        self.page.click("back")
+        self.page.keys(Keys.LEFT)
+        self.hold(lambda: self.page.step() == step)
+        self.page.keys(Keys.HOME)
+        self.hold(lambda: self.page.step() == 0)
+        self.page.click("back")
+        self.assertEqual(self.page.step(), 0)
+        self.page.keys(" ")
+        self.hold(lambda: self.page.step() > step + 3 and self.page.text("play") == "Pause")
+        self.page.set("rate", 0, "input")
+        self.assertEqual(self.page.text("rateout"), "1")
+        self.page.click("again")
+        self.hold(lambda: self.page.step() < 3)
+
+    def test_the_end_of_a_run(self):
+        self.page.set("stepcount", 40)
+        self.page.set("rate", 100, "input")
+        self.hold(lambda: self.page.step() == 40 and self.page.text("play") == "Play")
+        self.assertEqual(self.page.js("return lab.marks.length"), 1)
+        self.page.click("one")
+        self.assertEqual(self.page.step(), 40)
+        self.page.click("play")
+        self.hold(lambda: self.page.step() < 40 or self.page.text("play") == "Pause")
+        self.hold(lambda: self.page.step() == 40 and self.page.text("play") == "Play")
+
+    def test_a_long_run_is_bounded(self):
+        self.page.set("stepcount", 500000)
+        self.page.set("length", 100)
+        self.run_to(4100)
+        first, last, count = self.page.js("const {film} = lab.player; return [film.first, film.last, film.shots.length]")
+        self.assertEqual((count, last - first + 1), (4000, 4000))
+        self.assertIn(f"The page keeps the last 4,000 snapshots: back to step {first}", self.page.text("kept"))
+        shots = dict((step, cells) for step, cells, *_ in self.page.js(SHOTS))
+        head = self.page.job().replace("steps 500000", f"steps {last}")
+        self.assertEqual([shots[it.step] for it in pictures(head)[first:]], list(shots.values()))
+        self.page.click("again")
+        self.hold(lambda: self.page.step() >= 0 and self.page.js("return lab.player.film.first") == 0)
+
+    def test_a_paused_run_ends_and_goes_on(self):
+        self.run_to(20)
+        self.hold(lambda: not self.lab.children)
+        self.run_to(1000)
+        self.test_every_snapshot_is_that_of_the_run()
+
+    # Controls
+
+    def job_of(self, **changes):
+        what = {"limit": 5, "length": 1000, "cars": 150, "start": trlab.random(1), "rule": Nasch(0.25), "steps": 5000, "key": 1}
+        return Job(**{**what, **changes}).text()
+
+    def test_every_control(self):
+        page = self.page
+        self.pause()
+        page.click("again")
+        tries = [
+            ("density", "0.3", {"cars": 300}), ("cars", "151", {"cars": 151}), ("limit", "7", {"cars": 151, "limit": 7}),
+            ("limit", "99", {"cars": 151, "limit": 35}), ("limit", "5", {"cars": 151}), ("cars", "", {"cars": 151}),
+            ("start", "even", {"cars": 151, "start": trlab.even}), ("start", "jam", {"cars": 151, "start": trlab.jam}),
+            ("start", "random", {"cars": 151}), ("key", "77", {"cars": 151, "key": 77, "start": trlab.random(77)}),
+            ("key", "x", {"cars": 151, "key": 77, "start": trlab.random(77)}), ("key", "1", {"cars": 151}),
+            ("p", "0.5", {"cars": 151, "rule": Nasch(0.5)}), ("p", "0.123456789", {"cars": 151, "rule": Nasch(0.123456789)}),
+            ("p", "0.25", {"cars": 151}), ("stepcount", "60", {"cars": 151, "steps": 60}), ("stepcount", "5000", {"cars": 151}),
+            ("model", "vdr", {"cars": 151, "rule": SlowToStart(0.25, 0.5)}), ("q", "0.75", {"cars": 151, "rule": SlowToStart(0.25, 0.75)}),
+            ("model", "nasch", {"cars": 151}), ("length", "500", {"cars": 76, "length": 500}),
+            ("lanes", "2", {"cars": 151, "length": 500, "lanes": 2}),
+            ("model", "rickert", {"cars": 151, "length": 500, "lanes": 2, "rule": Rickert(0.25, 0.75)}),
+        ]
+        for name, value, wanted in tries:
+            with self.subTest(name=name, value=value):
+                page.set(name, value)
+                self.assertEqual(page.job(), self.job_of(**wanted))
+                self.agree()
+        page.set("model", "own")
+        self.assertIn("rule own\nmotion\n", page.job())
+        self.assertIn("\nchange\n", page.job())
+        self.hold(lambda: "Accepted" in page.text("motionverdict") and "Accepted" in page.text("changeverdict"))
+        page.set("lanes", "1")
+        self.assertNotIn("\nchange\n", page.job())
+        page.click("newkey")
+        self.assertNotEqual(page.value("key"), "1")
+
+    def agree(self):
+        """The controls, the sentence and the file say the same, and trlab accepts it."""
+        text = self.page.job()
+        ask(["explain", "run"], text)
+        lanes = [line[5:] for line in text.splitlines() if line.startswith("lane ")]
+        cars = sum(len(lane) - lane.count(".") for lane in lanes)
+        shown = self.page.js("""return Object.fromEntries(['cars', 'length', 'limit', 'lanes'].map(name =>
+            [name, [...document.querySelectorAll(`[data-set=${name}]`)].map(it => +it.value)]))""")
+        limit = int(text.split("\nlimit ")[1].split("\n")[0])
+        for name, value in ("cars", cars), ("length", len(lanes[0])), ("limit", limit), ("lanes", len(lanes)):
+            self.assertEqual(set(shown[name]), {value}, name)
+
+    def test_the_sentence(self):
+        self.page.select(".lead [data-set=cars]")
+        self.page.type(".lead [data-set=cars]", "200", Keys.ENTER)
+        self.assertEqual(self.page.job(), self.job_of(cars=200))
+        self.page.select(".lead [data-model=nasch] [data-set=p]")
+        self.page.type(".lead [data-model=nasch] [data-set=p]", "0", Keys.ENTER)
+        self.assertIn("rule nasch 0\n", self.page.job())
+
+    def test_sliders(self):
+        for _ in range(30):
+            self.page.type("#density ~ [type=range]", Keys.RIGHT)
+        self.assertEqual(self.page.value("density"), "0.3")
+        self.assertEqual(self.page.job(), self.job_of(cars=300))
+        self.hold(lambda: len(self.lab.children) <= 1 and not self.page.text("fault"))
+
+    def test_a_change_on_the_way_is_an_at_line(self):
+        self.run_to(100)
+        step = self.page.step()
+        self.page.set("p", "0.5")
+        self.assertIn(f"steps 5000\nat {step} rule nasch 1073741824\n", self.page.job())
+        self.assertEqual(self.page.step(), step)
+        self.run_to(step + 100)
+        later = self.page.step()
+        self.page.set("model", "vdr")
+        self.assertIn(f"at {later} rule vdr 1073741824 1073741824\n", self.page.job())
+        self.run_to(later + 100)
+        for (now, cells, *_), picture in zip(self.page.js(SHOTS), pictures(self.page.job())):
+            self.assertEqual((now, cells), (picture.step, "".join(picture.lanes)))
+        self.page.click("again")
+        self.hold(lambda: self.page.value("p") == "0.25" and self.page.value("model") == "nasch")
+        self.page.set("density", "0.2")
+        self.assertEqual(self.page.job(), self.job_of(cars=200))
+
+    # Inputs
+
+    def test_every_example(self):
+        texts = server.examples()
+        self.assertEqual(self.page.js("return [...document.querySelectorAll('#example option')].slice(1).map(it => it.value)"), list(texts))
+        for name, text in texts.items():
+            with self.subTest(name=name):
+                self.page.set("example", name)
+                kind = name.rpartition(".")[2]
+                if kind == "job":
+                    self.hold(lambda: self.page.job() == text)
+                elif kind == "sweep":
+                    self.hold(lambda: self.page.js("return lab.table") == ask(["sweep"], text), 60)
+                    self.assertEqual(self.page.js("return lab.marks.at(-1).points.length"), text.count("\ncars "))
+                else:
+                    self.hold(lambda: text in self.page.job())
+                self.hold(lambda: self.page.text("textverdict") == "Accepted." and self.page.step() >= 0)
+                self.assertEqual(self.page.text("fault"), "")
+
+    def write(self, selector, text):
+        self.page.js("const it = document.querySelector(arguments[0]); it.textContent = arguments[1]; it.dispatchEvent(new Event('input'))", selector, text)
+
+    def test_a_job_file_that_you_type(self):
+        job = f"road 1\n{KEY}\nlimit 3\nlane 0.0.......\nrule nasch 0.25\nsteps 40"
+        self.write("#text .code", job)
+        self.hold(lambda: "536870912" in self.page.text("text") and "Rejected at line 5" in self.page.text("textverdict"))
+        self.write("#text .code", job.replace("0.25", "536870912"))
+        self.page.type("#text .code", Keys.CONTROL, Keys.END)
+        self.page.press("0")
+        values = lambda: [self.page.value(name) for name in ("p", "limit", "length", "lanes", "start", "stepcount", "cars")]
+        self.hold(lambda: values() == ["0.25", "3", "10", "1", "file", "400", "2"])
+        self.page.press(Keys.ENTER, *"at 10 rule nasch 0")
+        self.hold(lambda: self.page.js("return lab.job.rules.length") == 2)
+        self.assertEqual(self.page.job(), job.replace("0.25", "536870912") + "0\nat 10 rule nasch 0\n")
+
+    def test_a_rejected_program(self):
+        self.page.set("example", "keep_distance.rule")
+        self.hold(lambda: "at most 10 instructions" in self.page.text("motionverdict"))
+        program, good = server.examples()["keep_distance.rule"], self.page.job()
+        lines = program.splitlines()
+        bad = "\n".join(line for line in lines if "jle" not in line and "go r2" not in line)
+        self.write("#motion .code", bad)
+        self.hold(lambda: "Rejected at line 9" in self.page.text("motionverdict") and "Reason 9" in self.page.text("motion"))
+        self.assertEqual(self.page.job(), good)
+        low, high = self.page.js("""const box = it => document.querySelector(it).getBoundingClientRect();
+            return [box('#motion .code').top, box('#motion .words').top]""")
+        self.assertAlmostEqual(high - low, 9 * 20 + 4, delta=3)  # the words are below line 9
+        self.write("#motion .code", program)
+        self.hold(lambda: "Accepted" in self.page.text("motionverdict"))
+        self.page.type("#motion .code", Keys.CONTROL, Keys.HOME)
+        self.page.press(*[Keys.DOWN] * 4)
+        self.hold(lambda: "Known before line 5: r0:" in self.page.text("motionfacts"))
+
+    def test_a_rejected_file(self):
+        self.open("road 2\n")
+        self.hold(lambda: "a.job is rejected" in self.page.text("fault"))
+        self.assertEqual(self.page.job(), self.job_of())
+
+    # The fundamental diagram, and saving
+
+    def test_a_sweep(self):
+        self.page.click("sweep")
+        self.hold(lambda: self.page.js("return lab.marks.at(-1)?.points.length") == 30, 60)
+        self.assertTrue(self.page.js("return lab.table").startswith("cars,cells,steps,distance,stopped,changes,flow\n20,1000,300,"))
+        dots = self.page.js("return document.querySelectorAll('#diagram circle').length")
+        self.assertGreaterEqual(dots, 30)
+        self.page.click_at("diagram", 34 + 316 * 0.4, 120)
+        self.hold(lambda: 390 <= int(self.page.value("cars")) <= 410)
+        self.page.click("clear")
+        self.assertEqual(self.page.js("return lab.marks.length"), 0)
+
+    def saved(self, *names):
+        """The text of the file that a click on these buttons saves."""
+        self.page.js("""window.saved = null;
+            window.URL.createObjectURL = blob => { window.saved = blob; return 'data:,'; };
+            window.HTMLAnchorElement.prototype.click = function() { window.savedAs = this.download; }""")
+        for name in names:
+            self.page.click(name)
+        self.hold(lambda: self.page.js("return window.saved !== null"))
+        return self.page.later("return await saved.text()")
+
+    def test_saving(self):
+        self.page.set("stepcount", 300)
+        self.run_to(100)
+        self.assertEqual(self.saved("savejob"), self.page.job())
+        self.assertEqual(self.saved("savetable"), ask(["series"], self.page.job()))
+        self.assertEqual(self.page.js("return savedAs"), "series.csv")
+        self.page.click("sweep")
+        self.hold(lambda: not self.page.js("return document.getElementById('savesweep').disabled"), 60)
+        self.assertEqual(self.saved("savesweep"), self.page.js("return lab.table"))
+        self.page.click("follow")
+        for name in "spacetime", "diagram", "curves", "ring", "road":
+            self.page.set("figure", name)
+            image = ElementTree.fromstring(self.saved("savefigure"))
+            self.assertEqual(image.tag, "{http://www.w3.org/2000/svg}svg")
+            self.assertGreater(len(list(image.iter())), 6, name)
+
+    def test_a_link(self):
+        self.page.set("density", "0.4")
+        self.page.click("link")
+        self.hold(lambda: "#job=" in self.page.url())
+        job, link = self.page.job(), self.page.url()
+        self.assertEqual(fragment(link), link[link.index("#"):])
+        self.page.get("about:blank")
+        self.page.get(link)
+        self.hold(lambda: self.page.js("return window.lab?.player.step >= 0"))
+        self.assertEqual(self.page.job(), job)
+        self.page.js("location.hash = '#job=!'")
+        self.hold(lambda: "The link is damaged" in self.page.text("fault"))
+
+    def test_an_exported_file_plays(self):
+        job = Job(limit=5, length=200, lanes=2, density=0.2, start=trlab.random(2), rule=Rickert(0.25, 0.5), steps=120)
+        found = job.run()
+        with tempfile.TemporaryDirectory() as folder:
+            path = Path(folder) / "run.html"
+            path.write_text(found.html(limit=5))
+            self.page.get(path.as_uri())
+            self.hold(lambda: self.page.js("return window.lab?.player.step >= 0"))
+            self.run_to(120)
+            self.assertEqual([it[1] for it in self.page.js(SHOTS)], ["".join(it.lanes) for it in found])
+            self.page.click("back")
+            self.hold(lambda: self.page.step() == 119)
+            self.assertEqual(self.page.errors(), [])
+            self.page.get("about:blank")
+
+    # Pages and processes
+
+    def test_an_interrupted_run(self):
+        self.page.set("length", 100000)
+        self.hold(lambda: len(self.lab.children) == 1)
+        for child in list(self.lab.children):
+            os.kill(child.pid, signal.SIGKILL)
+        self.hold(lambda: self.page.text("fault") != "", 30)
+        self.page.errors()  # the browser reports the cut stream too
+        self.page.set("length", 1000)
+        self.hold(lambda: self.page.text("fault") == "" and self.page.step() > 2)
+
+    def test_two_pages(self):
+        self.page.set("stepcount", 500000)
+        first, _ = self.page.open()
+        self.page.get(self.lab.address)
+        self.hold(lambda: self.page.js("return window.lab?.player.step > 5"))
+        self.page.set("stepcount", 500000)
+        self.hold(lambda: self.page.step() > 5 and len(self.lab.children) >= 1)
+        self.page.leave(first)
+        before = self.page.step()
+        self.hold(lambda: self.page.step() > before)
+        self.hold(lambda: len(self.lab.children) <= 1)
+
+    def test_reloading(self):
+        self.page.set("stepcount", 500000)
+        self.hold(lambda: len(self.lab.children) == 1)
+        [child] = self.lab.children
+        self.page.refresh()
+        self.hold(lambda: self.page.js("return window.lab?.player.step > 2"))
+        self.hold(lambda: child.returncode is not None)
+        self.page.get("about:blank")
+        self.hold(lambda: not self.lab.children)
+
+    def test_another_origin(self):
+        with http.server.ThreadingHTTPServer(("127.0.0.1", 0), Empty) as other:
+            thread = threading.Thread(target=other.serve_forever, kwargs={"poll_interval": 0.05})
+            thread.start()
+            try:
+                self.page.get(f"http://127.0.0.1:{other.server_port}/")
+                for mode in "cors", "no-cors":
+                    said = self.page.later(
+                        "return await fetch(words[0] + 'run', {method: 'POST', mode: words[1], body: words[2]})"
+                        ".then(it => it.type + it.status, () => 'failed')", self.lab.address, mode, "road 1\n")
+                    self.assertIn(said, {"failed", "opaque0"})
+                framed = self.page.later(
+                    "const frame = document.createElement('iframe'); frame.src = words[0]; document.body.append(frame);"
+                    "await new Promise(go => { frame.onload = go; setTimeout(go, 2000); });"
+                    "try { return String(frame.contentWindow.lab); } catch { return 'closed'; }", self.lab.address)
+                self.assertIn(framed, {"closed", "undefined"})
+                self.assertFalse(self.lab.children)
+            finally:
+                other.shutdown()
+                thread.join()
+                self.page.get("about:blank")
+                self.page.errors()  # the refusals
+
+    # For everyone
+
+    def test_names_and_order(self):
+        nameless = self.page.js("""return [...document.querySelectorAll('input, select, button, [role=textbox], summary, canvas, svg, section, form')]
+            .filter(it => it.type !== 'file' && !(it.ariaLabel || it.getAttribute('aria-labelledby') || it.labels?.length || it.textContent.trim() || it.closest('.texts, .top')))
+            .map(it => it.outerHTML.slice(0, 80))""")
+        self.assertEqual(nameless, [])
+        twice = self.page.js("const all = [...document.querySelectorAll('[id]')].map(it => it.id); return all.filter((it, k) => all.indexOf(it) !== k)")
+        self.assertEqual(twice, [])
+        self.page.js("document.activeElement.blur(); scrollTo(0, 0)")
+        seen = []
+        for _ in range(60):
+            self.page.press(Keys.TAB)
+            seen.append(self.page.js("const it = document.activeElement; return it.id || it.dataset.set || it.ariaLabel || it.className"))
+        for name in "play", "back", "one", "again", "follow", "rate", "model", "p", "density", "cars", "sweep", "savefigure", "link", "example":
+            self.assertIn(name, seen)
+
+    def test_numbers_as_a_table(self):
+        self.run_to(30)
+        self.page.js("document.getElementById('numbers').open = true")
+        self.hold(lambda: self.page.js("return document.querySelectorAll('#rows tr').length") == 10)
+        row = Table.read(Row, ask(["series"], self.page.job()))[self.page.step() - 1]
+        wanted = f"{row.step}{row.passing:.4f}{row.speed:.3f}{row.stopped_share:.3f}"
+        self.assertEqual(self.page.js("return document.querySelector('#rows tr').textContent"), wanted)
+        self.assertIn(f"Step {row.step}: flow", self.page.text("silent"))
+
+    def test_a_narrow_page_without_motion(self):
+        page = Window(self.browser, self.lab.address, 400, 800, calm=True)
+        try:
+            self.assertTrue(page.within(10, lambda: page.js("return window.lab?.player.step >= 0")))
+            time.sleep(0.5)
+            self.assertEqual((page.step(), page.text("play")), (0, "Play"))
+            wide, inner = page.js("return [document.documentElement.scrollWidth, innerWidth]")
+            self.assertLessEqual(wide, inner)
+            self.assertEqual(page.errors(), [])
+        finally:
+            page.close()
+
+
+class Empty(http.server.BaseHTTPRequestHandler):
+    """A page of another origin."""
+
+    def do_GET(self):
+        self.send_response(200)
+        self.send_header("Content-Type", "text/html")
+        self.end_headers()
+        self.wfile.write(b"<!doctype html><link rel=icon href='data:,'><body></body>")
+
+    def log_message(self, *_):
+        pass
+
+
+@unittest.skipIf(missing("chromium"), missing("chromium"))
+class InChromium(Pages, unittest.TestCase):
+    browser = "chromium"
+
+
+@unittest.skipIf(missing("firefox"), missing("firefox"))
+class InFirefox(Pages, unittest.TestCase):
+    browser = "firefox"
+
+
+if __name__ == "__main__":
+    unittest.main()

@@ -1,0 +1,182 @@
+"""Outputs of the program as they are read: what is in them, what can be changed, and what is no output of the program."""
+import pickle
+import tempfile
+import unittest
+
+from tests.test_arrays import needs
+from tests.test_runs import stand_in
+from trlab import Job, Nasch, Picture, Pictures, Point, Rickert, Sweep, Table, Window, random
+from trlab.written import pictures_in
+
+ONE = Job(limit=12, length=30, cars=9, start=random(3, None), rule=Nasch("1/4"), steps=120)
+TWO = Job(limit=5, length=20, lanes=2, cars=15, start=random(4), rule=Rickert("1/4", 1), steps=12)
+POINTS = ",".join(Point._fields) + "\n1,10,1,5,0,0,500000\n2,10,1,3,1,0,300000\n"
+RUN = "step 9\n0.1\nstep 10\n0.0\n"
+
+
+class Tables(unittest.TestCase):
+    def setUp(self):
+        self.table = Table.read(Point, POINTS)
+        self.rows = [Point(1, 10, 1, 5, 0, 0, 500000), Point(2, 10, 1, 3, 1, 0, 300000)]
+
+    def test_rows(self):
+        self.assertEqual((len(self.table), repr(self.table)), (2, "<table of 2 Points>"))
+        self.assertEqual((self.table, self.table[-1], list(self.table)), (self.rows, self.rows[1], self.rows))
+        self.assertEqual((self.rows, [*reversed(self.table)]), (self.table, self.rows[::-1]))
+        self.assertEqual((self.table.index(self.rows[1]), self.rows[0] in self.table), (1, True))
+        self.assertEqual((self.table.csv(), Table.read(Point, POINTS.encode())), (POINTS, self.table))
+        self.assertEqual(Table.read(Point, POINTS.partition("\n")[0] + "\n"), [])
+        self.assertNotEqual(self.table, self.rows[:1])
+        self.assertNotEqual(self.table, tuple(self.rows))
+        self.assertRaises(IndexError, self.table.__getitem__, 2)
+
+    def test_a_table_can_be_changed(self):
+        new, same = self.rows[0]._replace(cars=3), self.table.copy()
+        self.table.append(new)
+        self.table.sort(key=lambda point: -point.cars)
+        self.assertEqual(self.table, [new, self.rows[1], self.rows[0]])
+        del self.table[1:]
+        self.table[0] = self.rows[1]
+        self.table.insert(0, new)
+        self.table += self.rows[:1]
+        self.assertEqual(self.table, [new, self.rows[1], self.rows[0]])
+        self.assertEqual(Table.read(Point, self.table.csv()), self.table)
+        self.assertEqual((same, [new] + same), (self.rows, [new, *self.rows]))
+        copy = self.table.copy()
+        copy.clear()
+        self.assertEqual((len(self.table), len(copy), copy.kind), (3, 0, Point))
+
+    def test_what_is_not_a_table(self):
+        heading, first, second = POINTS.splitlines(True)
+        for wrong in "1,10,1,5,0,0\n", "1,10,1,5,0,0,0,0\n", "1,10,,5,0,0,0\n", ",10,1,5,0,0,0\n", "1,10,1,5,0,0,\n", \
+                "1,10,1,5,0,0,-1\n", "1,10,1,5,0,0,1.5\n", "1,10,1,5,0,0, 1\n", "fault\n", "\n", "1,10,1,5,0\n0,1\n":
+            for place, text in (2, wrong + second), (3, first + wrong + second), (3, first + wrong):
+                with self.assertRaisesRegex(ValueError, f"line {place} of the table is not a row of Points: '"):
+                    Table.read(Point, heading + text)
+        for text in "cars\n", POINTS[1:], "a" + POINTS:
+            self.assertRaisesRegex(ValueError, "not the heading of Points: '", Table.read, Point, text)
+
+    def test_a_table_that_is_cut_off(self):
+        for end in range(len(POINTS)):
+            text = POINTS[:end]
+            if text.count("\n") and text.endswith("\n"):
+                # Only the number of rows tells that a table lacks whole lines.
+                self.assertEqual(len(Table.read(Point, text)), text.count("\n") - 1)
+            else:
+                self.assertRaisesRegex(ValueError, "cut off", Table.read, Point, text)
+
+    def test_more_than_a_block(self):
+        many = POINTS + 20000 * POINTS.partition("\n")[2]
+        table = Table.read(Point, many.replace("\n", "\r\n"))
+        self.assertEqual((table, table.csv()), (20001 * self.rows, many))
+        self.assertRaisesRegex(ValueError, "line 40004 of the table is not a row", Table.read, Point, many + "1,2\n")
+        self.assertRaisesRegex(ValueError, "line 40004 of the table is cut off: '1,2'", Table.read, Point, many + "1,2")
+
+    @needs("numpy")
+    def test_arrays(self):
+        made, table = Table(Point, self.rows), self.table
+        self.assertEqual(table.to_numpy().tolist(), [tuple(row) for row in self.rows])
+        self.assertEqual((made.to_numpy().dtype, made.to_numpy().tolist()), (table.to_numpy().dtype, table.to_numpy().tolist()))
+        table.to_numpy()["cars"] += 1
+        table.append(self.rows[0])
+        self.assertEqual(table.to_numpy()["cars"].tolist(), [1, 2, 1])
+        for empty in Table(Window), Table.read(Point, POINTS.partition("\n")[0] + "\n"):
+            self.assertEqual(empty.to_numpy().shape, (0,))
+        self.assertRaises(OverflowError, Table.read(Point, POINTS.replace("500000", "9" * 19)).to_numpy)
+
+    @needs("pandas")
+    def test_frames(self):
+        sweep = Sweep(limit=5, length=20, rule=Nasch("1/4"), warm=5, measure=9, cars=[0, 1, 7, 20]).sweep()
+        for table in sweep, Table(Point, list(sweep)), ONE.series(every=7), Table(Point):
+            frame = table.to_pandas()
+            self.assertEqual([*frame.columns], [*table.kind._fields, "density", "speed", "stopped_share"])
+            for name in "density", "speed", "stopped_share", "cars", "distance":
+                self.assertEqual(frame[name].tolist(), [getattr(row, name) for row in table])
+            self.assertEqual(frame["flow"].tolist(), [row.passing for row in table])
+
+
+class Runs(unittest.TestCase):
+    def test_the_pictures_are_those_of_the_text(self):
+        for job in ONE, TWO:
+            pictures, streamed = job.run(), list(job.pictures())
+            self.assertEqual((pictures, [pictures[place] for place in range(len(pictures))]), (streamed, streamed))
+            self.assertEqual((Pictures.read(pictures.text()), Pictures.read(pictures.text().encode())), (streamed, streamed))
+            for part in slice(5, None), slice(None, -3), slice(1, 12, 4), slice(None, None, -1), slice(3, 3):
+                self.assertEqual((pictures[part], type(pictures[part])), (streamed[part], Pictures))
+                self.assertEqual(pickle.loads(pickle.dumps(pictures[part])), streamed[part])
+                self.assertEqual(Pictures.read(pictures[part].text()), streamed[part])
+            self.assertEqual((pictures[-1], pictures[9:12][1]), (streamed[-1], streamed[10]))
+            for place in len(pictures), -len(pictures) - 1:
+                self.assertRaises(IndexError, pictures.__getitem__, place)
+
+    def test_pictures_can_be_changed(self):
+        pictures, kept = Pictures.read(RUN), Pictures()
+        kept.append(pictures[1])
+        kept.extend(pictures)
+        pictures.reverse()
+        self.assertEqual((kept, pictures), ([pictures[0], *pictures[::-1]], [Picture(10, ("0.0",)), Picture(9, ("0.1",))]))
+        self.assertEqual(Pictures.read(RUN), pictures[::-1])
+
+    def test_steps_at_any_distance(self):
+        for steps in [0], [7, 8, 9, 10, 11], [5, 55, 105], [1, 2, 5], [3, 2], [99, 1099, 2099]:
+            made = Pictures([Picture(step, ("0..", ".1.")) for step in steps])
+            self.assertEqual(Pictures.read(made.text()), made)
+        self.assertEqual(Pictures.read(""), [])
+
+    def test_what_is_not_a_run(self):
+        for text, wrong in {
+            "fault line 1 cause 1\n": "not the heading of a picture of a run: 'fault",
+            "step x\n0.1\n": "not the heading of a picture of a run: 'step x'",
+            "step 1\n0.1\nstep 2\n0.1.\n": "a lane of step 2 is not as long as the first lane of the run: '0.1.'",
+            "step 1\n0.1\nstep 2\n0.1\n0.1\n": "not the heading of a picture of a run: '0.1'",
+            "step 1\n0.1\nstep 2\nstep 3\n0.1\n": "a lane of step 2 is not .*: 'step 3'",
+            "step 1\n0.1\n\nstep 2\n0.1\n": "a lane of step 1 is not .*: ''",
+        }.items():
+            self.assertRaisesRegex(ValueError, wrong, Pictures.read, text)
+            self.assertRaisesRegex(ValueError, wrong, list, pictures_in(text.splitlines(True)))
+
+    def test_a_run_that_is_cut_off(self):
+        whole = TWO.run().text()
+        begins = [place for place in range(len(whole) + 1) if whole.startswith("step ", place)]
+        for end in range(begins[1], len(whole)):
+            if end in begins:
+                # Only the number of pictures tells that a run lacks whole ones.
+                self.assertEqual(len(Pictures.read(whole[:end])), begins.index(end))
+            else:
+                with self.assertRaisesRegex(ValueError, "cut off|not the heading of a picture"):
+                    Pictures.read(whole[:end])
+
+    def test_a_program_that_cuts_its_output_off(self):
+        job = Job(limit=5, length=3, cars=0, rule=Nasch(0), steps=1)
+        for status, error in (0, ValueError), (4, Exception):
+            with tempfile.TemporaryDirectory() as folder:
+                with stand_in(folder, f"printf 'step 0\\n...\\nstep 1\\n..'; exit {status}\n"):
+                    self.assertRaises(error, job.run)
+                    self.assertRaises(error, list, job.pictures())
+
+    @needs("numpy")
+    def test_arrays(self):
+        for job in ONE, TWO:
+            pictures = job.run()
+            made = Pictures([*pictures])
+            wanted = [[[-1 if v is None else v for v in lane] for lane in it.speeds()] for it in pictures]
+            for array in pictures.to_numpy(), made.to_numpy():
+                self.assertEqual((array.tolist(), array.dtype, array.flags.writeable), (wanted, "int8", True))
+            self.assertEqual(pictures[2:99:3].to_numpy().tolist(), wanted[2:99:3])
+        self.assertEqual(Pictures().to_numpy().shape, (0, 0, 0))
+        long = Job(limit=5, length=1000, cars=100, rule=Nasch("1/4"), steps=700).run()
+        self.assertEqual(long.to_numpy().tolist(), Pictures([*long]).to_numpy().tolist())
+        for wrong in "?", "A", "\xe9":
+            for pictures in Pictures.read(RUN.replace("0.1", f"0{wrong}1")), Pictures([Picture(0, (wrong,))]):
+                self.assertRaisesRegex(ValueError, f"not '[{wrong}]'", pictures.to_numpy)
+
+    @needs("pandas")
+    def test_frames(self):
+        for pictures in ONE.run(), TWO.run(), TWO.run()[::-2], TWO.run() + ONE.run(), Pictures():
+            wanted = [
+                [it.step, lane, cell, speed]
+                for it in pictures for lane, cells in enumerate(it.speeds()) for cell, speed in enumerate(cells) if speed is not None
+            ]
+            for frame in pictures.to_pandas(), Pictures([*pictures]).to_pandas():
+                self.assertEqual((frame.values.tolist(), [*frame.columns]), (wanted, ["step", "lane", "cell", "speed"]))
+                self.assertEqual({str(kind) for kind in frame.dtypes}, {"int64"})

@@ -1,0 +1,74 @@
+"""The command `trlab-lab`, and `python -m trlab.lab`."""
+from __future__ import annotations
+
+import argparse
+import base64
+import errno
+import signal
+import sys
+import webbrowser
+import zlib
+from pathlib import Path
+from typing import List, Optional
+
+from ..program import Failed, Refused
+from .export import exported
+from .server import MOST_BYTES, Lab
+
+
+def main(words: Optional[List[str]] = None) -> None:
+    """Serve the page until it is interrupted, or export a run."""
+    parser = argparse.ArgumentParser(
+        prog="trlab-lab", description="Show moving traffic in the browser, computed by trlab on this machine."
+    )
+    parser.add_argument("job", nargs="?", metavar="JOB", help="open this job file, or a link that the page made")
+    parser.add_argument("--port", type=int, default=0, help="listen on this port (default: any free port)")
+    parser.add_argument("--no-browser", action="store_true", help="print the address, but do not open the browser")
+    parser.add_argument("--export", metavar="FILE", help="write FILE, which plays the run of the job on standard input")
+    options = parser.parse_args(words)
+    try:
+        if options.export:
+            if options.job:
+                parser.error("--export reads the job from standard input: trlab-lab --export FILE < JOB")
+            Path(options.export).write_text(exported(sys.stdin.read()), encoding="utf-8")
+        else:
+            _serve(options.port, fragment(options.job) if options.job else "", options.no_browser)
+    except (Failed, OSError, Refused, ValueError, OverflowError) as error:
+        sys.exit(f"trlab-lab: {error}")
+
+
+def fragment(job: str) -> str:
+    """The part of the page's address that holds a job: that of a link, or made from a job file."""
+    if "#job=" in job:
+        return job[job.index("#job=") :]
+    text = Path(job).read_bytes()
+    if len(text) > MOST_BYTES:
+        raise ValueError(f"{job} is too long: at most {MOST_BYTES} bytes are allowed")
+    packer = zlib.compressobj(9, zlib.DEFLATED, -15)
+    return "#job=" + base64.urlsafe_b64encode(packer.compress(text) + packer.flush()).rstrip(b"=").decode()
+
+
+def _serve(port: int, opened: str, no_browser: bool) -> None:
+    if not 0 <= port <= 65535:
+        raise ValueError(f"the port must be between 0 and 65535, not {port}")
+    for ending in signal.SIGTERM, signal.SIGHUP:
+        signal.signal(ending, lambda *_: sys.exit())
+    try:
+        lab = Lab(port)
+    except OSError as error:
+        if error.errno not in (errno.EADDRINUSE, errno.EACCES):
+            raise
+        raise OSError(f"cannot listen on port {port}: {error.strerror}; choose another with --port") from None
+    try:
+        print(lab.address + opened, flush=True)
+        if not no_browser:
+            webbrowser.open(lab.address + opened)
+        lab.serve_forever()
+    except KeyboardInterrupt:
+        pass
+    finally:
+        lab.close()
+
+
+if __name__ == "__main__":
+    main()

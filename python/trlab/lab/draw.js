@@ -1,0 +1,332 @@
+// Drawings of a road. Each draws with a pen, which is the context of a canvas or an `SvgPen`, and a view:
+// { film, step, scene, share, lens, car }. `share` is the part of the way from the step before, 0 to 1.
+
+import { EMPTY, clamp, upTo } from "./job.js";
+
+const LINE = "#e3e6ea", WASH = "#f1f3f5", ACCENT = "#1d5f9e", FAINT = "#cdd3da", INK = "#16191d", SOFT = "#656d78", OTHER = "#c8501e";
+// Dark red, orange, sky, blue: these differ in lightness too, and without red and green.
+const RAMP = [[122, 16, 22], [208, 66, 24], [243, 154, 46], [142, 196, 232], [76, 142, 200], [26, 86, 150]];
+const MANY = 3000; // With more cars, one mark for each dot shows its slowest car, and nothing moves between steps.
+const turned = Math.PI * 2;
+
+/** The colour of a speed as a share of the maximum speed: red, green and blue. */
+export function colour(share) {
+  const place = clamp(share, 0, 1) * (RAMP.length - 1), k = Math.min(RAMP.length - 2, Math.floor(place));
+  return RAMP[k].map((from, part) => Math.round(from + (RAMP[k + 1][part] - from) * (place - k)));
+}
+export const paint = (v, limit) => `rgb(${colour(v / limit).join(",")})`;
+
+/** The context of a canvas, cleared, at the size that it has on the page. */
+export function fresh(canvas) {
+  const { clientWidth: width, clientHeight: height } = canvas, dots = devicePixelRatio || 1;
+  if (canvas.width !== Math.round(width * dots) || canvas.height !== Math.round(height * dots)) {
+    canvas.width = Math.round(width * dots);
+    canvas.height = Math.round(height * dots);
+  }
+  const pen = canvas.getContext("2d");
+  pen.setTransform(dots, 0, 0, dots, 0, 0);
+  pen.clearRect(0, 0, width, height);
+  return { pen, width, height };
+}
+
+const short = number => +number.toFixed(2);
+const tag = (name, what, words = "") => `<${name}${Object.entries(what).map(it => ` ${it[0]}="${it[1]}"`).join("")}>${words}</${name}>`;
+/** The parts of a canvas context that these drawings use, written as SVG. */
+export class SvgPen {
+  constructor() { Object.assign(this, { parts: [], path: "", boxes: "", lineWidth: 1 }); }
+  beginPath() { this.path = ""; }
+  moveTo(x, y) { this.path += `M${short(x)} ${short(y)}`; }
+  lineTo(x, y) { this.path += `${this.path ? "L" : "M"}${short(x)} ${short(y)}`; }
+  arc(x, y, radius, from, to) {
+    const at = angle => `${short(x + radius * Math.cos(angle))} ${short(y + radius * Math.sin(angle))}`;
+    const way = [from, (from + to) / 2, to].map(at);
+    this.path += `M${way[0]}` + way.slice(1).map(end => `A${short(radius)} ${short(radius)} 0 0 1 ${end}`).join("");
+  }
+  stroke() { this.add("path", { d: this.path, fill: "none", stroke: this.strokeStyle, "stroke-width": this.lineWidth }); }
+  fill() { this.add("path", { d: this.path, fill: this.fillStyle }); }
+  fillRect(x, y, wide, high) {
+    if (this.filled !== this.fillStyle) this.flush();
+    this.filled = this.fillStyle;
+    this.boxes += `M${short(x)} ${short(y)}h${short(wide)}v${short(high)}h${short(-wide)}z`;
+  }
+  text(words, x, y, more = {}) { this.add("text", { x: short(x), y: short(y), fill: SOFT, ...more }, words); }
+  add(name, what, words) {
+    this.flush();
+    this.parts.push(tag(name, what, words));
+  }
+  flush() {
+    if (this.boxes) this.parts.push(tag("path", { d: this.boxes, fill: this.filled }));
+    this.boxes = "";
+  }
+  /** The image, with margins for the words around the drawing. */
+  image(width, height, [top, right, bottom, left]) {
+    this.flush();
+    const size = [-left, -top, width + left + right, height + top + bottom], [x, y, wide, high] = size;
+    const paper = tag("rect", { x, y, width: wide, height: high, fill: "white" });
+    const what = { xmlns: "http://www.w3.org/2000/svg", viewBox: size.join(" "), "font-family": "sans-serif", "font-size": 12 };
+    return tag("svg", what, "\n" + [paper, ...this.parts].join("\n") + "\n") + "\n";
+  }
+}
+
+/** Call for each car of a speed, or for each dot whose slowest car has this speed, with its place and its lane. */
+function marksOf({ film, scene, share }, bins) {
+  const { starts, place, lane, origin, cars } = scene, turn = share * share * (3 - 2 * share);
+  if (cars <= MANY) {
+    return (v, call) => {
+      for (let k = starts[v]; k < starts[v + 1]; k++) call(place[k] - v * (1 - share), origin[k] + (lane[k] - origin[k]) * turn);
+    };
+  }
+  const found = new Uint8Array(bins * film.lanes).fill(255), scale = bins / film.length;
+  for (let v = film.limit; v >= 0; v--) {
+    for (let k = starts[v]; k < starts[v + 1]; k++) found[lane[k] * bins + Math.floor(place[k] * scale)] = v;
+  }
+  return (v, call) => found.forEach((slowest, k) => slowest === v && call((k % bins) / scale, Math.floor(k / bins)));
+}
+/** The place and the lane of the followed car, as `marksOf` gives them. */
+export function carNow({ film, share, car, step }) {
+  if (!car || car.step !== step) return null;
+  const before = film.earlier(car), turn = share * share * (3 - 2 * share), from = before ? before.lane : car.lane;
+  return [car.cell - film.speed(car) * (1 - share), from + (car.lane - from) * turn];
+}
+
+// The ring
+
+const ringOf = ({ film }, size) => ({ middle: size / 2, outer: size / 2 - 4, tall: film.lanes === 2 ? 13 : 18 });
+export function drawRing(pen, size, view) {
+  const { film } = view, { middle, outer, tall } = ringOf(view, size), turn = turned / film.length;
+  const line = (x, lane, more = 0) => {
+    const angle = (x + 0.5) * turn, sin = Math.sin(angle), cos = -Math.cos(angle);
+    const from = outer - 2.5 - lane * (tall + 5) + more, to = from - tall - 2 * more;
+    pen.moveTo(middle + sin * from, middle + cos * from);
+    pen.lineTo(middle + sin * to, middle + cos * to);
+  };
+  pen.strokeStyle = LINE;
+  pen.lineWidth = 1;
+  for (const k of upTo(film.lanes + 1)) {
+    pen.beginPath();
+    pen.arc(middle, middle, outer - k * (tall + 5), 0, turned);
+    pen.stroke();
+  }
+  drawArrow(pen, middle, outer - film.lanes * (tall + 5) - 12);
+  const thick = clamp(turn * (outer - 12) * 0.72, 1.7, 12), call = marksOf(view, 1500), car = carNow(view);
+  for (const [style, more, wide] of car ? [["#fff", 4, thick + 6], [INK, 3, thick + 3]] : []) {
+    Object.assign(pen, { strokeStyle: style, lineWidth: wide });
+    pen.beginPath();
+    line(...car, more);
+    pen.stroke();
+  }
+  pen.lineWidth = thick;
+  for (let v = film.limit; v >= 0; v--) {
+    pen.strokeStyle = paint(v, film.limit);
+    pen.beginPath();
+    call(v, (x, lane) => line(x, lane));
+    pen.stroke();
+  }
+}
+/** The direction of the traffic: clockwise. */
+function drawArrow(pen, middle, radius) {
+  const end = -Math.PI / 2 + 0.16, x = middle + radius * Math.cos(end), y = middle + radius * Math.sin(end);
+  Object.assign(pen, { strokeStyle: "#a5adb8", lineWidth: 1 });
+  pen.beginPath();
+  pen.arc(middle, middle, radius, -Math.PI / 2 - 0.16, end);
+  pen.stroke();
+  pen.beginPath();
+  for (const [dx, dy] of [[-5, -4.2], [0, 0], [-6, 2.4]]) pen.lineTo(x + dx, y + dy);
+  pen.stroke();
+}
+/** The cell and the lane at a point of the ring, or null. */
+export function ringAt(view, size, x, y) {
+  const { middle, outer, tall } = ringOf(view, size), { film } = view, away = outer - Math.hypot(x - middle, y - middle);
+  const lane = Math.floor(away / (tall + 5)), angle = Math.atan2(x - middle, middle - y);
+  if (away < -8 || away > film.lanes * (tall + 5) + 8) return null;
+  return { cell: (angle / turned + 1) % 1 * film.length, lane: clamp(lane, 0, film.lanes - 1), reach: film.length / turned / outer * 10 };
+}
+
+// The straight road: all of it, and below it a part of it that is drawn larger
+
+function drawRoad(pen, view, { top, tall, from, cells, width }) {
+  const scale = width / cells, wide = Math.max(1.4, scale * 0.78), { length, lanes, limit } = view.film;
+  const box = (x, lane, more = 0) => {
+    let place = (((x - from) % length) + length) % length;
+    if (place > cells) place -= length;
+    const inset = (tall > 14 ? 4 : 2) - more;
+    if (place > -1) pen.fillRect(place * scale + (scale - wide) / 2 - more, top + lane * tall + inset + 0.5, wide + 2 * more, tall - 2 * inset);
+  };
+  pen.fillStyle = LINE;
+  for (const k of upTo(lanes + 1)) pen.fillRect(0, top + k * tall, width, 1);
+  const call = marksOf(view, Math.ceil(width)), car = carNow(view);
+  if (car) {
+    pen.fillStyle = INK;
+    box(...car, tall > 14 ? 3 : 2);
+  }
+  for (let v = limit; v >= 0; v--) {
+    pen.fillStyle = paint(v, limit);
+    call(v, (x, lane) => box(x, lane));
+  }
+}
+/** The places of both bands; a short road has only one. */
+export function bandsOf({ film: { length, lanes }, lens }, width, height) {
+  const near = Math.round(width / 9), two = lanes === 2;
+  if (length <= near * 1.5) return [{ top: (height - (two ? 48 : 30)) / 2, tall: two ? 24 : 30, from: 0, cells: length, width }];
+  const large = { tall: two ? 19 : 26, top: height - (two ? 39 : 27), from: lens - near / 2, cells: near, width };
+  return [{ top: 0, tall: two ? 11 : 20, from: 0, cells: length, width }, large];
+}
+export function drawBands(pen, width, height, view) {
+  const [whole, large] = bandsOf(view, width, height), { length, lanes } = view.film;
+  if (large) {
+    const scale = width / length, left = large.from * scale, right = left + large.cells * scale, foot = whole.tall * lanes;
+    pen.fillStyle = WASH;
+    for (const by of [-width, 0, width]) {
+      if (right + by <= 0 || left + by >= width) continue;
+      pen.fillRect(Math.max(0, left + by), 0, Math.min(width, right + by) - Math.max(0, left + by), foot);
+      pen.beginPath();
+      for (const [x, y] of [[Math.max(0, left + by), foot], [0, large.top], [width, large.top], [Math.min(width, right + by), foot]]) pen.lineTo(x, y);
+      pen.fill();
+    }
+    pen.fillRect(0, large.top, width, height - large.top);
+    drawRoad(pen, view, large);
+  }
+  drawRoad(pen, view, whole);
+}
+/** The cell and the lane at a point of the bands. */
+export function bandAt(view, width, height, x, y) {
+  const bands = bandsOf(view, width, height), band = bands.length > 1 && y > (bands[0].tall * view.film.lanes + bands[1].top) / 2 ? bands[1] : bands[0];
+  const { length, lanes } = view.film, cell = band.from + x / width * band.cells;
+  return { cell: (cell + length) % length, lane: clamp(Math.floor((y - band.top) / band.tall), 0, lanes - 1), reach: Math.max(1, 10 * band.cells / width), isWhole: bands.length > 1 && band === bands[0] };
+}
+
+// The space-time diagram: a row for each step
+
+export function rowsOf({ film, step }, width, height) {
+  const high = Math.max(film.lanes, clamp(Math.round(width / film.length), 1, 8)), rows = Math.max(1, Math.floor(height / high));
+  return { high, rows, top: Math.max(film.first, step - rows + 1) };
+}
+/** Rows are kept in a canvas with one dot for each cell; the oldest row is overwritten. */
+export class Rows {
+  constructor() { this.pen = document.createElement("canvas").getContext("2d", { willReadFrequently: true }); }
+  draw(pen, width, height, view) {
+    const { film, step } = view, { high, rows, top } = rowsOf(view, width, height), { lanes } = film, wide = Math.min(film.length, 4000);
+    const key = [wide, film.length, lanes, film.limit, rows].join();
+    if (key !== this.key || film !== this.film) this.begin(key, film, wide, rows);
+    if (step !== this.step) for (let k = step > this.step && this.step >= top ? this.step + 1 : top; k <= step; k++) this.row(k, rows, wide);
+    this.step = step;
+    pen.imageSmoothingEnabled = width * devicePixelRatio < wide;
+    pen.imageSmoothingQuality = "high";
+    const piece = (from, to) => to > from && pen.drawImage(this.pen.canvas, 0, from % rows * lanes, wide, (to - from) * lanes, 0, (from - top) * high, width, (to - from) * high);
+    const turn = Math.ceil((top + 1) / rows) * rows; // the first step above `top` whose row is the first of the canvas
+    piece(top, Math.min(turn, step + 1));
+    piece(turn, step + 1);
+    drawPath(pen, width, high, top, view);
+  }
+  begin(key, film, wide, rows) {
+    Object.assign(this, { key, film, step: -1, image: this.pen.createImageData(wide, 1), table: new Uint32Array(128) });
+    Object.assign(this.pen.canvas, { width: wide, height: rows * film.lanes });
+    for (const v of upTo(film.limit + 1)) {
+      const [red, green, blue] = colour(v / film.limit);
+      this.table[v < 10 ? v + 48 : v + 87] = 0xff000000 | blue << 16 | green << 8 | red;
+    }
+  }
+  row(step, rows, wide) {
+    const { film, image, table } = this, { cells } = film.of(step), { length } = film, dots = new Uint32Array(image.data.buffer);
+    for (let lane = 0, k = 0; lane < film.lanes; lane++) {
+      const slowest = new Uint8Array(wide);
+      for (let x = 0; x < length; x++, k++) {
+        const dot = wide === length ? x : Math.floor(x * wide / length), sign = cells[k];
+        if (sign !== EMPTY && (slowest[dot] === 0 || sign < slowest[dot])) slowest[dot] = sign;
+      }
+      for (let dot = 0; dot < wide; dot++) dots[dot] = table[slowest[dot]];
+      this.pen.putImageData(image, 0, step % rows * film.lanes + lane);
+    }
+  }
+}
+/** The path of the followed car. */
+function drawPath(pen, width, high, top, { film, car, step }) {
+  if (!car || car.step !== step) return;
+  const scale = width / film.length, points = [];
+  for (let now = car; now && now.step >= top; now = film.earlier(now)) points.push(now);
+  for (const [style, wide] of [["#fff", 4], [INK, 1.5]]) {
+    Object.assign(pen, { strokeStyle: style, lineWidth: wide });
+    pen.beginPath();
+    points.forEach((now, k) => {
+      const x = (now.cell + 0.5) * scale, y = (now.step - top + (now.lane + 0.5) / film.lanes) * high;
+      if (k && now.cell <= points[k - 1].cell) pen.lineTo(x, y);
+      else pen.moveTo(x, y);
+    });
+    pen.stroke();
+  }
+}
+
+// Curves beside the space-time diagram, with the same time axis
+
+export const CURVES = ["flow", "density", "speed", "stopped"];
+const SPAN = 25;
+/** Averages over the last 25 kept steps, from a step to another one. */
+export function smooth(film, name, from, to) {
+  const out = [], first = Math.max(film.first, from - SPAN);
+  for (let n = first, sum = 0; n <= to; n++) {
+    sum += film.of(n)[name] - (n >= first + SPAN ? film.of(n - SPAN)[name] : 0);
+    if (n >= from) out.push(sum / Math.min(SPAN, n - first + 1));
+  }
+  return out;
+}
+export function drawCurves(pen, width, height, view, rows) {
+  const { film, step } = view, { high, top } = rows, gap = 14, wide = (width - 3 * gap) / 4;
+  const most = { flow: film.limit / (film.limit + 1), density: 1, speed: film.limit, stopped: 1 };
+  const shots = upTo(step - top + 1).map(k => film.of(top + k));
+  CURVES.forEach((name, k) => {
+    const left = k * (wide + gap);
+    const curve = (style, thick, values) => {
+      Object.assign(pen, { strokeStyle: style, lineWidth: thick });
+      pen.beginPath();
+      values.forEach((it, n) => pen.lineTo(left + 1 + (wide - 2) * it / most[name], (n + 0.5) * high));
+      pen.stroke();
+    };
+    pen.fillStyle = LINE;
+    pen.fillRect(left, 0, 1, height);
+    if (name === "density") return upTo(film.lanes).forEach(lane => curve(lane ? OTHER : ACCENT, 1.5, shots.map(it => it.densities[lane])));
+    curve(FAINT, 1, shots.map(it => it[name]));
+    curve(ACCENT, 1.5, smooth(film, name, top, step));
+  });
+}
+
+// The same drawings as SVG files
+
+export const FIGURES = {
+  ring(view) {
+    const pen = new SvgPen();
+    drawRing(pen, 300, { ...view, share: 1 });
+    pen.text(view.step, 150, 154, { "text-anchor": "middle", "font-size": 28 });
+    return pen.image(300, 300, [8, 8, 8, 8]);
+  },
+  road(view) {
+    const pen = new SvgPen();
+    drawBands(pen, 1000, 84, { ...view, share: 1 });
+    return pen.image(1000, 84, [8, 8, 8, 8]);
+  },
+  spacetime(view) {
+    const pen = new SvgPen(), width = 1000, { film, step } = view, { high, top } = rowsOf(view, width, 300), scale = width / film.length;
+    for (let now = top; now <= step; now++) {
+      const { cells } = film.of(now), tall = high / film.lanes;
+      for (let k = 0; k < cells.length; k++) {
+        if (cells[k] === EMPTY) continue;
+        pen.fillStyle = paint(cells[k] < 58 ? cells[k] - 48 : cells[k] - 87, film.limit);
+        pen.fillRect(k % film.length * scale, (now - top) * high + Math.floor(k / film.length) * tall, scale, tall);
+      }
+    }
+    drawPath(pen, width, high, top, view);
+    const foot = (step - top + 1) * high, end = { "text-anchor": "end" };
+    pen.text(`step ${top}`, -6, 9, end);
+    pen.text(`step ${step}`, -6, foot, end);
+    pen.text(`position, 0 to ${film.length - 1} cells; time runs down`, width, foot + 18, end);
+    return pen.image(width, foot, [8, 8, 28, 70]);
+  },
+  curves(view) {
+    const pen = new SvgPen(), rows = rowsOf(view, 1000, 300), foot = (view.step - rows.top + 1) * rows.high;
+    drawCurves(pen, 480, foot, view, rows);
+    const { limit } = view.film, titles = [`flow, 0 to ${+(limit / (limit + 1)).toFixed(2)}`, "density, 0 to 1", `speed, 0 to ${limit}`, "stopped, 0 to 1"];
+    titles.forEach((words, k) => pen.text(words, k * 123.5, -8));
+    pen.text(`step ${rows.top}`, -6, 9, { "text-anchor": "end" });
+    pen.text(`step ${view.step}`, -6, foot, { "text-anchor": "end" });
+    return pen.image(480, foot, [28, 8, 8, 70]);
+  },
+};

@@ -1,0 +1,99 @@
+"""Pages that play a run without a server: one file with the page's scripts, its style and the snapshots."""
+from __future__ import annotations
+
+import base64
+import gzip
+import hashlib
+import json
+import re
+from html import escape
+from pathlib import Path
+from typing import TYPE_CHECKING, Iterator, Optional
+
+from ..program import ask_by_line
+from ..starts import SPEEDS
+
+if TYPE_CHECKING:
+    from ..results import Pictures
+
+HERE = Path(__file__).resolve().parent
+SCRIPTS = ("job", "film", "draw", "player", "exported")
+MOST_BYTES = 256 * 1024 * 1024
+"""The maximum size of the snapshots in one file, before they are compressed."""
+
+_PAGE = """<!doctype html>
+<html lang="en">
+<head>
+<meta charset="utf-8">
+<meta name="viewport" content="width=device-width, initial-scale=1">
+<meta http-equiv="Content-Security-Policy" content="default-src 'none'; script-src {script_sum}; style-src {style_sum}; img-src data:">
+<title>{title}</title>
+<link rel="icon" href="data:,">
+<style>{style}</style>
+</head>
+<body class="exported">
+<main>
+<p class="lead">{lead}</p>
+{parts}
+</main>
+<script type="application/json" id="job">{job}</script>
+<script type="text/plain" id="run">{run}</script>
+<script type="module">{script}</script>
+</body>
+</html>
+"""
+
+
+def page_of(pictures: Pictures, limit: Optional[int] = None, title: str = "") -> str:
+    """A web page that plays these snapshots. `limit` is the maximum speed in cells per step, for the colours; None means
+    the highest speed of the snapshots. Raises `ValueError` if there are no snapshots, if they do not begin at step 0, or
+    if they are too long."""
+    if not pictures or pictures[0].step != 0:
+        raise ValueError("a page needs the snapshots of a run from step 0 on")
+    lines = (line for it in pictures for line in (f"step {it.step}", *it.lanes))
+    fastest = limit or max(1, pictures.space_time().fastest)
+    return _page((line + "\n" for line in lines), fastest, title)
+
+
+def exported(text: str, title: str = "") -> str:
+    """A web page that plays the run of a job file. Raises `Refused` if trlab rejects it."""
+    limit = re.search(r"^limit ([0-9]{1,2})$", text, re.M)
+    return _page(ask_by_line(["run"], text), int(limit[1]) if limit else 1, title)
+
+
+def _page(lines: Iterator[str], limit: int, title: str) -> str:
+    output, size = [], 0
+    for line in lines:
+        output.append(line)
+        size += len(line)
+        if size > MOST_BYTES:
+            raise ValueError(f"the snapshots are too long for one file: at most {MOST_BYTES} bytes are allowed")
+    lanes = [line.rstrip("\n") for line in output[1:3] if not line.startswith("step ")]
+    cars = sum(lane.count(sign) for lane in lanes for sign in SPEEDS)
+    steps = len(output) // (len(lanes) + 1) - 1
+    job = {"length": len(lanes[0]), "lanes": len(lanes), "limit": limit, "steps": steps}
+    rings = "two rings" if len(lanes) == 2 else "a ring"
+    lead = f"{cars} {'car' if cars == 1 else 'cars'} on {rings} of {len(lanes[0])} cells, at most {limit} cells per step"
+    script, style = _script(), (HERE / "page.css").read_text()
+    packed = base64.b64encode(gzip.compress("".join(output).encode(), 9, mtime=0)).decode()
+    return _PAGE.format(
+        title=escape(title or lead), lead=escape(title or lead) + ("" if title else "."), style=style, script=script,
+        style_sum=_sum(style), script_sum=_sum(script), parts=_parts(), job=json.dumps(job), run=packed,
+    )
+
+
+def _script() -> str:
+    """The scripts as one: without `import` lines and the word `export`."""
+    texts = [(HERE / f"{name}.js").read_text() for name in SCRIPTS]
+    return re.sub(r"^export ", "", re.sub(r"^import .*;\n", "", "\n".join(texts), flags=re.M), flags=re.M)
+
+
+def _parts() -> str:
+    """The parts of the page that play a run."""
+    page = (HERE / "page.html").read_text()
+    forms = r'<figure class="ring">.*?</figure>', r'<section class="transport".*?</section>', r'<section class="time".*?role="status"></p>'
+    return "\n".join(found[0] for form in forms if (found := re.search(form, page, re.S)))
+
+
+def _sum(text: str) -> str:
+    return f"'sha256-{base64.b64encode(hashlib.sha256(text.encode()).digest()).decode()}'"

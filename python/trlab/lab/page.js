@@ -1,0 +1,338 @@
+// The page of trlab-lab. The job file is the only truth: a control changes the job, the job is written as a file, trlab
+// reads the file, and the page draws the snapshots that come back. A file that you type goes back into the controls.
+
+import { FIRST, clamp, jobOf, jobText, linkOf, roadFits, sweepText, textOfLink, upTo } from "./job.js";
+import { bytesBefore } from "./film.js";
+import { FIGURES, colour, rowsOf } from "./draw.js";
+import { across, diagramFile, diagramOf, pointsOf } from "./diagram.js";
+import { Editor, explain } from "./editor.js";
+import { $, Player } from "./player.js";
+
+const MOST_BYTES = 4194304, MOST_CELLS = 100000;
+let job = structuredClone(FIRST), examples = {}, marks = [], means = null, table = "", drawn = 0;
+const motion = new Editor("motion"), change = new Editor("change"), text = new Editor("text");
+const complain = words => $("fault").textContent = words;
+const ask = (words, body, signal) => fetch(words, { method: "POST", body, signal });
+/** Call once the calls have stopped for so many milliseconds. */
+function soon(wait, call) {
+  let timer;
+  return () => {
+    clearTimeout(timer);
+    timer = setTimeout(call, wait);
+  };
+}
+const player = new Player({
+  shot: count,
+  moved(now) {
+    if (inForce() !== shown) show();
+    if (now - drawn > 100 || !player.playing) drawDiagram(now);
+  },
+  over() { settle(); drawDiagram(); },
+}, complain);
+globalThis.lab = { // for the console and for tests
+  player, colour, open: load, get job() { return job; }, get marks() { return marks; }, get table() { return table; },
+  rows: () => rowsOf(player.view, $("spacetime").clientWidth, $("spacetime").clientHeight),
+};
+
+/** The rule that the cars follow at the step that is shown. */
+let shown = null;
+const inForce = () => job.rules.findLast(rule => rule.at <= Math.max(0, player.step)) ?? job.rules[0];
+
+// Runs
+
+/** Run a job file from the start, or on from the step that is shown. */
+function drive(source, on = false) {
+  settle();
+  const { length, lanes, steps } = job;
+  const open = (from, signal) => ask(`run?skip=${bytesBefore(from, { length, lanes })}`, source, signal);
+  means = { from: (on ? player.step : 0) + Math.min(200, steps >> 2), sum: 0, steps: 0, limit: job.limit, density: job.cars / length / lanes };
+  complain("");
+  if (on) player.resume(open, steps);
+  else player.load(open, job);
+}
+function count(shot) {
+  if (!means || shot.step <= means.from) return;
+  Object.assign(means, { from: shot.step, sum: means.sum + shot.flow, steps: means.steps + 1 });
+}
+/** The last run becomes a point of the fundamental diagram: its flow, averaged without the first 200 steps. */
+function settle() {
+  if (means?.steps >= 10) marks.push({ limit: means.limit, points: [{ density: means.density, flow: means.sum / means.steps }] });
+  marks.splice(0, marks.length - 200);
+  means = null;
+}
+/** A control of the road has changed: start again, with the rule in force as the first one. */
+function begin() {
+  if (job.start === "file" && !roadFits(job)) job.start = "random";
+  if (job.rules.some(rule => rule.live)) job.rules = [{ ...inForce(), at: 0, live: false }];
+  text.value = jobText(job);
+  drive(text.value);
+  show();
+  judge();
+}
+/** The rule has changed: from the step that is shown on, if cars are driving. */
+function changeRule(what) {
+  const rule = { ...inForce(), ...what, live: true }, { step } = player;
+  if (rule.model === "own" && !rule.motion) Object.assign(rule, { motion: examples["nasch.rule"], change: examples["lane_change.rule"] });
+  const needsRoad = rule.model === "rickert" && job.lanes === 1;
+  if (needsRoad) resize({ lanes: 2 });
+  if (needsRoad || step <= 0 || step >= job.steps || job.rules.length > 1000) {
+    job.rules = [{ ...rule, at: 0, live: false }, ...job.rules.slice(1).filter(later => !later.live && step < job.steps)];
+    return begin();
+  }
+  job.rules = [...job.rules.filter(other => other.at < step), { ...rule, at: step }];
+  text.value = jobText(job);
+  drive(text.value, true);
+  show();
+  judge();
+}
+/** Change the length or the lanes, and keep the density. */
+function resize(what) {
+  Object.assign(job, what);
+  job.cars = Math.round(job.density * job.length * job.lanes);
+}
+
+// Controls
+
+const RANGES = { p: [0, 1], q: [0, 1], density: [0, 1], limit: [1, 35], length: [1, MOST_CELLS], lanes: [1, 2], steps: [0, 500000] };
+function set(name, value) {
+  const cells = job.length * job.lanes, number = clamp(+value, ...(RANGES[name] ?? [0, cells]));
+  if (name === "model") return value === inForce().model || changeRule({ model: value });
+  if (name === "key") return /^\d{1,77}$/.test(value) && BigInt(value) < 2n ** 256n ? again({ key: value }) : show(true);
+  if (name === "start") return again({ start: value });
+  if (value.trim() === "" || Number.isNaN(number)) return show(true);
+  if (name === "p" || name === "q") return number === inForce()[name] ? show(true) : changeRule({ [name]: number });
+  const whole = name === "density" ? Math.round(number * cells) : Math.round(number);
+  if (name === "cars" || name === "density") again({ cars: whole, density: name === "density" ? number : +(whole / cells).toFixed(4), start: job.start === "file" ? "random" : job.start });
+  else if (name === "length" || name === "lanes") {
+    resize({ [name]: whole });
+    if (job.lanes === 1 && inForce().model === "rickert") job.rules = [{ ...inForce(), at: 0, model: "nasch" }];
+    again({});
+  } else again({ [name]: whole });
+}
+function again(what) {
+  if (what.steps !== undefined) job.rules = job.rules.filter(rule => rule.at === 0 || rule.at < what.steps);
+  Object.assign(job, what);
+  begin();
+  show(true);
+}
+/** Make a control of the sentence as wide as its text, if the browser does not. */
+const fit = place => place.closest(".lead") && !CSS.supports("field-sizing: content") && (place.style.width = `${Math.max(1, place.value.length)}ch`);
+/** Show the job in the controls and in the sentence above them. A control that has the focus keeps its text, unless forced. */
+function show(force = false) {
+  const rule = shown = inForce(), values = { ...job, model: rule.model, p: rule.p, q: rule.q }, own = rule.model === "own";
+  for (const place of document.querySelectorAll("[data-set]")) {
+    if (!force && document.activeElement === place && place.tagName === "INPUT") continue;
+    place.value = values[place.dataset.set];
+    fit(place);
+  }
+  $("cars").parentNode.querySelector("[type=range]").max = job.length * job.lanes;
+  for (const slider of document.querySelectorAll(".field [type=range]")) slider.value = slider.parentNode.querySelector("input").value;
+  for (const part of document.querySelectorAll("[data-model]")) part.hidden = part.dataset.model !== rule.model;
+  $("carword").textContent = job.cars === 1 ? "car" : "cars";
+  $("rings").textContent = job.lanes === 2 ? "two rings" : "a ring";
+  $("p").parentNode.hidden = own;
+  $("q").parentNode.hidden = rule.model !== "vdr" && rule.model !== "rickert";
+  $("q").parentNode.querySelector("label").textContent = rule.model === "vdr" ? "When stopped" : "Lane changes";
+  $("start").querySelector("[value=file]").hidden = !job.road;
+  $("own").hidden = !own;
+  $("changepart").hidden = job.lanes === 1;
+  for (const [id, place] of own ? [["motion", motion], ["change", change]] : []) {
+    if (place.busy || place.value === rule[id]) continue;
+    place.value = rule[id];
+    judgeProgram(id, place);
+  }
+  drawDiagram();
+}
+
+// The fundamental diagram
+
+const diagram = () => ({ limit: job.limit, density: job.cars / (job.length * job.lanes), flow: means?.steps ? means.sum / means.steps : null, marks });
+function drawDiagram(now = 0) {
+  $("diagram").innerHTML = diagramOf(diagram());
+  drawn = now;
+}
+const nameOf = ({ model, p, q }) => ({ nasch: `p ${p}`, vdr: `p ${p}, ${q}`, rickert: `p ${p}, two lanes`, own: "own program" })[model];
+/** Run a sweep, whose table becomes a curve. Its progress is shown on the button. */
+async function sweep(source, name) {
+  $("sweep").disabled = true;
+  try {
+    const got = await ask("sweep", source);
+    if (!got.ok) throw new Error(await got.text());
+    const reader = got.body.pipeThrough(new TextDecoderStream()).getReader();
+    let all = "";
+    for (let part = await reader.read(); !part.done; part = await reader.read()) {
+      all += part.value;
+      $("sweep").textContent = `${/.*trlab: (\d+) of 100/s.exec(all)?.[1] ?? 0} %`;
+    }
+    table = all.replace(/^trlab: .*\n/gm, "");
+    if (!table.startsWith("cars,")) throw new Error((await explain("sweep", source)).said);
+    marks.push({ name, limit: +/^limit (\d+)/m.exec(source)[1], points: pointsOf(table) });
+    $("savesweep").disabled = false;
+    drawDiagram();
+  } catch (fault) {
+    complain(fault.message);
+  }
+  $("sweep").textContent = "Sweep";
+  $("sweep").disabled = false;
+}
+function sweepNow() {
+  const [warm, measure] = [["warm", 0], ["measure", 1]].map(([id, least]) => $(id).value = clamp(Math.round(+$(id).value) || least, least, 10000));
+  sweep(sweepText(job, inForce(), warm, measure), nameOf(inForce()));
+}
+
+// Inputs that you type
+
+/** The verdict of trlab on an input, shown at the line of its fault; null if you typed on meanwhile. */
+async function judged(kind, id, place) {
+  const source = place.value, found = await explain(kind, source).catch(fault => complain(fault.message));
+  if (!found || source !== place.value) return null;
+  const { accepted, line, words, budget } = found;
+  place.tell(line, words);
+  $(id + "verdict").className = `verdict ${accepted ? "good" : "bad"}`;
+  $(id + "verdict").textContent = !accepted ? `Rejected at line ${line}. The cars follow the last accepted one.`
+    : kind === "check" && budget ? `Accepted: at most ${budget} instructions per car and step.` : "Accepted.";
+  return { ...found, source };
+}
+async function judgeText() {
+  const found = await judged("run", "text", text);
+  if (found) $("explained").textContent = found.said;
+  return found?.accepted ? found.source : null;
+}
+async function judgeProgram(id, place) {
+  place.facts = null;
+  $(id + "facts").textContent = "";
+  if (id === "change" && !place.value.trim()) {
+    place.tell(0);
+    $("changeverdict").textContent = "No program: no car changes lanes.";
+    return "";
+  }
+  const found = await judged("check", id, place);
+  if (found) place.facts = found.facts;
+  if (found && place.busy) place.moved(place.caretLine());
+  return found?.accepted ? found.source : null;
+}
+const judge = soon(250, judgeText);
+text.changed = soon(300, async () => {
+  const source = await judgeText();
+  if (source !== null) take(source);
+});
+for (const [id, place] of [["motion", motion], ["change", change]]) {
+  place.changed = soon(200, async () => {
+    const source = await judgeProgram(id, place);
+    if (source !== null && source !== inForce()[id]) changeRule({ [id]: source });
+  });
+  place.moved = line => {
+    const facts = place.facts?.get(line);
+    $(id + "facts").textContent = facts?.length ? `Known before line ${line}: ${facts.join("; ")}.` : facts ? `Nothing is known before line ${line}.` : "";
+  };
+}
+/** Run a job file that trlab accepts, as it is. */
+function take(source) {
+  job = jobOf(source);
+  text.value = source;
+  drive(source);
+  show(true);
+}
+
+// Files, examples and links
+
+async function load(name, source) {
+  const kind = name.endsWith(".rule") || /^(motion|change)\b/.test(source) ? "check" : /^sweep/i.test(source) ? "sweep" : "run";
+  const found = await explain(kind, source);
+  if (!found.accepted) return complain(`${name} is rejected.\n${found.said}`);
+  if (kind === "check") {
+    const part = source.startsWith("change") ? "change" : "motion";
+    if (part === "change" && job.lanes === 1) [job.lanes, job.cars] = [2, 2 * job.cars];
+    job.rules = [{ ...inForce(), at: 0, live: false, model: "own", motion: inForce().motion || examples["nasch.rule"], [part]: source }];
+    return begin();
+  }
+  if (kind === "run") {
+    take(source);
+    return judge();
+  }
+  job = jobOf(source);
+  begin();
+  await sweep(source, name.replace(".sweep", "").replaceAll("_", " "));
+}
+function openFile(file) {
+  if (file.size > MOST_BYTES) return complain(`${file.name} is too long: at most ${MOST_BYTES} bytes are allowed.`);
+  file.text().then(source => load(file.name, source)).catch(fault => complain(fault.message));
+}
+function save(name, parts, type) {
+  const link = document.createElement("a");
+  link.href = URL.createObjectURL(new Blob(parts, { type }));
+  link.download = name;
+  link.click();
+  setTimeout(() => URL.revokeObjectURL(link.href), 10000);
+}
+async function saveTable() {
+  const got = await ask("series", text.value);
+  if (got.ok) save("series.csv", [await got.blob()], "text/csv");
+  else complain(await got.text());
+}
+function saveFigure() {
+  const name = $("figure").value, image = name === "diagram" ? diagramFile(diagram()) : FIGURES[name](player.view);
+  save(`${name}.svg`, [image], "image/svg+xml");
+}
+async function copyLink() {
+  history.replaceState(null, "", await linkOf(text.value));
+  await navigator.clipboard?.writeText(location.href).catch(() => {});
+  $("silent").textContent = $("link").textContent = "Link copied";
+  setTimeout(() => $("link").textContent = "Copy a link", 2000);
+}
+/** The job of a link, if the address is one. */
+async function openLink() {
+  if (!location.hash.startsWith("#job=")) return false;
+  try {
+    await load("The link", await textOfLink(location.hash));
+    return player.film !== null;
+  } catch {
+    complain("The link is damaged: its job cannot be read.");
+    return false;
+  }
+}
+
+function listen() {
+  for (const field of document.querySelectorAll("[data-range]")) {
+    const [least, most, step] = field.dataset.range.split(" "), [label, number] = field.children, slider = document.createElement("input");
+    Object.assign(number, { min: least, max: (RANGES[number.id] ?? [0, 200000])[1], step: "any" });
+    Object.assign(slider, { type: "range", min: least, max: most, step, ariaLabel: `${label.textContent}, slider` });
+    slider.addEventListener("input", () => set(number.id, slider.value));
+    field.append(slider);
+  }
+  for (const place of document.querySelectorAll("[data-set]")) {
+    place.addEventListener("change", () => set(place.dataset.set, place.value));
+    if (!place.closest(".lead")) continue;
+    place.addEventListener("input", () => fit(place));
+    place.addEventListener("keydown", event => event.key === "Enter" && place.blur());
+  }
+  $("controls").addEventListener("submit", event => event.preventDefault());
+  const click = {
+    newkey: () => again({ key: String(crypto.getRandomValues(new Uint32Array(1))[0]) }), sweep: sweepNow, clear: () => { marks = []; drawDiagram(); },
+    open: () => $("file").click(), savejob: () => save("traffic.job", [text.value], "text/plain"), savetable: saveTable,
+    savesweep: () => save("sweep.csv", [table], "text/csv"), savefigure: saveFigure, link: copyLink,
+  };
+  for (const id in click) $(id).onclick = click[id];
+  $("file").onchange = event => event.target.files[0] && openFile(event.target.files[0]);
+  $("example").onchange = event => {
+    const name = event.target.value;
+    if (name) load(name, examples[name]).catch(fault => complain(fault.message));
+  };
+  $("numbers").ontoggle = () => player.redraw();
+  $("diagram").onclick = event => {
+    const box = $("diagram").getBoundingClientRect(), x = (event.clientX - box.left) / box.width * 360;
+    set("density", clamp((x - across(0)) / (across(1) - across(0)), 0, 1).toFixed(3));
+  };
+  addEventListener("hashchange", openLink);
+  // A hidden page draws nothing, and a page that is left may be kept for the way back: neither needs a run.
+  for (const name of ["visibilitychange", "pagehide"]) {
+    addEventListener(name, () => (document.hidden || name === "pagehide") && player.run && !player.run.over && player.rest());
+  }
+}
+async function start() {
+  examples = await (await fetch("examples")).json();
+  $("example").append(...Object.keys(examples).map(name => new Option(name, name)));
+  listen();
+  if (!await openLink()) begin();
+}
+start().catch(fault => complain(`The page cannot reach trlab-lab: ${fault.message}`));

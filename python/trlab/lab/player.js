@@ -1,0 +1,246 @@
+// The player: the clock that shows the snapshots of a run, and the controls that play it. The page and exported files use
+// it: their owner passes runs to the player, and is called for new snapshots.
+
+import { clamp, upTo } from "./job.js";
+import { Film, Run } from "./film.js";
+import { Rows, bandAt, carNow, colour, drawBands, drawCurves, drawRing, fresh, ringAt, rowsOf, smooth } from "./draw.js";
+
+export const $ = id => document.getElementById(id);
+const calm = matchMedia("(prefers-reduced-motion: reduce)").matches;
+const REST = 5000; // A run that waits for a paused page for so many milliseconds ends; it is run again when needed.
+
+export class Player {
+  /** `hear` has shot(shot), moved() and over(), and each may be missing. `fail` shows a message. */
+  constructor(hear, fail) {
+    Object.assign(this, { hear, fail, film: null, run: null, step: -1, car: null, lens: 0, phase: 1, drawn: -1 });
+    Object.assign(this, { playing: !calm, moving: false, stale: true, rows: new Rows(), before: 0, paused: 0 });
+    this.listen();
+    this.setPlaying(this.playing);
+    this.setRate();
+    requestAnimationFrame(now => this.tick(now));
+  }
+  /** Play a run from the start. `open(from, signal)` gives the response whose snapshots begin at the step `from`. */
+  load(open, job) {
+    this.film = new Film(job);
+    Object.assign(this, { step: -1, car: null, phase: 1, moving: this.playing, drawn: -1, lens: job.length / 2 });
+    this.begin(open);
+    this.legend(job.limit);
+  }
+  /** Go on from the step that is shown with another run, which is the same up to this step. */
+  resume(open, steps) {
+    this.film.steps = steps;
+    this.film.cutAfter(this.step);
+    this.begin(open);
+  }
+  begin(open) {
+    const from = this.film.shots.length ? this.film.last + 1 : 0;
+    this.open = open;
+    this.run?.stop.abort();
+    this.run = new Run(signal => open(from, signal), this.film, from, this.fail);
+    this.paused = performance.now();
+  }
+  get over() { return this.step === this.film.steps; }
+  get view() {
+    return { film: this.film, step: this.step, scene: this.scene, share: calm ? 1 : this.phase, lens: this.lens, car: this.car };
+  }
+
+  /** Show the next snapshot, if there is one. */
+  next() {
+    const { film } = this;
+    if (!film.has(this.step + 1)) {
+      if (!this.run && !this.over) this.begin(this.open);
+      const shot = this.run?.take();
+      if (!shot) return false;
+      const kept = film.push(shot);
+      this.hear.shot?.(kept);
+    }
+    return this.show(this.step + 1);
+  }
+  show(step) {
+    this.step = step;
+    if (this.car) this.car = this.film.follow(this.car, step);
+    return this.stale = true;
+  }
+  tick(now) {
+    requestAnimationFrame(later => this.tick(later));
+    const passed = Math.min(100, now - this.before);
+    this.before = now;
+    if (!this.film || (this.step < 0 && !this.next())) return;
+    if (!this.playing && this.run && now - this.paused > REST) this.rest();
+    if (this.moving) this.move(passed);
+    if (this.stale) this.draw(now);
+  }
+  move(passed) {
+    const end = performance.now() + 12;
+    this.phase += passed / 1000 * this.rate;
+    while (this.phase >= 1 && this.playing && performance.now() < end && this.next()) this.phase -= 1;
+    if (this.phase >= 1) {
+      this.phase = 1;
+      this.moving = this.playing;
+      if (this.playing && this.over) {
+        this.setPlaying(false);
+        this.hear.over?.();
+      }
+    }
+    this.stale = true;
+  }
+  rest() {
+    this.run.stop.abort();
+    this.run = null;
+  }
+  draw(now) {
+    if (this.scene?.step !== this.step || this.scene.film !== this.film) this.scene = { ...this.film.scene(this.step), film: this.film };
+    const { view } = this, ring = fresh($("ring")), band = fresh($("band"));
+    if (this.car) view.lens = this.lens = carNow(view)[0];
+    drawRing(ring.pen, ring.width, view);
+    drawBands(band.pen, band.width, band.height, view);
+    if (this.drawn !== this.step) {
+      const { pen, width, height } = fresh($("spacetime")), curves = fresh($("curves"));
+      this.rows.draw(pen, width, height, view);
+      drawCurves(curves.pen, curves.width, curves.height, view, rowsOf(view, width, height));
+      this.tell();
+      this.drawn = this.step;
+      this.hear.moved?.(now);
+    }
+    this.stale = false;
+  }
+  redraw() { Object.assign(this, { drawn: -1, stale: true }); }
+
+  tell() {
+    const { film, step } = this, last = name => smooth(film, name, step, step)[0], { cars } = film.of(step);
+    const density = cars / (film.length * film.lanes);
+    $("step").textContent = step;
+    $("steps").textContent = `of ${film.steps} steps`;
+    $("flow").textContent = last("flow").toFixed(3);
+    $("dense").textContent = density.toFixed(3);
+    $("speed").textContent = last("speed").toFixed(2);
+    $("stopped").textContent = `${Math.round(100 * last("stopped"))} %`;
+    $("kept").textContent = `The page keeps the last ${film.most.toLocaleString("en")} snapshots: back to step ${film.first.toLocaleString("en")}.`;
+    $("car").textContent = this.car ? this.carWords() : this.hint ??= $("car").textContent;
+    $("follow").setAttribute("aria-pressed", this.car !== null);
+    if (!this.playing) $("silent").textContent = `Step ${step}: flow ${$("flow").textContent}, mean speed ${$("speed").textContent}, ` +
+      `stopped ${$("stopped").textContent}. ${this.car ? this.carWords() : ""}`;
+    if ($("numbers")?.open) this.fillNumbers();
+  }
+  carWords() {
+    const { lane, cell } = this.car, where = this.film.lanes === 2 ? `lane ${lane}, cell ${cell}` : `cell ${cell}`;
+    return `You follow the car in ${where}, at ${this.film.speed(this.car)} cells per step.`;
+  }
+  /** The last ten steps as a table. */
+  fillNumbers() {
+    const { film, step } = this, row = ({ step, flow, speed, stopped }) => {
+      const line = document.createElement("tr");
+      line.append(...[step, flow.toFixed(4), speed.toFixed(3), stopped.toFixed(3)].map(it => Object.assign(document.createElement("td"), { textContent: it })));
+      return line;
+    };
+    $("rows").replaceChildren(...upTo(Math.min(10, step - film.first + 1)).map(k => row(film.of(step - k))));
+  }
+  legend(limit) {
+    const most = Math.min(limit, 9), bars = upTo(most + 1).map(() => document.createElement("i"));
+    bars.forEach((bar, k) => bar.style.background = `rgb(${colour(k / most)})`);
+    $("legend").replaceChildren("stopped", ...bars, `${limit} cells per step`);
+  }
+
+  // Controls
+
+  setPlaying(now) {
+    if (now && this.film && this.over) this.restart();
+    this.playing = now;
+    this.moving ||= now;
+    this.paused = performance.now();
+    $("play").textContent = now ? "Pause" : "Play";
+    if (!now) this.redraw();
+  }
+  setRate() {
+    this.rate = Math.round(2000 ** ($("rate").value / 100));
+    $("rateout").textContent = this.rate;
+  }
+  one() {
+    this.setPlaying(false);
+    if (this.next()) [this.phase, this.moving] = [0, true];
+  }
+  back() {
+    this.setPlaying(false);
+    Object.assign(this, { phase: 1, moving: false });
+    if (this.film.has(this.step - 1)) this.show(this.step - 1);
+  }
+  restart() {
+    Object.assign(this, { phase: 1, moving: this.playing });
+    if (this.film.has(0)) return void this.show(0);
+    this.film.shots.length = 0;
+    Object.assign(this, { step: -1, car: null, drawn: -1 });
+    this.begin(this.open);
+  }
+  /** Follow the car nearest to a place, or no car if none is within `reach` cells. */
+  choose(place, reach = place?.reach) {
+    if (!this.scene) return null;
+    const { scene, film } = this, share = calm ? 1 : this.phase;
+    let best = null, least = reach ?? -1;
+    for (let v = 0; place && v <= film.limit; v++) {
+      for (let k = scene.starts[v]; k < scene.starts[v + 1]; k++) {
+        const away = Math.abs(scene.place[k] + 0.5 - v * (1 - share) - place.cell + film.length) % film.length;
+        const far = Math.min(away, film.length - away) + (scene.lane[k] === place.lane ? 0 : 2 * film.length);
+        if (far <= least) [best, least] = [{ step: this.step, lane: scene.lane[k], cell: scene.place[k] }, far];
+      }
+    }
+    this.car = best;
+    this.redraw();
+    return best;
+  }
+  /** Follow the next car ahead (1) or behind (-1). */
+  neighbour(way) {
+    if (!this.car) return this.choose({ cell: this.lens, lane: 0 }, 3 * this.film.length);
+    const { length } = this.film, { cells } = this.film.of(this.step), { lane, cell, step } = this.car;
+    let x = cell;
+    do x = (x + way + length) % length; while (cells[lane * length + x] === 46);
+    this.car = { step, lane, cell: x };
+    this.redraw();
+  }
+  listen() {
+    const click = { play: () => this.setPlaying(!this.playing), back: () => this.back(), one: () => this.one(), again: () => this.restart() };
+    for (const id in click) $(id).onclick = click[id];
+    $("follow").onclick = () => this.car || !this.scene ? this.choose(null) : this.neighbour(1);
+    $("rate").oninput = () => this.setRate();
+    const point = (id, event) => {
+      const box = $(id).getBoundingClientRect();
+      return [event.clientX - box.left, event.clientY - box.top, box.width, box.height];
+    };
+    $("ring").onclick = event => {
+      if (!this.scene) return;
+      const [x, y, width] = point("ring", event);
+      this.choose(ringAt(this.view, width, x, y));
+    };
+    $("band").onpointerdown = event => {
+      if (!this.scene) return;
+      const [x, y, width, height] = point("band", event), place = bandAt(this.view, width, height, x, y);
+      if (this.choose(place) || !place.isWhole) return;
+      this.lens = place.cell;
+      $("band").setPointerCapture(event.pointerId);
+    };
+    $("band").onpointermove = event => {
+      if (!$("band").hasPointerCapture?.(event.pointerId)) return;
+      const [x, , width] = point("band", event);
+      this.lens = clamp(x / width, 0, 1) * this.film.length;
+      this.stale = true;
+    };
+    $("spacetime").onclick = event => {
+      if (!this.scene) return;
+      const [x, y, width, height] = point("spacetime", event), { high, top } = rowsOf(this.view, width, height), { film } = this;
+      const step = top + Math.floor(y / high), lane = Math.floor(y % high / high * film.lanes);
+      this.car = film.has(step) && step <= this.step ? film.follow(film.near(step, lane, x / width * film.length, 8 * film.length / width), this.step) : null;
+      this.redraw();
+    };
+    addEventListener("resize", () => this.redraw());
+    addEventListener("keydown", event => this.key(event));
+  }
+  key(event) {
+    if (event.target !== document.body || event.ctrlKey || event.metaKey || event.altKey) return;
+    const what = {
+      " ": () => this.setPlaying(!this.playing), ArrowRight: () => this.one(), ArrowLeft: () => this.back(), Home: () => this.restart(),
+      ArrowUp: () => this.neighbour(1), ArrowDown: () => this.neighbour(-1), Escape: () => this.choose(null),
+    }[event.key];
+    if (!what || !this.scene) return;
+    event.preventDefault();
+    what();
+  }
+}

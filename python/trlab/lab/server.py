@@ -1,0 +1,233 @@
+"""The server of trlab-lab: serve one page to this machine, and run trlab for it.
+
+Each request that has an input starts one process of trlab, and its output is streamed to the page. If the page goes away,
+the process ends. Nothing is kept, and nothing is written to disk."""
+from __future__ import annotations
+
+import json
+import os
+import re
+import secrets
+import selectors
+import subprocess
+import sys
+import threading
+from http.server import BaseHTTPRequestHandler, ThreadingHTTPServer
+from pathlib import Path
+from typing import Any, Dict, List, Optional, Set
+
+from ..location import find_program
+
+HERE = Path(__file__).resolve().parent
+MOST_BYTES = 4 * 1024 * 1024
+"""The maximum size of an input, which is also that of trlab."""
+PIECE = 65536
+PATIENCE = 2.0
+"""How long a run waits for a free processor, in seconds."""
+
+SCRIPTS = ("job", "film", "draw", "diagram", "editor", "player", "page")
+FILES = {
+    "": ("page.html", "text/html"),
+    "page.css": ("page.css", "text/css"),
+    **{f"{name}.js": (f"{name}.js", "text/javascript") for name in SCRIPTS},
+}
+RUNS = {"run": ["run"], "series": ["series"], "sweep": ["sweep", "--progress"]}
+"""Commands that may take long: at most one per processor runs at a time."""
+QUESTIONS = {
+    "check": ["check"],
+    "explain/run": ["explain", "run"],
+    "explain/sweep": ["explain", "sweep"],
+    "explain/check": ["explain", "check"],
+}
+HEADERS = {
+    "Cache-Control": "no-store",
+    "Content-Security-Policy": "default-src 'none'; script-src 'self'; style-src 'self'; connect-src 'self'; "
+    "img-src 'self' data:; base-uri 'none'; form-action 'none'; frame-ancestors 'none'",
+    "Cross-Origin-Opener-Policy": "same-origin",
+    "Cross-Origin-Resource-Policy": "same-origin",
+    "Referrer-Policy": "no-referrer",
+    "X-Content-Type-Options": "nosniff",
+}
+
+
+def examples() -> Dict[str, str]:
+    """The example inputs by file name: those of the package, or of the checkout."""
+    packed = HERE / "examples"
+    folder = packed if packed.is_dir() else HERE.parents[2] / "examples"
+    files = sorted(path for path in folder.glob("*") if path.suffix in {".job", ".sweep", ".rule"})
+    return {path.name: path.read_text() for path in files}
+
+
+class Lab(ThreadingHTTPServer):
+    """The server on 127.0.0.1, at any free port if `port` is 0. `address` is the page's address."""
+
+    daemon_threads = True
+
+    def __init__(self, port: int = 0) -> None:
+        self.program = find_program()
+        super().__init__(("127.0.0.1", port), Page)
+        self.token = secrets.token_urlsafe(24)
+        self.hosts = {f"{name}:{self.server_port}" for name in ("127.0.0.1", "localhost")}
+        processors = len(os.sched_getaffinity(0))
+        self.runs = threading.BoundedSemaphore(processors)
+        self.questions = threading.BoundedSemaphore(processors)
+        self.lock, self.closing = threading.Lock(), False
+        self.children: Set[subprocess.Popen[bytes]] = set()
+
+    @property
+    def address(self) -> str:
+        return f"http://127.0.0.1:{self.server_port}/{self.token}/"
+
+    def start(self, words: List[str], text: bytes) -> subprocess.Popen[bytes]:
+        """A process of trlab that reads this input. Progress lines, if any, come before the output."""
+        source = os.memfd_create("trlab-lab")
+        try:
+            with open(source, "wb", closefd=False) as file:
+                file.write(text)
+            os.lseek(source, 0, os.SEEK_SET)
+            errors = subprocess.STDOUT if "--progress" in words else subprocess.DEVNULL
+            with self.lock:
+                if self.closing:
+                    raise ConnectionAbortedError("the server is closing")
+                child = subprocess.Popen([self.program, *words], stdin=source, stdout=subprocess.PIPE, stderr=errors)
+                self.children.add(child)
+                return child
+        finally:
+            os.close(source)
+
+    def end(self, child: subprocess.Popen[bytes]) -> None:
+        """End a process, if it still runs."""
+        child.kill()
+        child.wait()
+        if child.stdout:
+            child.stdout.close()
+        with self.lock:
+            self.children.discard(child)
+
+    def close(self) -> None:
+        """Stop listening and end every process."""
+        self.server_close()
+        with self.lock:
+            self.closing = True
+            children = list(self.children)
+        for child in children:
+            child.kill()
+            child.wait()
+
+    def handle_error(self, request: Any, client_address: Any) -> None:
+        """Report an error, unless the page has only gone away."""
+        if not isinstance(sys.exc_info()[1], (ConnectionError, TimeoutError)):
+            super().handle_error(request, client_address)
+
+
+class Page(BaseHTTPRequestHandler):
+    """One connection of a browser."""
+
+    protocol_version = "HTTP/1.1"
+    server: Lab
+    timeout = 30  # seconds, for reading a request; a stream has no limit, because a page may pause
+
+    def do_GET(self) -> None:
+        name = self.allowed()
+        if name == "examples":
+            self.answer(200, json.dumps(examples()).encode(), "application/json")
+        elif name in FILES:
+            file, kind = FILES[name]
+            self.answer(200, (HERE / file).read_bytes(), kind)
+        elif name is not None:
+            self.answer(404, b"There is no such page.\n")
+
+    def do_POST(self) -> None:
+        name = self.allowed()
+        if name is None:
+            return
+        length = self.headers.get("Content-Length", "")
+        if name not in RUNS and name not in QUESTIONS:
+            self.close_connection = True
+            self.answer(404, b"There is no such command.\n")
+        elif not re.fullmatch("[0-9]{1,18}", length, re.ASCII):
+            self.close_connection = True
+            self.answer(411, b"The request has no Content-Length.\n")
+        elif int(length) > MOST_BYTES:
+            self.close_connection = True
+            self.answer(413, b"The input is too long: at most 4194304 bytes are allowed.\n")
+        else:
+            self.take_turn(name, self.rfile.read(int(length)))
+
+    def allowed(self) -> Optional[str]:
+        """The requested name, if the request comes from a page of this server; otherwise the request is refused."""
+        host, origin = self.headers.get("Host"), self.headers.get("Origin")
+        origins = {f"http://{host}"} if self.command == "POST" else {f"http://{host}", None}
+        own = host in self.server.hosts and origin in origins
+        token, slash, name = self.path[1:].partition("?")[0].partition("/")
+        if own and slash and secrets.compare_digest(token.encode(), self.server.token.encode()):
+            return name
+        self.close_connection = True
+        self.answer(403, b"This address is not valid. Use the one that trlab-lab printed.\n")
+        return None
+
+    def skipped(self) -> int:
+        """How many bytes of the output the page does not need: `?skip=N`."""
+        found = re.search(r"\?skip=([0-9]{1,15})$", self.path, re.ASCII)
+        return int(found[1]) if found else 0
+
+    def take_turn(self, name: str, text: bytes) -> None:
+        """Stream the output of a command, as soon as a processor is free."""
+        turns = self.server.runs if name in RUNS else self.server.questions
+        if not turns.acquire(timeout=PATIENCE):
+            self.answer(503, b"Every processor is in use by a run. Pause or close another page of trlab-lab.\n")
+            return
+        try:
+            child = self.server.start(RUNS.get(name) or QUESTIONS[name], text)
+            try:
+                is_whole = self.stream(child, self.skipped()) and child.wait() in (0, 1)
+                # Without the last chunk the page knows that the output is cut.
+                self.close_connection = not is_whole
+                if is_whole:
+                    self.wfile.write(b"0\r\n\r\n")
+            finally:
+                self.server.end(child)
+        finally:
+            turns.release()
+
+    def stream(self, child: subprocess.Popen[bytes], skip: int) -> bool:
+        """Whether the page has the whole output. A page that sends or closes anything meanwhile has gone away."""
+        self.connection.settimeout(None)
+        self.begin(200, "text/plain", {"Transfer-Encoding": "chunked"})
+        assert child.stdout is not None
+        with selectors.DefaultSelector() as ready:
+            ready.register(child.stdout, selectors.EVENT_READ)
+            ready.register(self.connection, selectors.EVENT_READ)
+            while True:
+                if any(key.fileobj is self.connection for key, _ in ready.select()):
+                    return False
+                piece = os.read(child.stdout.fileno(), PIECE)
+                if not piece:
+                    self.connection.settimeout(self.timeout)
+                    return True
+                piece, skip = piece[skip:], max(0, skip - len(piece))
+                if piece:
+                    self.wfile.write(b"%x\r\n%b\r\n" % (len(piece), piece))
+
+    def answer(self, status: int, body: bytes, kind: str = "text/plain") -> None:
+        self.begin(status, kind, {"Content-Length": str(len(body))})
+        self.wfile.write(body)
+
+    def begin(self, status: int, kind: str, more: Dict[str, str]) -> None:
+        self.send_response(status)
+        for name, value in {"Content-Type": f"{kind}; charset=utf-8", **HEADERS, **more}.items():
+            self.send_header(name, value)
+        if self.close_connection:
+            self.send_header("Connection", "close")
+        self.end_headers()
+
+    def send_error(self, code: int, message: Optional[str] = None, explain: Optional[str] = None) -> None:
+        """Answer a malformed request, or one of another method."""
+        self.close_connection = True
+        self.answer(code, f"{message or 'This request is not valid.'}\n".encode())
+
+    def version_string(self) -> str:
+        return "trlab-lab"
+
+    def log_message(self, format: str, *args: Any) -> None:
+        """Write no log."""
