@@ -87,7 +87,7 @@ class Studies(unittest.TestCase):
                     self.assertEqual(figure, (STUDIES / name / file).read_text())
 
     def test_pages_have_the_rows_that_their_scripts_print(self):
-        for name in "1992", "1996", "exact", "triangle":
+        for name in "1992", "1996", "1998", "exact", "triangle":
             page = (STUDIES / name / "README.md").read_text().splitlines()
             rows_printed = [line for line in drawn(name).printed if line.startswith(("| ", "- "))]
             self.assertGreater(len(rows_printed), 10)

@@ -1,9 +1,9 @@
 #!/usr/bin/env python3
-"""Both branches of cars that start late, after Barlovic, Santen, Schadschneider and Schreckenberg (1998), and how long
-the upper one lives: limit 5, chance to brake 1/64, of stopped cars 3/4.
+"""Slow-to-start cars, after Barlovic, Santen, Schadschneider and Schreckenberg (1998): both branches of their flow and
+the lifetime of the upper one, with v_max = 5, p = 1/64 and p0 = 3/4.
 
-Some two minutes of processor time; --full takes ten keys in place of three, twelve times as long, and ten times the
-lives."""
+About a minute of CPU time; --full takes ten keys instead of three, runs twelve times as long, and ten times as many
+lifetimes."""
 import sys
 from pathlib import Path
 
@@ -67,17 +67,28 @@ def jammed(density):
     return (1 - STOPPED_BRAKE) * (1 - density)
 
 
+LINES = {"moving": free, "jam": jammed}
+
+
 def branch(tables, name):
-    """The mean flow of a start at each density, over the keys."""
+    """The flow of each run from an initial state, by density."""
     flows = {}
     for text, rows in tables.items():
         if text.startswith(name):
             flows.setdefault(rows[0].density, []).append(rows[0].passing)
-    return {density: Mean.of(flows[density]) for density in sorted(flows)}
+    return {density: flows[density] for density in sorted(flows)}
+
+
+def shown(flows):
+    """The mean with its standard error, or every run if they differ by more than 6 %: then some have left a branch."""
+    mean = Mean.of(flows)
+    if max(flows) - min(flows) > 0.06 * mean.value:
+        return "each: " + ", ".join(f"{flow:.4f}" for flow in flows)
+    return f"{mean.value:.6f} ± {mean.error:.6f}"
 
 
 def curve(tables, name):
-    """A point for each run from a start: where some have left the upper branch and some not, a mean says nothing."""
+    """A point for each run from an initial state, because some have left the upper branch and some have not."""
     runs = [rows[0] for text, rows in tables.items() if text.startswith(name)]
     return Curve(f"start {name}", "points", [Spot(run.density, run.passing) for run in runs])
 
@@ -101,17 +112,17 @@ def main():
     tables = study.table("table.csv", Window, branches(study.is_full), last_half)
     found = {name: branch(tables, name) for name in STARTS}
     for density in found["jam"]:
-        told = [free(density), jammed(density)]
-        print(f"{density:.3f}", *(f"{it:.5f}" for it in told), *(found[name][density] for name in STARTS), sep=" | ")
+        lines = [f"{line(density):.6f} | {shown(found[name][density])}" for name, line in LINES.items()]
+        print(f"| {density} |", " | ".join(lines), "|")
     for length, steps in lives_by_length(study).items():
-        mean = Mean.of(steps)
-        ended = len(steps) - steps.count(LIFE_STEPS)
-        print(f"{length} cells: life {mean.value:.0f} +- {mean.error:.0f} steps; {ended} of {len(steps)} ended")
+        mean, ended = Mean.of(steps), len(steps) - steps.count(LIFE_STEPS)
+        product = f"{length * mean.value / 1000:.0f} ± {length * mean.error / 1000:.0f}"
+        print(f"| {length} | {mean.value:.0f} ± {mean.error:.0f} | {ended} of {len(steps)} | {product} |")
     meet = (1 - STOPPED_BRAKE) / (LIMIT - BRAKE + 1 - STOPPED_BRAKE)
     study.draw(
         Figure(
-            Axis("density, cars a cell", 0.3),
-            Axis("flow, cars a step", 0.9),
+            Axis("density (cars per cell)", 0.3),
+            Axis("flow (cars per step)", 0.9),
             [
                 Curve("published, free flow", "line", [Spot(it, free(it)) for it in (0, 0.17)]),
                 Curve("published, with a jam", "line", [Spot(it, jammed(it)) for it in (meet, 0.3)]),
