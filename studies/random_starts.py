@@ -7,7 +7,8 @@ from dataclasses import replace
 from typing import Callable, Dict, List, Mapping
 
 from study import Mean
-from trlab import Job, Point, Sweep, random
+from trlab import Job, Point, Sweep
+from trlab.starts import random
 
 
 def jobs_of(sweeps: Mapping[str, Sweep]) -> Dict[str, Job]:

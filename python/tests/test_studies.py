@@ -95,15 +95,16 @@ class Studies(unittest.TestCase):
                 with self.subTest(study=name):
                     self.assertIn(line, page)
 
-    def test_the_page_of_1992_has_the_means_of_the_full_table(self):
+    def test_the_page_of_1992_has_the_means_of_the_full_tables(self):
         module = script("1992")
         from study import read_rows
 
         page = (STUDIES / "1992" / "README.md").read_text()
-        points = [Point(*map(int, row[1:])) for row in read_rows(STUDIES / "1992" / "full_table.csv")]
-        for density, flow in module.means({"full": points}).items():
-            with self.subTest(density=density):
-                self.assertIn(f"| {density} | {flow.value:.6f} ± {flow.error:.6f} |", page)
+        for file, form in ("full_table.csv", "| {} | {:.6f} ± {:.6f} |"), ("full_random.csv", "| {1:.6f} ± {2:.6f} |"):
+            points = [Point(*map(int, row[1:])) for row in read_rows(STUDIES / "1992" / file)]
+            for density, flow in module.means({"full": points}).items():
+                with self.subTest(file=file, density=density):
+                    self.assertIn(form.format(density, flow.value, flow.error), page)
 
     def test_first_points_come_out_again(self):
         # A point is the same whatever points come after it.

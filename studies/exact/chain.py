@@ -5,7 +5,7 @@ many states are solved by iteration in floating point numbers."""
 from __future__ import annotations
 
 from fractions import Fraction
-from typing import Dict, List, NamedTuple, Sequence, Tuple, Union
+from typing import Any, Dict, List, NamedTuple, Sequence, Tuple, Union
 
 from exact.ring import EMPTY, State, steps
 
@@ -31,7 +31,7 @@ class Chain(NamedTuple):
 
 
 def canonical(state: State) -> State:
-    """The rotation of a state that comes last in the order of strings: rings that differ by a rotation are one state."""
+    """The rotation of a state that comes last in the order of strings. So rotated rings are one state."""
     return max(tuple(lane[cell:] + lane[:cell] for lane in state) for cell in range(len(state[0])))
 
 
@@ -43,7 +43,7 @@ def first_state(length: int, lanes: int, cars: int) -> State:
     )
 
 
-def chain(first: State, model) -> Chain:
+def chain(first: State, model: Any) -> Chain:
     """The chain of all states that the ring can reach."""
     numbers = {canonical(first): 0}
     states, rows, means = [canonical(first)], [], []
@@ -129,6 +129,9 @@ def expected_distance(found: Chain, steps: int) -> float:
 
 def stationary(found: Chain, most_states: int = MOST_STATES) -> Means:
     """The means of the stationary state, as fractions if the chain has at most so many states."""
-    is_small = len(found.rows) <= most_states
-    shares: Sequence[Number] = by_elimination(found.rows) if is_small else by_iteration(found.rows)
+    shares: Sequence[Number]
+    if len(found.rows) <= most_states:
+        shares = by_elimination(found.rows)
+    else:
+        shares = by_iteration(found.rows)
     return Means(*(sum(share * mean for share, mean in zip(shares, column)) for column in zip(*found.means)))

@@ -34,8 +34,9 @@ def flow_of_ring(p: float, length: int, cars: int) -> float:
 
 
 def stationary_road(p: float, length: int, cars: int, numbers: Random) -> Lane:
-    """A road drawn from the stationary state, as `trlab` takes it. All cars are stopped: for v_max = 1 the speeds of the
-    step before do not matter."""
+    """A road drawn from the stationary state, as `trlab` takes it.
+
+    All cars are stopped: for v_max = 1 the speeds of the step before do not matter."""
     shares = weights(p, length, cars)
     (blocks,) = numbers.choices(range(1, len(shares) + 1), shares)
     cells: List[Optional[int]] = []

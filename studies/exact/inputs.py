@@ -53,7 +53,8 @@ def early_rings(is_full: bool) -> Dict[str, Sweep]:
     points, shape = 500 if is_full else 150, {"warm": 100, "measure": 100, "key": 500}
     asked = {name: long_rings(False)[name] for name in ("p_1_4_0.3", "p_1_4_0.5", "p_1_2_0.5")}
     return {
-        f"{name}_early": replace(it, **shape, cars=points * it.counts()[:1], densities=None) for name, it in asked.items()
+        f"{name}_early": replace(sweep, **shape, cars=points * sweep.counts()[:1], densities=None)
+        for name, sweep in asked.items()
     }
 
 

@@ -98,8 +98,10 @@ class Careful:
 
 @dataclass(frozen=True)
 class CarefulOnTwoLanes(Careful):
-    """The same with a lane change of our own, `careful_change.rule`: away from a leader that is no faster, to a lane with
-    more room, if v_max cells are empty behind; from lane 0 more often than from lane 1."""
+    """The same with a lane change of our own, `careful_change.rule`.
+
+    A car leaves a leader that is no faster, for a lane with more room, if v_max cells are empty behind it there. From
+    lane 0 it does so more often than from lane 1."""
 
     p_change: Tuple[Fraction, Fraction]  # by lane
 

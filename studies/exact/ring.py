@@ -7,7 +7,7 @@ from __future__ import annotations
 from fractions import Fraction
 from functools import lru_cache
 from itertools import product
-from typing import Dict, Iterator, List, NamedTuple, Tuple
+from typing import Any, Dict, Iterator, List, NamedTuple, Tuple
 
 from exact.models import Seen, Side
 
@@ -30,7 +30,7 @@ def cars_on(lane: str) -> Iterator[int]:
 
 
 def gap(lane: str, cell: int, way: int = 1) -> int:
-    """The number of empty cells from a cell to the next car, ahead or behind (way -1), at most the others of the ring."""
+    """The number of empty cells from a cell to the next car, ahead (way 1) or behind (way -1)."""
     others = len(lane) - 1
     return next((k for k in range(others) if lane[(cell + way * (k + 1)) % len(lane)] != EMPTY), others)
 
@@ -45,7 +45,7 @@ def lane_of(length: int, speeds: Dict[int, int]) -> str:
     return "".join(str(speeds[cell]) if cell in speeds else EMPTY for cell in range(length))
 
 
-def motions(state: State, model) -> Iterator[Outcome]:
+def motions(state: State, model: Any) -> Iterator[Outcome]:
     """All ways in which the cars can move."""
     cars, odds = [], []
     for number, lane in enumerate(state):
@@ -69,7 +69,7 @@ def side(state: State, number: int, cell: int) -> Side:
     return Side(int(lane[cell]), gap(lane, cell), leader(lane, cell), gap(other, cell), back, number)
 
 
-def lane_changes(state: State, model) -> Iterator[Outcome]:
+def lane_changes(state: State, model: Any) -> Iterator[Outcome]:
     """All ways in which the cars can change lanes."""
     if len(state) == 1:
         yield Outcome(Fraction(1), state, 0, 0)
@@ -90,7 +90,7 @@ def lane_changes(state: State, model) -> Iterator[Outcome]:
         yield Outcome(probability, tuple(lane_of(len(state[0]), lane) for lane in lanes), 0, changes)
 
 
-def steps(state: State, model) -> Iterator[Outcome]:
+def steps(state: State, model: Any) -> Iterator[Outcome]:
     """All ways in which a step can go; several may end in the same state."""
     for changed in lane_changes(state, model):
         for moved in motions(changed.state, model):
@@ -98,7 +98,7 @@ def steps(state: State, model) -> Iterator[Outcome]:
 
 
 @lru_cache(maxsize=None)
-def next_states(state: State, model) -> Dict[State, Fraction]:
+def next_states(state: State, model: Any) -> Dict[State, Fraction]:
     """The probability of each next state."""
     found: Dict[State, Fraction] = {}
     for outcome in steps(state, model):

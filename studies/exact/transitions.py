@@ -7,7 +7,7 @@ from __future__ import annotations
 from collections import Counter
 from fractions import Fraction
 from statistics import NormalDist
-from typing import Dict, Iterable, List, Mapping, NamedTuple
+from typing import Any, Dict, Iterable, List, Mapping, NamedTuple
 
 from exact.ring import State, next_states
 
@@ -31,9 +31,9 @@ class Verdict(NamedTuple):
         return NormalDist(1 - width, width**0.5).cdf((self.chi_square / self.freedom) ** (1 / 3))
 
 
-def counted(states: Iterable[State]) -> Dict[State, Counter]:
+def counted(states: Iterable[State]) -> Dict[State, Counter[State]]:
     """How often each state was followed by each other one."""
-    found: Dict[State, Counter] = {}
+    found: Dict[State, Counter[State]] = {}
     before = None
     for state in states:
         if before is not None:
@@ -58,7 +58,7 @@ def groups(odds: Mapping[State, Fraction], visits: int) -> List[List[State]]:
     return found
 
 
-def judged(counts: Mapping[State, Counter], model) -> Verdict:
+def judged(counts: Mapping[State, Counter[State]], model: Any) -> Verdict:
     """The chi-square of all transitions that were counted."""
     chi_square, freedom, impossible = 0.0, 0, 0
     for before, after in counts.items():
