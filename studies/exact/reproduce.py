@@ -1,7 +1,7 @@
 #!/usr/bin/env python3
 """Exact solutions beside trlab: small rings solved in fractions, and v_max = 1 on rings of any length.
 
-About a minute of CPU time; --full takes more and longer runs and solves all small rings in fractions."""
+About two minutes of CPU time; --full takes more and longer runs and solves all small rings in fractions."""
 import sys
 from fractions import Fraction
 from pathlib import Path
