@@ -31,7 +31,7 @@ def child(script, *words, **changes):
     """A child process of Python that runs a script, with a mark in its environment that its own children inherit."""
     mark = uuid.uuid4().hex
     environment = {**os.environ, "PYTHONPATH": str(PYTHON), "TRLAB": find_program(), MARK: mark, **changes}
-    line, streams = [sys.executable, "-c", script, *words], {"stdout": subprocess.PIPE, "stderr": subprocess.DEVNULL}
+    line, streams = [sys.executable, "-c", script, *words], dict(stdin=subprocess.PIPE, stdout=subprocess.PIPE, stderr=subprocess.DEVNULL)
     started = subprocess.Popen(line, env=environment, text=True, **streams)
     started.mark = mark
     return started
@@ -65,5 +65,5 @@ def until(condition, seconds=60):
     while time.monotonic() < end:
         if condition():
             return True
-        time.sleep(0.02)
+        time.sleep(0.1)
     return bool(condition())

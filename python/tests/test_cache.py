@@ -33,8 +33,10 @@ print(json.dumps(sorted(found.items())), flush=True)
 
 # Runs that would take minutes, in threads or in processes; what happens to the script after the first result differs.
 LONG = """
-import sys, time, trlab
+import signal, sys, time, trlab
 from concurrent.futures import ProcessPoolExecutor, ThreadPoolExecutor
+# A shell has its background processes ignore the signal.
+signal.signal(signal.SIGINT, signal.default_int_handler)
 job = trlab.Job(limit=5, length=20000, density=0.2, rule=trlab.Nasch(0.25), steps=500000)
 short = trlab.Job(limit=5, length=10, cars=1, rule=trlab.Nasch(0), steps=1)
 kind = {"threads": lambda: None, "pool": lambda: ThreadPoolExecutor(3), "processes": lambda: ProcessPoolExecutor(3)}
@@ -44,16 +46,16 @@ if sys.argv[2] == "hold":
     held = trlab.results([short, *3 * [job]], **options)
     next(held)
     print("first", flush=True)
-    time.sleep(0.5)
+    sys.stdin.readline()
     raise KeyError
 try:
     for name, table in trlab.results([short, *3 * [job]], **options):
         print("first", flush=True)
         if sys.argv[2] == "raise":
-            time.sleep(0.5)
+            sys.stdin.readline()
             raise KeyError(name)
         if sys.argv[2] == "break":
-            time.sleep(0.5)
+            sys.stdin.readline()
             break
 except BaseException as error:
     print(type(error).__name__, flush=True)
@@ -228,6 +230,9 @@ class Stopped(unittest.TestCase):
                 self.assertTrue(until(lambda: len(marked(running.mark, trlab.find_program())) == 3))
                 if ending == "interrupt":
                     running.send_signal(signal.SIGINT)
+                else:
+                    running.stdin.write("\n")
+                    running.stdin.flush()
                 begun = time.monotonic()
                 lines = [running.stdout.readline()]
                 while lines[-1] not in ("over\n", ""):
