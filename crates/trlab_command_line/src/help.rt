@@ -30,11 +30,21 @@ Exit statuses:
 
 File formats: docs/TEXTS.md. Error numbers: `trlab explain cause K`.";
 
-/// What `check` does.
-pub const CHECK_ABOUT: &str = "Check whether the verifier accepts a driver program";
+/// The help of a command.
+#[derive(Clone, Copy)]
+pub struct Help {
+    /// One line, also shown in the list of commands.
+    pub about: &'static str,
+    pub usage: &'static str,
+    /// The text below the options: input, output and an example.
+    pub after: &'static str,
+}
 
-/// What `check` reads and writes.
-pub const CHECK_AFTER: &str = "\
+/// The help of `trlab check`.
+pub const CHECK: Help = Help {
+    about: "Check whether the verifier accepts a driver program",
+    usage: "trlab check < FILE",
+    after: "\
 Standard input:
   A driver program: first `motion` or `change`, then one instruction per line.
   Or a single line `code X`, where X is the program in hexadecimal. If the
@@ -49,13 +59,14 @@ Standard output:
   docs/PROGRAMS.md and docs/TEXTS.md.
 
 Example:
-  printf 'motion\\nget r0, speed\\nget r1, gap\\nmin r0, r0, r1\\ngo r0\\n' | trlab check";
+  printf 'motion\\nget r0, speed\\nget r1, gap\\nmin r0, r0, r1\\ngo r0\\n' | trlab check",
+};
 
-/// What `run` does.
-pub const RUN_ABOUT: &str = "Run a job and print the road at every step";
-
-/// What `run` reads and writes.
-pub const RUN_AFTER: &str = "\
+/// The help of `trlab run`.
+pub const RUN: Help = Help {
+    about: "Run a job and print the road at every step",
+    usage: "trlab run [OPTIONS] < FILE",
+    after: "\
 Standard input:
   A job file: random seed (`key`), maximum speed (`limit`), the road with its
   cars, the rule, and the number of steps.
@@ -67,13 +78,14 @@ Standard output:
   explains the problem. File format and causes: docs/TEXTS.md.
 
 Example:
-  trlab run < examples/two_cars.job";
+  trlab run < examples/two_cars.job",
+};
 
-/// What `sweep` does.
-pub const SWEEP_ABOUT: &str = "Measure the flow at many densities, for a fundamental diagram";
-
-/// What `sweep` reads and writes.
-pub const SWEEP_AFTER: &str = "\
+/// The help of `trlab sweep`.
+pub const SWEEP: Help = Help {
+    about: "Measure the flow at many densities, for a fundamental diagram",
+    usage: "trlab sweep [OPTIONS] < FILE",
+    after: "\
 Standard input:
   A sweep file: random seed (`key`), maximum speed (`limit`), lane length,
   number of lanes, rule, warm-up steps, measured steps, and one line `cars n`
@@ -100,13 +112,14 @@ A small sweep to start from (three roads of 100 cells):
   measure 100
   cars 5
   cars 15
-  cars 50";
+  cars 50",
+};
 
-/// What `series` does.
-pub const SERIES_ABOUT: &str = "Run a job and count its traffic in windows of steps";
-
-/// What `series` reads and writes.
-pub const SERIES_AFTER: &str = "\
+/// The help of `trlab series`.
+pub const SERIES: Help = Help {
+    about: "Run a job and count its traffic in windows of steps",
+    usage: "trlab series [OPTIONS] < FILE",
+    after: "\
 Standard input:
   A job file, as for `trlab run`.
 
@@ -119,7 +132,8 @@ Standard output:
   explain run < FILE` explains the problem. Details: docs/TEXTS.md.
 
 Example:
-  trlab series --every 10 < examples/overtaking.job";
+  trlab series --every 10 < examples/overtaking.job",
+};
 
 /// The option `--every` of `series`.
 pub const EVERY_HELP: &str = "Steps per window, 1 to 500000";
@@ -137,16 +151,6 @@ pub const RUNNERS_HELP: &str =
 /// The option `--progress`.
 pub const PROGRESS_HELP: &str = "Report progress on standard error";
 
-/// What `explain` does.
-pub const EXPLAIN_ABOUT: &str =
-    "Explain what is wrong with an input and how to fix it, or what a valid one will do";
-
-/// The usage lines of `explain`.
-pub const EXPLAIN_USAGE: &str = "\
-trlab explain [run|sweep|check] < FILE
-       trlab explain cause K
-       trlab explain reason R";
-
 /// The first argument of `explain`.
 pub const WHAT_HELP: &str =
     "Read the input as for this command: run, sweep or check; or cause or reason";
@@ -154,8 +158,14 @@ pub const WHAT_HELP: &str =
 /// The second argument of `explain`.
 pub const NUMBER_HELP: &str = "Error number, for cause or reason";
 
-/// What `explain` reads and writes.
-pub const EXPLAIN_AFTER: &str = "\
+/// The help of `trlab explain`.
+pub const EXPLAIN: Help = Help {
+    about: "Explain what is wrong with an input and how to fix it, or what a valid one will do",
+    usage: "\
+trlab explain [run|sweep|check] < FILE
+       trlab explain cause K
+       trlab explain reason R",
+    after: "\
 Standard input:
   An input for `trlab run`, `trlab sweep` or `trlab check`. Without run, sweep
   or check, the first word of the input decides (case does not matter): `road`
@@ -171,4 +181,5 @@ Standard output:
   error number K of `fault line N cause K`, or R of `refused at N reason R`.
 
 Example:
-  trlab explain run < examples/two_cars.job";
+  trlab explain run < examples/two_cars.job",
+};
