@@ -12,7 +12,7 @@ proved in logic dac8208d650f15bf";
 /// Below the list of commands: examples, exit statuses, and where to read more.
 pub const AFTER: &str = "\
 Each command reads one input on standard input and writes to standard output.
-Run `trlab help COMMAND` to see what COMMAND reads and writes.
+Run `trlab help COMMAND` to see the input and the output of COMMAND.
 
 Examples:
   trlab run < examples/two_cars.job
@@ -23,7 +23,7 @@ If trlab rejects your input, it prints `fault line N cause K`. To see why:
 
 Exit statuses:
   0  done
-  1  the input or the program is rejected: standard output says where and why
+  1  the input or the program is rejected: standard output has the line and the error
   2  the command line is invalid
   3  out of memory
   4  reading or writing failed
@@ -47,9 +47,9 @@ pub const CHECK: Help = Help {
     after: "\
 Standard input:
   A driver program: first `motion` or `change`, then one instruction per line.
-  Or a single line `code X`, where X is the program in hexadecimal. If the
-  first line begins with `notes `, for example `notes motion`, the output also
-  lists what the verifier knows before each instruction.
+  Or a single line `code X` with the program in hexadecimal. If the first line
+  begins with `notes `, for example `notes motion`, the output also lists the
+  facts that the verifier knows before each instruction.
 
 Standard output:
   `accepted budget B` (at most B instructions per car and step), then the
@@ -160,7 +160,7 @@ pub const NUMBER_HELP: &str = "Error number, for cause or reason";
 
 /// The help of `trlab explain`.
 pub const EXPLAIN: Help = Help {
-    about: "Explain what is wrong with an input and how to fix it, or what a valid one will do",
+    about: "Explain the error in an input and how to fix it, or the work of a valid one",
     usage: "\
 trlab explain [run|sweep|check] < FILE
        trlab explain cause K
@@ -172,9 +172,9 @@ Standard input:
   means a job, `sweep` a sweep, anything else a driver program.
 
 Standard output:
-  For a rejected input: the error, the offending line, what was expected and
-  found, and often a fix (each fix shown has been tested). For a valid input:
-  what the run will do. Bytes that are not printable ASCII are shown as \\x and
+  For a rejected input: the error, the offending line, the expected lines, the
+  problem, and often a fix (each fix shown has been tested). For a valid input:
+  its road, rules, work and output. Bytes that are not printable ASCII are shown as \\x and
   two hexadecimal digits.
 
   `explain cause K` and `explain reason R` read nothing. They explain the

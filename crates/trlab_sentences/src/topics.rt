@@ -48,18 +48,14 @@ fn push_cause(page: &mut Page, cause: Cause) -> Result<(), AllocError> {
     page.line(meaning_of_cause(cause))?;
     push_reason_of(page, cause)?;
     push_hint(page, cause)?;
-    page.line(
-        "To see where it occurs in your file: `trlab explain < FILE`. All causes: docs/TEXTS.md.",
-    )
+    page.line("To find it in your file: `trlab explain < FILE`. All causes: docs/ERRORS.md.")
 }
 
 /// Adds what is told of a reason after its number.
 fn push_reason(page: &mut Page, reason: Reason) -> Result<(), AllocError> {
     page.line(meaning_of_reason(reason))?;
     push_advice(page, reason)?;
-    page.line(
-        "To see where it occurs in your file: `trlab explain < FILE`. All reasons: docs/PROGRAMS.md.",
-    )
+    page.line("To find it in your file: `trlab explain < FILE`. All reasons: docs/ERRORS.md.")
 }
 
 /// Adds that there is no such number, and answers so.
