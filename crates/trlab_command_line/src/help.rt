@@ -1,98 +1,107 @@
-//! Texts of help, which `clap` prints beside the usage.
+//! Help texts. `clap` adds the usage lines and the lists of options.
 
 /// What `trlab` is for.
 pub const ABOUT: &str =
-    "Judges driver programs, and drives cars by them: cellular automaton road traffic";
+    "Simulates road traffic with cellular automata, and verifies the driver programs it runs";
 
-/// The version of the program, and on a line of its own the logic in which it is proved, which several
-/// kits of the toolchain have in common.
+/// The program's version, and on a second line the logic in which it is proved. Several kits of the toolchain
+/// share one logic.
 pub const VERSION: &str = "0.2.0
 proved in logic dac8208d650f15bf";
 
-/// Below the commands: an example, the exit statuses, and where to read on.
+/// Below the list of commands: examples, exit statuses, and where to read more.
 pub const AFTER: &str = "\
-Each command reads one text on standard input and writes to standard output.
-`trlab help check` says which for `check`, and so for each of the others.
+Each command reads one input on standard input and writes to standard output.
+Run `trlab help COMMAND` to see the input and the output of COMMAND.
 
 Examples:
   trlab run < examples/two_cars.job
   trlab sweep < examples/fundamental_diagram.sweep > flow.csv
 
-A refused text is told by its line and the number of a cause:
-  trlab explain < FILE    says in words what is wrong there and how to mend it
+If trlab rejects your input, it prints `fault line N cause K`. To see why:
+  trlab explain < FILE
 
 Exit statuses:
   0  done
-  1  the text or the program is refused: standard output says where and why
-  2  the command line is refused
-  3  memory ran out
+  1  the input or the program is rejected: standard output has the line and the error
+  2  the command line is invalid
+  3  out of memory
   4  reading or writing failed
 
-docs/TEXTS.md says how texts are written and what the cause of a refusal means.";
+File formats: docs/TEXTS.md. Error numbers: `trlab explain cause K`.";
 
-/// What `check` does.
-pub const CHECK_ABOUT: &str = "Says whether the verifier accepts a driver program";
+/// The help of a command.
+#[derive(Clone, Copy)]
+pub struct Help {
+    /// One line, also shown in the list of commands.
+    pub about: &'static str,
+    pub usage: &'static str,
+    /// The text below the options: input, output and an example.
+    pub after: &'static str,
+}
 
-/// What `check` reads and writes.
-pub const CHECK_AFTER: &str = "\
+/// The help of `trlab check`.
+pub const CHECK: Help = Help {
+    about: "Check whether the verifier accepts a driver program",
+    usage: "trlab check < FILE",
+    after: "\
 Standard input:
-  A line `motion` or `change`, the kind of the program, and then the program,
-  an instruction a line; or one line `code X`, X its bytes in hexadecimal.
-  Where the first line begins with `notes `, as in `notes motion`, the notes
-  of an accepted program are written too.
+  A driver program: first `motion` or `change`, then one instruction per line.
+  Or a single line `code X` with the program in hexadecimal. If the first line
+  begins with `notes `, for example `notes motion`, the output also lists the
+  facts that the verifier knows before each instruction.
 
 Standard output:
-  `accepted budget B`, B the most instructions that a call can take, and then
-  the program in its canonical form; `refused at PC reason R`, where the
-  verifier refuses it; or `fault line N cause K`, where the text has a fault.
-  `trlab explain check` says in words what is wrong, and docs/TEXTS.md has the
-  reasons and the causes.
+  `accepted budget B` (at most B instructions per car and step), then the
+  program in canonical form; `refused at PC reason R` if the verifier rejects
+  the program; or `fault line N cause K` if the input is malformed.
+  `trlab explain check < FILE` explains the problem. Reasons and causes:
+  docs/PROGRAMS.md and docs/TEXTS.md.
 
 Example:
-  printf 'motion\\nget r0, speed\\nget r1, gap\\nmin r0, r0, r1\\ngo r0\\n' | trlab check";
+  printf 'motion\\nget r0, speed\\nget r1, gap\\nmin r0, r0, r1\\ngo r0\\n' | trlab check",
+};
 
-/// What `run` does.
-pub const RUN_ABOUT: &str = "Drives the cars of a job and shows the road at each step";
-
-/// What `run` reads and writes.
-pub const RUN_AFTER: &str = "\
+/// The help of `trlab run`.
+pub const RUN: Help = Help {
+    about: "Run a job and print the road at every step",
+    usage: "trlab run [OPTIONS] < FILE",
+    after: "\
 Standard input:
-  A job text: the road and its cars, the program that drives them, the key of
-  the random words and how many steps to go.
+  A job file: random seed (`key`), maximum speed (`limit`), the road with its
+  cars, the rule, and the number of steps.
 
 Standard output:
-  For each step a line `step s` and the picture of each lane: `.` is an empty
-  cell, a digit a car and its speed, and a small letter too: `a` is 10, `z` 35.
-  Or `fault line N cause K`, where the text has a fault: `trlab explain run`
-  says it in words, and docs/TEXTS.md explains job texts and the causes.
+  For each step, a line `step s` and one line per lane. `.` is an empty cell;
+  any other character is a car and its speed: 0 to 9, then a (10) to z (35).
+  Or `fault line N cause K` if the input is rejected: `trlab explain run < FILE`
+  explains the problem. File format and causes: docs/TEXTS.md.
 
 Example:
-  trlab run < examples/two_cars.job";
+  trlab run < examples/two_cars.job",
+};
 
-/// What `sweep` does.
-pub const SWEEP_ABOUT: &str =
-    "Counts the flow of cars at many densities, for a fundamental diagram";
-
-/// What `sweep` reads and writes.
-pub const SWEEP_AFTER: &str = "\
+/// The help of `trlab sweep`.
+pub const SWEEP: Help = Help {
+    about: "Measure the flow at many densities, for a fundamental diagram",
+    usage: "trlab sweep [OPTIONS] < FILE",
+    after: "\
 Standard input:
-  A sweep text: what all its roads have in common, the program that drives
-  their cars, the key of the random words, how many steps to go before the
-  cars are counted and how many while they are, and a line for each road that
-  says how many cars it has. They start evenly spread, with speed 0.
+  A sweep file: random seed (`key`), maximum speed (`limit`), lane length,
+  number of lanes, rule, warm-up steps, measured steps, and one line `cars n`
+  per road. Cars start stopped and evenly spaced.
 
 Standard output:
-  A table of comma-separated values, a line for each road: its cars, its
-  cells, the steps that were counted, and over these the cells that the cars
-  went, how often a car was stopped, how often one changed lanes, and the
-  flow: how many cars pass a cell in a step, in millionths. Or `fault line N
-  cause K`, where the text has a fault. docs/TEXTS.md explains sweep texts and
-  the causes, docs/STUDIES.md whole studies.
+  CSV, one row per road. Columns: cars, cells, steps (measured), distance
+  (total cells travelled), stopped (car-steps at speed 0), changes (lane
+  changes), flow (cars passing a cell per step, in millionths). Or `fault line
+  N cause K` if the input is rejected. File format and causes: docs/TEXTS.md;
+  whole studies: docs/STUDIES.md.
 
 Example:
   trlab sweep < examples/fundamental_diagram.sweep > flow.csv
 
-A small text of three roads of 100 cells, which one can begin with:
+A small sweep to start from (three roads of 100 cells):
   sweep 1
   key 0000000000000000000000000000000000000000000000000000000000000000
   limit 5
@@ -103,82 +112,74 @@ A small text of three roads of 100 cells, which one can begin with:
   measure 100
   cars 5
   cars 15
-  cars 50";
+  cars 50",
+};
 
-/// What `series` does.
-pub const SERIES_ABOUT: &str =
-    "Drives the cars of a job and counts what they do in windows of steps";
-
-/// What `series` reads and writes.
-pub const SERIES_AFTER: &str = "\
+/// The help of `trlab series`.
+pub const SERIES: Help = Help {
+    about: "Run a job and count its traffic in windows of steps",
+    usage: "trlab series [OPTIONS] < FILE",
+    after: "\
 Standard input:
-  A job text, as `trlab run` reads it.
+  A job file, as for `trlab run`.
 
 Standard output:
-  A table of comma-separated values, a line for each window of n steps from
-  step s on (`--every n`, `--from s`), written once the window is done: the
-  number of the picture after it, the cars, the cells, the steps, and over
-  these the cells that the cars went, how often a car was stopped, how often
-  one changed lanes, and the flow: how many cars pass a cell in a step, in
-  millionths. Then for lane 0 and for lane 1, summed over the roads after the
-  steps: its cars, their speeds, and those of speed 0. Or `fault line N cause
-  K`, where the text has a fault: `trlab explain run` says it in words. Steps
-  after the last whole window are not counted. docs/TEXTS.md explains all.
+  CSV, one row per window of `--every` steps, starting at step `--from`. Each
+  row is written as soon as its window is complete. Columns: step (at the end
+  of the window), then the columns of `trlab sweep`, then cars, distance and
+  stopped for lane 0 and for lane 1. Steps after the last complete window are
+  not counted. Or `fault line N cause K` if the input is rejected: `trlab
+  explain run < FILE` explains the problem. Details: docs/TEXTS.md.
 
 Example:
-  trlab series --every 10 < examples/overtaking.job";
+  trlab series --every 10 < examples/overtaking.job",
+};
 
-/// How many steps a window of `series` has.
-pub const EVERY_HELP: &str = "How many steps a window has, 1 to 500000";
+/// The option `--every` of `series`.
+pub const EVERY_HELP: &str = "Steps per window, 1 to 500000";
 
-/// Where the first window of `series` begins.
-pub const FROM_HELP: &str = "The step from which the windows are counted, 0 to 500000";
+/// The option `--from` of `series`.
+pub const FROM_HELP: &str = "Step at which the first window starts, 0 to 500000";
 
-/// What the option of `run`, `sweep` and `series` is for.
-pub const WORKERS_HELP: &str =
-    "How many workers may share the work, 1 to 16; the output is the same";
+/// The option `--workers`.
+pub const WORKERS_HELP: &str = "Threads per road, 1 to 16; does not change the output";
 
-/// What the other option of `sweep` is for.
+/// The option `--runners` of `sweep`.
 pub const RUNNERS_HELP: &str =
-    "How many runners may share the roads, 1 to 16; the output is the same";
+    "Roads computed at the same time, 1 to 16; does not change the output";
 
-/// What the flag of `run`, `sweep` and `series` is for.
-pub const PROGRESS_HELP: &str =
-    "Tells on standard error how far the work is; the output is the same";
+/// The option `--progress`.
+pub const PROGRESS_HELP: &str = "Report progress on standard error";
 
-/// What `explain` does.
-pub const EXPLAIN_ABOUT: &str =
-    "Says in words what is wrong with a text and how to mend it, or what a good one does";
+/// The first argument of `explain`.
+pub const WHAT_HELP: &str =
+    "Read the input as for this command: run, sweep or check; or cause or reason";
 
-/// How `explain` is asked.
-pub const EXPLAIN_USAGE: &str = "\
-trlab explain [run|sweep|check]
+/// The second argument of `explain`.
+pub const NUMBER_HELP: &str = "Error number, for cause or reason";
+
+/// The help of `trlab explain`.
+pub const EXPLAIN: Help = Help {
+    about: "Explain the error in an input and how to fix it, or the work of a valid one",
+    usage: "\
+trlab explain [run|sweep|check] < FILE
        trlab explain cause K
-       trlab explain reason R";
-
-/// What the first argument of `explain` is.
-pub const WHAT_HELP: &str = "How the text is read: run, sweep or check; or cause or reason";
-
-/// What the second argument of `explain` is.
-pub const NUMBER_HELP: &str = "The number of the cause or of the reason";
-
-/// What `explain` reads and writes.
-pub const EXPLAIN_AFTER: &str = "\
+       trlab explain reason R",
+    after: "\
 Standard input:
-  A job text, as `trlab run` reads it, a sweep text, as `trlab sweep` does, or
-  a check text, as `trlab check` does. Without a word it is a job text where its
-  first word is `road`, a sweep text where that is `sweep`, in small letters or
-  capitals, and else a check text.
+  An input for `trlab run`, `trlab sweep` or `trlab check`. Without run, sweep
+  or check, the first word of the input decides (case does not matter): `road`
+  means a job, `sweep` a sweep, anything else a driver program.
 
 Standard output:
-  Of a refused text the line that the command would write, the line of the
-  text that is at fault, what was expected and what was found there, and a
-  repair where one is likely, which brings the text further: it was tried.
-  Of a good text what it does. Bytes of the text that are not printable
-  ASCII are written as \\x and two hexadecimal digits.
+  For a rejected input: the error, the offending line, the expected lines, the
+  problem, and often a fix (each fix shown has been tested). For a valid input:
+  its road, rules, work and output. Bytes that are not printable ASCII are shown as \\x and
+  two hexadecimal digits.
 
-  With `cause K` or `reason R` nothing is read: what the cause K of a line
-  `fault line N cause K` means, or the reason R of `refused at N reason R`.
+  `explain cause K` and `explain reason R` read nothing. They explain the
+  error number K of `fault line N cause K`, or R of `refused at N reason R`.
 
 Example:
-  trlab explain run < examples/two_cars.job";
+  trlab explain run < examples/two_cars.job",
+};

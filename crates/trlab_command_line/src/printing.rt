@@ -27,10 +27,46 @@ fn write_help<K: Sink>(alloc: Global, error: &Error, writer: &mut K) -> End
     }
 }
 
+/// The commands that read standard input and take no file name.
+const READING: [&[u8]; 4] = [b"check", b"run", b"sweep", b"series"];
+
+/// The options whose number is the next argument.
+const NUMBERED: [&[u8]; 4] = [b"--workers", b"--runners", b"--every", b"--from"];
+
+/// Whether a word is in a list.
+fn is_among(words: &[&[u8]], word: &[u8]) -> bool {
+    words.iter().any(|it| *it == word)
+}
+
+/// The first argument after the command that is neither an option nor an option's number: probably the name of a file.
+fn file_name(arguments: &[String]) -> Option<&str> {
+    let mut is_number = true;
+    for argument in arguments {
+        let word = argument.as_bytes();
+        if !is_number && word.first() != Some(&b'-') {
+            return Some(argument);
+        }
+        is_number = is_among(&NUMBERED, word);
+    }
+    None
+}
+
+/// Says on standard error how to read a file, if the arguments name one.
+fn suggest_redirection<R: AllocGlobal + Eprint>(rt: &R, arguments: &[String]) {
+    if let Some(command) = arguments.first() {
+        if is_among(&READING, command.as_bytes()) {
+            if let Some(name) = file_name(arguments) {
+                let _ = eprintln!(rt; "trlab reads standard input. Type: trlab {command} < {name}");
+            }
+        }
+    }
+}
+
 /// Prints help or the version on the writer if the arguments ask for it, or on standard error why they are
 /// refused; returns the exit status. If memory runs out, nothing is printed.
 pub fn print_help_or_error<R: AllocGlobal + Eprint, K: Sink>(
     rt: &R,
+    arguments: &[String],
     error: &Error,
     writer: &mut K,
 ) -> u8
@@ -50,6 +86,7 @@ pub fn print_help_or_error<R: AllocGlobal + Eprint, K: Sink>(
         ErrorKind::OutOfMemory => status_of_end(End::Memory),
         _ => {
             let _ = rt.eprint(error);
+            suggest_redirection(rt, arguments);
             status_of_error(error)
         }
     }

@@ -2,6 +2,9 @@
 
 use trlab_texts::word::without_prefix;
 
+/// The number of digits of a key.
+pub const KEY_DIGITS: usize = 64;
+
 /// What may stand before hexadecimal digits.
 const FRONTS: [&[u8]; 3] = [b"key ", b"code ", b"notes code "];
 

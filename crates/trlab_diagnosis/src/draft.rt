@@ -1,5 +1,6 @@
 //! Drafts: repairs that may be tried, of which nothing is written yet.
 
+use crate::digits::KEY_DIGITS;
 use std::alloc::{AllocError, Global};
 use trlab_repairs::{Change, Edit, Repair, Slip};
 
@@ -20,6 +21,8 @@ pub enum Put {
     Copied(usize, usize),
     /// The line of a lane of so many empty cells.
     Lane(usize),
+    /// The digits that go, with zeros in front of them up to the length of a key.
+    Padded,
 }
 
 /// A repair that may be tried: some bytes at a place of a text are replaced by others. Where the text is for
@@ -80,6 +83,14 @@ fn put_lane(bytes: &mut Vec<u8>, cells: usize) -> Result<(), AllocError> {
     bytes.extend_from_slice(b"\n")
 }
 
+/// Adds digits, with zeros in front of them up to the length of a key.
+fn put_padded(bytes: &mut Vec<u8>, digits: &[u8]) -> Result<(), AllocError> {
+    for _ in digits.len()..KEY_DIGITS {
+        bytes.push(b'0')?;
+    }
+    bytes.extend_from_slice(digits)
+}
+
 /// Bytes of a text, by how many stand before them and how many they are, as far as it has them.
 fn bytes_at(text: &[u8], at: usize, count: usize) -> &[u8] {
     let (_, after) = text.split_at(at.min(text.len()));
@@ -106,6 +117,7 @@ fn put_all(
         Put::Listed => put_words(bytes, gone, b", "),
         Put::Copied(at, count) => bytes.extend_from_slice(bytes_at(text, at, count)),
         Put::Lane(cells) => put_lane(bytes, cells),
+        Put::Padded => put_padded(bytes, gone),
     }
 }
 

@@ -1,6 +1,7 @@
 //! The lines of job and sweep texts, by their names.
 
 use crate::alike::{is_named_among, is_spelled};
+use trlab_repairs::Subject;
 
 /// A line of a job or sweep text, by its name.
 #[derive(Clone, Copy, PartialEq, Eq)]
@@ -98,6 +99,26 @@ impl LineName {
             }
         }
         None
+    }
+
+    /// Whether lines of this name belong in an input of this kind.
+    pub fn is_of(self, subject: Subject) -> bool {
+        match subject {
+            Subject::Job => !matches!(
+                self,
+                LineName::Sweep
+                    | LineName::Length
+                    | LineName::Lanes
+                    | LineName::Warm
+                    | LineName::Measure
+                    | LineName::Cars
+            ),
+            Subject::Sweep => !matches!(
+                self,
+                LineName::Road | LineName::Lane | LineName::Steps | LineName::At
+            ),
+            Subject::Check => matches!(self, LineName::Motion | LineName::Change),
+        }
     }
 
     /// Whether it is never left out, and has no lines of a program after it.

@@ -12,7 +12,7 @@ use std::thread::Threads;
 use std::{env, io};
 use trlab_campaign::{End, Milestone, Observer, Sink, Source, Watched};
 use trlab_command_line::{
-    REFUSED_ARGUMENTS, Request, carry_out, print_help_or_error, read_words, status_of_end,
+    Explaining, REFUSED_ARGUMENTS, Request, carry_out, print_help_or_error, read_words, status_of_end,
 };
 
 /// The most bytes of output that are gathered before they are written.
@@ -22,9 +22,11 @@ fn main(rt: HostRuntime) -> ExitCode {
     let status = match given_arguments(&rt) {
         Ok(arguments) => match gathered(rt.alloc(), rt.stdout(), is_series(&arguments)) {
             Ok(out) => {
-                let mut reader = Watched::new(rt.stdin());
+                let input = rt.stdin();
+                let is_typed = input.is_terminal();
+                let mut reader = Watched::new(input);
                 let mut writer = Watched::new(out);
-                act(&rt, &arguments, &mut reader, &mut writer)
+                act(&rt, &arguments, is_typed, &mut reader, &mut writer)
             }
             Err(_) => status_of_end(End::Memory),
         },
@@ -80,7 +82,7 @@ impl<R: Eprint> Observer for Teller<'_, R> {
             count,
         } = milestone;
         if let Some(counted) = self.counted {
-            let _ = eprintln!(self.rt; "trlab: {hundredths} of 100, {counted} {number} of {count}");
+            let _ = eprintln!(self.rt; "trlab: {hundredths} % ({counted} {number} of {count})");
         }
     }
 }
@@ -96,10 +98,17 @@ fn counted(request: Request) -> Option<&'static str> {
     }
 }
 
-/// Does what the arguments ask for, and answers the exit status.
+/// Whether a command reads standard input.
+fn reads_input(request: Request) -> bool {
+    !matches!(request, Request::Explain(Explaining::Number(..)))
+}
+
+/// Does what the arguments ask for, and returns the exit status. If the input `is_typed`, a line on standard error says
+/// so first.
 fn act<R: AllocGlobal + Threads + Wait + Sync + Eprint, S: Source, K: Sink>(
     rt: &R,
     arguments: &[String],
+    is_typed: bool,
     reader: &mut S,
     writer: &mut K,
 ) -> u8
@@ -110,13 +119,16 @@ fn act<R: AllocGlobal + Threads + Wait + Sync + Eprint, S: Source, K: Sink>(
 {
     match read_words(rt.alloc(), arguments) {
         Ok(request) => {
+            if is_typed && reads_input(request) {
+                let _ = eprintln!(rt; "trlab: type the input and end it with Ctrl-D, or read a file with < FILE");
+            }
             let teller = Teller {
                 rt,
                 counted: counted(request),
             };
             status_of_end(carry_out(rt, request, reader, writer, &teller))
         }
-        Err(error) => print_help_or_error(rt, &error, writer),
+        Err(error) => print_help_or_error(rt, arguments, &error, writer),
     }
 }
 

@@ -56,6 +56,8 @@ pub enum Slip {
     Count,
     /// A number is not written in digits alone.
     Digits,
+    /// A key has too few digits.
+    ShortKey,
     /// A label is misspelled.
     Label,
     /// There are no commas between operands.

@@ -1,4 +1,4 @@
-//! Chances as decimals.
+//! Probabilities and densities as decimals.
 
 use std::alloc::AllocError;
 use trlab_bounds::programs::CERTAIN;
@@ -14,19 +14,28 @@ const MOST_CHANCES: u32 = 2;
 /// one in a million.
 const SMALL: u32 = 2147;
 
-/// How many digits after the point are written at most.
-const MOST_DECIMALS: u32 = 11;
+/// The maximum number of digits after the point of a probability.
+const CHANCE_DECIMALS: u32 = 11;
 
-/// Adds a chance as a decimal; what is after the last digit is dropped.
-fn push_decimal(page: &mut Page, parts: u32) -> Result<(), AllocError> {
-    let whole = u64::from(CERTAIN);
-    page.number(u64::from(parts) / whole)?;
-    let mut rest = u64::from(parts) % whole;
+/// Adds a part of a whole as a decimal, rounded down to at most this many digits after the point.
+///
+/// # Errors
+///
+/// If memory runs out.
+pub fn push_decimal(
+    page: &mut Page,
+    part: u64,
+    whole: u64,
+    decimals: u32,
+) -> Result<(), AllocError> {
+    let whole = whole.max(1);
+    page.number(part / whole)?;
+    let mut rest = part % whole;
     if rest == 0 {
         return Ok(());
     }
     page.say(".")?;
-    for _ in 0..MOST_DECIMALS {
+    for _ in 0..decimals {
         if rest != 0 {
             let tenths = rest.saturating_mul(10);
             page.number(tenths / whole)?;
@@ -36,16 +45,16 @@ fn push_decimal(page: &mut Page, parts: u32) -> Result<(), AllocError> {
     Ok(())
 }
 
-/// Adds a line about a chance.
+/// Adds a line about a probability, which a file writes as p x 2^31.
 fn push_chance(page: &mut Page, parts: u32) -> Result<(), AllocError> {
-    page.say("  the chance ")?;
+    page.say("  p = ")?;
+    push_decimal(page, u64::from(parts), u64::from(CERTAIN), CHANCE_DECIMALS)?;
+    page.say(" (")?;
     page.number(u64::from(parts))?;
-    page.say(" is ")?;
-    push_decimal(page, parts)?;
     page.line(if parts != 0 && parts <= SMALL {
-        ", which is below one in a million: chances are parts of 2147483648."
+        "). Warning: less than one in a million. 2147483648 means always."
     } else {
-        "."
+        ")."
     })
 }
 

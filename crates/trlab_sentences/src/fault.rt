@@ -49,19 +49,19 @@ impl<'a> Fault<'a> {
 /// Adds what a text is read as.
 fn push_read_as(page: &mut Page, subject: Subject) -> Result<(), AllocError> {
     page.line(match subject {
-        Subject::Job => "It is read as a job text, as `trlab run` does.",
-        Subject::Sweep => "It is read as a sweep text, as `trlab sweep` does.",
-        Subject::Check => "It is read as a check text, as `trlab check` does.",
+        Subject::Job => "Read as a job (`trlab run`).",
+        Subject::Sweep => "Read as a sweep (`trlab sweep`).",
+        Subject::Check => "Read as a driver program (`trlab check`).",
     })
 }
 
 /// Adds which instruction of a program in bytes is at fault, or which character of a lane.
 fn push_place(page: &mut Page, cause: Cause) -> Result<(), AllocError> {
     let (words, place) = match cause {
-        Cause::Code(CodeFault::Opcode(pc) | CodeFault::Field(pc)) => ("It is instruction ", pc),
+        Cause::Code(CodeFault::Opcode(pc) | CodeFault::Field(pc)) => ("Instruction ", pc),
         Cause::Road(
             RoadFault::Character { place, .. } | RoadFault::SpeedAboveLimit { place, .. },
-        ) => { ("It stands at cell ", place) }
+        ) => { ("Cell ", place) }
         _ => return Ok(()),
     };
     push_count(page, words, u64::from(place), ", counted from 0.")
@@ -126,14 +126,13 @@ fn push_expectation(alloc: Global, page: &mut Page, fault: &Fault<'_>) -> Result
 /// Where memory ran out.
 pub fn push_hint(page: &mut Page, cause: Cause) -> Result<(), AllocError> {
     match look_at(cause) {
-        Some(hint) => push_both(page, "Look at: ", hint),
+        Some(hint) => push_both(page, "Check: ", hint),
         None => Ok(()),
     }
 }
 
-/// What to look at where an instruction stands in no program.
-const NO_HEADING: &str =
-    "Look at: the line above this instruction: its program begins with `motion` or `change`.";
+/// What to check if an instruction is outside a program.
+const NO_HEADING: &str = "Check: the line above. A program begins with `motion` or `change`.";
 
 /// Whether an instruction stands where a program may begin.
 fn lacks_heading(fault: &Fault<'_>) -> bool {
@@ -174,7 +173,7 @@ fn push_fault(alloc: Global, page: &mut Page, fault: &Fault<'_>) -> Result<(), A
     }
     push_meaning(page, "Cause ", cause.number(), meaning_of_cause(cause))?;
     push_expectation(alloc, page, fault)?;
-    let finding = finding_of(&fault.place, cause, fault.wanted);
+    let finding = finding_of(fault.subject, &fault.place, cause, fault.wanted);
     if let Some(finding) = finding {
         push_finding(page, finding)?;
     }

@@ -1,6 +1,7 @@
 //! What a good job text will do.
 
-use crate::lines::{count_digits, push_counts, push_rules};
+use crate::chances::push_decimal;
+use crate::lines::{count_digits, megabytes, push_count, push_counts, push_rules};
 use std::alloc::{AllocError, Global};
 use trlab_bounds::runs::MOST_LATER;
 use trlab_jobs::Job;
@@ -20,24 +21,33 @@ fn output_bytes(road: &Road, steps: u32) -> u64 {
     bytes
 }
 
-/// Adds the road of a job: its lanes, cells, cars and limit.
+/// The maximum number of digits after the point of a density.
+const DENSITY_DECIMALS: u32 = 4;
+
+/// Adds the road of a job: its lanes, cells, cars, density and maximum speed.
 fn push_road(page: &mut Page, road: &Road) -> Result<(), AllocError> {
     let cells = u64::from(road.lanes()).saturating_mul(u64::from(road.length()));
     let cars = u64::from(road.cars());
-    let share = cars.saturating_mul(1000) / cells.max(1);
     push_counts(
         page,
         &[
-            ("Lanes: ", u64::from(road.lanes()), ", each a ring."),
-            ("Cells of a lane: ", u64::from(road.length()), "."),
+            ("Lanes: ", u64::from(road.lanes()), "."),
+            ("Cells per lane: ", u64::from(road.length()), "."),
             ("Cars: ", cars, "."),
-            ("Density: ", share, " cars in 1000 cells."),
-            ("Limit: ", u64::from(road.limit()), " cells a step."),
         ],
+    )?;
+    page.say("Density: ")?;
+    push_decimal(page, cars, cells, DENSITY_DECIMALS)?;
+    page.line(" cars per cell.")?;
+    push_count(
+        page,
+        "Maximum speed: ",
+        u64::from(road.limit()),
+        " cells per step.",
     )
 }
 
-/// How many bytes of memory a run by one worker took at most, where it was measured: by its text and its cars.
+/// An upper bound on the bytes of memory of a run with one worker, fitted to measurements.
 fn memory_bytes(text: &[u8], cars: u32) -> u64 {
     (text.len() as u64)
         .saturating_mul(9)
@@ -47,11 +57,11 @@ fn memory_bytes(text: &[u8], cars: u32) -> u64 {
 
 /// Adds what a job will do.
 fn push_job(page: &mut Page, text: &[u8], job: &Job) -> Result<(), AllocError> {
-    page.line("This is a good job text: `trlab run` drives it.")?;
+    page.line("This is a valid job: `trlab run` runs it.")?;
     push_road(page, &job.road)?;
-    push_rules(page, "The first rule:", text, b"rule", 1)?;
+    push_rules(page, "The rule from the start:", text, b"rule", 1)?;
     if !job.later.is_empty() {
-        push_rules(page, "Rules of later steps:", text, b"at", MOST_LATER)?;
+        push_rules(page, "Later rules:", text, b"at", MOST_LATER)?;
     }
     let steps = u64::from(job.steps);
     push_counts(
@@ -61,13 +71,13 @@ fn push_job(page: &mut Page, text: &[u8], job: &Job) -> Result<(), AllocError> {
             (
                 "Work: ",
                 u64::from(job.road.cars()).saturating_mul(steps),
-                " steps of cars.",
+                " car-steps.",
             ),
             ("Output: ", output_bytes(&job.road, job.steps), " bytes."),
             (
-                "Memory: at most ",
-                memory_bytes(text, job.road.cars()),
-                " bytes with one worker, as far as it was measured.",
+                "Memory: about ",
+                megabytes(memory_bytes(text, job.road.cars())),
+                " MB with one worker (measured, not proved).",
             ),
         ],
     )

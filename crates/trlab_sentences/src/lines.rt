@@ -156,6 +156,11 @@ pub fn push_rules(
     Ok(())
 }
 
+/// Bytes in millions, rounded up.
+pub fn megabytes(bytes: u64) -> u64 {
+    bytes.saturating_add(999_999) / 1_000_000
+}
+
 /// How many decimal digits a number has.
 pub fn count_digits(number: u64) -> u64 {
     let mut count = 1u64;

@@ -1,6 +1,6 @@
 //! What a good sweep text will do.
 
-use crate::lines::{count_digits, push_count, push_counts, push_rules};
+use crate::lines::{count_digits, megabytes, push_count, push_counts, push_rules};
 use std::alloc::{AllocError, Global};
 use trlab_jobs::Sweep;
 use trlab_pages::Page;
@@ -23,10 +23,14 @@ fn push_roads(page: &mut Page, sweep: &Sweep) -> Result<(), AllocError> {
     push_counts(
         page,
         &[
-            ("Lanes: ", u64::from(sweep.lanes), ", each a ring."),
-            ("Cells of a lane: ", u64::from(sweep.length), "."),
-            ("Limit: ", u64::from(sweep.limit), " cells a step."),
-            ("Cells of a road: ", cells, "."),
+            ("Lanes: ", u64::from(sweep.lanes), "."),
+            ("Cells per lane: ", u64::from(sweep.length), "."),
+            (
+                "Maximum speed: ",
+                u64::from(sweep.limit),
+                " cells per step.",
+            ),
+            ("Cells per road: ", cells, "."),
             ("Fewest cars: ", u64::from(least), "."),
             ("Most cars: ", u64::from(most), "."),
         ],
@@ -49,9 +53,9 @@ fn cars_of_first_lane(cells: u64, cars: u32) -> u64 {
 /// Adds how some cars start on two lanes.
 fn push_start(page: &mut Page, cells: u64, cars: u32) -> Result<(), AllocError> {
     let first = cars_of_first_lane(cells, cars);
-    page.say("Of ")?;
+    page.say("With ")?;
     page.number(u64::from(cars))?;
-    push_count(page, " cars ", first, " start on the first lane.")
+    push_count(page, " cars, ", first, " start on lane 0.")
 }
 
 /// Adds how the cars of a sweep start, where its roads have two lanes.
@@ -121,13 +125,13 @@ fn push_work(page: &mut Page, text: &[u8], sweep: &Sweep, work: u64) -> Result<(
     push_counts(
         page,
         &[
-            ("Work: ", work, " steps of roads; a sweep may have 500000."),
-            ("Work: ", cars.saturating_mul(steps), " steps of cars."),
+            ("Work: ", work, " steps in total (maximum 500000)."),
+            ("Work: ", cars.saturating_mul(steps), " car-steps."),
             ("Output: at most ", output_bytes(sweep), " bytes."),
             (
-                "Memory: at most ",
-                memory_bytes(text, cars, most, work),
-                " bytes with one runner, as far as it was measured.",
+                "Memory: about ",
+                megabytes(memory_bytes(text, cars, most, work)),
+                " MB with one runner (measured, not proved).",
             ),
         ],
     )
@@ -141,9 +145,9 @@ fn push_points(page: &mut Page, text: &[u8], sweep: &Sweep) -> Result<(), AllocE
     push_counts(
         page,
         &[
-            ("Points: ", points, ", each a line of the table."),
-            ("Steps of a point before it is counted: ", warm, "."),
-            ("Steps of a point that are counted: ", measure, "."),
+            ("Points: ", points, ", one row of the table each."),
+            ("Warm-up steps per point: ", warm, "."),
+            ("Measured steps per point: ", measure, "."),
         ],
     )?;
     push_work(
@@ -156,7 +160,7 @@ fn push_points(page: &mut Page, text: &[u8], sweep: &Sweep) -> Result<(), AllocE
 
 /// Adds what a sweep will do.
 fn push_sweep(page: &mut Page, text: &[u8], sweep: &Sweep) -> Result<(), AllocError> {
-    page.line("This is a good sweep text: `trlab sweep` measures it.")?;
+    page.line("This is a valid sweep: `trlab sweep` runs it.")?;
     push_roads(page, sweep)?;
     push_starts(page, sweep)?;
     push_rules(page, "The rule:", text, b"rule", 1)?;

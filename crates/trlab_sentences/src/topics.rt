@@ -39,11 +39,7 @@ fn push_reason_of(page: &mut Page, cause: Cause) -> Result<(), AllocError> {
     let Some(reason) = reason_of(cause) else {
         return Ok(());
     };
-    push_both(
-        page,
-        "It is refused for this reason: ",
-        meaning_of_reason(reason),
-    )?;
+    push_both(page, "The reason: ", meaning_of_reason(reason))?;
     push_advice(page, reason)
 }
 
@@ -52,25 +48,21 @@ fn push_cause(page: &mut Page, cause: Cause) -> Result<(), AllocError> {
     page.line(meaning_of_cause(cause))?;
     push_reason_of(page, cause)?;
     push_hint(page, cause)?;
-    page.line(
-        "`trlab explain < FILE` tells it of a text that has it; docs/TEXTS.md has all causes.",
-    )
+    page.line("To find it in your file: `trlab explain < FILE`. All causes: docs/ERRORS.md.")
 }
 
 /// Adds what is told of a reason after its number.
 fn push_reason(page: &mut Page, reason: Reason) -> Result<(), AllocError> {
     page.line(meaning_of_reason(reason))?;
     push_advice(page, reason)?;
-    page.line(
-        "`trlab explain < FILE` tells it of a program that has it; docs/PROGRAMS.md has all reasons.",
-    )
+    page.line("To find it in your file: `trlab explain < FILE`. All reasons: docs/ERRORS.md.")
 }
 
 /// Adds that there is no such number, and answers so.
 fn push_none(page: &mut Page) -> Result<bool, AllocError>
     ensures { IfOk result (λ is_none. is_none ≡ true) }
 {
-    page.line("there is none of this number.")?;
+    page.line("no such number.")?;
     Ok(true)
 }
 

@@ -9,19 +9,19 @@ use crate::arguments::options::{
     every_option, from_option, number_argument, progress_flag, runners_option, what_argument,
     workers_option,
 };
-use crate::help::{
-    ABOUT, AFTER, CHECK_ABOUT, CHECK_AFTER, EXPLAIN_ABOUT, EXPLAIN_AFTER, EXPLAIN_USAGE, RUN_ABOUT,
-    RUN_AFTER, SERIES_ABOUT, SERIES_AFTER, SWEEP_ABOUT, SWEEP_AFTER, VERSION,
-};
+use crate::help::{ABOUT, AFTER, CHECK, EXPLAIN, Help, RUN, SERIES, SWEEP, VERSION};
 use clap::Command;
 use std::alloc::{AllocError, Global};
 
-/// A command without arguments, with its texts of help.
-fn bare_command<'a>(alloc: Global, name: &'a str, about: &'a str, after: &'a str) -> Command<'a>
+/// A command without arguments, with its help texts.
+fn bare_command<'a>(alloc: Global, name: &'a str, help: Help) -> Command<'a>
     ensures app { app_of result ≡ new_app name.now }
     ensures local { (fields_of result).has_globals ≡ false }
 {
-    Command::new(alloc, name).about(about).after_help(after)
+    Command::new(alloc, name)
+        .about(help.about)
+        .override_usage(help.usage)
+        .after_help(help.after)
 }
 
 /// The command `check`.
@@ -29,7 +29,7 @@ fn check_command<'a>(alloc: Global) -> Command<'a>
     ensures app { app_of result ≡ check_command }
     ensures local { (fields_of result).has_globals ≡ false }
 {
-    bare_command(alloc, "check", CHECK_ABOUT, CHECK_AFTER)
+    bare_command(alloc, "check", CHECK)
 }
 
 /// The command `run`.
@@ -37,7 +37,7 @@ fn run_command<'a>(alloc: Global) -> Result<Command<'a>, AllocError>
     ensures app { IfOk result (λ command. app_of command ≡ run_command) }
     ensures local { IfOk result (λ command. (fields_of command).has_globals ≡ false) }
 {
-    bare_command(alloc, "run", RUN_ABOUT, RUN_AFTER)
+    bare_command(alloc, "run", RUN)
         .arg(workers_option(alloc))?
         .arg(progress_flag(alloc))
 }
@@ -47,7 +47,7 @@ fn sweep_command<'a>(alloc: Global) -> Result<Command<'a>, AllocError>
     ensures app { IfOk result (λ command. app_of command ≡ sweep_command) }
     ensures local { IfOk result (λ command. (fields_of command).has_globals ≡ false) }
 {
-    bare_command(alloc, "sweep", SWEEP_ABOUT, SWEEP_AFTER)
+    bare_command(alloc, "sweep", SWEEP)
         .arg(runners_option(alloc))?
         .arg(workers_option(alloc))?
         .arg(progress_flag(alloc))
@@ -58,7 +58,7 @@ fn series_command<'a>(alloc: Global) -> Result<Command<'a>, AllocError>
     ensures app { IfOk result (λ command. app_of command ≡ series_command) }
     ensures local { IfOk result (λ command. (fields_of command).has_globals ≡ false) }
 {
-    bare_command(alloc, "series", SERIES_ABOUT, SERIES_AFTER)
+    bare_command(alloc, "series", SERIES)
         .arg(every_option(alloc))?
         .arg(from_option(alloc))?
         .arg(workers_option(alloc))?
@@ -70,8 +70,7 @@ pub fn explain_command<'a>(alloc: Global) -> Result<Command<'a>, AllocError>
     ensures app { IfOk result (λ command. app_of command ≡ explain_command) }
     ensures local { IfOk result (λ command. (fields_of command).has_globals ≡ false) }
 {
-    bare_command(alloc, "explain", EXPLAIN_ABOUT, EXPLAIN_AFTER)
-        .override_usage(EXPLAIN_USAGE)
+    bare_command(alloc, "explain", EXPLAIN)
         .arg(what_argument(alloc))?
         .arg(number_argument(alloc))
 }

@@ -70,14 +70,14 @@ fn explained(what: Option<&str>, number: Option<u32>) -> Result<Explaining, Erro
 /// Why the first argument, or that with a number after it or none, is refused.
 fn refusal_text(alloc: Global, kind: ErrorKind, what: &str) -> Result<String, AllocError> {
     match kind {
-        ErrorKind::UnknownArgument => {
-            format!(in alloc; "`explain {what}` takes no number after it")
-        }
+        ErrorKind::UnknownArgument => { format!(in alloc; "`explain {what}` takes no number") }
         ErrorKind::MissingRequiredArgument => {
-            format!(in alloc; "`explain {what}` wants a number after it")
+            format!(in alloc;
+                "`explain {what}` needs a number, for example `trlab explain {what} 1`"
+            )
         }
         _ => format!(in alloc;
-            "`explain` takes no {what:?} here\n  [possible words: run, sweep, check, cause, reason]"
+            "unknown word {what:?} after `explain`\n  [possible words: run, sweep, check, cause, reason]\n  To explain a file, type: trlab explain < FILE"
         ),
     }
 }

@@ -1,9 +1,10 @@
 //! Candidates for keys and for programs in bytes.
 
 use crate::candidates::Candidates;
-use crate::digits::{digits_at, first_no_digit};
+use crate::digits::{KEY_DIGITS, digits_at, first_no_digit};
 use crate::draft::Put;
 use trlab_repairs::Slip;
+use trlab_texts::word::head_word;
 
 /// The digit that a letter was meant to be.
 fn digit_of(letter: u8) -> Option<u8> {
@@ -11,6 +12,13 @@ fn digit_of(letter: u8) -> Option<u8> {
         b'o' | b'O' => Some(b'0'),
         b'l' | b'I' => Some(b'1'),
         _ => None,
+    }
+}
+
+/// Adds zeros in front of the digits of a key that has too few.
+fn short_key_candidate(list: &mut Candidates<'_>, at: usize, digits: &[u8]) {
+    if head_word(list.line) == b"key".as_slice() && digits.len() < KEY_DIGITS {
+        list.in_line(Slip::ShortKey, at, digits.len(), Put::Padded);
     }
 }
 
@@ -23,6 +31,7 @@ pub fn hex_candidates(list: &mut Candidates<'_>) {
         list.in_line(Slip::Digits, at, 2, Put::Bytes(b""));
     }
     let Some((place, letter)) = first_no_digit(word) else {
+        short_key_candidate(list, at, word);
         return;
     };
     if let Some(digit) = digit_of(letter) {

@@ -6,7 +6,7 @@ use crate::line_name::{LineName, is_name};
 use crate::numbers::{NumberWord, Range, first_wrong_number};
 use crate::rules::{after_rule, rule_named};
 use trlab_lines::{cut, next_line};
-use trlab_repairs::{Place, oddity_of};
+use trlab_repairs::{Place, Subject, oddity_of};
 use trlab_texts::word::{head_word, long_number};
 
 /// How many words a text has, with one space between two.
@@ -20,20 +20,37 @@ fn count_words(text: &[u8]) -> u64 {
     count
 }
 
-/// How many chances the rule of a line has, where it needs more or fewer.
+/// The problem with the rule of a line: an unknown name, or too many or too few values.
 fn rule_finding(line: &[u8]) -> Option<Finding<'_>> {
     let words = after_rule(line)?;
+    let rule = head_word(words);
     let found = count_words(words).saturating_sub(1);
-    let wanted = rule_named(head_word(words))?.chances;
-    if found == wanted {
-        None
-    } else {
-        Some(Finding::Chances { found, wanted })
+    match rule_named(rule) {
+        None => Some(Finding::NoRule(rule)),
+        Some(form) if form.chances != found => Some(Finding::Values {
+            rule,
+            found,
+            wanted: form.chances,
+        }),
+        Some(_) => None,
     }
 }
 
-/// What is wrong with a line that is not the one that must stand there, where these may.
-pub fn line_finding<'a>(place: &Place<'a>, wanted: &[LineName]) -> Option<Finding<'a>> {
+/// The problem with a line that begins with this word, although lines of other names are valid there.
+fn name_finding(subject: Subject, word: &[u8]) -> Option<Finding<'_>> {
+    match LineName::named(word) {
+        Some(name) if !name.is_of(subject) => Some(Finding::OtherInput(subject, word)),
+        _ if is_name(word) => Some(Finding::Elsewhere),
+        _ => None,
+    }
+}
+
+/// The problem with a line that is not one of those that are valid there.
+pub fn line_finding<'a>(
+    subject: Subject,
+    place: &Place<'a>,
+    wanted: &[LineName],
+) -> Option<Finding<'a>> {
     let Some(line) = place.line else {
         return Some(if wanted.contains(&LineName::End) {
             Finding::Endless
@@ -48,8 +65,12 @@ pub fn line_finding<'a>(place: &Place<'a>, wanted: &[LineName]) -> Option<Findin
         return Some(finding);
     }
     let word = head_word(line);
-    if is_name(word) && !is_spelled(wanted, word) && !wanted.is_empty() {
-        Some(Finding::Elsewhere)
+    if wanted.is_empty() {
+        None
+    } else if !is_spelled(wanted, word) {
+        name_finding(subject, word)
+    } else if is_spelled(&[LineName::Road, LineName::Sweep], word) {
+        Some(Finding::Version)
     } else {
         None
     }

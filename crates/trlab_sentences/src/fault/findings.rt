@@ -4,19 +4,19 @@ use crate::lines::{Filled, push_filled};
 use std::alloc::AllocError;
 use trlab_diagnosis::{Finding, Operand};
 use trlab_pages::Page;
-use trlab_repairs::Oddity;
+use trlab_repairs::{Oddity, Subject};
 
-/// What is odd about a line.
+/// What is unusual about a line.
 fn odd_words(oddity: Oddity) -> &'static str {
     match oddity {
-        Oddity::ByteOrderMark => "the text begins with a byte order mark: save it as plain ASCII.",
+        Oddity::ByteOrderMark => "the file begins with a byte order mark: save it as plain ASCII.",
         Oddity::CarriageReturn =>
-            "the line has a carriage return: end lines with LF alone, not as Windows does.",
-        Oddity::Empty => "the line is empty: empty lines may stand in programs alone.",
-        Oddity::Tab => "the line has a tab: one space stands between two words.",
+            "the line ends with a carriage return (Windows line ending): use LF only.",
+        Oddity::Empty => "the line is empty: empty lines are allowed only inside programs.",
+        Oddity::Tab => "the line contains a tab: separate words with one space.",
         Oddity::FirstSpace => "the line begins with a space.",
         Oddity::FinalSpace => "the line ends with a space.",
-        Oddity::Comment => "the line has a comment: these may stand in programs alone.",
+        Oddity::Comment => "the line has a comment: comments are allowed only inside programs.",
     }
 }
 
@@ -24,52 +24,58 @@ fn odd_words(oddity: Oddity) -> &'static str {
 fn operand_words(operand: Operand) -> &'static str {
     match operand {
         Operand::Register =>
-            "`$` is no register: r0 to r7 must stand here, and a number is put into one by `num`.",
+            "`$` is not a register (r0 to r7). To use a number, load it first: `num r1, ..`.",
         Operand::Result =>
-            "`$` is no register: the first operand is the one, r0 to r7, that the result goes to.",
+            "`$` is not a register (r0 to r7): the first operand is the register for the result.",
         Operand::Number | Operand::Divisor | Operand::Word =>
-            "`$` is no number: one has decimal digits alone, no sign and no point.",
-        Operand::Chance => "`$` is no chance: one is a whole number, in parts of 2147483648.",
-        Operand::Input => "`$` is no input.",
-        Operand::Target =>
-            "`$` is no label, and no `@` with the number of an instruction after it.",
+            "`$` is not a whole number (digits only).",
+        Operand::Chance => "`$` is not a probability: write p x 2147483648 as a whole number.",
+        Operand::Input => "`$` is not an input.",
+        Operand::Target => "`$` is neither a label nor `@` followed by an instruction number.",
     }
 }
 
-/// What is wrong at a fault, in words: in these `$` stands for the word, and `#` for the numbers.
+/// The problem in words: `$` is replaced by the word, and each `#` by a number.
 fn words_of(finding: Finding<'_>) -> &'static str {
     match finding {
         Finding::Odd(oddity) => odd_words(oddity),
         Finding::Elsewhere =>
-            "a line of this name stands elsewhere: one is missing above, or this is one too many.",
-        Finding::Ended => "the text has ended, and a line is missing.",
-        Finding::Endless => "the text has ended, and a program has no line `end`.",
-        Finding::Chances { .. } => "words after the name of the rule: #; it wants #.",
-        Finding::NoNumber(_) =>
-            "`$` is no number: one has 1 to 10 decimal digits and no needless 0.",
-        Finding::Below(..) => "`$` is below #.",
-        Finding::Above(..) => "`$` is above #.",
-        Finding::KeyLength(_) => "the key has # characters, not 64.",
-        Finding::OddDigits(_) => "these are # digits, and each byte wants two.",
-        Finding::NoDigit(_) =>
-            "the character at place # of the digits, counted from 1, is no hexadecimal digit.",
-        Finding::Order { .. } => "the step must be # or more, and below #.",
-        Finding::Work { .. } =>
-            "up to here there are # points, and steps of them together #; a sweep may have 500000.",
+            "this line does not belong here: a line above it is missing, or it is a duplicate.",
+        Finding::Ended => "the end of the file: a line is missing.",
+        Finding::Endless => "the end of the file: a program has no line `end`.",
+        Finding::OtherInput(Subject::Job, _) => "a `$` line belongs in a sweep, not in a job.",
+        Finding::OtherInput(Subject::Sweep, _) => "a `$` line belongs in a job, not in a sweep.",
+        Finding::OtherInput(Subject::Check, _) => "a `$` line does not belong in a program.",
+        Finding::Version => "the format version must be 1.",
+        Finding::NoRule(_) => "unknown rule `$`. The rules are nasch, vdr, rickert and own.",
+        Finding::Values { wanted: 0, .. } => "`rule $` takes no values, found #.",
+        Finding::Values { wanted: 1, .. } => "`rule $` takes one value, found #.",
+        Finding::Values { .. } => "`rule $` takes two values, found #.",
+        Finding::NoNumber(_) => "`$` is not a whole number (1 to 10 digits, no leading zeros).",
+        Finding::Below(..) => "`$` is less than #, the minimum.",
+        Finding::Above(..) => "`$` is more than #, the maximum.",
+        Finding::KeyLength(_) => "the length of the key is #, not 64.",
+        Finding::OddDigits(_) => "# digits, an odd number: each byte takes two.",
+        Finding::NoDigit(_) => "character # after `key` or `code` is not a hexadecimal digit.",
+        Finding::Order { .. } => "the step must be at least # and below #.",
+        Finding::Work { .. } => "the # points up to here need # steps; the maximum is 500000.",
         Finding::NoLabel(_) =>
-            "`$` is no label: one is at most 32 letters, digits and `_`, and begins with no digit.",
-        Finding::Operands { .. } => "operands: #; the instruction wants #.",
+            "`$` is not a label: use at most 32 letters, digits and `_`, not starting with a digit.",
+        Finding::Operands { .. } => "# operands; the instruction takes #.",
         Finding::NoOperand(operand, _) => operand_words(operand),
-        Finding::Cells(_) => "the lane has # cells; at most 100000 are taken.",
-        Finding::BothCells(..) => "the first lane has # cells, this one #.",
-        Finding::Speed { .. } => "the speed of this car is #, and the limit #.",
+        Finding::Cells(_) => "the lane has # cells; the maximum is 100000.",
+        Finding::BothCells(..) => "the first lane has # cells, this one has #.",
+        Finding::Speed { .. } => "the speed of this car is #, and the maximum is #.",
     }
 }
 
-/// The word of the text that is told, which is empty where none is.
+/// The word of the input to quote; empty if there is none.
 fn word_of(finding: Finding<'_>) -> &[u8] {
     match finding {
-        Finding::NoNumber(word)
+        Finding::OtherInput(_, word)
+        | Finding::NoRule(word)
+        | Finding::Values { rule: word, .. }
+        | Finding::NoNumber(word)
         | Finding::Below(word, _)
         | Finding::Above(word, _)
         | Finding::NoLabel(word)
@@ -78,10 +84,11 @@ fn word_of(finding: Finding<'_>) -> &[u8] {
     }
 }
 
-/// The numbers that are told, from left to right; one that is not is 0.
+/// The numbers to insert, from left to right, or 0.
 fn numbers_of(finding: Finding<'_>) -> (u64, u64) {
     match finding {
-        Finding::Chances { found, wanted } | Finding::Operands { found, wanted } => (found, wanted),
+        Finding::Values { found, .. } => (found, 0),
+        Finding::Operands { found, wanted } => (found, wanted),
         Finding::Below(_, bound) | Finding::Above(_, bound) => (bound, 0),
         Finding::KeyLength(count) | Finding::OddDigits(count) | Finding::Cells(count) => (count, 0),
         Finding::NoDigit(place) => (place, 0),

@@ -4,39 +4,35 @@ use std::alloc::AllocError;
 use trlab_diagnosis::LineName;
 use trlab_pages::Page;
 
-/// What has to stand in a check text.
+/// The valid inputs of `trlab check`.
 pub const EXPECTED_OF_CHECK: &str =
-    "Expected: `motion`, `change`, `notes motion` or `notes change`, and on the next lines a program; \
-     or `code X` or `notes code X` alone.";
+    "Expected: `motion`, `change`, `notes motion` or `notes change`, followed by one instruction per line; \
+     or only the line `code X` or `notes code X`.";
 
 /// The form of a line of a job or sweep text.
 fn form_of_line(line: LineName) -> &'static str {
     match line {
-        LineName::Road => "`road 1`, the first line of a job text.",
-        LineName::Sweep => "`sweep 1`, the first line of a sweep text.",
-        LineName::Key => "`key H`, H 64 hexadecimal digits.",
-        LineName::Limit => "`limit n`, the greatest speed, n from 1 to 35.",
+        LineName::Road => "`road 1`, the first line of a job.",
+        LineName::Sweep => "`sweep 1`, the first line of a sweep.",
+        LineName::Key => "`key` followed by 64 hexadecimal digits.",
+        LineName::Limit => "`limit n` (maximum speed in cells per step, 1 to 35).",
         LineName::Lane => {
-            "`lane P`, P 1 to 100000 cells: `.` is empty, a car is its speed, 0 to 9, a to z."
+            "`lane` followed by 1 to 100000 cells: `.` is empty, a car is its speed, 0 to 9 or a to z."
         }
         LineName::Rule => {
-            "`rule nasch t`, `rule vdr t t0`, `rule rickert t c` or `rule own`; \
-             t, t0, c from 0 to 2147483648."
+            "`rule nasch t`, `rule vdr t t0`, `rule rickert t c` or `rule own` \
+             (t, t0 and c: probabilities times 2147483648)."
         }
-        LineName::Motion => "`motion`, the lines of a program and `end`; or `code X`.",
-        LineName::Change =>
-            "a change part: `change`, the lines of a program and `end`; or `code X`.",
-        LineName::End =>
-            "a line of the program, or the line `end` and nothing else after its last.",
-        LineName::Length => "`length n`, the cells of a lane, n from 1 to 100000.",
-        LineName::Lanes => "`lanes n`, n 1 or 2.",
-        LineName::Steps => "`steps n`, n from 0 to 500000.",
-        LineName::At => "`at s` and on the same line a rule, s a step; or the end of the text.",
-        LineName::Warm =>
-            "`warm n`, the steps of a point before it is counted, n from 0 to 500000.",
-        LineName::Measure =>
-            "`measure n`, the steps of a point that are counted, n from 1 to 500000.",
-        LineName::Cars => "`cars n`, a point with n cars, n from 0 to 200000.",
+        LineName::Motion => "a motion program: `motion`, its instructions and `end`; or `code X`.",
+        LineName::Change => "a change program: `change`, its instructions and `end`; or `code X`.",
+        LineName::End => "an instruction of the program, or `end` after the last one.",
+        LineName::Length => "`length n` (cells per lane, 1 to 100000).",
+        LineName::Lanes => "`lanes 1` or `lanes 2`.",
+        LineName::Steps => "`steps n` (0 to 500000).",
+        LineName::At => "`at STEP rule ..`, or the end of the file.",
+        LineName::Warm => "`warm n` (steps before counting starts, 0 to 500000).",
+        LineName::Measure => "`measure n` (steps that are counted, 1 to 500000).",
+        LineName::Cars => "`cars n` (a point with n cars, 0 to 200000).",
     }
 }
 

@@ -1,4 +1,4 @@
-//! Repairs, in words: what was got wrong, and the change.
+//! Fixes, in words: the likely mistake, and the change.
 
 use crate::lines::{Filled, push_both, push_filled};
 use std::alloc::AllocError;
@@ -14,35 +14,37 @@ fn command_words(subject: Subject) -> &'static str {
     }
 }
 
-/// What the writer of a text most likely got wrong.
+/// The likely mistake.
 fn words_of(slip: Slip) -> &'static str {
     match slip {
-        Slip::ByteOrderMark => "the text begins with a byte order mark: save it as plain ASCII.",
+        Slip::ByteOrderMark => "the file begins with a byte order mark: save it as plain ASCII.",
         Slip::CarriageReturn =>
-            "the line ends with a carriage return: end all lines with LF alone, not as Windows does.",
-        Slip::Blanks => "one space stands between two words, and none at an end.",
-        Slip::Comment => "comments may stand in programs alone.",
+            "the line ends with a carriage return (Windows line ending): use LF only, in all lines.",
+        Slip::Blanks => "separate words with one space, with none at either end of the line.",
+        Slip::Comment => "comments are allowed only inside programs.",
         Slip::OtherComment => "a comment begins with `;`.",
-        Slip::Empty => "empty lines may stand in programs alone.",
-        Slip::OtherCommand(_) => "the text is for another command.",
-        Slip::Name => "another name may be meant.",
+        Slip::Empty => "empty lines are allowed only inside programs.",
+        Slip::OtherCommand(_) => "this input is for another command.",
+        Slip::Name => "probably a misspelling.",
         Slip::Heading => "the first line of the program is missing.",
-        Slip::Missing => "a line is missing above this one, such as this.",
-        Slip::Late => "this line stands elsewhere, or once only.",
-        Slip::Ended => "the text has ended, and a line is missing, such as this.",
+        Slip::Missing => "a line is missing above this one, for example this one.",
+        Slip::Late => "this line belongs elsewhere, or is a duplicate.",
+        Slip::Ended => "the file ends too early: a line is missing, for example this one.",
         Slip::Endless => "the program has no line `end`.",
-        Slip::End => "the last line of a program is `end`, with nothing beside it.",
+        Slip::End => "the last line of a program is `end` and nothing else.",
         Slip::NeedlessEnd =>
-            "the program of a check text has no line `end`: it goes on to the end of the text.",
-        Slip::Parts => "a chance is written in parts of 2147483648.",
-        Slip::Count => "cars are counted: this is the share of the cells of the road.",
-        Slip::Digits => "it is written in digits alone.",
-        Slip::Label => "another label may be meant.",
-        Slip::Comma => "put a comma between two operands.",
-        Slip::Target => "`@` stands in front of the number of an instruction.",
-        Slip::Lanes => "the rule wants two lanes; or take a rule without a lane change.",
-        Slip::Letter => "a car is a digit or a small letter.",
-        Slip::Version => "the version is 1 where no instruction reads `headspeed`.",
+            "`trlab check` takes no line `end`: the program ends where the input ends.",
+        Slip::Parts => "a probability p is written as p x 2147483648.",
+        Slip::Count =>
+            "`cars` takes a number of cars, not a density; this is that density on this road.",
+        Slip::Digits => "write the number with digits only.",
+        Slip::ShortKey => "a key has 64 hexadecimal digits; leading zeros count.",
+        Slip::Label => "probably a misspelled label.",
+        Slip::Comma => "separate operands with commas.",
+        Slip::Target => "put `@` before the number of an instruction.",
+        Slip::Lanes => "this rule needs a second lane. (Or use a rule without lane changes.)",
+        Slip::Letter => "a car is a digit or a lower-case letter.",
+        Slip::Version => "the version is 1 if no instruction reads `headspeed`.",
     }
 }
 
@@ -78,19 +80,19 @@ fn bare(line: &[u8]) -> &[u8] {
 fn words_of_change(before: usize, length: usize, edit: &Edit) -> &'static str {
     let is_whole = before == 0 && edit.gone == length;
     if edit.gone == 0 && edit.put.last() == Some(&b'\n') {
-        "Above line # add the line `&`."
+        "Above line #, add the line `&`."
     } else if edit.put.is_empty() && before == 0 && edit.gone >= length.max(1) {
-        "Drop line #."
+        "Delete line #."
     } else if is_whole {
-        "Write line # as `&`."
+        "Replace line # with `&`."
     } else if edit.put.is_empty() && before.saturating_add(edit.gone) == length {
-        "In line # drop all from byte # on."
+        "Line #: delete everything from column # on."
     } else if edit.gone == 0 {
-        "In line #, at byte #, add `&`."
+        "Line #, column #: insert `&`."
     } else if edit.put.is_empty() {
-        "In line #, at byte #, drop `%`."
+        "Line #, column #: delete `%`."
     } else {
-        "In line #, at byte #, for `%` put `&`."
+        "Line #, column #: replace `%` with `&`."
     }
 }
 
@@ -107,7 +109,7 @@ fn push_edit(page: &mut Page, fault: &Place<'_>, edit: &Edit) -> Result<(), Allo
     let before = edit.at.saturating_sub(place.start);
     let line = place.line.unwrap_or(b"");
     let words = if edit.at == fault.text.len() {
-        "At the end add the line `&`."
+        "At the end, add the line `&`."
     } else {
         words_of_change(before, line.len(), edit)
     };
@@ -132,6 +134,6 @@ pub fn push_repair(page: &mut Page, fault: &Place<'_>, repair: &Repair) -> Resul
     push_both(page, "Repair: ", words_of(repair.slip))?;
     match &repair.change {
         Change::Edited(edit) => push_edit(page, fault, edit),
-        Change::ReadAs(other) => push_both(page, "Read it by ", command_words(*other)),
+        Change::ReadAs(other) => push_both(page, "Read it with ", command_words(*other)),
     }
 }

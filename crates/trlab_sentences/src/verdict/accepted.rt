@@ -16,7 +16,7 @@ fn push_registers(page: &mut Page, note: &Note) -> Result<(), AllocError> {
         }
     }
     if note.side {
-        page.line("    the cell beside is empty")?;
+        page.line("    the side cell is empty")?;
     }
     Ok(())
 }
@@ -25,6 +25,8 @@ fn push_registers(page: &mut Page, note: &Note) -> Result<(), AllocError> {
 fn push_table(page: &mut Page, program: Placed<'_>, table: &[Note]) -> Result<(), AllocError> {
     let mut pc = 0u32;
     for note in table {
+        // A blank line, since these facts do not follow from the instruction above: this one may be a jump's target.
+        page.end_line()?;
         push_registers(page, note)?;
         push_instruction(page, program, pc)?;
         pc = pc.saturating_add(1);
@@ -45,11 +47,11 @@ pub fn push_accepted(
 ) -> Result<(), AllocError> {
     push_count(
         page,
-        "This driver program is accepted: a car needs at most ",
+        "Accepted: a car runs at most ",
         u64::from(budget),
-        " instructions for a step.",
+        " instructions per step.",
     )?;
-    page.line("Above each instruction stands what is known of the registers before it:")?;
+    page.line("What the verifier knows before each instruction:")?;
     match notes(alloc, program.code) {
         Ok(table) => push_table(page, program, &table),
         Err(NotesFault::Memory) => Err(AllocError),

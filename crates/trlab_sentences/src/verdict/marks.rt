@@ -16,9 +16,9 @@ fn push_range(page: &mut Page, low: u32, high: u32) -> Result<(), AllocError> {
 /// Adds what a mark says, where the side cell is known to be empty or is not.
 fn push_mark(page: &mut Page, mark: Mark, side: bool) -> Result<(), AllocError> {
     match mark {
-        Mark::Unset => page.say("not set on every way"),
+        Mark::Unset => page.say("not set on every path"),
         Mark::Num(low, high) => push_range(page, low, high),
-        Mark::Flag(imp) if imp || side => page.say("a flag; where true, the cell beside is empty"),
+        Mark::Flag(imp) if imp || side => page.say("a flag; if true, the side cell is empty"),
         Mark::Flag(_) => page.say("a flag"),
     }
 }

@@ -6,52 +6,52 @@ use trlab_notes::Reason;
 /// What a reason means.
 pub fn meaning_of_reason(reason: Reason) -> &'static str {
     match reason {
-        Reason::Unreachable => "No way leads to this instruction.",
-        Reason::WrongProgram => "This instruction or input is not for a program of this kind.",
-        Reason::MaybeUnset => "An operand may never have been set.",
+        Reason::Unreachable => "This instruction can never be reached.",
+        Reason::WrongProgram =>
+            "This instruction or input is not allowed in a program of this kind.",
+        Reason::MaybeUnset => "A register may be read before it is set.",
         Reason::WrongValue =>
-            "An operand is a flag where a number must stand, or the other way round.",
-        Reason::JumpsBack => "The jump does not go down: there are no loops.",
-        Reason::JumpsOut => "The jump goes out of the program.",
-        Reason::FallsOut => "The program runs past its last instruction.",
-        Reason::MaybeTooLarge => "The result may be above 4294967295.",
-        Reason::MaybeBelowZero => "The difference may be below zero.",
+            "An operand is a flag where a number is needed, or the other way round.",
+        Reason::JumpsBack => "Jumps must go forward; loops are not allowed.",
+        Reason::JumpsOut => "The jump leaves the program.",
+        Reason::FallsOut => "The program can run past its last instruction.",
+        Reason::MaybeTooLarge => "The result may be more than 4294967295.",
+        Reason::MaybeBelowZero => "The difference may be negative.",
         Reason::MaybeAboveGap =>
-            "The speed of `go` may be above the gap: the car could hit the one ahead.",
-        Reason::MaybeAboveLimit => "The speed of `go` may be above the limit.",
+            "The speed of `go` may be more than the gap: the car could hit the car ahead.",
+        Reason::MaybeAboveLimit => "The speed of `go` may be more than the limit.",
         Reason::MaybeOccupied =>
-            "The car may cross onto another: the cell beside is not known to be empty.",
+            "The car may hit another car when it changes lanes: the side cell may be occupied.",
     }
 }
 
-/// What is advised for a reason, in a program of a kind: it usually helps, and is not tried.
+/// Advice for a program of this kind that is rejected for a reason. It usually helps, but it is not tested.
 pub fn advice_on_reason(reason: Reason, kind: Kind) -> &'static str {
     match reason {
-        Reason::Unreachable =>
-            "drop the instruction, or let the jump above it depend on something.",
+        Reason::Unreachable => "delete it, or make the jump above it conditional.",
         Reason::WrongProgram => match kind {
             Kind::Motion =>
-                "a motion program sees its own lane only and ends with `go`; look at the gap.",
+                "a motion program sees only its own lane and ends with `go`; use `gap`.",
             Kind::Change =>
-                "a change program ends with `cross` or `stay`; speeds are chosen in the motion program.",
+                "a change program ends with `cross` or `stay`; choose speeds in the motion program.",
         },
-        Reason::MaybeUnset => "set the register on every way that leads here, by `num` or `get`.",
-        Reason::WrongValue => "decide by a jump: `jfalse` goes past what is for a true flag.",
-        Reason::JumpsBack => "write what is repeated one after the other.",
+        Reason::MaybeUnset =>
+            "set the register on every path that leads here, with `num` or `get`.",
+        Reason::WrongValue =>
+            "use a flag only to decide a jump: `jfalse` skips the instructions for the true case.",
+        Reason::JumpsBack => "unroll the loop: write the repeated instructions out.",
         Reason::JumpsOut =>
-            "name an instruction: after a label at the end of a program there is none.",
+            "jump to an instruction: a label at the end of a program has none after it.",
         Reason::FallsOut => match kind {
-            Kind::Motion => "let every way end in `go`.",
-            Kind::Change => "let every way end in `cross` or `stay`.",
+            Kind::Motion => "end every path with `go`.",
+            Kind::Change => "end every path with `cross` or `stay`.",
         },
-        Reason::MaybeTooLarge => "take the `min` with a smaller number first, or multiply by less.",
+        Reason::MaybeTooLarge => "cap the operand with `min` first, or use a smaller factor.",
         Reason::MaybeBelowZero =>
-            "take away at most what is there: `min` the second with the first before, or jump past it.",
-        Reason::MaybeAboveGap =>
-            "`get` the gap again, and `min` the speed with it just before `go`.",
-        Reason::MaybeAboveLimit =>
-            "`get` the limit again, and `min` the speed with it just before `go`.",
+            "never subtract more than there is: cap the second operand with `min` first, or jump over the `sub`.",
+        Reason::MaybeAboveGap => "cap the speed just before `go`: `get` the gap, then `min`.",
+        Reason::MaybeAboveLimit => "cap the speed just before `go`: `get` the limit, then `min`.",
         Reason::MaybeOccupied =>
-            "ask first: `side r0`, `jfalse r0, no`, then `cross`, and at `no` stands `stay`.",
+            "check the side cell first: `side r0`, `jfalse r0, no`, `cross`, `no: stay`.",
     }
 }

@@ -32,7 +32,7 @@ fn push_operands(page: &mut Page, note: &Note, instr: Instr) -> Result<(), Alloc
         Operands::Value(a) | Operands::Number(a) | Operands::Flag(a) => (a, a),
         Operands::Numbers(a, b) | Operands::Flags(a, b) => (a, b),
     };
-    page.line("What is known before it:")?;
+    page.line("Known before it:")?;
     push_known(page, "", note, first)?;
     if first == second {
         return Ok(());
@@ -74,7 +74,7 @@ fn push_difference(page: &mut Page, instr: Instr) -> Result<(), AllocError> {
             a,
             b" - ",
             b,
-            b" may be below zero.",
+            b" may be negative.",
         ],
     )
 }
@@ -128,7 +128,7 @@ fn push_ways(page: &mut Page, refused: &Refused<'_>) -> Result<(), AllocError> {
     if count_ways(refused) < 2 {
         return Ok(());
     }
-    page.line("Several ways lead to it, and only what all of them know is known there:")?;
+    page.line("Several paths lead here; only facts that hold on all of them are kept:")?;
     for pc in 0..refused.at {
         if is_way(refused, pc) {
             push_instruction(page, refused.program, pc)?;
@@ -141,7 +141,7 @@ fn push_ways(page: &mut Page, refused: &Refused<'_>) -> Result<(), AllocError> {
 fn push_skip(page: &mut Page, refused: &Refused<'_>) -> Result<(), AllocError> {
     match refused.at.checked_sub(1) {
         Some(above) => {
-            page.line("The instruction above leads elsewhere, and no jump leads here:")?;
+            page.line("The instruction above never continues here, and no jump comes here:")?;
             push_instruction(page, refused.program, above)
         }
         None => Ok(()),

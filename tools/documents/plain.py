@@ -1,0 +1,51 @@
+"""Is the English of messages plain? Help texts, explanations, the messages of ./trlab and the docstrings of the Python
+package may use few of the words that often stand in for a noun or a condition."""
+import ast
+import os
+import re
+
+from finder import TOP
+
+STAND_INS = re.compile(r"\b(?:what|whoever|alone|told|stands?|where)\b", re.I)
+MOST_STAND_INS = 5  # per 1000 words
+COMMENT = re.compile(r"//[^\n]*")
+LITERAL = re.compile(r'"((?:[^"\\]|\\.)*)"', re.S)
+MESSAGE = re.compile(r'\b(?:say|fail|echo) "([^"]*)"')
+DOCUMENTED = ast.Module, ast.ClassDef, ast.FunctionDef
+
+
+def files_below(folder, ending):
+    """The files of a folder and of the folders below it that end so."""
+    for path, _, names in sorted(os.walk(os.path.join(TOP, folder))):
+        yield from (os.path.join(path, name) for name in sorted(names) if name.endswith(ending))
+
+
+def content(path):
+    with open(os.path.join(TOP, path), encoding="utf-8") as file:
+        return file.read()
+
+
+def literals(path):
+    """The strings of a source."""
+    return " ".join(LITERAL.findall(COMMENT.sub("", content(path))))
+
+
+def docstrings(path):
+    """The docstrings of a Python file."""
+    found = (ast.get_docstring(node) for node in ast.walk(ast.parse(content(path))) if isinstance(node, DOCUMENTED))
+    return " ".join(text for text in found if text)
+
+
+def texts():
+    """Each text that users read, by its name."""
+    yield "the help texts", literals("crates/trlab_command_line/src/help.rt")
+    yield "the explanations", " ".join(map(literals, files_below("crates/trlab_sentences/src", ".rt")))
+    yield "the docstrings of python/trlab", " ".join(map(docstrings, files_below("python/trlab", ".py")))
+    yield "the messages of ./trlab", " ".join(MESSAGE.findall(content("trlab")))
+
+
+def verdicts():
+    """For each text whether it has few of these words, and how many it has."""
+    for name, text in texts():
+        share = 1000 * len(STAND_INS.findall(text)) / len(text.split())
+        yield share <= MOST_STAND_INS, f"{name}: {share:.1f} of 1000 words are what, whoever, alone, told, stand or where"
