@@ -1,14 +1,14 @@
-# Times a car and step from the table of docs/SPEED.md, as an SVG image of bars:
+# Times per car and step from the table of docs/SPEED.md, as an SVG image of bars:
 #
 #   awk -f docs/speed.awk docs/SPEED.md > docs/speed.svg
 #
-# It shows the rules on long roads, 100000 cells a lane, three cars in ten cells: a bar for each program that has one.
+# It shows the rules on long roads, 100000 cells per lane, three cars on ten cells: a bar for each program that has one.
 
 BEGIN {
     FS = " *[|] *"
     left = 90; right = 600; top = 20; thickness = 14
-    colors = split("#0072b2 #999999 #e69f00 #d55e00 #cc79a7", color, " ")
-    split("trlab floor plain interpreter NumPy", shown, " ")
+    colors = split("#0072b2 #999999 #e69f00 #d55e00 #009e73 #cc79a7", color, " ")
+    split("trlab floor plain interpreter numba NumPy", shown, " ")
 }
 
 # The heading tells which column is whose.
@@ -51,6 +51,6 @@ END {
     printf "<rect width=\"660\" height=\"%d\" fill=\"white\"/>\n", height
     y = top
     for (r = 1; r <= rules; r++) y = bars(r, y)
-    text((left + right) / 2, y, "middle", "nanoseconds a car and step")
+    text((left + right) / 2, y, "middle", "nanoseconds per car and step")
     print "</svg>"
 }

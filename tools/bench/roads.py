@@ -1,7 +1,5 @@
 """Rows of one road each: trlab with one worker beside the programs without proofs, and its memory."""
-import itertools
 import os
-import subprocess
 from typing import NamedTuple
 
 import tools
@@ -16,16 +14,24 @@ LANES = {
     "vdr 33554432 1610612736": 1,
     "rickert 536870912 1073741824": 2,
 }
-CELLS, DENSITIES = [100, 1000, 100000], [0.05, 0.3, 0.8]
-WIDE = "wide "
+CELLS, DENSITIES = [100, 1000, 100000], [0.1, 0.2, 0.3, 0.8]
+FEW = 100, 0.05  # five cars
+LONG = 100000, 0.3
+WIDE, TUNED = "wide ", "tuned "
 HEAP = "rickert 536870912 1"
-# At most so much of another's time is wanted on lanes of 100000 cells and density 0.3, and of 5 cars on 100 cells.
-WANTED_LARGE = {
-    "nasch 0": {"plain": 1.1, "NumPy": 0.2},
-    "nasch 536870912": {"floor": 1.35, "NumPy": 0.85},
-    "rickert 536870912 1073741824": {"interpreter": 0.4},
+# At most so much of the time of others is wanted, by cells and density.
+WANTED = {
+    ("nasch 0", LONG): {"plain": 1.1, "numba": 0.55, "NumPy": 0.2},
+    ("nasch 536870912", LONG): {"floor": 1.35, "NumPy": 0.85},
+    ("vdr 33554432 1610612736", LONG): {"floor": 1.3},
+    ("rickert 536870912 1073741824", LONG): {"floor": 1.7, "interpreter": 0.4},
+    ("nasch 536870912", (1000, 0.1)): {"numba": 1.05},
+    ("nasch 536870912", (1000, 0.2)): {"numba": 1.05},
+    ("nasch 536870912", (1000, 0.3)): {"numba": 1.05},
 }
-WANTED_SMALL = {"interpreter": 0.8}
+WANTED_OF_FEW = {"interpreter": 0.8}
+# At most so many nanoseconds per car and step are wanted of five cars.
+WANTED_TIMES = {"nasch 0": 32, "nasch 536870912": 70}
 
 
 class Road(NamedTuple):
@@ -50,25 +56,25 @@ class Road(NamedTuple):
     def draws(self):
         return self.rule != "nasch 0"
 
+    def size(self):
+        return self.cells, self.density
+
     def is_asked(self):
-        """Whether it is one of those of which something is wanted."""
-        return (self.cells, self.density) in ((100, 0.05), (100000, 0.3))
+        """Whether it is measured with eight words side by side too."""
+        return self.size() in (FEW, LONG)
 
     def wanted(self):
-        match self.cells, self.density:
-            case 100000, 0.3:
-                return WANTED_LARGE.get(self.rule, {})
-            case 100, 0.05:
-                return WANTED_SMALL
-        return {}
+        """At most so much of the time of others is wanted of it."""
+        return WANTED_OF_FEW if self.size() == FEW else WANTED.get((self.rule, self.size()), {})
 
 
 def roads(is_quick):
     """The roads that are measured; the quick ones are those of which something is wanted."""
+    sizes = [FEW] + [(cells, density) for cells in CELLS for density in DENSITIES]
     for rule, lanes in LANES.items():
-        for cells, density in itertools.product(CELLS, DENSITIES):
-            road = Road(rule, lanes, cells, density)
-            if road.is_asked() or not is_quick:
+        for size in sizes:
+            road = Road(rule, lanes, *size)
+            if road.wanted() or not is_quick:
                 yield road
     if not is_quick:
         yield Road(HEAP, 2, 1000, None)
@@ -86,26 +92,29 @@ def fitting_steps(road, path, seconds_of, most=MOST_STEPS):
     return most
 
 
-def numpy_time(command, path):
-    """The seconds that NumPy's script tells."""
-    with open(path, "rb") as text:
-        ran = subprocess.run(command, stdin=text, stdout=subprocess.DEVNULL, stderr=subprocess.PIPE, check=True)
-    return tools.Time(*map(float, ran.stderr.split()))
+def by_numba(command, path):
+    """The runs in numba, which print their own times."""
+    return {"numba": (command, path, tools.told), TUNED + "numba": ([*command, "tuned"], path, tools.told)}
 
 
-def by_numpy(command, road, path, times):
-    """The time of a car and step by NumPy, in steps of its own count."""
-    steps = fitting_steps(road, path, lambda text: numpy_time(command, text).clock)
+def by_numpy(programs, road, folder, times):
+    """The time per car and step in NumPy, in steps of its own count. Without random numbers its output is trlab's."""
+    command, path = programs.numpy, os.path.join(folder, "for NumPy")
+    steps = fitting_steps(road, path, lambda text: tools.told(command, text).clock)
     road.write(path, steps)
-    return a_move(tools.best([numpy_time(command, path) for _ in range(times)]), (0, 0), road.cars() * steps)
+    if not road.draws():
+        tools.compare([[programs.trlab, "run"], command], path, folder)
+    return a_move(tools.best([tools.told(command, path) for _ in range(times)]), (0, 0), road.cars() * steps)
 
 
 def commands_of(programs, road):
-    """What drives a road, by its name; one of which something is wanted also with eight words side by side, where
-    there is AVX2."""
+    """What drives a road and writes the same bytes, by its name; some roads also with eight words side by side, if
+    there is AVX2. The one in numba draws other random numbers."""
     commands = {"trlab": [programs.trlab, "run"], "plain": [programs.plain], "interpreter": [programs.interpreter]}
     if road.draws() and road.is_asked() and programs.wide_plain != programs.plain:
         commands |= {WIDE + "plain": [programs.wide_plain], WIDE + "interpreter": [programs.wide_interpreter]}
+    if programs.numba and road.rule == "nasch 0":
+        commands["numba"], commands[TUNED + "numba"] = programs.numba, [*programs.numba, "tuned"]
     return commands
 
 
@@ -116,15 +125,20 @@ def measure(programs, road, times, folder):
     steps = fitting_steps(road, path, lambda text: tools.timed(commands["trlab"], text).cpu)
     road.write(path, min(steps, max(1, BYTES // (road.lanes * road.cells))))
     tools.compare(list(commands.values()), path, folder)
+    commands = {name: command for name, command in commands.items() if "numba" not in name}
     if road.draws():
         commands["floor"] = [programs.wide_plain, "floor"]
     road.write(at_start, 0)
     road.write(path, steps)
     idle = tools.best_of({name: (command, at_start) for name, command in commands.items()}, times)
-    whole = tools.best_of({name: (command, path) for name, command in commands.items()}, times)
-    took = {name: a_move(whole[name], idle[name], road.cars() * steps) for name in commands}
+    runs = {name: (command, path) for name, command in commands.items()}
+    if programs.numba and road.rule.startswith("nasch"):
+        runs |= by_numba(programs.numba, path)
+        idle |= {"numba": (0, 0), TUNED + "numba": (0, 0)}
+    whole = tools.best_of(runs, times)
+    took = {name: a_move(whole[name], idle[name], road.cars() * steps) for name in runs}
     if programs.numpy and road.rule.startswith("nasch"):
-        took["NumPy"] = by_numpy(programs.numpy, road, path, times)
+        took["NumPy"] = by_numpy(programs, road, folder, times)
     return row_of(road, took)
 
 
@@ -135,11 +149,15 @@ def wish_of(what, bound, row, name):
 def row_of(road, took):
     """The row of a road, with what is wanted of it."""
     what = f"`{road.rule}`" if road.density is not None else f"heap, `{road.rule}`"
-    is_main = (road.cells, road.density) == (100000, 0.3)
-    row = Row(what, road.lanes, road.cells, road.cars(), took, is_main=is_main)
+    row = Row(what, road.lanes, road.cells, road.cars(), took)
     wide = ", ".join(f"{name} {row.cell(WIDE + name)}" for name in ("plain", "interpreter") if WIDE + name in took)
+    tuned = f"numba tuned {row.cell(TUNED + 'numba')}" if TUNED + "numba" in took and road.wanted() else ""
+    beside = "; ".join(filter(None, [wide and f"with eight words at once {wide}", tuned]))
     wanted = [wish_of(f"{name} at most {bound}", bound, row, name) for name, bound in road.wanted().items()]
-    return row._replace(beside=wide and f"with eight words at once {wide}", wanted=tuple(wanted))
+    if road.size() == FEW and road.rule in WANTED_TIMES:
+        bound = WANTED_TIMES[road.rule]
+        wanted.append(wish(f"at most {bound} ns", took["trlab"].cpu <= bound))
+    return row._replace(beside=beside, wanted=tuple(wanted))
 
 
 def growth(programs, times, folder):

@@ -1,34 +1,35 @@
 """A row of the table, and the table as text."""
+import re
 from typing import NamedTuple
 
 import tools
 
-OTHERS = ["plain", "interpreter", "floor", "NumPy"]
-COLUMNS = ["what", "lanes", "cells", "cars", "trlab", "by the clock", *OTHERS, "beside", "wanted"]
+OTHERS = ["plain", "interpreter", "floor", "numba", "NumPy"]
+COLUMNS = ["what", "lanes", "cells", "cars", "trlab", "wall clock", *OTHERS, "beside", "wanted"]
 
 
 class Programs(NamedTuple):
-    """The programs that are measured, `plain` and `interpreter` also with eight words side by side; NumPy's is a
-    command, or nothing."""
+    """The programs that are measured, `plain` and `interpreter` also with eight words side by side. Those in numba and
+    NumPy are commands, empty if Python lacks the package."""
     trlab: str
     plain: str
     interpreter: str
     wide_plain: str
     wide_interpreter: str
+    numba: list[str]
     numpy: list[str]
 
 
 class Row(NamedTuple):
-    """What was measured, on lanes of so many cells and cars: nanoseconds a car and step of trlab and of others, another
-    run of trlab beside it, and what is wanted."""
+    """What was measured, on lanes of so many cells and cars, if on a road: nanoseconds per car and step of trlab and of
+    others, what was measured beside it, and what is wanted."""
     what: str
-    lanes: int
-    cells: int
-    cars: int
+    lanes: int | str
+    cells: int | str
+    cars: int | str
     times: dict[str, tools.Time]
     beside: str = ""
     wanted: tuple[str, ...] = ()
-    is_main: bool = False
 
     def ratio(self, other):
         """The time of trlab over another's, on processors."""
@@ -40,7 +41,7 @@ class Row(NamedTuple):
                 return str(getattr(self, column))
             case "trlab" if "trlab" in self.times:
                 return f"{self.times['trlab'].cpu:.1f}"
-            case "by the clock" if "trlab" in self.times:
+            case "wall clock" if "trlab" in self.times:
                 return f"{self.times['trlab'].clock:.1f}"
             case "wanted":
                 return ", ".join(self.wanted)
@@ -56,7 +57,7 @@ def wish(what, is_met):
 
 
 def a_move(whole, idle, moves):
-    """The nanoseconds of a car and step: a run less one of no step, over its cars times its steps."""
+    """The nanoseconds per car and step: a run less one of no step, over its cars times its steps."""
     return tools.Time(*((more - less) * 1e9 / moves for more, less in zip(whole, idle)))
 
 
@@ -68,6 +69,23 @@ def line(cells):
     return "| " + " | ".join(cells) + " |"
 
 
-def table(rows, columns):
-    """A table in Markdown."""
-    return "\n".join(heading(columns) + [line([row.cell(column) for column in columns]) for row in rows]) + "\n"
+def cells_of(text):
+    """The cells of a line of a table, by column; empty for any other line."""
+    cells = [cell.strip() for cell in text.strip().strip("|").split(" | ")]
+    is_row = text.startswith("| ") and len(cells) == len(COLUMNS) and cells[0] != COLUMNS[0]
+    return dict(zip(COLUMNS, cells)) if is_row else {}
+
+
+def is_main(cells):
+    """Whether README shows a row: long roads with three cars on ten cells, and work that four threads share."""
+    is_rule = re.fullmatch("`[^`]*`", cells["what"]) and cells["cells"] == "100000"
+    if is_rule:
+        return int(cells["cars"]) == 30000 * int(cells["lanes"])
+    return cells["what"].endswith((", 4 workers", ", 4 runners")) and "at least" in cells["wanted"]
+
+
+def selected(table, columns):
+    """A table in Markdown, with some of its columns and, if these are not all, with the rows that README shows."""
+    found = filter(None, map(cells_of, table.splitlines()))
+    some = [cells for cells in found if columns == COLUMNS or is_main(cells)]
+    return "\n".join(heading(columns) + [line([cells[column] for column in columns]) for cells in some]) + "\n"

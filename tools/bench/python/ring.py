@@ -1,0 +1,23 @@
+"""What the Python programs of the benchmark share: reading a job of one lane, and printing how long a run took."""
+import sys
+import time
+
+SPEEDS = b"0123456789abcdefghijklmnopqrstuvwxyz"
+PARTS = 2**31  # a probability p is written as p * 2^31
+
+
+def read_job(text):
+    """The maximum speed, the lane, p * 2^31 and the number of steps of a job of one lane with `rule nasch`."""
+    lines = [line.split() for line in text.splitlines()]
+    words = {line[0]: line[1:] for line in lines}
+    if words["rule"][0] != "nasch" or sum(line[0] == "lane" for line in lines) != 1:
+        sys.exit("only jobs of one lane with the rule nasch")
+    return int(words["limit"][0]), words["lane"][0].encode(), int(words["rule"][1]), int(words["steps"][0])
+
+
+def measured(call):
+    """Prints on standard error how long a call took: wall-clock time and CPU time, in seconds."""
+    clock, cpu = time.perf_counter(), time.process_time()
+    call()
+    sys.stdout.buffer.flush()
+    print(time.perf_counter() - clock, time.process_time() - cpu, file=sys.stderr)
