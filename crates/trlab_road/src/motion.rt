@@ -11,8 +11,8 @@ ghost use Rattle.trlab_road.specs.Stored.{no_car, place_of, ListsFit, ListsMove,
 use crate::lane_car::LaneCar;
 use std::alloc::{AllocError, Global};
 
-/// How many cars are written together.
-const TOGETHER: usize = 16;
+/// How many cars are written together: so many that the compiler keeps the loop, and makes vectors of it.
+const TOGETHER: usize = 32;
 
 /// The same speeds, each in a byte.
 pub fn in_bytes(alloc: Global, speeds: &[u32]) -> Result<Vec<u8>, AllocError>

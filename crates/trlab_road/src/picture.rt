@@ -12,16 +12,16 @@ use trlab_bounds::roads::GREATEST_LIMIT;
 /// The character of an empty cell.
 const POINT: u8 = b'.';
 
+/// The characters of the speeds from 0 to the greatest limit.
+const CHARACTERS: [u8; 36] = *b"0123456789abcdefghijklmnopqrstuvwxyz";
+
 /// The character of a speed: its digit, and from 10 on a letter.
+#[inline(always)]
 fn speed_character(speed: u32) -> u8
     requires { speed ≤ GREATEST_LIMIT }
     ensures { result ≡ speed_character speed }
 {
-    if speed < 10 {
-        b'0' + speed as u8
-    } else {
-        b'a' + (speed - 10) as u8
-    }
+    CHARACTERS[speed as usize]
 }
 
 /// The speed that a character shows, if it shows one.

@@ -1,7 +1,7 @@
 //! What stands beside a car, found in the other lane's list: by binary search, or near where the car before
 //! it found its own.
 
-ghost use Rattle.std.specs.Prelude.{◌≡◌, ◌<◌, ◌≤◌, ℕ, if◌then◌else◌, length, nat_lt};
+ghost use Rattle.std.specs.Prelude.{◌≡◌, ◌<◌, ◌≤◌, ℕ, IfSome, if◌then◌else◌, length, nat_lt};
 ghost use Rattle.trlab_bounds.specs.declared.roads.TheConstants.{GREATEST_LENGTH};
 ghost use Rattle.trlab_road.specs.Cells.{cars_before};
 ghost use Rattle.trlab_road.specs.Stored.{Rises, IsRising, IsFirstFrom, StandsBeside, cells_of, place_of};
@@ -74,6 +74,26 @@ fn first_near(cars: &[LaneCar], place: u32, near: usize) -> usize
     cars.len()
 }
 
+/// The index of the first car from a place on, if it is one of the five cars from an index near it, the car
+/// before that index stands before the place, and it is not the first car of all.
+#[inline(always)]
+fn first_of_five(cars: &[LaneCar], place: u32, near: usize) -> Option<usize>
+    requires sorted { IsRising cars.now }
+    ensures found { IfSome result (λ next. IsFirstFrom cars.now place next) }
+    ensures past { IfSome result (λ next. 0 < next) }
+    ensures not_last { IfSome result (λ next. next < length cars.now) }
+{
+    if near == 0 || near > cars.len() || place_at(cars, near - 1) >= place {
+        return None;
+    }
+    let next = past_four(cars, place, near);
+    if next < cars.len() && place_at(cars, next) >= place {
+        Some(next)
+    } else {
+        None
+    }
+}
+
 /// A number where a test holds, and else 0.
 #[inline(always)]
 fn only_if(test: bool, number: u32) -> u32
@@ -130,7 +150,8 @@ fn look_anywhere(cars: &[LaneCar], cells: usize, place: u32, next: usize) -> Bes
     }
 }
 
-/// What stands beside a place, which is looked for from an index near it.
+/// What stands beside a place, which is looked for from an index near it: mostly one of five cars is the next.
+#[inline(always)]
 pub fn look_beside(cars: &[LaneCar], cells: usize, place: u32, near: usize) -> Beside
     requires small { cells ≤ GREATEST_LENGTH }
     requires inside { place < cells }
@@ -138,6 +159,9 @@ pub fn look_beside(cars: &[LaneCar], cells: usize, place: u32, near: usize) -> B
     ensures beside { StandsBeside cells cars.now place result }
     ensures next { result.next ≡ cars_before (cells_of cells cars.now) place }
 {
+    if let Some(next) = first_of_five(cars, place, near) {
+        return look_between(cars, cells, place, next);
+    }
     let next = first_near(cars, place, near);
     if 0 < next && next < cars.len() {
         look_between(cars, cells, place, next)

@@ -149,10 +149,16 @@ impl Road {
         ensures behind { IsGapBeside sideback self.now k result.behind }
         ensures next { IsBeside cars_before self.now k result.next }
     {
-        let (lane, index) = find(&self.lanes, k);
-        let place = place_at(list_of(&self.lanes, lane), index);
-        let other = list_of(&self.lanes, 1 - lane);
-        look_beside(other, self.cells as usize, place, near)
+        let index = k as usize;
+        let first = list_of(&self.lanes, 0);
+        let second = list_of(&self.lanes, 1);
+        if index < first.len() {
+            let place = place_at(first, index);
+            look_beside(second, self.cells as usize, place, near)
+        } else {
+            let place = place_at(second, index - first.len());
+            look_beside(first, self.cells as usize, place, near)
+        }
     }
 
     /// The gap ahead on the other lane in cells, from beside the k-th car in standing order: 0 where the

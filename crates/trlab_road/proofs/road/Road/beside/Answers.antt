@@ -1,128 +1,189 @@
-use Rattle.std.proofs.Common.{◌≡◌, ◌<◌, ◌≤◌, ◌-◌, ◌∙◌, ℕ, false, List, [], Vec, Global, length, get_or, sym, ap, subst, arith}
+use Rattle.std.proofs.Common.{◌≡◌, ◌<◌, ◌≤◌, ◌-◌, ◌∙◌, ℕ, false, List, [], Vec, Global, length, get_or, sum_by, sym, ap, arith}
+use Rattle.trlab_bounds.specs.declared.roads.TheConstants.{MOST_LANES}
+use Rattle.trlab_road.specs.declared.side.Beside.{Beside}
 use Rattle.trlab_road.specs.LaneCars.{LaneCar}
-use Rattle.trlab_road.specs.Cells.{Lane, cars_before}
+use Rattle.trlab_road.specs.Cells.{Cells, Lane, cars_before, lane_cars}
 use Rattle.trlab_road.specs.Gaps.{side, sideback, sidegap}
-use Rattle.trlab_road.specs.Stored.{IsFoundAt, cells_of, lanes_from, list_at, place_of}
-use Rattle.trlab_road.proofs.ListRoads.{below_counted, few_cells, found_by, found_in_order, found_inside, lane_from, lanes_count, length_first}
+use Rattle.trlab_road.specs.LaneChange.{IsBeside, IsGapBeside, sides}
+use Rattle.trlab_road.specs.Stored.{IsFoundAt, IsStored, StandsBeside, cells_of, lanes_from, list_at, lists_of, place_of}
+use Rattle.trlab_road.proofs.ListRoads.{below_counted, few_cells, few_lists, found_by, found_in_order, found_inside, found_later, lane_from, lanes_count, length_first}
 use Rattle.trlab_road.proofs.road.Road.beside.Goals as goal
 
-pub find-lane-requires-clause-below : goal.find-lane-requires-clause-below
-find-lane-requires-clause-below c =
-    let low = rw (← c.self.view_is) at c.requires.below in
-    rw c.deref.ensures.value (below_counted c.self.inside.cells c.self.inside.lanes.items c.self.inside.limit c.self.invariant c.args.k low)
+-- what is told of the k-th car in standing order
+record IsTold (road : Cells) (k : ℕ) (beside : Beside) : Type 0 where
+  value : beside.is_empty ≡ get_or (sides road) k false
+  empty : IsBeside side road k beside.is_empty
+  ahead : IsGapBeside sidegap road k beside.ahead
+  behind : IsGapBeside sideback road k beside.behind
+  next : IsBeside cars_before road k beside.next
+
+-- what stands beside its place in the list of the other lane is told of a car that was found
+module _ (n : ℕ) (lists : List (Vec LaneCar Global)) (limit k l i x : ℕ) (own other : List LaneCar) (beside : Beside) where
+  abbrev road : Cells
+  road = record { limit = limit; lanes = lanes_from n lists }
+
+  here : {X : Type 0} (look : Lane → ℕ → X) (g : X) → 1 - l < length lists → own ≡ list_at lists l → other ≡ list_at lists (1 - l) → x ≡ place_of own i
+      → g ≡ look (cells_of n other) x → g ≡ look (get_or (lanes_from n lists) (1 - l) []) (place_of (list_at lists l) i)
+  here look g on own_is other_is at is =
+      is ∙ ap (look (cells_of n other)) (at ∙ ap (λ (cs : List LaneCar). place_of cs i) own_is)
+      ∙ ap (λ (cs : List LaneCar). look (cells_of n cs) (place_of (list_at lists l) i)) other_is
+      ∙ ap (λ (lane : Lane). look lane (place_of (list_at lists l) i)) (sym (lane_from n lists (1 - l) on))
+
+  told : IsStored n lists road → 1 - l < length lists → IsFoundAt lists k l i → own ≡ list_at lists l → other ≡ list_at lists (1 - l) → x ≡ place_of own i
+      → StandsBeside n other x beside → beside.next ≡ cars_before (cells_of n other) x → IsTold road k beside
+  told stored on f own_is other_is at stands next =
+      record {
+        value = found_in_order (λ l x. side (get_or (lanes_from n lists) (1 - l) []) x) n lists limit k l i stored.sorted f beside.is_empty (here side _ on own_is other_is at stands.empty) false;
+        empty = found_by (λ l x. side (get_or (lanes_from n lists) (1 - l) []) x) n lists limit k l i stored.sorted f beside.is_empty (here side _ on own_is other_is at stands.empty);
+        ahead = record {
+          of_car = found_by (λ l x. sidegap (get_or (lanes_from n lists) (1 - l) []) x) n lists limit k l i stored.sorted f beside.ahead (here sidegap _ on own_is other_is at stands.ahead);
+          below = rw (length_first n lists limit stored) stands.ahead_within;
+        };
+        behind = record {
+          of_car = found_by (λ l x. sideback (get_or (lanes_from n lists) (1 - l) []) x) n lists limit k l i stored.sorted f beside.behind (here sideback _ on own_is other_is at stands.behind);
+          below = rw (length_first n lists limit stored) stands.behind_within;
+        };
+        next = found_by (λ l x. cars_before (get_or (lanes_from n lists) (1 - l) []) x) n lists limit k l i stored.sorted f beside.next (here cars_before _ on own_is other_is at next);
+      }
+
+-- a car of the first list
+found_first : (lists : List (Vec LaneCar Global)) (k : ℕ) → 0 < length lists → k < length (list_at lists 0) → IsFoundAt lists k 0 k
+found_first lists k some low = record { on_lane = some; low = low; order = omega arith }
 
 pub look_beside-requires-clause-small : goal.look_beside-requires-clause-small
 look_beside-requires-clause-small c = few_cells c.self.inside.cells c.self.inside.lanes.items c.self.inside.limit c.self.invariant
 
+pub look_beside-requires-else-index-first-clause-small : goal.look_beside-requires-else-index-first-clause-small
+look_beside-requires-else-index-first-clause-small c = few_cells c.self.inside.cells c.self.inside.lanes.items c.self.inside.limit c.self.invariant
+
+-- two lanes are two lists
+two_lists : (lists : List (Vec LaneCar Global)) (road : ℕ) → road ≡ 2 → road ≡ length lists → (0 < length lists) × (1 < length lists)
+two_lists lists road two count = (omega (arith, two, count), omega (arith, two, count))
+
+-- the car of an index below the length of the first list
+first_of : (lists : List (Vec LaneCar Global)) (k : ℕ) (first : List LaneCar) → 0 < length lists → first ≡ list_at lists 0 → k < length first → IsFoundAt lists k 0 k
+first_of lists k first some is low = found_first lists k some (rw is at low)
+
+-- the car of any other index
+second_of : (lists : List (Vec LaneCar Global)) (k : ℕ) (first : List LaneCar) → length lists ≤ MOST_LANES → k < sum_by length (lists_of lists) → first ≡ list_at lists 0 → length first ≤ k
+    → IsFoundAt lists k 1 (k - length first)
+second_of lists k first few below is past = found_later lists k (length first) few below (ap length is) past
+
 pub look_beside-requires-clause-inside : goal.look_beside-requires-clause-inside
 look_beside-requires-clause-inside c =
     let n = c.self.inside.cells in
-    let f = subst (λ (ls : List (Vec LaneCar Global)). IsFoundAt ls c.args.k c.find-lane.result.0 c.find-lane.result.1) c.deref.ensures.value c.find-lane.ensures in
-    rw (c.place_at-place.ensures, c.list_of.ensures, c.deref-2.ensures.value) (found_inside n c.self.inside.lanes.items c.self.inside.limit _ _ _ c.self.invariant.sorted f)
+    let lists = c.self.inside.lanes.items in
+    let two = rw (← c.self.view_is) at c.requires.two in
+    let both = two_lists lists _ two (lanes_count n lists c.self.inside.limit c.self.invariant) in
+    let first : c.list_of-first.result.now ≡ list_at lists 0 = c.list_of-first.ensures ∙ ap (λ (ls : List (Vec LaneCar Global)). list_at ls 0) c.deref.ensures.value in
+    let f = first_of lists c.args.k c.list_of-first.result.now both.0 first c.if-index-first.true in
+    rw (c.place_at-place.ensures, first) (found_inside n lists c.self.inside.limit _ _ _ c.self.invariant.sorted f)
 
--- what was told at a place is told at the same one
-told_at : {X : Type 0} (look : Lane → ℕ → X) (lane : Lane) (x y : ℕ) (g : X) → x ≡ y → g ≡ look lane x → g ≡ look lane y
-told_at look lane x y g same is = is ∙ ap (look lane) same
+-- what is told of a car of the first list, and of one of the second
+module _ (n : ℕ) (lists given read : List (Vec LaneCar Global)) (limit k x : ℕ) (first second : List LaneCar) (beside : Beside) where
+  abbrev cells : Cells
+  cells = record { limit = limit; lanes = lanes_from n lists }
 
--- what was told of the lane that was looked at is told of the lane beside
-here : {X : Type 0} (told : Lane → ℕ → X) (n l i m : ℕ) (g : X) (lists first second : List (Vec LaneCar Global)) (cars beside : List LaneCar) → m < length lists → first ≡ lists → cars ≡ list_at first l
-    → second ≡ lists → beside ≡ list_at second m → g ≡ told (cells_of n beside) (place_of cars i) → g ≡ told (get_or (lanes_from n lists) m []) (place_of (list_at lists l) i)
-here told n l i m g lists first second cars beside low e is f at value =
-    value ∙ ap (λ (cs : List LaneCar). told (cells_of n beside) (place_of cs i)) (is ∙ ap (λ (ls : List (Vec LaneCar Global)). list_at ls l) e)
-    ∙ ap (λ (cs : List LaneCar). told (cells_of n cs) (place_of (list_at lists l) i)) (at ∙ ap (λ (ls : List (Vec LaneCar Global)). list_at ls m) f)
-    ∙ ap (λ (lane : Lane). told lane (place_of (list_at lists l) i)) (sym (lane_from n lists m low))
+  abbrev IsRead : Type 0
+  IsRead = (given ≡ lists) × (read ≡ lists) × (first ≡ list_at given 0) × (second ≡ list_at read 1)
 
-pub returns-clause-value : goal.returns-clause-value
-returns-clause-value c =
+  first_is : IsRead → first ≡ list_at lists 0
+  first_is (same, _, is, _) = is ∙ ap (λ (ls : List (Vec LaneCar Global)). list_at ls 0) same
+
+  second_is : IsRead → second ≡ list_at lists 1
+  second_is (_, same, _, is) = is ∙ ap (λ (ls : List (Vec LaneCar Global)). list_at ls 1) same
+
+  first_told : IsStored n lists cells → length (lanes_from n lists) ≡ 2 → IsRead → k < length first → x ≡ place_of first k
+      → StandsBeside n second x beside → beside.next ≡ cars_before (cells_of n second) x → IsTold cells k beside
+  first_told stored two r low at stands next =
+      let both = two_lists lists _ two (lanes_count n lists limit stored) in
+      told n lists limit k 0 k x first second beside stored both.1 (first_of lists k first both.0 (first_is r) low) (first_is r) (second_is r) at stands next
+
+  second_told : IsStored n lists cells → length (lanes_from n lists) ≡ 2 → IsRead → k < sum_by lane_cars (lanes_from n lists) → length first ≤ k → x ≡ place_of second (k - length first)
+      → StandsBeside n first x beside → beside.next ≡ cars_before (cells_of n first) x → IsTold cells k beside
+  second_told stored two r below past at stands next =
+      let both = two_lists lists _ two (lanes_count n lists limit stored) in
+      let f = second_of lists k first (few_lists n lists limit stored) (below_counted n lists limit stored k below) (first_is r) past in
+      told n lists limit k 1 (k - length first) x second first beside stored both.0 f (second_is r) (first_is r) at stands next
+
+pub place_at-place-requires-else-index-first : goal.place_at-place-requires-else-index-first
+place_at-place-requires-else-index-first c =
     let n = c.self.inside.cells in
     let lists = c.self.inside.lanes.items in
-    let f = subst (λ (ls : List (Vec LaneCar Global)). IsFoundAt ls c.args.k c.find-lane.result.0 c.find-lane.result.1) c.deref.ensures.value c.find-lane.ensures in
-    let two = rw (← c.self.view_is) at c.requires.two in
-    let count = lanes_count n lists c.self.inside.limit c.self.invariant in
-    rw (← c.self.view_is) (found_in_order (λ l x. side (get_or (lanes_from n lists) (1 - l) []) x) n lists c.self.inside.limit _ _ _ c.self.invariant.sorted f c.look_beside.result.is_empty
-    (here side n _ _ _ c.look_beside.result.is_empty lists _ _ _ _ (omega (arith, two, count)) c.deref-2.ensures.value c.list_of.ensures c.deref-3.ensures.value c.list_of-other.ensures (told_at side (cells_of n c.list_of-other.result.now) _ _ _ c.place_at-place.ensures c.look_beside.ensures.beside.empty)) false)
+    let limit = c.self.inside.limit in
+    let below = below_counted n lists limit c.self.invariant c.args.k (rw (← c.self.view_is) at c.requires.below) in
+    let first : c.list_of-first.result.now ≡ list_at lists 0 = c.list_of-first.ensures ∙ ap (λ (ls : List (Vec LaneCar Global)). list_at ls 0) c.deref.ensures.value in
+    let second : c.list_of-second.result.now ≡ list_at lists 1 = c.list_of-second.ensures ∙ ap (λ (ls : List (Vec LaneCar Global)). list_at ls 1) c.deref-2.ensures.value in
+    let f = second_of lists c.args.k c.list_of-first.result.now (few_lists n lists limit c.self.invariant) below first c.if-index-first.false in
+    rw second f.low
 
-pub returns-clause-empty : goal.returns-clause-empty
-returns-clause-empty c =
+pub look_beside-requires-else-index-first-clause-inside : goal.look_beside-requires-else-index-first-clause-inside
+look_beside-requires-else-index-first-clause-inside c =
     let n = c.self.inside.cells in
     let lists = c.self.inside.lanes.items in
-    let f = subst (λ (ls : List (Vec LaneCar Global)). IsFoundAt ls c.args.k c.find-lane.result.0 c.find-lane.result.1) c.deref.ensures.value c.find-lane.ensures in
-    let two = rw (← c.self.view_is) at c.requires.two in
-    let count = lanes_count n lists c.self.inside.limit c.self.invariant in
-    rw (← c.self.view_is) (found_by (λ l x. side (get_or (lanes_from n lists) (1 - l) []) x) n lists c.self.inside.limit _ _ _ c.self.invariant.sorted f c.look_beside.result.is_empty
-    (here side n _ _ _ c.look_beside.result.is_empty lists _ _ _ _ (omega (arith, two, count)) c.deref-2.ensures.value c.list_of.ensures c.deref-3.ensures.value c.list_of-other.ensures (told_at side (cells_of n c.list_of-other.result.now) _ _ _ c.place_at-place.ensures c.look_beside.ensures.beside.empty)))
+    let limit = c.self.inside.limit in
+    let below = below_counted n lists limit c.self.invariant c.args.k (rw (← c.self.view_is) at c.requires.below) in
+    let first : c.list_of-first.result.now ≡ list_at lists 0 = c.list_of-first.ensures ∙ ap (λ (ls : List (Vec LaneCar Global)). list_at ls 0) c.deref.ensures.value in
+    let second : c.list_of-second.result.now ≡ list_at lists 1 = c.list_of-second.ensures ∙ ap (λ (ls : List (Vec LaneCar Global)). list_at ls 1) c.deref-2.ensures.value in
+    let f = second_of lists c.args.k c.list_of-first.result.now (few_lists n lists limit c.self.invariant) below first c.if-index-first.false in
+    rw (c.place_at-place-else-index-first.ensures, second) (found_inside n lists limit _ _ _ c.self.invariant.sorted f)
 
-pub returns-clause-ahead : goal.returns-clause-ahead
-returns-clause-ahead c =
-    let n = c.self.inside.cells in
-    let lists = c.self.inside.lanes.items in
-    let f = subst (λ (ls : List (Vec LaneCar Global)). IsFoundAt ls c.args.k c.find-lane.result.0 c.find-lane.result.1) c.deref.ensures.value c.find-lane.ensures in
-    let two = rw (← c.self.view_is) at c.requires.two in
-    let count = lanes_count n lists c.self.inside.limit c.self.invariant in
-    record {
-      of_car = rw (← c.self.view_is) (found_by (λ l x. sidegap (get_or (lanes_from n lists) (1 - l) []) x) n lists c.self.inside.limit _ _ _ c.self.invariant.sorted f c.look_beside.result.ahead
-          (here sidegap n _ _ _ c.look_beside.result.ahead lists _ _ _ _ (omega (arith, two, count)) c.deref-2.ensures.value c.list_of.ensures c.deref-3.ensures.value c.list_of-other.ensures (told_at sidegap (cells_of n c.list_of-other.result.now) _ _ _ c.place_at-place.ensures c.look_beside.ensures.beside.ahead)));
-      below = rw (← c.self.view_is, length_first n lists c.self.inside.limit c.self.invariant) c.look_beside.ensures.beside.ahead_within;
-    }
+pub returns-then-index-first-clause-value : goal.returns-then-index-first-clause-value
+returns-then-index-first-clause-value c =
+    rw (← c.self.view_is) (first_told c.self.inside.cells c.self.inside.lanes.items _ _ c.self.inside.limit c.args.k c.place_at-place.result c.list_of-first.result.now c.list_of-second.result.now c.look_beside.result
+    c.self.invariant (rw (← c.self.view_is) at c.requires.two) (c.deref.ensures.value, c.deref-2.ensures.value, c.list_of-first.ensures, c.list_of-second.ensures)
+    c.if-index-first.true c.place_at-place.ensures c.look_beside.ensures.beside c.look_beside.ensures.next).value
 
-pub returns-clause-behind : goal.returns-clause-behind
-returns-clause-behind c =
-    let n = c.self.inside.cells in
-    let lists = c.self.inside.lanes.items in
-    let f = subst (λ (ls : List (Vec LaneCar Global)). IsFoundAt ls c.args.k c.find-lane.result.0 c.find-lane.result.1) c.deref.ensures.value c.find-lane.ensures in
-    let two = rw (← c.self.view_is) at c.requires.two in
-    let count = lanes_count n lists c.self.inside.limit c.self.invariant in
-    record {
-      of_car = rw (← c.self.view_is) (found_by (λ l x. sideback (get_or (lanes_from n lists) (1 - l) []) x) n lists c.self.inside.limit _ _ _ c.self.invariant.sorted f c.look_beside.result.behind
-          (here sideback n _ _ _ c.look_beside.result.behind lists _ _ _ _ (omega (arith, two, count)) c.deref-2.ensures.value c.list_of.ensures c.deref-3.ensures.value c.list_of-other.ensures (told_at sideback (cells_of n c.list_of-other.result.now) _ _ _ c.place_at-place.ensures c.look_beside.ensures.beside.behind)));
-      below = rw (← c.self.view_is, length_first n lists c.self.inside.limit c.self.invariant) c.look_beside.ensures.beside.behind_within;
-    }
+pub returns-then-index-first-clause-empty : goal.returns-then-index-first-clause-empty
+returns-then-index-first-clause-empty c =
+    rw (← c.self.view_is) (first_told c.self.inside.cells c.self.inside.lanes.items _ _ c.self.inside.limit c.args.k c.place_at-place.result c.list_of-first.result.now c.list_of-second.result.now c.look_beside.result
+    c.self.invariant (rw (← c.self.view_is) at c.requires.two) (c.deref.ensures.value, c.deref-2.ensures.value, c.list_of-first.ensures, c.list_of-second.ensures)
+    c.if-index-first.true c.place_at-place.ensures c.look_beside.ensures.beside c.look_beside.ensures.next).empty
 
-pub returns-clause-next : goal.returns-clause-next
-returns-clause-next c =
-    let n = c.self.inside.cells in
-    let lists = c.self.inside.lanes.items in
-    let f = subst (λ (ls : List (Vec LaneCar Global)). IsFoundAt ls c.args.k c.find-lane.result.0 c.find-lane.result.1) c.deref.ensures.value c.find-lane.ensures in
-    let two = rw (← c.self.view_is) at c.requires.two in
-    let count = lanes_count n lists c.self.inside.limit c.self.invariant in
-    rw (← c.self.view_is) (found_by (λ l x. cars_before (get_or (lanes_from n lists) (1 - l) []) x) n lists c.self.inside.limit _ _ _ c.self.invariant.sorted f c.look_beside.result.next
-    (here cars_before n _ _ _ c.look_beside.result.next lists _ _ _ _ (omega (arith, two, count)) c.deref-2.ensures.value c.list_of.ensures c.deref-3.ensures.value c.list_of-other.ensures (told_at cars_before (cells_of n c.list_of-other.result.now) _ _ _ c.place_at-place.ensures c.look_beside.ensures.next)))
+pub returns-then-index-first-clause-ahead : goal.returns-then-index-first-clause-ahead
+returns-then-index-first-clause-ahead c =
+    rw (← c.self.view_is) (first_told c.self.inside.cells c.self.inside.lanes.items _ _ c.self.inside.limit c.args.k c.place_at-place.result c.list_of-first.result.now c.list_of-second.result.now c.look_beside.result
+    c.self.invariant (rw (← c.self.view_is) at c.requires.two) (c.deref.ensures.value, c.deref-2.ensures.value, c.list_of-first.ensures, c.list_of-second.ensures)
+    c.if-index-first.true c.place_at-place.ensures c.look_beside.ensures.beside c.look_beside.ensures.next).ahead
 
--- the list of the car's lane, and that of the other lane
-pub find-lane-requires-clause-few : goal.find-lane-requires-clause-few
-find-lane-requires-clause-few c =
-    let count = lanes_count c.self.inside.cells c.self.inside.lanes.items c.self.inside.limit c.self.invariant in
-    let few = c.self.invariant.legal.shape.lanes.few_lanes in
-    rw c.deref.ensures.value (omega (arith, count, few))
+pub returns-then-index-first-clause-behind : goal.returns-then-index-first-clause-behind
+returns-then-index-first-clause-behind c =
+    rw (← c.self.view_is) (first_told c.self.inside.cells c.self.inside.lanes.items _ _ c.self.inside.limit c.args.k c.place_at-place.result c.list_of-first.result.now c.list_of-second.result.now c.look_beside.result
+    c.self.invariant (rw (← c.self.view_is) at c.requires.two) (c.deref.ensures.value, c.deref-2.ensures.value, c.list_of-first.ensures, c.list_of-second.ensures)
+    c.if-index-first.true c.place_at-place.ensures c.look_beside.ensures.beside c.look_beside.ensures.next).behind
 
-found_of : (lists read : List (Vec LaneCar Global)) (k l i : ℕ) → read ≡ lists → IsFoundAt read k l i → IsFoundAt lists k l i
-found_of lists read k l i e f = rw e at f
+pub returns-then-index-first-clause-next : goal.returns-then-index-first-clause-next
+returns-then-index-first-clause-next c =
+    rw (← c.self.view_is) (first_told c.self.inside.cells c.self.inside.lanes.items _ _ c.self.inside.limit c.args.k c.place_at-place.result c.list_of-first.result.now c.list_of-second.result.now c.look_beside.result
+    c.self.invariant (rw (← c.self.view_is) at c.requires.two) (c.deref.ensures.value, c.deref-2.ensures.value, c.list_of-first.ensures, c.list_of-second.ensures)
+    c.if-index-first.true c.place_at-place.ensures c.look_beside.ensures.beside c.look_beside.ensures.next).next
 
-pub list_of-requires : goal.list_of-requires
-list_of-requires c = rw c.deref-2.ensures.value (found_of _ _ _ _ _ c.deref.ensures.value c.find-lane.ensures).on_lane
+pub returns-else-index-first-clause-value : goal.returns-else-index-first-clause-value
+returns-else-index-first-clause-value c =
+    rw (← c.self.view_is) (second_told c.self.inside.cells c.self.inside.lanes.items _ _ c.self.inside.limit c.args.k c.place_at-place-else-index-first.result c.list_of-first.result.now c.list_of-second.result.now c.look_beside-else-index-first.result
+    c.self.invariant (rw (← c.self.view_is) at c.requires.two) (c.deref.ensures.value, c.deref-2.ensures.value, c.list_of-first.ensures, c.list_of-second.ensures)
+    (rw (← c.self.view_is) at c.requires.below) c.if-index-first.false c.place_at-place-else-index-first.ensures c.look_beside-else-index-first.ensures.beside c.look_beside-else-index-first.ensures.next).value
 
-pub place_at-place-requires : goal.place_at-place-requires
-place_at-place-requires c = rw (c.list_of.ensures, c.deref-2.ensures.value) (found_of _ _ _ _ _ c.deref.ensures.value c.find-lane.ensures).low
+pub returns-else-index-first-clause-empty : goal.returns-else-index-first-clause-empty
+returns-else-index-first-clause-empty c =
+    rw (← c.self.view_is) (second_told c.self.inside.cells c.self.inside.lanes.items _ _ c.self.inside.limit c.args.k c.place_at-place-else-index-first.result c.list_of-first.result.now c.list_of-second.result.now c.look_beside-else-index-first.result
+    c.self.invariant (rw (← c.self.view_is) at c.requires.two) (c.deref.ensures.value, c.deref-2.ensures.value, c.list_of-first.ensures, c.list_of-second.ensures)
+    (rw (← c.self.view_is) at c.requires.below) c.if-index-first.false c.place_at-place-else-index-first.ensures c.look_beside-else-index-first.ensures.beside c.look_beside-else-index-first.ensures.next).empty
 
--- of two lanes the other one is a lane too
-on_two : (lists road l : ℕ) → road ≡ 2 → road ≡ lists → l < lists → (l ≤ 1) × (1 - l < lists)
-on_two lists road l two count low = (omega (arith, two, count, low), omega (arith, two, count))
+pub returns-else-index-first-clause-ahead : goal.returns-else-index-first-clause-ahead
+returns-else-index-first-clause-ahead c =
+    rw (← c.self.view_is) (second_told c.self.inside.cells c.self.inside.lanes.items _ _ c.self.inside.limit c.args.k c.place_at-place-else-index-first.result c.list_of-first.result.now c.list_of-second.result.now c.look_beside-else-index-first.result
+    c.self.invariant (rw (← c.self.view_is) at c.requires.two) (c.deref.ensures.value, c.deref-2.ensures.value, c.list_of-first.ensures, c.list_of-second.ensures)
+    (rw (← c.self.view_is) at c.requires.below) c.if-index-first.false c.place_at-place-else-index-first.ensures c.look_beside-else-index-first.ensures.beside c.look_beside-else-index-first.ensures.next).ahead
 
-pub overflow_sub-lane : goal.overflow_sub-lane
-overflow_sub-lane c =
-    let two = rw (← c.self.view_is) at c.requires.two in
-    let count = lanes_count c.self.inside.cells c.self.inside.lanes.items c.self.inside.limit c.self.invariant in
-    (on_two _ _ _ two count (found_of _ _ _ _ _ c.deref.ensures.value c.find-lane.ensures).on_lane).0
+pub returns-else-index-first-clause-behind : goal.returns-else-index-first-clause-behind
+returns-else-index-first-clause-behind c =
+    rw (← c.self.view_is) (second_told c.self.inside.cells c.self.inside.lanes.items _ _ c.self.inside.limit c.args.k c.place_at-place-else-index-first.result c.list_of-first.result.now c.list_of-second.result.now c.look_beside-else-index-first.result
+    c.self.invariant (rw (← c.self.view_is) at c.requires.two) (c.deref.ensures.value, c.deref-2.ensures.value, c.list_of-first.ensures, c.list_of-second.ensures)
+    (rw (← c.self.view_is) at c.requires.below) c.if-index-first.false c.place_at-place-else-index-first.ensures c.look_beside-else-index-first.ensures.beside c.look_beside-else-index-first.ensures.next).behind
 
-pub list_of-other-requires : goal.list_of-other-requires
-list_of-other-requires c =
-    let two = rw (← c.self.view_is) at c.requires.two in
-    let count = lanes_count c.self.inside.cells c.self.inside.lanes.items c.self.inside.limit c.self.invariant in
-    rw c.deref-3.ensures.value (on_two _ _ _ two count (found_of _ _ _ _ _ c.deref.ensures.value c.find-lane.ensures).on_lane).1
-
-pub look_beside-requires-clause-sorted : goal.look_beside-requires-clause-sorted
-look_beside-requires-clause-sorted c =
-    let two = rw (← c.self.view_is) at c.requires.two in
-    let count = lanes_count c.self.inside.cells c.self.inside.lanes.items c.self.inside.limit c.self.invariant in
-    let on = (on_two _ _ _ two count (found_of _ _ _ _ _ c.deref.ensures.value c.find-lane.ensures).on_lane).1 in
-    rw (c.list_of-other.ensures, c.deref-3.ensures.value) (c.self.invariant.sorted.rises _ on)
+pub returns-else-index-first-clause-next : goal.returns-else-index-first-clause-next
+returns-else-index-first-clause-next c =
+    rw (← c.self.view_is) (second_told c.self.inside.cells c.self.inside.lanes.items _ _ c.self.inside.limit c.args.k c.place_at-place-else-index-first.result c.list_of-first.result.now c.list_of-second.result.now c.look_beside-else-index-first.result
+    c.self.invariant (rw (← c.self.view_is) at c.requires.two) (c.deref.ensures.value, c.deref-2.ensures.value, c.list_of-first.ensures, c.list_of-second.ensures)
+    (rw (← c.self.view_is) at c.requires.below) c.if-index-first.false c.place_at-place-else-index-first.ensures c.look_beside-else-index-first.ensures.beside c.look_beside-else-index-first.ensures.next).next
