@@ -3,6 +3,7 @@
 #   ./trlab run < examples/jams.job | awk -f docs/spacetime.awk > jams.svg
 #
 # Time runs down. The colour of a car is its speed, and empty cells are white. Two lanes are drawn side by side.
+# Pictures may be several steps apart, at equal distances.
 
 BEGIN {
     signs = "0123456789abcdefghijklmnopqrstuvwxyz"
@@ -13,6 +14,7 @@ BEGIN {
 
 $1 == "step" {
     if (!steps++) first = $2
+    else if (steps == 2) every = $2 - first
     lane = 0
     next
 }
@@ -91,11 +93,12 @@ function panel(lane, x,  speed, y, step, mark) {
 }
 
 function times(  step, mark, y) {
-    step = mark_step(down, 16)
+    if (every < 1) every = 1
+    step = mark_step(down / every, 16)
     mark = int(first / step) * step
     if (mark < first) mark += step
-    for (; mark < first + steps; mark += step) {
-        y = top + down * (mark - first + 0.5)
+    for (; mark <= first + (steps - 1) * every; mark += step) {
+        y = top + down * ((mark - first) / every + 0.5)
         line(left - 5, y, left, y)
         text(left - 9, y + 4.5, "end", mark)
     }

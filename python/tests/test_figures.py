@@ -81,7 +81,8 @@ class ByAwk(unittest.TestCase):
         fast = Job(limit=35, start=[35] + 99 * [None], rule=Nasch(0), steps=3).run()
         wide = Job(limit=5, length=1500, density=0.2, start=random(1), rule=Nasch("1/4"), steps=30).run()
         long = Job(limit=5, length=20, density=0.2, start=random(1), rule=Nasch("1/4"), steps=900).run()
-        for pictures in [*examples, ONE, TWO, ONE[33:], stopped, empty, fast, wide, long]:
+        parts = [ONE[33:], ONE[::5], TWO[3::7], long[100::10]]
+        for pictures in [*examples, ONE, TWO, *parts, stopped, empty, fast, wide, long]:
             self.assertEqual(by_awk(written(pictures)).stdout, pictures.space_time().svg())
 
     def test_the_figure_of_phantom_jams(self):
@@ -117,6 +118,16 @@ class SpaceTimes(unittest.TestCase):
         for label in "time (steps)", "lane 0", "lane 1", "speed", "(cells per step)", "30", "60":
             self.assertIn(label, labels)
         self.assertNotIn("20", labels[labels.index("lane 1") + 1:])
+
+    def test_times_of_every_nth_picture(self):
+        # The marks are where the pictures of their steps are: the first at half a row, the last half a row above the end.
+        image = ElementTree.fromstring(TWO[10::10].space_time().svg())
+        panel = image.find(f"{SVG}rect[@stroke]")
+        top, high = float(panel.get("y")), float(panel.get("height"))
+        marks = {it.text: float(it.get("y")) - 4.5 for it in image.iter(f"{SVG}text") if it.get("text-anchor") == "end"}
+        self.assertEqual([int(mark) for mark in marks], list(range(20, 61, 20)))
+        for mark, y in marks.items():
+            self.assertAlmostEqual(y, top + high * (int(mark) / 10 - 0.5) / 6, delta=0.06)
 
     def test_png(self):
         for pictures in ONE, TWO:

@@ -85,15 +85,22 @@ class SpaceTime:
         import numpy
         from matplotlib.colors import ListedColormap
 
-        fastest, first = self.fastest, self.pictures[0].step
+        fastest, every = self.fastest, _distance(self.pictures)
         speeds = self.pictures.to_numpy()[:, lane]
+        top = self.pictures[0].step - every / 2
         image = axes.imshow(
             numpy.where(speeds < 0, numpy.nan, speeds), cmap=ListedColormap(colours(fastest)), vmin=-0.5, vmax=fastest + 0.5,
-            extent=(-0.5, speeds.shape[1] - 0.5, first + len(speeds) - 0.5, first - 0.5), aspect="auto", interpolation="nearest",
+            extent=(-0.5, speeds.shape[1] - 0.5, top + every * len(speeds), top), aspect="auto", interpolation="nearest",
         )
         axes.set_xlabel("position (cells)")
         axes.set_ylabel("time (steps)")
         return image
+
+
+def _distance(pictures: Pictures) -> int:
+    """How many steps the second picture is after the first; 1 if there is no second one."""
+    distance: int = pictures[1].step - pictures[0].step if len(pictures) > 1 else 1
+    return max(1, distance)
 
 
 def _wide(row: bytes, scale: int) -> bytes:
@@ -113,7 +120,7 @@ class _Drawing:
 
     def __init__(self, pictures: Pictures, fastest: int) -> None:
         self.pictures, self.colours = pictures, colours(fastest)
-        self.first, self.steps = pictures[0].step, len(pictures)
+        self.first, self.steps, self.every = pictures[0].step, len(pictures), _distance(pictures)
         self.lanes, self.cells = len(pictures[0].lanes), len(pictures[0].lanes[0])
         self.across = min(12.0, (300 if self.lanes > 1 else 600) / self.cells)
         self.down = 700 / self.steps if self.steps * self.across > 700 else self.across
@@ -170,9 +177,9 @@ class _Drawing:
         return paths
 
     def times(self) -> Iterator[str]:
-        step = _mark_step(self.down, 16)
-        for mark in range(math.ceil(self.first / step) * step, self.first + self.steps, step):
-            y = TOP + self.down * (mark - self.first + 0.5)
+        step, last = _mark_step(self.down / self.every, 16), self.first + (self.steps - 1) * self.every
+        for mark in range(math.ceil(self.first / step) * step, last + 1, step):
+            y = TOP + self.down * ((mark - self.first) / self.every + 0.5)
             yield _line(LEFT - 5, y, LEFT, y)
             yield _text(LEFT - 9, y + 4.5, "end", str(mark))
         y = TOP + self.high / 2
