@@ -104,7 +104,7 @@ fn output_bytes(sweep: &Sweep) -> u64 {
 }
 
 /// The most cars of the roads that a sweep keeps at once.
-const MOST_AT_ONCE: u64 = 12_800_000;
+const MOST_AT_ONCE: u64 = 6_400_000;
 
 /// How many bytes of memory a sweep by one runner took at most, where it was measured: by its text, the cars of
 /// all its points, those of the largest one, and its steps.

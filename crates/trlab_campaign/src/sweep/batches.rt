@@ -4,8 +4,8 @@ ghost use Rattle.std.specs.Prelude.{◌≡◌, ◌<◌, ◌≤◌, ◌-◌, leng
 
 use trlab_jobs::Sweep;
 
-/// The most cars that the roads of a batch have together: those of 64 roads of the largest size.
-const MOST_AT_ONCE: u32 = 12_800_000;
+/// The most cars that the roads of a batch have together: those of 32 roads of the largest size.
+const MOST_AT_ONCE: u32 = 6_400_000;
 
 /// The points of a sweep from one number up to that before another.
 #[derive(Clone, Copy)]
