@@ -114,7 +114,7 @@ class Answers(Serving):
             self.assertEqual("".join(it for it in lines if not it.startswith("trlab: ")), ask([kind], text), name)
             if kind == "run":
                 self.assertEqual(self.text("series", text), ask(["series"], text), name)
-            self.assertEqual(kind == "sweep", "trlab: 100 of 100" in output)
+            self.assertEqual(kind == "sweep", "trlab: 100 % (" in output)
 
     def test_a_part_of_a_run(self):
         text = (EXAMPLES / "overtaking.job").read_text()

@@ -162,7 +162,7 @@ async function sweep(source, name) {
     let all = "";
     for (let part = await reader.read(); !part.done; part = await reader.read()) {
       all += part.value;
-      $("sweep").textContent = `${/.*trlab: (\d+) of 100/s.exec(all)?.[1] ?? 0} %`;
+      $("sweep").textContent = `${/.*trlab: (\d+) %/s.exec(all)?.[1] ?? 0} %`;
     }
     table = all.replace(/^trlab: .*\n/gm, "");
     if (!table.startsWith("cars,")) throw new Error((await explain("sweep", source)).said);
