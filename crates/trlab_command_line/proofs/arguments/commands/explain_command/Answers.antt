@@ -1,17 +1,14 @@
-use Rattle.std.proofs.Common.{rules, ◌≡◌, ◌∙◌, ◌||◌, ap₂, false, codes}
+use Rattle.std.proofs.Common.{◌∙◌, ◌||◌, ap₂}
 use Rattle.std.proofs.lemmas.Result.{IfOk-weaker}
-use Rattle.clap.specs.Words.{app_of, new_app, with_rule}
-use Rattle.clap.specs.declared.builder.command.Command.TheViews.{out-Command}
+use Rattle.clap.specs.Words.{with_rule}
 use Rattle.trlab_command_line.proofs.arguments.commands.explain_command.Goals as goal
 
 pub returns-clause-app : goal.returns-clause-app
 returns-clause-app c =
-    let plain : app_of c.override_usage.result ≡ new_app (codes "explain") = search rules in
-    let first = c.in_ok-arg.ensures.shape c.what_argument.ensures.local ∙ ap₂ with_rule plain c.what_argument.ensures.rule in
+    let first = c.in_ok-arg.ensures.shape c.what_argument.ensures.local ∙ ap₂ with_rule c.bare_command.ensures.app c.what_argument.ensures.rule in
     IfOk-weaker c.arg-2.result _ _ (λ command added. added.shape c.number_argument.ensures.local ∙ ap₂ with_rule first c.number_argument.ensures.rule) c.arg-2.ensures
 
 pub returns-clause-local : goal.returns-clause-local
 returns-clause-local c =
-    let plain : (out-Command c.override_usage.result).has_globals ≡ false = search rules in
-    let first = c.in_ok-arg.ensures.globals ∙ ap₂ (λ a b. a || b) plain c.what_argument.ensures.local in
+    let first = c.in_ok-arg.ensures.globals ∙ ap₂ (λ a b. a || b) c.bare_command.ensures.local c.what_argument.ensures.local in
     IfOk-weaker c.arg-2.result _ _ (λ command added. added.globals ∙ ap₂ (λ a b. a || b) first c.number_argument.ensures.local) c.arg-2.ensures
