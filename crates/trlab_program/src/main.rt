@@ -12,7 +12,8 @@ use std::thread::Threads;
 use std::{env, io};
 use trlab_campaign::{End, Milestone, Observer, Sink, Source, Watched};
 use trlab_command_line::{
-    Explaining, REFUSED_ARGUMENTS, Request, carry_out, print_help_or_error, read_words, status_of_end,
+    Explaining, REFUSED_ARGUMENTS, Request, carry_out, print_help_or_error, read_words,
+    status_of_end,
 };
 
 /// The most bytes of output that are gathered before they are written.
@@ -120,7 +121,9 @@ fn act<R: AllocGlobal + Threads + Wait + Sync + Eprint, S: Source, K: Sink>(
     match read_words(rt.alloc(), arguments) {
         Ok(request) => {
             if is_typed && reads_input(request) {
-                let _ = eprintln!(rt; "trlab: type the input and end it with Ctrl-D, or read a file with < FILE");
+                let _ = eprintln!(rt;
+                    "trlab: type the input and end it with Ctrl-D, or read a file with < FILE"
+                );
             }
             let teller = Teller {
                 rt,
