@@ -224,6 +224,8 @@ class Command(unittest.TestCase):
         running = subprocess.Popen(
             [sys.executable, "-m", "trlab.lab", "--no-browser", *words], stdout=subprocess.PIPE, stderr=subprocess.PIPE,
             text=True, env=environment, cwd=folder, start_new_session=True,
+            # A shell that started these tests in the background has them ignore SIGINT.
+            preexec_fn=lambda: signal.signal(signal.SIGINT, signal.SIG_DFL),
         )
         self.addCleanup(running.communicate)
         self.addCleanup(running.kill)
