@@ -1,16 +1,18 @@
-"""Is the English of messages plain? Help texts, explanations, the messages of ./trlab and the docstrings of the Python
-package may use few of the words that often stand in for a noun or a condition."""
+"""Is the English of messages and pages plain? Help texts, explanations, the messages of ./trlab, the docstrings of the
+Python package and the pages with a word limit may use few of the words that often replace a noun or a condition."""
 import ast
 import os
 import re
 
 from finder import TOP
+from standing import MOST_WORDS
 
 STAND_INS = re.compile(r"\b(?:what|whoever|alone|told|stands?|where)\b", re.I)
 MOST_STAND_INS = 5  # per 1000 words
 COMMENT = re.compile(r"//[^\n]*")
 LITERAL = re.compile(r'"((?:[^"\\]|\\.)*)"', re.S)
 MESSAGE = re.compile(r'\b(?:say|fail|echo) "([^"]*)"')
+CODE = re.compile(r"^```.*?^```$|`[^`]*`|\]\([^)]*\)", re.M | re.S)
 DOCUMENTED = ast.Module, ast.ClassDef, ast.FunctionDef
 
 
@@ -42,6 +44,8 @@ def texts():
     yield "the explanations", " ".join(map(literals, files_below("crates/trlab_sentences/src", ".rt")))
     yield "the docstrings of python/trlab", " ".join(map(docstrings, files_below("python/trlab", ".py")))
     yield "the messages of ./trlab", " ".join(MESSAGE.findall(content("trlab")))
+    for page in MOST_WORDS:
+        yield page, CODE.sub(" ", content(page))
 
 
 def verdicts():

@@ -16,6 +16,21 @@ DECISIONS = "docs/DECISIONS.md"
 # It speaks of crates by the names of their day.
 OF_OLD = "CHANGELOG.md"
 MOST_WORDS_OF_A_DECISION = 60
+# Pages grow with every change, and each sentence seems useful. A page at its limit needs a cut before an addition.
+MOST_WORDS = {
+    "CHANGELOG.md": 1000,
+    "CONTRIBUTING.md": 1750,
+    "docs/ARCHITECTURE.md": 2900,
+    "docs/BOOK.md": 1750,
+    "docs/DECISIONS.md": 3900,
+    "docs/EMBEDDING.md": 900,
+    "docs/EXTENDING.md": 1600,
+    "docs/GLOSSARY.md": 2800,
+    "docs/GUARANTEES.md": 5000,
+    "docs/LAWS.md": 3900,
+    "docs/RELIABILITY.md": 2300,
+    "docs/SPEED.md": 2900,
+}
 MOST_LINES_OF_README = 200
 MOST_CHARACTERS = 110
 # A paragraph is indented by a list in a list at most.
@@ -240,6 +255,13 @@ def clauses_are_there():
                     yield is_there, f"{document} names the clause `{clause}` of `{function}`, which is not there"
 
 
+def pages_are_short():
+    """Each page with a word limit keeps to it; the symbols between the columns of a table count, as for `wc -w`."""
+    for page, most in MOST_WORDS.items():
+        words = len(content(page).split())
+        yield words <= most, f"{page} has {words} words, and is to have {most} at most"
+
+
 def readme_is_short():
     lines = content("README.md").count("\n")
     yield lines <= MOST_LINES_OF_README, f"README.md has {lines} lines, and is to have {MOST_LINES_OF_README} at most"
@@ -285,6 +307,7 @@ def verdicts():
         clauses_are_there,
         figure_is_of_the_table,
         readme_is_short,
+        pages_are_short,
         lines_are_short,
         english_is_of_today,
     ):
