@@ -1,7 +1,7 @@
-//! What the numbers are, in figures: definitions name the constants, so a changed constant would
-//! change its meaning along with it, and is refused here.
+//! The limits in figures: definitions name the constants, so a changed constant would change their meaning, and
+//! is refused here.
 //!
-//! Each law is the contract of a function with nothing to do.
+//! Each law is the contract of a function with an empty body.
 
 ghost use Rattle.std.specs.Prelude.{◌≡◌, ◌+◌, ◌*◌, ◌^◌, codes};
 

@@ -9,7 +9,7 @@ pub const VARIABLES: usize = 15;
 /// How many random words a program can draw on.
 pub const WORDS: usize = 16;
 
-/// The chance that always happens, in parts of 2^31.
+/// The probability 1, times 2^31.
 pub const CERTAIN: u32 = 2147483648;
 
 /// The bytes that every spelling of a program begins with.
@@ -27,7 +27,7 @@ pub const HEADER_BYTES: usize = 8;
 /// How many bytes spell an instruction.
 pub const INSTR_BYTES: usize = 8;
 
-/// The greatest number in the text of a program.
+/// The largest number in the text of a program.
 pub const GREATEST_NUMBER: u32 = 4294967295;
 
 /// The most digits of a number there.

@@ -14,7 +14,7 @@ use Rattle.trlab_code.specs.Spelling.{kind_byte, instr_bytes, Spells, IsOpcode}
 abbrev pub stated_version : List ℕ → ℕ
 stated_version bytes = slice_index bytes 4
 
--- the count of instructions that a header states, its lower byte first
+-- the number of instructions in a header, its lower byte first
 abbrev pub stated_count : List ℕ → ℕ
 stated_count bytes = slice_index bytes 6 + 256 * slice_index bytes 7
 
@@ -38,7 +38,7 @@ HasVersion bytes = (stated_version bytes ≡ PLAIN_VERSION) ⊎ (stated_version 
 abbrev pub HasKind : List ℕ → Type 0
 HasKind bytes = (kind : Kind) × (slice_index bytes 5 ≡ kind_byte kind)
 
--- then the count of instructions, which a program may have
+-- then the number of instructions, which a program may have
 abbrev pub HasCount : List ℕ → Type 0
 HasCount bytes = (1 ≤ stated_count bytes) × (stated_count bytes ≤ MOST_INSTRUCTIONS)
 
@@ -101,7 +101,7 @@ HasMore bytes = HEADER_BYTES + INSTR_BYTES * stated_count bytes < length bytes
 abbrev pub PassesInstrs : List ℕ → Type 0 → Type 0
 PassesInstrs bytes rest = IsGoodBefore bytes (stated_count bytes) × rest
 
--- the first fault of bytes with a good header lies in the instructions or after them, or memory ran out
+-- the first fault of bytes with a good header is in the instructions or after them, or allocation failed
 abbrev pub IsFaultAfterHeader : List ℕ → CodeFault → Type 0
 IsFaultAfterHeader bytes (fault.Opcode pc) = ComesToInstr bytes pc (λ row. ¬ (HasOpcode row))
 IsFaultAfterHeader bytes (fault.Field pc) =

@@ -20,21 +20,21 @@ pub record IsStored (program : Program) : Type 0 where
   pub is_program : IsProgram program
   pub has_words : All HasWord program.instrs
 
--- what bytes say: the program that they spell, or their first fault
+-- the meaning of bytes: the program that they encode, or their first fault
 abbrev pub Says : List ℕ → Result Program CodeFault → Type 0
 Says bytes (Ok program) = (bytes ≡ spelling program) × IsProgram program
 Says bytes (Err fault) = IsFirstFault bytes fault × (fault ≢ Memory)
 
--- any bytes say something
+-- any bytes have a meaning
 abbrev pub BytesSaySomething : Type 0
 BytesSaySomething = (bytes : List ℕ) → AreBytes bytes → (said : Result Program CodeFault) × Says bytes said
 
--- no bytes say two things
+-- no bytes have two meanings
 abbrev pub BytesSayOneThing : Type 0
 BytesSayOneThing = (bytes : List ℕ) (said other : Result Program CodeFault)
     → Says bytes said → Says bytes other → said ≡ other
 
--- the bytes that spell a program say this program, and nothing else
+-- the bytes that encode a program mean this program, and nothing else
 abbrev pub SpellingSaysTheProgram : Type 0
 SpellingSaysTheProgram = (program : Program) (said : Result Program CodeFault)
     → IsProgram program → Says (spelling program) said ↔ (said ≡ Ok program)

@@ -19,7 +19,8 @@ kind_byte Change = 1
 abbrev pub row : ℕ → ℕ → ℕ → ℕ → ℕ → Row
 row opcode a b c number = record { opcode = opcode; a = a; b = b; c = c; number = number }
 
--- the row of each instruction, with 0 where it has no such field; a register or an input is its number
+-- the row of each instruction, with 0 for the fields that it does not have; a register or an input is its
+-- number
 abbrev pub row_of : Instr → Row
 row_of (Num d n) = row 0x01 (register_number d) 0 0 n
 row_of (Get d k) = row 0x02 (register_number d) (input_number k) 0 0
@@ -60,7 +61,7 @@ row_bytes r = r.opcode ∷ r.a ∷ r.b ∷ r.c ∷ number_bytes r.number
 abbrev pub instr_bytes : Instr → List ℕ
 instr_bytes i = row_bytes (row_of i)
 
--- the eight bytes of a header: `TRLB`, the version, the kind and the count of instructions
+-- the eight bytes of a header: `TRLB`, the version, the kind and the number of instructions
 abbrev pub header : ℕ → Kind → ℕ → List ℕ
 header version kind count = MAGIC ++ version ∷ kind_byte kind ∷ count_bytes count
 

@@ -15,7 +15,7 @@ use crate::row::{self, Row};
 use std::alloc::Global;
 use trlab_bounds::programs::{HEADER_BYTES, INSTR_BYTES};
 
-/// The instruction at pc of a spelling of this version, where all is well before it.
+/// The instruction at `pc` in bytes of this version, if everything before it is valid.
 fn instr_at(bytes: &[u8], version: u8, pc: u32) -> Result<Instr, CodeFault>
     requires version { version ≡ stated_version bytes.now }
     requires inside { pc < stated_count bytes.now }
@@ -55,26 +55,26 @@ fn instrs(alloc: Global, bytes: &[u8], header: Header) -> Result<Vec<Instr>, Cod
     Ok(instrs)
 }
 
-/// The program that bytes spell: a header of 8 bytes, and 8 bytes for each instruction.
+/// Decodes a program: a header of 8 bytes, and 8 bytes for each instruction.
 ///
-/// The header is `TRLB`, the version, the kind (0 motion, 1 change), and the count in two bytes, the
-/// lower first. The version is 2 where an instruction reads `headspeed`, else 1. An instruction is its
-/// opcode, three fields of a byte, and a number in four bytes, the lowest first; what an instruction
-/// does not use is 0. Other bytes are refused by their first fault, in the order of `CodeFault`; where
-/// the bytes end early, the header is judged before.
+/// The header is `TRLB`, the version, the kind (0 motion, 1 change), and the number of instructions in two
+/// bytes, the lower first. The version is 2 if an instruction reads `headspeed`, else 1. An instruction is its
+/// opcode, three fields of a byte, and a number in four bytes, the lowest first; fields that an instruction
+/// does not use are 0. Other bytes are rejected for their first fault, in the order of `CodeFault`; if the
+/// bytes end early, the header is checked first.
 ///
 /// # Errors
 ///
-/// The first fault of the bytes, or that memory ran out.
+/// The first fault of the bytes, or `Memory` if allocation fails.
 pub fn decode(alloc: Global, bytes: &[u8]) -> Result<Code, CodeFault>
     ensures exact { MatchResult result (λ code. bytes.now ≡ spelling code) (IsFirstFault bytes.now) }
     ensures program { IfOk result IsProgram }
 
-    // Each program is found, unless memory ran out.
+    // Each program is found, unless allocation fails.
     ensures found { (program : Program) → IsProgram program → bytes.now ≡ spelling program
         → (result ≡ Ok program) ⊎ (result ≡ Err CodeFault.Memory) }
 
-    // Each fault is told, unless memory ran out.
+    // Each fault is reported, unless allocation fails.
     ensures told { (fault : CodeFault) → IsFirstFault bytes.now fault → fault ≢ CodeFault.Memory
         → (result ≡ Err fault) ⊎ (result ≡ Err CodeFault.Memory) }
 {

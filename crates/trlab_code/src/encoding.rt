@@ -9,7 +9,7 @@ use crate::row;
 use std::alloc::{AllocError, Global};
 use trlab_bounds::programs::{HEADER_BYTES, INSTR_BYTES};
 
-/// The bytes that spell a program: 8 for the header and 8 for each instruction.
+/// Encodes a program: 8 bytes for the header and 8 for each instruction.
 ///
 /// # Errors
 ///

@@ -1,4 +1,4 @@
-//! What is wrong with bytes that spell no program.
+//! Why bytes do not encode a program.
 
 ghost use Rattle.std.specs.Prelude.{◌≡◌};
 ghost use Rattle.trlab_code.specs.declared.fault.CodeFault.TheVariants.{Memory};
@@ -6,11 +6,12 @@ ghost use Rattle.trlab_code.specs.declared.fault.CodeFault.TheVariants.{Memory};
 use std::alloc::AllocError;
 use thiserror::Error;
 
-/// The first fault of bytes that spell no program. Instructions are counted from 0.
+/// The first reason why bytes do not encode a program. Instructions are counted from 0.
 ///
-/// The header is judged from left to right, then the length for its count, then each instruction in
-/// turn, its opcode first, then whether they need version 2, and last what follows them. Fewer than 8
-/// bytes are `Short`. In version 1 there is no `headspeed`: to read it is a field out of range.
+/// The header is checked from left to right, then the length against its number of instructions, then each
+/// instruction in turn, its opcode first, then whether they need version 2, and last the bytes after them.
+/// Fewer than 8 bytes are `Short`. Version 1 has no `headspeed`: an instruction that reads it has a field out
+/// of range.
 #[derive(Clone, Copy, Debug, PartialEq, Eq, Error)]
 pub enum CodeFault {
     #[error("the bytes end too early")]

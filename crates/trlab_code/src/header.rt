@@ -10,7 +10,7 @@ use trlab_bounds::programs::{
     HEADER_BYTES, HEADSPEED_VERSION, INSTR_BYTES, MAGIC, MOST_INSTRUCTIONS, PLAIN_VERSION,
 };
 
-/// What a header says.
+/// The fields of a header.
 #[derive(Clone, Copy)]
 pub(crate) struct Header {
     pub version: u8,
@@ -29,7 +29,7 @@ fn kind_byte(kind: Kind) -> u8
 }
 
 impl Header {
-    /// The header that bytes begin with, where they have room for the instructions that it states.
+    /// Reads the header of bytes that have room for the instructions that it states.
     pub(crate) fn read(bytes: &[u8]) -> Result<Header, CodeFault>
         ensures good { IfOk result (λ h. HasGoodHeader bytes.now) }
         ensures room { IfOk result (λ h. HasRoom bytes.now) }

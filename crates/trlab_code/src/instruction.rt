@@ -29,12 +29,12 @@ impl Register {
     }
 }
 
-/// A number that a car sees. Only programs of kind `Change` see what the other lane is like, and the lane.
+/// A number that a car sees. Only programs of kind `Change` see the other lane, and the number of their own.
 #[derive(Clone, Copy, Debug, PartialEq, Eq)]
 pub enum Input {
-    /// The car's speed before the step, in cells a step.
+    /// The car's speed before the step, in cells per step.
     Speed,
-    /// The greatest speed on this road.
+    /// The maximum speed on this road.
     Limit,
     /// The empty cells ahead on the car's own lane.
     Gap,
@@ -44,7 +44,7 @@ pub enum Input {
     SideBack,
     /// The car's lane, 0 or 1.
     Lane,
-    /// The speed of the next car ahead on the car's own lane, its own where it is alone there.
+    /// The speed of the next car ahead on the car's own lane; its own speed if there is no other.
     Headspeed,
 }
 
@@ -82,7 +82,7 @@ impl Variable {
     }
 }
 
-/// An instruction. The first register of one that writes is where the result goes.
+/// An instruction. If it writes, its first register receives the result.
 ///
 /// Jumps name the index of an instruction; ends are `Go`, `Cross` and `Stay`.
 #[derive(Clone, Copy)]
@@ -91,9 +91,9 @@ pub enum Instr {
     Num(Register, u32),
     /// A number that the car sees.
     Get(Register, Input),
-    /// Whether the cell beside the car is empty.
+    /// Whether the car's side cell is empty.
     Side(Register),
-    /// Whether a chance, in parts of 2^31, happens on a random word, 0 to 15.
+    /// Whether an event of a probability, given times 2^31, happens on a random word, 0 to 15.
     Draw(Register, u8, u32),
     /// A register, number or flag.
     Copy(Register, Register),
@@ -117,13 +117,13 @@ pub enum Instr {
     Or(Register, Register, Register),
     /// A jump.
     Jump(u32),
-    /// A jump where the first register is less than the second.
+    /// A jump if the first register is less than the second.
     JumpLess(Register, Register, u32),
-    /// A jump where the first register is at most the second.
+    /// A jump if the first register is at most the second.
     JumpAtMost(Register, Register, u32),
-    /// A jump where the flag is true.
+    /// A jump if the flag is true.
     JumpTrue(Register, u32),
-    /// A jump where the flag is false.
+    /// A jump if the flag is false.
     JumpFalse(Register, u32),
     /// The end of a motion program: the car's new speed.
     Go(Register),

@@ -1,6 +1,6 @@
 //! The two kinds of driver programs.
 
-/// What a driver program decides.
+/// The two kinds of driver programs, by what they decide.
 #[derive(Clone, Copy, Debug, PartialEq, Eq)]
 pub enum Kind {
     /// The speed of a car, and with it how far the car goes in this step.

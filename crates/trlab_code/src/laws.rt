@@ -15,27 +15,27 @@ pub fn one_spelling()
     ensures { (first second : Program) → spelling first ≡ spelling second → first ≡ second }
 {}
 
-/// The spelling of a program has no fault, unless memory ran out.
+/// The encoding of a program has no fault, unless allocation fails.
 #[tactic(auto, using(crate::proofs::Spelt::no_fault))]
 pub fn no_fault()
     ensures { (program : Program) (fault : CodeFault) → IsProgram program
         → IsFirstFault (spelling program) fault → fault ≡ CodeFault.Memory }
 {}
 
-/// Bytes have one first fault, unless memory ran out.
+/// Bytes have one first fault, unless allocation fails.
 #[tactic(auto, using(crate::proofs::Apart::one_fault))]
 pub fn one_fault()
     ensures { (bytes : List ℕ) (first second : CodeFault) → IsFirstFault bytes first → IsFirstFault bytes second
         → first ≢ CodeFault.Memory → second ≢ CodeFault.Memory → first ≡ second }
 {}
 
-/// Any bytes say just one thing: the program that they spell, or their first fault.
+/// Any bytes have exactly one meaning: the program that they encode, or their first fault.
 pub fn bytes_say_one_thing()
     ensures something { BytesSaySomething }
     ensures one_thing { BytesSayOneThing }
 {}
 
-/// The bytes that spell a program say this program: what is read from what was written is the same.
+/// The bytes that encode a program mean this program: decoding its encoding gives the same program.
 #[tactic(auto, using(crate::proofs::Said::same_again))]
 pub fn spelling_says_the_program()
     ensures { SpellingSaysTheProgram }

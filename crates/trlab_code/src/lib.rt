@@ -1,4 +1,4 @@
-//! Programs of driver rules: their instructions and bytes, and what cars see.
+//! Driver programs: their instructions and bytes, and the views of cars.
 #![tactic(auto)]
 
 mod decoding;

@@ -98,7 +98,7 @@ impl Code {
         &self.instrs
     }
 
-    /// The version of the program's spelling: 2 where it reads `Input::Headspeed`, else 1.
+    /// The version of the program's bytes: 2 if it reads `Input::Headspeed`, else 1.
     pub fn version(&self) -> u8
         ensures { result ≡ version_of self.now }
     {

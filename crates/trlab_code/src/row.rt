@@ -9,7 +9,7 @@ use crate::instruction::{Input, Instr, Register};
 use crate::program::{is_in_range, is_of_version};
 use trlab_bounds::programs::INSTR_BYTES;
 
-/// The opcode of an instruction and its fields, 0 where the instruction has no such field.
+/// The opcode of an instruction and its fields, 0 for those that the instruction does not have.
 #[derive(Clone, Copy, PartialEq)]
 pub(crate) struct Row {
     pub opcode: u8,
@@ -20,7 +20,7 @@ pub(crate) struct Row {
 }
 
 impl Row {
-    /// The row that stands in the bytes from an index on.
+    /// The row in the bytes from an index on.
     pub(crate) fn read(bytes: &[u8], start: usize) -> Row
         requires { start + INSTR_BYTES ≤ length bytes.now }
         ensures { row_bytes result ≡ take INSTR_BYTES (drop start bytes.now) }
@@ -180,7 +180,7 @@ impl PartialEq for Instr {
 
     ghost laws = { Prim.search (comparing, rules) depth 8 };
 
-    /// Instructions are one where their rows are.
+    /// Instructions are equal if their rows are.
     fn eq(&self, other: &Instr) -> bool {
         row_of(*self) == row_of(*other)
     }
@@ -193,7 +193,7 @@ impl Eq for Instr {
     ghost laws = { Prim.search (comparing, rules) depth 8 };
 }
 
-/// The only instruction whose row this can be; any instruction where it is the row of none.
+/// The only instruction that can have this row; any instruction if none has it.
 fn candidate(row: Row) -> Instr
     ensures { (instr : Instr) → row ≡ row_of instr → result ≡ instr }
 {
@@ -234,8 +234,7 @@ fn spells(row: Row, instr: Instr) -> bool
     row_of(instr) == row
 }
 
-/// The instruction of a row in spellings of a version, where the row has its fields in range and is 0 in
-/// what it does not use.
+/// The instruction of a row in bytes of a version, if its fields are in range and the unused ones are 0.
 pub(crate) fn instruction_of(row: Row, version: u8) -> Option<Instr>
     ensures none { IsNone result → (instr : Instr) → row ≡ row_of instr → IsInRange instr
         → ¬ (IsOfVersion version instr) }

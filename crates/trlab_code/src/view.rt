@@ -1,4 +1,4 @@
-//! What a car sees.
+//! The views of cars.
 
 ghost use Rattle.std.specs.Prelude.{◌≡◌, IsNone, IfSome};
 ghost use Rattle.trlab_code.specs.Views.{IsView, motion_view, change_view};
@@ -6,13 +6,14 @@ ghost use Rattle.trlab_code.specs.Views.{IsView, motion_view, change_view};
 use std::marker::Model;
 use trlab_bounds::roads::{GREATEST_GAP, GREATEST_LIMIT};
 
-/// What a car sees: speeds and the limit in cells a step, gaps in cells, and the number of its lane, 0 or 1.
+/// The numbers that a car sees: speeds and the limit in cells per step, gaps in cells, and the number of its
+/// lane, 0 or 1.
 #[derive(Clone, Copy, Debug, PartialEq, Eq)]
 pub struct View {
     pub speed: u32,
     pub limit: u32,
     pub gap: u32,
-    /// Is the cell beside the car empty?
+    /// Is the side cell empty?
     pub side: bool,
     pub sidegap: u32,
     pub sideback: u32,
@@ -20,8 +21,8 @@ pub struct View {
     pub headspeed: u32,
 }
 
-/// What a motion program sees: the speed and the headspeed at most the limit, the limit 1 to 35, the gap at
-/// most 99999.
+/// The view of a motion program: the speed and the headspeed at most the limit, the limit 1 to 35, the gap at
+/// most 99,999.
 #[derive(Clone, Copy, Debug, PartialEq, Eq)]
 pub struct MotionView {
     view: View,
@@ -41,7 +42,7 @@ impl Model for MotionView {
 }
 
 impl MotionView {
-    /// The view of a car, and `None` where a number is out of range. Nothing is seen of the other lane.
+    /// The view of a car, or `None` if a number is out of range. It has nothing of the other lane.
     pub fn new(speed: u32, limit: u32, gap: u32, headspeed: u32) -> Option<MotionView>
         ensures none { IsNone result → ¬ (IsView (motion_view speed limit gap headspeed)) }
         ensures some { IfSome result (λ seen. seen ≡ motion_view speed limit gap headspeed) }
@@ -76,8 +77,8 @@ impl MotionView {
     }
 }
 
-/// What a change program sees: what a `MotionView` has, gaps on the other lane of at most 99999, and the
-/// number of the car's lane, 0 or 1.
+/// The view of a change program: the numbers of a `MotionView`, gaps on the other lane of at most 99,999, and
+/// the number of the car's lane, 0 or 1.
 #[derive(Clone, Copy, Debug, PartialEq, Eq)]
 pub struct ChangeView {
     view: View,
@@ -97,7 +98,7 @@ impl Model for ChangeView {
 }
 
 impl ChangeView {
-    /// The view of a car, and `None` where a number is out of range.
+    /// The view of a car, or `None` if a number is out of range.
     pub fn new(
         speed: u32,
         limit: u32,
@@ -133,7 +134,7 @@ impl ChangeView {
         }
     }
 
-    /// What is seen.
+    /// The numbers of the view.
     pub fn get(self) -> View
         ensures value { result ≡ self }
         ensures in_range { IsView self }

@@ -10,11 +10,11 @@ abbrev pub series_heading : List ℕ
 series_heading = codes
     "step,cars,cells,steps,distance,stopped,changes,flow,cars0,distance0,stopped0,cars1,distance1,stopped1"
 
--- what the columns have of a lane
+-- the numbers of a lane in the columns
 abbrev pub lane_numbers : LaneCount → List ℕ
 lane_numbers lane = lane.cars ∷ lane.distance ∷ lane.stopped ∷ []
 
--- what the columns have of a window: its step, the numbers of its point, and those of the two lanes
+-- the numbers of a window in the columns: its step, the numbers of its point, and those of the two lanes
 abbrev pub window_numbers : Window → List ℕ
 window_numbers window =
     window.step ∷ (numbers window.point ++ (lane_numbers window.lane0 ++ lane_numbers window.lane1))

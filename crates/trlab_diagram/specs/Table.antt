@@ -8,7 +8,7 @@ use Rattle.trlab_diagram.specs.Flow.{flow_of}
 abbrev pub heading : List ℕ
 heading = codes "cars,cells,steps,distance,stopped,changes,flow"
 
--- what the columns have of a point
+-- the numbers of a point in the columns
 abbrev pub numbers : Point → List ℕ
 numbers point =
     point.cars ∷ point.cells ∷ point.steps

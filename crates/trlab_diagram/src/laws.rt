@@ -4,7 +4,7 @@
 
 ghost use Rattle.trlab_diagram.specs.Laws.{TableTellsPoints};
 
-/// A table tells its points: no two lists of points have the same table.
+/// A table determines its points: no two lists of points have the same table.
 pub fn table_tells_points()
     ensures { TableTellsPoints }
 {}

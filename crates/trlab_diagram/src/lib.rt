@@ -1,9 +1,8 @@
-//! The fundamental diagram of road traffic: how many cars pass at each density of cars.
+//! The fundamental diagram of road traffic: flow against density.
 //!
-//! A point of the diagram (`point`) is what was counted on one road over some steps, with the flow that
-//! follows from it. A window of a series (`window`) has a point, and what was counted on each lane. Both are
-//! lines of comma-separated values, in the table of a sweep's points (`table`) and in that of a series
-//! (`series`).
+//! A point of the diagram (`point`) has the counts of one road over some steps, and the flow that follows from
+//! them. A window of a series (`window`) has a point, and the counts of each lane. Both are lines of
+//! comma-separated values, in the table of a sweep's points (`table`) and in that of a series (`series`).
 #![tactic(auto)]
 
 mod fault;

@@ -3,9 +3,9 @@
 ghost use Rattle.std.specs.Prelude.{◌≡◌};
 ghost use Rattle.trlab_diagram.specs.Flow.{IsMeasured, flow_of};
 
-/// A point of the fundamental diagram: what was counted on a road over some steps.
+/// A point of the fundamental diagram: the counts of a road over some steps.
 ///
-/// The density, in cars a cell, is `cars / cells`; `flow` tells the flow.
+/// The density, in cars per cell, is `cars / cells`; `flow` returns the flow.
 #[derive(Clone, Copy, Debug, PartialEq, Eq)]
 pub struct Point {
     /// The cars on the road.
@@ -22,7 +22,7 @@ pub struct Point {
     pub changes: u64,
 }
 
-/// The flow at a point: how many cars pass a cell in a step, in millionths, rounded down.
+/// The flow at a point, in millionths of a car per step, rounded down.
 ///
 /// This is the density times the mean speed, which Greenshields (1935) measured on roads and
 /// Nagel and Schreckenberg (1992) on roads of cells. There must be at least one cell and one step.

@@ -1,4 +1,4 @@
-//! Windows of a series: what was counted on a road over some steps one after another.
+//! Windows of a series: the counts of a road over consecutive steps.
 
 use crate::Point;
 
@@ -13,16 +13,15 @@ pub struct LaneCount {
     pub stopped: u64,
 }
 
-/// A window of a series: what was counted over some steps one after another, on the whole road and on
-/// each lane.
+/// A window of a series: the counts over consecutive steps, on the whole road and on each lane.
 #[derive(Clone, Copy, Debug, PartialEq, Eq)]
 pub struct Window {
     /// The number of the picture after the last of the steps.
     pub step: u64,
-    /// What was counted on the road.
+    /// The counts of the road.
     pub point: Point,
-    /// What was counted on lane 0.
+    /// The counts of lane 0.
     pub lane0: LaneCount,
-    /// What was counted on lane 1, which is nothing where there is no such lane.
+    /// The counts of lane 1, all 0 if there is no such lane.
     pub lane1: LaneCount,
 }

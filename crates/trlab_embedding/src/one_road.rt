@@ -10,13 +10,13 @@ use trlab_words::{Chance, Key};
 
 const STEPS: u32 = 4;
 
-/// The greatest speed of the cars, in cells a step.
+/// The maximum speed of the cars, in cells per step.
 const LIMIT: u32 = 5;
 
 /// Two stopped cars on one lane of ten cells.
 const LANES: [&[u8]; 1] = [b"0.0......."];
 
-/// The run of these cars, who never brake by chance.
+/// A run of these cars, which never brake at random.
 fn new_run(alloc: Global) -> Option<Run>
     ensures { IfSome result (λ run. run.step ≡ 0) }
 {
@@ -48,7 +48,7 @@ fn walk<R: Print>(rt: &R, alloc: Global, run: &mut Run) -> Option<()>
     Some(())
 }
 
-/// Drives the cars, and prints their road at each step. None where memory ran out or nothing can be printed.
+/// Drives the cars, and prints their road at each step. `None` if allocation or printing fails.
 pub fn drive<R: AllocGlobal + Print>(rt: &R) -> Option<()> {
     let alloc = rt.alloc();
     let mut run = new_run(alloc)?;

@@ -24,7 +24,7 @@ const RUNNERS: u32 = 2;
 /// How many threads take each step of a job.
 const WORKERS: u32 = 1;
 
-/// Ten stopped cars, evenly spread on a lane of 100 cells. The random words of a job go by its number.
+/// Ten stopped cars, evenly spaced on a lane of 100 cells. The random words of a job depend on its number.
 fn seed_of(alloc: Global, number: u32) -> Option<Seed> {
     Some(Seed {
         road: Road::even(alloc, 1, 100, 5, 10).ok()?,
@@ -34,7 +34,7 @@ fn seed_of(alloc: Global, number: u32) -> Option<Seed> {
     })
 }
 
-/// Submits a job whose cars brake with a chance of a quarter.
+/// Submits a job whose cars brake with probability 1/4.
 fn submit<L: Ledger, R: Wait>(
     rt: &R,
     alloc: Global,
@@ -73,8 +73,8 @@ fn tell<L: Ledger, R: Wait + Print>(
     println!(rt; "job {job}: {step} steps, {distance} cells").ok()
 }
 
-/// Submits jobs to a new book, has the runners take them, and prints what came of each. None where memory ran out or
-/// nothing can be printed.
+/// Submits jobs to a new book, lets the runners take them, and prints the result of each. `None` if allocation
+/// or printing fails.
 pub fn share<L: Ledger + Send + Sync, R: AllocGlobal + Threads + Wait + Sync + Print>(
     rt: &R,
     blank: Blank<Event>,

@@ -1,4 +1,4 @@
--- Notes: what the verifier knows of the values before an instruction, whichever way a run came there.
+-- Notes: the verifier's knowledge of the values before an instruction, on every path that leads there.
 use Rattle.std.specs.Prelude.{ℕ, ◌||◌, max, Bool, true, false, Option, Some, None, nat_eq, nat_lt, nat_le, if◌then◌else◌}
 use Rattle.trlab_code.specs.declared.kind.Kind.{Kind}
 use Rattle.trlab_code.specs.declared.instruction.Input.{Input}
@@ -10,8 +10,8 @@ use Rattle.trlab_code.specs.Machine.{variable_number, allows_input}
 use Rattle.trlab_notes.specs.declared.note.Said.{Said}
 use Rattle.trlab_notes.specs.declared.note.Said.TheVariants.{Nothing, Between, Implies}
 
--- An abstract state: what is said of each variable, the level of each to each, and whether the side cell is
--- known to be empty. Level 0 says nothing, 1 that one is at most the other, 2 that it is below.
+-- An abstract state: the abstract value of each variable, the level of each to each, and whether the side cell
+-- is known to be empty. Level 0 means nothing, 1 that one is at most the other, 2 that it is below.
 pub record Note : Type 0 where
   pub said : Variable → Said
   pub level : Variable → Variable → ℕ
@@ -21,13 +21,13 @@ pub record Note : Type 0 where
 abbrev pub same_variable : Variable → Variable → Bool
 same_variable x y = nat_eq (variable_number x) (variable_number y)
 
--- what is said of a variable; where the side cell is known to be empty, each flag implies that it is
+-- an abstract value; if the side cell is known to be empty, each flag implies that it is
 abbrev pub with_side : Bool → Said → Said
 with_side side Nothing = Nothing
 with_side side (Between lo hi) = Between lo hi
 with_side side (Implies imp) = Implies (imp || side)
 
--- what a note says of a variable, the side cell considered
+-- the abstract value of a variable in a note, the side cell considered
 unfoldable pub said_with_side : Note → Variable → Said
 said_with_side note x = with_side note.side (note.said x)
 
@@ -56,7 +56,7 @@ level_between (Between lx hx) (Between ly hy) true level = 1
 level_between (Between lx hx) (Between ly hy) false level = max level (range_level hx ly)
 level_between _ _ same level = 0
 
--- the known level of one variable to another; 0 where one of them holds no number
+-- the known level of one variable to another; 0 if one of them is not a number
 unfoldable pub known_level : Note → Variable → Variable → ℕ
 known_level note x y = level_between (note.said x) (note.said y) (same_variable x y) (note.level x y)
 
@@ -69,7 +69,7 @@ abbrev pub maybe_closure : Option Note → Option Note
 maybe_closure None = None
 maybe_closure (Some note) = Some (closure note)
 
--- the range of what a car sees by an input
+-- the range of an input
 abbrev pub input_range : Input → Said
 input_range Speed = Between 0 GREATEST_LIMIT
 input_range Limit = Between 1 GREATEST_LIMIT
@@ -79,7 +79,8 @@ input_range SideBack = Between 0 GREATEST_GAP
 input_range Lane = Between 0 1
 input_range Headspeed = Between 0 GREATEST_LIMIT
 
--- what is said of a variable at the start: no register is set, and the inputs of the kind have their ranges
+-- the abstract value of a variable at the start: no register is set, and the inputs of the kind have their
+-- ranges
 abbrev pub entry_said : Kind → Variable → Said
 entry_said kind (variable.Register r) = Nothing
 entry_said kind (variable.Input k) = if allows_input kind k then input_range k else Nothing

@@ -1,11 +1,11 @@
--- The order of notes, by what they say, and the join of two.
+-- The order of notes by strength, and the join of two notes.
 use Rattle.std.specs.Prelude.{◌≤◌, ◌&&◌, min, max, IsTrue, Option, Some, None}
 use Rattle.trlab_code.specs.declared.instruction.Variable.{Variable}
 use Rattle.trlab_notes.specs.declared.note.Said.{Said}
 use Rattle.trlab_notes.specs.declared.note.Said.TheVariants.{Nothing, Between, Implies}
 use Rattle.trlab_notes.specs.Notes.{Note, said_with_side, known_level}
 
--- no more is said of a variable than elsewhere: a range contains the other, and a flag implies no more
+-- one abstract value is no stronger than another: a range contains the other, and a flag implies no more
 abbrev pub SaysNoMore : Said → Said → Type 0
 SaysNoMore Nothing t = Unit {0}
 SaysNoMore (Between lo hi) (Between least most) = (lo ≤ least) × (most ≤ hi)
@@ -18,19 +18,19 @@ pub record IsNoStronger (m n : Note) : Type 0 where
   pub order : (x y : Variable) → known_level m x y ≤ known_level n x y
   pub beside : IsTrue m.side → IsTrue n.side
 
--- what is sent on one way is no stronger than what is sent on another; either both send a note, or none
+-- the note on one path is no stronger than that on another; either both have a note, or neither has
 abbrev pub AreNoStronger : Option Note → Option Note → Type 0
 AreNoStronger None None = Unit {0}
 AreNoStronger (Some m) (Some n) = IsNoStronger m n
 AreNoStronger _ _ = ⊥
 
--- what two notes agree on of one variable
+-- the common knowledge of two abstract values
 abbrev pub join_said : Said → Said → Said
 join_said (Between a b) (Between c d) = Between (min a c) (max b d)
 join_said (Implies p) (Implies q) = Implies (p && q)
 join_said _ _ = Nothing
 
--- the join of two notes: what they agree on of all variables
+-- the join of two notes: their common knowledge of all variables
 unfoldable pub join : Note → Note → Note
 join m n = record {
   said = λ x. join_said (said_with_side m x) (said_with_side n x);

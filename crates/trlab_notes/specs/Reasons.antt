@@ -20,7 +20,7 @@ use Rattle.trlab_notes.specs.declared.reason.Reason.TheVariants as why
 use Rattle.trlab_notes.specs.Notes.{Note, known_level}
 use Rattle.trlab_notes.specs.Transfer.{register_said, most, register_level}
 
--- the number of a reason that lies in the number or the answer that an instruction makes
+-- the number of a reason that is about the result or the answer of an instruction
 abbrev pub range_reason_number : Reason → ℕ
 range_reason_number why.MaybeTooLarge = 8
 range_reason_number why.MaybeBelowZero = 9
@@ -44,7 +44,7 @@ reason_number reason = range_reason_number reason
 abbrev pub is_of_kind : Kind → Kind → Instr → Bool
 is_of_kind kind own i = allows kind i && allows own i
 
--- the registers that an instruction reads, by what each has to hold
+-- the registers that an instruction reads, by the kind of value that each must hold
 abbrev pub operands_of : Instr → Operands
 operands_of (Copy d a) = read.Value a
 operands_of (Add d a b) = read.Numbers a b
@@ -95,7 +95,7 @@ abbrev pub is_flag : Said → Bool
 is_flag (Implies imp) = true
 is_flag _ = false
 
--- what is said of one of the registers passes a test
+-- the abstract value of one of the registers passes a test
 abbrev pub among : (Said → Bool) → Note → List Register → Bool
 among test m registers = list_any (λ a. test (register_said m a)) registers
 
@@ -105,7 +105,7 @@ some_unset m i =
     among is_nothing m (numbers_of (operands_of i))
     || (among is_nothing m (flags_of (operands_of i)) || among is_nothing m (values_of (operands_of i)))
 
--- a flag stands where a number has to be, or a number where a flag has to be
+-- an operand is a flag instead of a number, or a number instead of a flag
 abbrev pub some_of_other_kind : Note → Instr → Bool
 some_of_other_kind m i =
     among is_flag m (numbers_of (operands_of i)) || among is_range m (flags_of (operands_of i))
@@ -135,7 +135,7 @@ abbrev pub may_be_above : Input → Note → Instr → Bool
 may_be_above k m (Go a) = nat_eq (known_level m (variable.Register a) (variable.Input k)) 0
 may_be_above k m _ = false
 
--- a `cross` where the side cell is not known to be empty
+-- a `cross` although the side cell is not known to be empty
 abbrev pub may_be_occupied : Note → Instr → Bool
 may_be_occupied m Cross = not m.side
 may_be_occupied m _ = false
@@ -145,7 +145,7 @@ pub record Check : Type 0 where
   pub reason : Reason
   pub holds : Bool
 
--- reasons 2 to 7: what the instruction at pc of len ones is, reads and leads to
+-- reasons 2 to 7: the form, the operands and the jump of the instruction at pc, one of len
 abbrev pub form_checks : Kind → Kind → ℕ → ℕ → Note → Instr → List Check
 form_checks kind own len pc m i =
     record { reason = why.WrongProgram; holds = not (is_of_kind kind own i) }
@@ -171,6 +171,6 @@ abbrev pub first_reason : List Check → Option Reason
 first_reason [] = None
 first_reason (check ∷ checks) = if check.holds then Some check.reason else first_reason checks
 
--- the least reason from the second on to refuse the instruction, if there is one
+-- the first reason from the second on to reject the instruction, if there is one
 abbrev pub reason_against : Kind → Kind → ℕ → ℕ → Note → Instr → Option Reason
 reason_against kind own len pc m i = first_reason (form_checks kind own len pc m i ++ range_checks m i)

@@ -1,4 +1,4 @@
--- Arrays in the order of the variables' numbers: what is said of each, and levels as numbers and as bits.
+-- Arrays in the order of the variables' numbers: their abstract values, and levels as numbers and as bits.
 use Rattle.std.specs.Prelude.{◌≡◌, ℕ, ◌*◌, ◌<◌, ◌≤◌, max, List, [], nat_eq, slice_index, slice_index_or}
 use Rattle.std.specs.Int.{bit_at}
 use Rattle.trlab_bounds.specs.declared.programs.TheConstants.{VARIABLES}
@@ -13,7 +13,7 @@ use Rattle.trlab_notes.specs.Notes.{level_between}
 abbrev pub level_in : Row → ℕ → ℕ
 level_in row y = max (bit_at row.at_most y) (2 * bit_at row.below y)
 
--- the level of x to y, where each variable has a row
+-- the level of x to y, if each variable has a row
 abbrev pub level_of : List Row → ℕ → ℕ → ℕ
 level_of rows x y = level_in (slice_index_or rows x (record { at_most = 0; below = 0 })) y
 
@@ -21,7 +21,7 @@ level_of rows x y = level_in (slice_index_or rows x (record { at_most = 0; below
 abbrev pub level_at : List (List ℕ) → ℕ → ℕ → ℕ
 level_at levels x y = slice_index (slice_index_or levels x []) y
 
--- what an array says of a variable
+-- the abstract value of a variable in an array
 abbrev pub said_in : List Said → Variable → Said
 said_in said x = slice_index_or said (variable_number x) Nothing
 
@@ -29,7 +29,7 @@ said_in said x = slice_index_or said (variable_number x) Nothing
 abbrev pub levels_in : List (List ℕ) → Variable → Variable → ℕ
 levels_in levels x y = level_at levels (variable_number x) (variable_number y)
 
--- the known level of the variables x and y of which this is said, where they have this level
+-- the known level of the variables x and y with these abstract values, if they have this level
 abbrev pub known_with : List Said → ℕ → ℕ → ℕ → ℕ
 known_with said x y level =
     level_between (slice_index_or said x Nothing) (slice_index_or said y Nothing) (nat_eq x y) level
@@ -39,7 +39,7 @@ abbrev pub AreLevels : List Said → List (List ℕ) → Type 0
 AreLevels said levels = (x y : ℕ) → x < VARIABLES → y < VARIABLES →
     known_with said x y (level_at levels x y) ≤ 2
 
--- the rows tell all that the ranges tell of the order, and nothing of a variable that holds no number
+-- the rows contain all that the ranges say about the order, and nothing about a variable that is not a number
 abbrev pub TellsRanges : List Said → List Row → Type 0
 TellsRanges said rows = (x y : ℕ) → x < VARIABLES → y < VARIABLES →
     known_with said x y (level_of rows x y) ≡ level_of rows x y

@@ -1,4 +1,4 @@
--- What an instruction makes of the note before it, on each way that leads on: its abstract semantics.
+-- The abstract semantics of an instruction: the note after it on each path, by the note before it.
 use Rattle.std.specs.Prelude.{ℕ, zero, suc, ◌+◌, ◌-◌, ◌*◌, ◌/◌, ◌&&◌, ◌||◌, min, max, Bool, true, false, Option, Some, None, nat_le, if◌then◌else◌}
 use Rattle.trlab_code.specs.declared.instruction.Register.{Register}
 use Rattle.trlab_code.specs.declared.instruction.Variable.{Variable}
@@ -12,15 +12,15 @@ use Rattle.trlab_notes.specs.declared.note.Said.{Said}
 use Rattle.trlab_notes.specs.declared.note.Said.TheVariants.{Nothing, Between, Implies}
 use Rattle.trlab_notes.specs.Notes.{Note, same_variable, said_with_side, low, high, implies, known_level}
 
--- what is said of a register
+-- the abstract value of a register
 abbrev pub register_said : Note → Register → Said
 register_said m a = m.said (variable.Register a)
 
--- the least number that a register can hold
+-- the smallest number that a register can hold
 abbrev pub least : Note → Register → ℕ
 least m a = low (register_said m a)
 
--- the greatest number that a register can hold
+-- the largest number that a register can hold
 abbrev pub most : Note → Register → ℕ
 most m a = high (register_said m a)
 
@@ -40,21 +40,21 @@ register_to m a y = known_level m (variable.Register a) y
 abbrev pub to_register : Note → Variable → Register → ℕ
 to_register m y a = known_level m y (variable.Register a)
 
--- the level once a number of at least lo is added on the greater side, or taken from the smaller one
+-- the level after a number of at least lo is added to the larger side, or taken from the smaller one
 abbrev pub sharpen : ℕ → ℕ → ℕ
 sharpen zero lo = 0
 sharpen (suc k) zero = suc k
 sharpen (suc k) (suc lo) = max (suc k) 2
 
--- the level once a number of at most hi is added on the smaller side: 1 where it was 2 and hi is at most 1
+-- the level after a number of at most hi is added to the smaller side: 1 if it was 2 and hi is at most 1
 abbrev pub slacken : ℕ → ℕ → ℕ
 slacken k hi = if nat_le 2 k && nat_le hi 1 then 1 else 0
 
--- the least difference: 1 where the number that is taken away is below the other one (k is 2)
+-- the smallest difference: 1 if the number that is taken away is below the other one (k is 2)
 abbrev pub least_difference : ℕ → ℕ
 least_difference k = if nat_le 2 k then 1 else 0
 
--- what is said of an instruction's result, and nothing where it has none
+-- the abstract value of an instruction's result; nothing if it has none
 abbrev pub result_said : Note → Instr → Said
 result_said m (Num d n) = Between n n
 result_said m (Get d k) = said_with_side m (variable.Input k)
@@ -102,7 +102,7 @@ to_result m (Min d a b) y = min (to_register m y a) (to_register m y b)
 to_result m (Max d a b) y = max (to_register m y a) (to_register m y b)
 to_result m _ y = 0
 
--- the note once d has another value: what is now said of d, its levels to the others, theirs to it
+-- the note after d gets another value: its abstract value, its levels to the others, theirs to it
 unfoldable pub assign : Note → Register → Said → (Variable → ℕ) → (Variable → ℕ) → Note
 assign note d said to from = record {
   said = update note.said (variable.Register d) said;
@@ -116,19 +116,19 @@ assign note d said to from = record {
 abbrev pub assign_result : Note → Register → Instr → Note
 assign_result m d i = assign m d (result_said m i) (result_to m i) (to_result m i)
 
--- the level of x to y where x has level i to p, p has level k to q, and q has level j to y
+-- the level of x to y if x has level i to p, p has level k to q, and q has level j to y
 abbrev pub chain : ℕ → ℕ → ℕ → ℕ
 chain zero k j = 0
 chain (suc i) k zero = 0
 chain (suc i) k (suc j) = max (suc i) (max k (suc j))
 
--- the note once p is known to be at most q (k is 1) or below q (k is 2), with what follows for all variables
+-- the note if p is known to be at most q (k is 1) or below q (k is 2), with the consequences for all variables
 unfoldable pub refine_order : Note → Variable → Variable → ℕ → Note
 refine_order note p q k = record note {
   level = λ x y. max (note.level x y) (chain (known_level note x p) k (known_level note q y));
 }
 
--- the note once the flag in a is known to be true: where it implies that the side cell is empty, the cell is
+-- the note if the flag in a is known to be true: if it implies that the side cell is empty, the cell is
 unfoldable pub refine_flag : Note → Register → Note
 refine_flag note a = record note { side = note.side || implies (register_said note a) }
 

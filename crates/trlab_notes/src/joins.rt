@@ -1,4 +1,4 @@
-//! Joins: what two notes agree on, where two ways meet.
+//! Joins: the common knowledge of two notes, for places where two paths meet.
 
 ghost use Rattle.std.specs.Prelude.{◌≡◌, ℕ, ◌<◌, slice_index_or};
 ghost use Rattle.trlab_notes.specs.declared.note.Said.TheVariants.{Nothing};
@@ -11,7 +11,7 @@ use crate::rows::join_rows;
 use crate::stored::Stored;
 use trlab_code::VARIABLES;
 
-/// What both say of a value.
+/// The common knowledge of two abstract values.
 fn join_said(a: Said, b: Said) -> Said
     ensures { result ≡ join_said a b }
 {
@@ -24,7 +24,7 @@ fn join_said(a: Said, b: Said) -> Said
     }
 }
 
-/// What both notes say of each variable.
+/// The common knowledge of two notes about each variable.
 fn join_variables(a: &Stored, b: &Stored) -> [Said; VARIABLES]
     ensures { (x : ℕ) → x < VARIABLES → slice_index_or result x Nothing ≡ join_said
         (with_side a.now.side (slice_index_or a.now.said x Nothing))
@@ -49,7 +49,7 @@ pub fn join(a: &Stored, b: &Stored) -> Stored
     }
 }
 
-/// The join of a note with itself: all that it says of each variable.
+/// The join of a note with itself: all that it knows of each variable.
 pub fn join_itself(note: &Stored) -> Stored
     ensures { note_of result ≡ join (note_of note.now) (note_of note.now) }
 {

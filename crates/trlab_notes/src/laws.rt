@@ -1,6 +1,6 @@
-//! Laws of notes: their order, their join, and what instructions make of them.
+//! Laws of notes: their order, their join, and the transfer of instructions.
 //!
-//! Each law is the contract of a function with nothing to do.
+//! Each law is the contract of a function with an empty body.
 
 ghost use Rattle.std.specs.Prelude.{◌≡◌, ℕ, None};
 ghost use Rattle.trlab_code.specs.declared.instruction.Instr.{Instr};
@@ -23,8 +23,8 @@ pub fn join_is_strongest()
     ensures most { (l m n : Note) → IsNoStronger l m → IsNoStronger l n → IsNoStronger l (join m n) }
 {}
 
-/// Where there is no reason to refuse an instruction with one note, there is none with a note that
-/// says at least as much, and it sends on at least as much.
+/// If there is no reason to reject an instruction with one note, there is none with a stronger note, and the
+/// notes after it are at least as strong.
 pub fn notes_are_monotone()
     ensures clear { (kind own : AKind) (len pc : ℕ) (m n : Note) (i : Instr) → IsNoStronger m n →
         reason_against kind own len pc m i ≡ None → reason_against kind own len pc n i ≡ None }

@@ -1,4 +1,4 @@
-//! What stored notes say of variables and of their order, and how notes are stored first.
+//! The values and the order of variables in stored notes, and how a note is stored first.
 
 ghost use Rattle.std.specs.Prelude.{◌≡◌, ℕ, ◌<◌, ◌≤◌, slice_index, slice_index_or};
 ghost use Rattle.trlab_code.specs.declared.instruction.Variable.{Variable as AVariable};
@@ -13,7 +13,7 @@ use crate::rows::{Row, columns};
 use crate::stored::Stored;
 use trlab_code::{Kind, VARIABLES, Variable};
 
-/// The known levels of the variable x to each, where x has these levels.
+/// The known levels of the variable x to each, if x has these levels.
 fn known_row(said: &[Said; VARIABLES], x: usize, levels: &[u8; VARIABLES]) -> Row
     requires inside { x < VARIABLES }
     requires small { (y : ℕ) → y < VARIABLES → known_with said.now x y (slice_index levels.now y) ≤ 2 }
@@ -26,7 +26,7 @@ fn known_row(said: &[Said; VARIABLES], x: usize, levels: &[u8; VARIABLES]) -> Ro
     row
 }
 
-/// The known levels of each variable to each, where they have these levels.
+/// The known levels of each variable to each, if they have these levels.
 fn known_rows(said: &[Said; VARIABLES], levels: &[[u8; VARIABLES]; VARIABLES]) -> [Row; VARIABLES]
     requires { AreLevels said.now levels.now }
     ensures { (x y : ℕ) → x < VARIABLES → y < VARIABLES →
@@ -39,7 +39,7 @@ fn known_rows(said: &[Said; VARIABLES], levels: &[[u8; VARIABLES]; VARIABLES]) -
     rows
 }
 
-/// What is said of a variable, where the side cell is known to be empty or not.
+/// The abstract value of a variable, by whether the side cell is known to be empty.
 fn with_side(side: bool, said: Said) -> Said
     ensures { result ≡ with_side side said }
 {
@@ -50,7 +50,7 @@ fn with_side(side: bool, said: Said) -> Said
 }
 
 impl Stored {
-    /// The note that says this of the variables, and that they have these levels.
+    /// The note with these abstract values and these levels.
     pub fn new(said: [Said; VARIABLES], levels: &[[u8; VARIABLES]; VARIABLES], side: bool) -> Stored
         requires { AreLevels said levels.now }
         ensures { note_of result ≡ closure (record {
@@ -75,7 +75,7 @@ impl Stored {
         Stored::new(entry_said(kind), &entry_levels(), false)
     }
 
-    /// What is said of the variable with this number, the side cell considered.
+    /// The abstract value of the variable with this number, the side cell considered.
     pub(crate) fn said_at(&self, x: usize) -> Said
         requires { x < VARIABLES }
         ensures { result ≡ with_side self.now.side (slice_index_or self.now.said x Nothing) }
@@ -83,7 +83,7 @@ impl Stored {
         with_side(self.side, self.said[x])
     }
 
-    /// What is said of a variable, the side cell considered.
+    /// The abstract value of a variable, the side cell considered.
     #[tactic(auto, unfolding(crate::specs::Notes::said_with_side))]
     pub(crate) fn said_with_side(&self, variable: Variable) -> Said
         ensures { result ≡ said_with_side (note_of self.now) variable }

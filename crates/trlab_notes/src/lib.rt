@@ -1,7 +1,7 @@
 //! The verifier's notes: an abstract interpretation of driver programs (Cousot and Cousot 1977), one
-//! instruction at a time. A note says what is known of the values before an instruction; here are the order
-//! of notes and their joins, what each instruction makes of a note, and the reasons to refuse it.
-//! docs/PROGRAMS.md says all this in words.
+//! instruction at a time. A note is the knowledge of the values before an instruction; here are the order of
+//! notes and their joins, the transfer of each instruction, and the reasons to reject it. docs/PROGRAMS.md
+//! explains all this in words.
 #![tactic(auto)]
 
 mod joins;

@@ -1,4 +1,4 @@
-//! What is said of one variable, and how two of them are ordered: the abstract values.
+//! Abstract values: the knowledge of one variable, and the order of two.
 
 ghost use Rattle.std.specs.Prelude.{◌≡◌};
 ghost use Rattle.trlab_code.specs.declared.instruction.Variable.{Variable as AVariable};
@@ -13,19 +13,19 @@ pub const AT_MOST: u8 = 1;
 /// The level of a variable that is known to be below another.
 pub const BELOW: u8 = 2;
 
-/// What is said of a value.
+/// An abstract value.
 #[derive(Clone, Copy)]
 pub enum Said {
     /// Nothing: it may be unset, or a number on one way and a flag on another.
     Nothing,
     /// It is a number from the first to the second, both included.
     Between(u32, u32),
-    /// It is a flag. `true`: where the flag is true, the side cell is empty.
+    /// It is a flag. `true`: if the flag is true, the side cell is empty.
     Implies(bool),
 }
 
 impl Said {
-    /// The least number of a range.
+    /// The smallest number of a range.
     pub(crate) fn low(self) -> u32
         ensures { result ≡ low self }
     {
@@ -35,7 +35,7 @@ impl Said {
         }
     }
 
-    /// The greatest number of a range.
+    /// The largest number of a range.
     pub(crate) fn high(self) -> u32
         ensures { result ≡ high self }
     {
@@ -69,7 +69,7 @@ fn range_level(high: u32, low: u32) -> u8
     }
 }
 
-/// The known level of one variable to another of which this is said, where they have a level.
+/// The known level of one variable to another with these abstract values, if they have a level.
 pub fn level_between(s: Said, t: Said, is_same: bool, level: u8) -> u8
     ensures { result ≡ level_between s t is_same level }
 {
@@ -80,7 +80,7 @@ pub fn level_between(s: Said, t: Said, is_same: bool, level: u8) -> u8
     }
 }
 
-/// What is said of the variables at the start of a program, in the order of their numbers.
+/// The abstract values of the variables at the start of a program, in the order of their numbers.
 pub fn entry_said(kind: Kind) -> [Said; VARIABLES]
     ensures { (x : AVariable) → said_in result x ≡ entry_said kind x }
 {

@@ -1,4 +1,4 @@
-//! The registers that an instruction reads, by what each has to hold.
+//! The registers that an instruction reads, by the kind of value that each must hold.
 
 ghost use Rattle.std.specs.Prelude.{◌≡◌};
 

@@ -11,7 +11,7 @@ pub enum Reason {
     WrongProgram,
     /// 3: an operand may be unset.
     MaybeUnset,
-    /// 4: an operand is a flag where a number has to be, or a number where a flag has to be.
+    /// 4: an operand is a flag instead of a number, or a number instead of a flag.
     WrongValue,
     /// 5: it jumps, and not forward.
     JumpsBack,
@@ -43,7 +43,7 @@ impl Reason {
         self as u32
     }
 
-    /// The reason with a number, where that is 1 to 12.
+    /// The reason with a number from 1 to 12.
     pub fn from_number(number: u32) -> Option<Reason>
         ensures { MatchOption result (¬ ((1 ≤ number) × (number ≤ 12)))
             (λ reason. reason_number reason ≡ number) }

@@ -75,7 +75,7 @@ fn has_unset(note: &Stored, instr: Instr) -> bool
     }
 }
 
-/// Whether an operand is a flag where a number has to be, or a number where a flag has to be.
+/// Whether an operand is a flag instead of a number, or a number instead of a flag.
 fn has_other_kind(note: &Stored, instr: Instr) -> bool
     ensures { result ≡ some_of_other_kind (note_of note.now) instr }
 {
@@ -131,7 +131,7 @@ fn may_be_occupied(note: &Stored, instr: Instr) -> bool
     matches!(instr, Instr::Cross) && !note.side
 }
 
-/// Whether a jump does not lead forward from `pc`.
+/// Whether a jump does not go forward from `pc`.
 fn jumps_back(pc: usize, instr: Instr) -> bool
     ensures { result ≡ on_target (λ t. nat_le t pc) (target instr) }
 {
@@ -141,7 +141,7 @@ fn jumps_back(pc: usize, instr: Instr) -> bool
     }
 }
 
-/// Whether a jump leads past the last of `len` instructions.
+/// Whether a jump goes past the last of `len` instructions.
 fn jumps_out(len: usize, instr: Instr) -> bool
     ensures { result ≡ on_target (λ t. nat_le len t) (target instr) }
 {
@@ -159,7 +159,7 @@ fn falls_out(len: usize, pc: usize, instr: Instr) -> bool
     instr.falls() && len <= pc + 1
 }
 
-/// The least of the reasons 8 to 12: the number or the answer that the instruction makes.
+/// The first of the reasons 8 to 12, which are about the result or the answer of the instruction.
 fn range_reason(note: &Stored, instr: Instr) -> Option<Reason>
     ensures { result ≡ first_reason (range_checks (note_of note.now) instr) }
 {
@@ -178,7 +178,7 @@ fn range_reason(note: &Stored, instr: Instr) -> Option<Reason>
     }
 }
 
-/// The least reason from the second on to refuse the instruction at `pc` in a program of `len` instructions.
+/// The first reason from the second on to reject the instruction at `pc` in a program of `len` instructions.
 pub fn reason_against(
     kind: Kind,
     own: Kind,

@@ -1,4 +1,4 @@
-//! What a jump's test teaches on each of its two ways: the refinement of a note by a condition.
+//! The refinement of a note by a jump's condition, on each of its two paths.
 
 ghost use Rattle.std.specs.Prelude.{◌≡◌, ◌≤◌};
 ghost use Rattle.trlab_notes.specs.Notes.{closure};

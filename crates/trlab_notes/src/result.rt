@@ -1,4 +1,4 @@
-//! What an instruction writes: what is said of its result, and the order of the result and the variables.
+//! The result of an instruction: its abstract value, and its order with the variables.
 
 ghost use Rattle.std.specs.Prelude.{◌≡◌, ℕ, ◌+◌, ◌-◌, ◌*◌, ◌/◌, ◌<◌, ◌≤◌, min, max, false};
 ghost use Rattle.trlab_bounds.specs.declared.programs.TheConstants.{GREATEST_NUMBER};
@@ -65,14 +65,14 @@ fn greater(p: Said, q: Said) -> Said
     Said::Between(p.low().max(q.low()), p.high().max(q.high()))
 }
 
-/// The least difference where the second number has this level to the first.
+/// The smallest difference if the second number has this level to the first.
 fn least_difference(level: u8) -> u32
     ensures { result ≡ least_difference level }
 {
     if level >= BELOW { 1 } else { 0 }
 }
 
-/// The known levels of a variable to each and of each to it, where they have these levels.
+/// The known levels of a variable to each and of each to it, if they have these levels.
 fn known_ways(said: &[Said; VARIABLES], variable: usize, to: Row, from: Row) -> (Row, Row)
     requires { variable < VARIABLES }
     ensures to { (y : ℕ) → y < VARIABLES → level_in result.0 y ≡ known_with said.now variable y (level_in to y) }
@@ -93,7 +93,7 @@ fn known_ways(said: &[Said; VARIABLES], variable: usize, to: Row, from: Row) -> 
 }
 
 impl Stored {
-    /// What is said of a register.
+    /// The abstract value of a register.
     pub(crate) fn register_said(&self, register: Register) -> Said
         ensures { result ≡ register_said (note_of self.now) register }
     {
@@ -114,7 +114,7 @@ impl Stored {
         self.known_level(Variable::Register(from), Variable::Register(to))
     }
 
-    /// What is said of an instruction's result.
+    /// The abstract value of an instruction's result.
     fn result_said(&self, instr: Instr) -> Said
         requires in_range { IsInRange instr }
         requires fits { may_be_too_large (note_of self.now) instr ≡ false }

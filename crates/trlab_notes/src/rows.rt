@@ -116,14 +116,14 @@ impl Row {
         }
     }
 
-    /// The levels once a number of at least `low` is added on the greater side.
+    /// The levels after a number of at least `low` is added to the larger side.
     pub fn sharpen(self, low: u32) -> Row
         ensures { (y : ℕ) → level_in result y ≡ sharpen (level_in self y) low }
     {
         if low == 0 { self } else { self.strict() }
     }
 
-    /// The levels of a sum, where one number has this row and the other is at most `high`.
+    /// The levels of a sum, if one number has this row and the other is at most `high`.
     pub fn slacken(self, high: u32) -> Row
         ensures { (y : ℕ) → level_in result y ≡ slacken (level_in self y) high }
     {

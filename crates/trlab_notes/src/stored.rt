@@ -7,7 +7,7 @@ use crate::note::Said;
 use crate::rows::Row;
 use trlab_code::VARIABLES;
 
-/// A note: what is said of each variable, and all that is known of their order.
+/// A note: the abstract value of each variable, and all that is known of their order.
 #[derive(Clone, Copy)]
 pub struct Stored {
     pub said: [Said; VARIABLES],

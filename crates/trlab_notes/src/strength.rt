@@ -1,4 +1,4 @@
-//! The order of notes: whether one says no more than another.
+//! The order of notes: whether one is no stronger than another.
 
 ghost use Rattle.std.specs.Prelude.{◌↔◌, ℕ, ◌<◌, ◌≤◌, IsTrue, slice_index_or};
 ghost use Rattle.trlab_notes.specs.declared.note.Said.TheVariants.{Nothing};

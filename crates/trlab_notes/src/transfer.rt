@@ -1,5 +1,5 @@
-//! The transfer functions: what an instruction makes of a note, on the way to the next instruction and on
-//! that to a jump's target.
+//! The transfer functions: the note after an instruction, on the path to the next instruction and on that to a
+//! jump's target.
 
 ghost use Rattle.std.specs.Prelude.{◌≡◌, false};
 ghost use Rattle.trlab_code.specs.Program.{IsInRange};

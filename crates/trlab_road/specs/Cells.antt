@@ -15,7 +15,7 @@ pub record Cells : Type 0 where
   pub limit : ℕ
   pub lanes : List Lane
 
--- what a lane has at a place
+-- the cell of a lane at a place
 abbrev pub at : Lane → ℕ → Cell
 at lane x = slice_index_or lane x None
 
@@ -23,7 +23,7 @@ at lane x = slice_index_or lane x None
 abbrev pub lane_of : Cells → ℕ → Lane
 lane_of road l = slice_index_or road.lanes l []
 
--- what the road has at a lane and a place
+-- the cell of the road at a lane and a place
 abbrev pub cell : Cells → ℕ → ℕ → Cell
 cell road l x = at (lane_of road l) x
 
@@ -31,7 +31,7 @@ cell road l x = at (lane_of road l) x
 abbrev pub lane_cars : Lane → ℕ
 lane_cars lane = count_by is_some lane
 
--- how many cars of a lane stand before a place
+-- the number of cars of a lane before a place
 abbrev pub cars_before : Lane → ℕ → ℕ
 cars_before lane x = lane_cars (take x lane)
 
@@ -39,7 +39,7 @@ cars_before lane x = lane_cars (take x lane)
 abbrev pub cars : Cells → ℕ
 cars road = sum_by lane_cars road.lanes
 
--- a car stands in the cell of its lane and its place, which has its number and its speed
+-- the cell at a car's lane and place holds a car with its number and its speed
 abbrev pub IsAt : Cells → Car → Type 0
 IsAt road car = cell road car.lane car.place ≡ Some (car.number, car.speed)
 

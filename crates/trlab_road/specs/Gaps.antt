@@ -1,4 +1,4 @@
--- What is ahead, beside and behind on a lane, which is a ring: gaps, runs of empty cells, and the next car.
+-- Gaps on a lane, which is a ring: the empty cells ahead and behind, the side cell, and the next car.
 use Rattle.std.specs.Prelude.{ℕ, zero, suc, ◌+◌, ◌-◌, ◌%◌, Bool, true, cond, ◌&&◌, Some, None, is_none, length}
 use Rattle.trlab_road.specs.Cells.{Cell, Lane, at}
 
@@ -15,7 +15,7 @@ abbrev pub is_clear : Lane → (ℕ → ℕ) → ℕ → Bool
 is_clear lane way zero = true
 is_clear lane way (suc g) = is_clear lane way g && is_none (at lane (way (suc g)))
 
--- the greatest number up to n that passes a test, or 0
+-- the largest number up to n that passes a test, or 0
 abbrev pub greatest : (ℕ → Bool) → ℕ → ℕ
 greatest test zero = zero
 greatest test (suc n) = cond (test (suc n)) (suc n) (greatest test n)
@@ -28,7 +28,7 @@ clear_cells lane way = greatest (is_clear lane way) (length lane - 1)
 abbrev pub gap : Lane → ℕ → ℕ
 gap lane x = clear_cells lane (ahead (length lane) x)
 
--- the place of the next car ahead, after the gap: its own where a car is alone on its lane
+-- the place of the next car ahead, after the gap: its own place if it is the only car on its lane
 abbrev pub next_place : Lane → ℕ → ℕ
 next_place lane x = ahead (length lane) x (gap lane x + 1)
 
@@ -37,18 +37,18 @@ abbrev pub speed_in : Cell → ℕ
 speed_in None = 0
 speed_in (Some car) = car.1
 
--- the speed of the next car ahead, its own where a car is alone on its lane
+-- the speed of the next car ahead: its own speed if it is the only car on its lane
 abbrev pub headspeed : Lane → ℕ → ℕ
 headspeed lane x = speed_in (at lane (next_place lane x))
 
--- is the side cell, the cell of the other lane beside x, empty?
+-- is the side cell empty, the cell of the other lane at the same place x?
 abbrev pub side : Lane → ℕ → Bool
 side other x = is_none (at other x)
 
--- the gap ahead on the other lane, 0 where the side cell is taken (Rickert and others 1996)
+-- the gap ahead on the other lane, 0 if the side cell is taken (Rickert and others 1996)
 abbrev pub sidegap : Lane → ℕ → ℕ
 sidegap other x = cond (side other x) (clear_cells other (ahead (length other) x)) 0
 
--- the gap behind on the other lane, 0 where the side cell is taken (Rickert and others 1996)
+-- the gap behind on the other lane, 0 if the side cell is taken (Rickert and others 1996)
 abbrev pub sideback : Lane → ℕ → ℕ
 sideback other x = cond (side other x) (clear_cells other (behind (length other) x)) 0

@@ -3,11 +3,11 @@ use Rattle.std.specs.Prelude.{◌≡◌, ℕ, ◌+◌, ◌<◌, ◌≤◌, List,
 use Rattle.trlab_road.specs.LaneCars.{LaneCar}
 use Rattle.trlab_road.specs.Stored.{no_car}
 
--- a car that went so many cells ahead
+-- a car after it has moved a number of cells ahead
 abbrev pub gone_on : LaneCar → ℕ → LaneCar
 gone_on car speed = record { number = car.number; place = car.place + speed; speed = speed }
 
--- the cars before an index went ahead, by speeds that stand from an index on, and the others did not
+-- the cars before an index have moved by the speeds listed from another index on, and the others have not
 pub record HaveGoneOn (speeds : List ℕ) (from : ℕ) (old new : List LaneCar) (k : ℕ) : Type 0 where
   pub same_count : length new ≡ length old
   pub gone : (j : ℕ) → j < k

@@ -21,8 +21,8 @@ pub record IsLineFrom (road : Cells) (k : ℕ) (line : List LaneCar) : Type 0 wh
       → IsStanding road (k + j) (car_on lane (slice_index_or line j no_car))
   pub whole : k + length line ≡ sum_by lane_cars (take (lane + 1) road.lanes)
 
--- the k-th car in standing order, as its lane keeps it, and the next car ahead of it, which stands further on
--- that lane
+-- the k-th car in standing order, as its lane keeps it, and the next car ahead of it, further on in that lane's
+-- list
 pub record IsFollowed (road : Cells) (k : ℕ) (car next : LaneCar) : Type 0 where
   pub lane : ℕ
   pub standing : IsStanding road k (car_on lane car)

@@ -1,6 +1,6 @@
--- The lane change, the first phase of a step on two lanes (Rickert, Nagel, Schreckenberg and Latour
--- 1996): all cars that cross do so at once. Answers are functions of a lane and a place: does the
--- car that stands there cross?
+-- The lane change, the first phase of a step on two lanes (Rickert, Nagel, Schreckenberg and Latour 1996): all
+-- cars that change lanes do so at once. Answers are functions of a lane and a place: does the car there change
+-- lanes?
 use Rattle.std.specs.Prelude.{◌≡◌, ℕ, ◌-◌, ◌<◌, Bool, true, false, cond, Some, None, List, length, map, slice_index_or}
 use Rattle.std.specs.List.{range_with_len}
 use Rattle.std.specs.Option.{option_or}
@@ -14,12 +14,12 @@ use Rattle.trlab_road.specs.Standing.{IsStanding, rank}
 abbrev pub other_lane : ℕ → ℕ
 other_lane l = 1 - l
 
--- a cell after the lane change: its own car if that stays, else the car beside if that crosses
+-- a cell after the lane change: its own car if that stays, else the car of the side cell if that crosses
 abbrev pub cell_after_change : Bool → Bool → Cell → Cell → Cell
 cell_after_change own_crosses beside_crosses own beside =
     option_or (cond own_crosses None own) (cond beside_crosses beside None)
 
--- the lane change of one lane, beside another
+-- the lane change of one of two lanes
 pub record LaneCrosses (own_crosses beside_crosses : ℕ → Bool) (own beside new : Lane) : Type 0 where
   pub same_length : length new ≡ length own
   pub each_cell : (x : ℕ) → x < length own
@@ -46,13 +46,13 @@ road_after_change crosses road =
     let lanes = range_with_len 0 (length road.lanes) in
     record { limit = road.limit; lanes = map (lane_after_change crosses road) lanes }
 
--- two lanes, and a car crosses only where the cell beside it is empty
+-- two lanes, and a car crosses only if its side cell is empty
 pub record CrossesFree (crosses : ℕ → ℕ → Bool) (road : Cells) : Type 0 where
   pub two_lanes : length road.lanes ≡ 2
   pub side_empty : (car : Car) → IsAt road car → crosses car.lane car.place ≡ true
       → cell road (other_lane car.lane) car.place ≡ None
 
--- a car beside where it was, on the other lane
+-- a car at the same place on the other lane
 abbrev pub car_beside : Car → Car
 car_beside car = record {
   number = car.number;
@@ -61,7 +61,7 @@ car_beside car = record {
   speed = car.speed;
 }
 
--- a car stayed where it was, or crossed to the cell beside, which was empty; its speed stays
+-- a car stayed in its cell, or crossed to its side cell, which was empty; it keeps its speed
 pub data StaysOrCrosses (old new : Cells) (car : Car) : Type 0 where
   on_own_lane : IsAt new car → StaysOrCrosses old new car
   on_other_lane : cell old (other_lane car.lane) car.place ≡ None → IsAt new (car_beside car)
@@ -74,12 +74,12 @@ pub record CleanLaneChange (old new : Cells) : Type 0 where
   pub none_made : (car : Car) → IsAt new car
       → (l : ℕ) × (cell old l car.place ≡ Some (car.number, car.speed))
 
--- what a function of a lane and a place gives beside the k-th car in standing order, on the other lane
+-- the value of a function of a lane and a place at the side cell of the k-th car in standing order
 abbrev pub IsBeside : {X : Type 0} → (Lane → ℕ → X) → Cells → ℕ → X → Type 0
 IsBeside look road k value = (car : Car) → IsStanding road k car
     → value ≡ look (lane_of road (other_lane car.lane)) car.place
 
--- a gap beside the k-th car in standing order, on the other lane; it is below the length of a lane
+-- a gap on the other lane, seen from the k-th car in standing order; it is below the lane length
 pub record IsGapBeside (look : Lane → ℕ → ℕ) (road : Cells) (k gap : ℕ) : Type 0 where
   pub of_car : IsBeside look road k gap
   pub below : gap < length (lane_of road 0)
@@ -88,11 +88,11 @@ pub record IsGapBeside (look : Lane → ℕ → ℕ) (road : Cells) (k gap : ℕ
 abbrev pub sides : Cells → List Bool
 sides road = in_order (λ l x. side (lane_of road (other_lane l)) x) road
 
--- does the car at a lane and a place cross, where answers stand in standing order?
+-- does the car at a lane and a place cross, if answers are listed in standing order?
 abbrev pub crosses_at : Cells → List Bool → ℕ → ℕ → Bool
 crosses_at road answers l x = slice_index_or answers (rank road l x) false
 
--- two lanes and one answer for each car, which crosses only where its side cell is empty
+-- two lanes and one answer per car, which crosses only if its side cell is empty
 pub record MayCross (road : Cells) (answers : List Bool) : Type 0 where
   pub two_lanes : length road.lanes ≡ 2
   pub one_each : length answers ≡ cars road

@@ -4,12 +4,12 @@ use Rattle.trlab_bounds.specs.declared.roads.TheConstants.{GREATEST_LIMIT, GREAT
 use Rattle.trlab_road.specs.declared.car.Car.{Car}
 use Rattle.trlab_road.specs.Cells.{Cells, IsAt, lane_of, cars}
 
--- a count of lanes that a road may have
+-- a number of lanes that a road may have
 pub record LanesFit (lanes : ℕ) : Type 0 where
   pub some_lane : 1 ≤ lanes
   pub few_lanes : lanes ≤ MOST_LANES
 
--- a count of cells that a lane may have
+-- a number of cells that a lane may have
 pub record LengthFits (cells : ℕ) : Type 0 where
   pub some_cell : 1 ≤ cells
   pub few_cells : cells ≤ GREATEST_LENGTH

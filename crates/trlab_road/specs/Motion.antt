@@ -1,12 +1,12 @@
--- The motion, the second phase of a step (Nagel and Schreckenberg 1992): all cars go ahead at once.
--- Answers are functions of a lane and a place: how many cells does the car that stands there go?
+-- The motion, the second phase of a step (Nagel and Schreckenberg 1992): all cars move at once. Answers are
+-- functions of a lane and a place: how many cells does the car there move?
 use Rattle.std.specs.Prelude.{◌≡◌, ℕ, ◌<◌, ◌≤◌, Some, None, List, length, map, slice_index}
 use Rattle.trlab_road.specs.declared.car.Car.{Car}
 use Rattle.trlab_road.specs.Cells.{Lane, Cells, IsAt, at, lane_of, cars, lane_cars}
 use Rattle.trlab_road.specs.Gaps.{ahead, gap}
 use Rattle.trlab_road.specs.Standing.{IsStanding, standing}
 
--- the car that a lane has at y after the motion stood at x before it
+-- the car of a lane that is at y after the motion was at x before it
 pub record ComesFrom (answer : ℕ → ℕ) (old : Lane) (y number speed x before : ℕ) : Type 0 where
   pub was : at old x ≡ Some (number, before)
   pub reaches : y ≡ ahead (length old) x (answer x)
@@ -44,7 +44,7 @@ pub record Fits (answer : ℕ → ℕ → ℕ) (road : Cells) : Type 0 where
 pub record IsClearAhead (lane : Lane) (x g : ℕ) : Type 0 where
   pub clear : (j : ℕ) → 1 ≤ j → j ≤ g → at lane (ahead (length lane) x j) ≡ None
 
--- the car of x went ahead over empty cells to where it stands now
+-- the car of x has moved ahead over empty cells to its place
 pub record GoesAhead (old new : Lane) (x number speed : ℕ) : Type 0 where
   pub stands : at new (ahead (length old) x speed) ≡ Some (number, speed)
   pub over_empty : IsClearAhead old x speed
@@ -63,11 +63,11 @@ pub record CleanMotion (old new : Cells) : Type 0 where
   pub same_lanes : length new.lanes ≡ length old.lanes
   pub each_lane : (l : ℕ) → l < length old.lanes → CleanLaneMotion (lane_of old l) (lane_of new l)
 
--- what a function of lane and place gives for each car, in standing order
+-- the values of a function of lane and place at the cars, in standing order
 abbrev pub in_order : {X : Type 0} → (ℕ → ℕ → X) → Cells → List X
 in_order f road = map (λ (car : Car). f car.lane car.place) (standing road)
 
--- what a function of a lane and a place gives for the k-th car in standing order, on its own lane
+-- the value of a function of a lane and a place at the k-th car in standing order
 abbrev pub IsOnLane : {X : Type 0} → (Lane → ℕ → X) → Cells → ℕ → X → Type 0
 IsOnLane look road k value = (car : Car) → IsStanding road k car
     → value ≡ look (lane_of road car.lane) car.place

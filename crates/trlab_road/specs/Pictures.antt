@@ -37,7 +37,7 @@ pub record Shows (limit : ℕ) (pictures : List (List ℕ)) (road : Cells) : Typ
   pub drawn : map picture road.lanes ≡ pictures
   pub numbered : AreNumberedInOrder road
 
--- the pictures that references lead to
+-- the pictures behind references
 abbrev pub pictures_of : List (Bor (List ℕ)) → List (List ℕ)
 pictures_of references = map (λ picture. picture.now) references
 

@@ -1,12 +1,12 @@
--- Roads on which cars stand evenly spread, with speed 0.
+-- Roads with evenly spaced cars of speed 0.
 use Rattle.std.specs.Prelude.{◌≡◌, ℕ, ◌*◌, ◌/◌, ◌%◌, ◌<◌, ◌≤◌, Some, length}
 use Rattle.trlab_road.specs.declared.fault.RoadFault.{RoadFault}
 use Rattle.trlab_road.specs.declared.fault.RoadFault.TheVariants.{Lanes, Length, Limit, Character, SpeedAboveLimit, Memory, TooManyCars}
 use Rattle.trlab_road.specs.Cells.{Lane, Cells, at, lane_of}
 use Rattle.trlab_road.specs.Legal.{LanesFit, LengthFits, LimitFits}
 
--- cells count across the lanes, place by place: the flat cell of car i, where n cars are spread
--- over lanes of so many cells
+-- the flat cell of car i, one of n cars on lanes of so many cells each; flat cells count across the lanes,
+-- place by place
 abbrev pub flat_cell : ℕ → ℕ → ℕ → ℕ → ℕ
 flat_cell lanes cells n i = i * (lanes * cells) / n
 
@@ -18,13 +18,13 @@ even_lane lanes cells n i = flat_cell lanes cells n i % lanes
 abbrev pub even_place : ℕ → ℕ → ℕ → ℕ → ℕ
 even_place lanes cells n i = flat_cell lanes cells n i / lanes
 
--- a car that stands at a lane and a place is one of the n cars, and is where its number puts it
+-- a car at a lane and a place is one of the n cars, at the place of its number
 pub record IsInPlace (lanes cells n number l x : ℕ) : Type 0 where
   pub numbered : number < n
   pub on_lane : even_lane lanes cells n number ≡ l
   pub at_place : even_place lanes cells n number ≡ x
 
--- on lane l each of the n cars that belongs there stands at its place, and nothing else does
+-- lane l has each of the n cars that belongs there at its place, and no others
 pub record IsEvenLane (lanes cells n l : ℕ) (lane : Lane) : Type 0 where
   pub same_length : length lane ≡ cells
   pub stands : (i : ℕ) → i < n → even_lane lanes cells n i ≡ l
@@ -45,7 +45,7 @@ pub record CanSpread (lanes cells limit n : ℕ) : Type 0 where
   pub limit_fits : LimitFits limit
   pub room : n ≤ lanes * cells
 
--- the first fault of what a road was to be, in the order of the faults; memory may always run out
+-- the first fault of a description of a road, in the order of the faults; allocation may always fail
 abbrev pub IsEvenFault : ℕ → ℕ → ℕ → ℕ → RoadFault → Type 0
 IsEvenFault lanes cells limit n Lanes = ¬ (LanesFit lanes)
 IsEvenFault lanes cells limit n Length = LanesFit lanes × ¬ (LengthFits cells)

@@ -10,7 +10,7 @@ standing_from l x (None ∷ cells) = standing_from l (suc x) cells
 standing_from l x (Some car ∷ cells) =
     record { number = car.0; lane = l; place = x; speed = car.1 } ∷ standing_from l (suc x) cells
 
--- the cars of lanes, of which the first is lane l
+-- the cars of lanes, the first of them lane l
 abbrev pub standing_lanes : ℕ → List Lane → List Car
 standing_lanes l [] = []
 standing_lanes l (lane ∷ lanes) = standing_from l 0 lane ++ standing_lanes (suc l) lanes
@@ -23,6 +23,6 @@ standing road = standing_lanes 0 road.lanes
 abbrev pub IsStanding : Cells → ℕ → Car → Type 0
 IsStanding road k car = slice_get (standing road) k ≡ Some car
 
--- how many cars stand before a place, in standing order
+-- the number of cars before a place, in standing order
 abbrev pub rank : Cells → ℕ → ℕ → ℕ
 rank road l x = sum_by lane_cars (take l road.lanes) + lane_cars (take x (lane_of road l))

@@ -11,12 +11,12 @@ use Rattle.trlab_road.specs.Legal.{IsLegal}
 use Rattle.trlab_road.specs.Motion.{LaneFits, LaneMoves}
 use Rattle.trlab_road.specs.Pictures.{point, speed_character}
 
--- what a list of cars has at a place
+-- the cell at a place of a list of cars
 abbrev pub cell_at : List LaneCar → ℕ → Cell
 cell_at [] x = None
 cell_at (car ∷ cars) x = cond (nat_eq car.place x) (Some (car.number, car.speed)) (cell_at cars x)
 
--- the lane of so many cells on which these cars stand
+-- the lane of n cells with these cars
 abbrev pub cells_of : ℕ → List LaneCar → Lane
 cells_of n cars = map (cell_at cars) (range_with_len 0 n)
 
@@ -29,7 +29,7 @@ Rises x n (car ∷ cars) = (x ≤ car.place) × (car.place < n) × Rises (suc ca
 abbrev pub IsRising : List LaneCar → Type 0
 IsRising cars = (n : ℕ) × Rises 0 n cars
 
--- what stands for a car past the end of a list
+-- a placeholder for a car past the end of a list
 abbrev pub no_car : LaneCar
 no_car = record { number = 0; place = 0; speed = 0 }
 
@@ -37,12 +37,12 @@ no_car = record { number = 0; place = 0; speed = 0 }
 abbrev pub place_of : List LaneCar → ℕ → ℕ
 place_of cars k = (slice_index_or cars k no_car).place
 
--- the cars before an index stand at most at a place, those from the index on stand past it
+-- the cars before an index are at most at a place, those from the index on are past it
 pub record IsParted (cars : List LaneCar) (x next : ℕ) : Type 0 where
   pub before : (k : ℕ) → k < next → k < length cars → place_of cars k ≤ x
   pub after : (k : ℕ) → next ≤ k → k < length cars → x < place_of cars k
 
--- a car of a list as it stands on a lane of the road
+-- a car of a lane's list as a car of the road
 abbrev pub car_on : ℕ → LaneCar → Car
 car_on l car = record { number = car.number; lane = l; place = car.place; speed = car.speed }
 
@@ -50,7 +50,7 @@ car_on l car = record { number = car.number; lane = l; place = car.place; speed 
 abbrev pub lists_of : List (Vec LaneCar Global) → List (List LaneCar)
 lists_of lists = map (λ (v : Vec LaneCar Global). v.items) lists
 
--- the lanes of so many cells on which the cars of these lists stand
+-- the lanes of n cells with the cars of these lists
 abbrev pub lanes_from : ℕ → List (Vec LaneCar Global) → List Lane
 lanes_from n lists = map (λ (v : Vec LaneCar Global). cells_of n v.items) lists
 
@@ -62,7 +62,7 @@ list_at lists l = slice_index_or (lists_of lists) l []
 pub record AreSorted (n : ℕ) (lists : List (Vec LaneCar Global)) : Type 0 where
   pub rises : (l : ℕ) → l < length lists → Rises 0 n (list_at lists l)
 
--- what a `Road` keeps: its cells are legal, and the lists of its lanes are sorted
+-- the invariant of a `Road`: its cells are legal, and the lists of its lanes are sorted
 pub record IsStored (n : ℕ) (lists : List (Vec LaneCar Global)) (road : Cells) : Type 0 where
   pub legal : IsLegal road
   pub sorted : AreSorted n lists
@@ -73,13 +73,14 @@ pub record IsFoundAt (lists : List (Vec LaneCar Global)) (k l i : ℕ) : Type 0 
   pub low : i < length (list_at lists l)
   pub order : k ≡ sum_by length (take l (lists_of lists)) + i
 
--- the first car from a place on stands at an index
+-- the first car from a place on is at an index of the list
 pub record IsFirstFrom (cars : List LaneCar) (x index : ℕ) : Type 0 where
   pub within : index ≤ length cars
   pub before : (k : ℕ) → k < index → k < length cars → place_of cars k < x
   pub from : (k : ℕ) → index ≤ k → k < length cars → x ≤ place_of cars k
 
--- what stands beside a place of the lane of these cars: whether the cell there is empty, and the gaps from it
+-- a place of the lane of these cars, seen from the other lane: is the cell empty, and what are the gaps from
+-- it?
 pub record StandsBeside (n : ℕ) (cars : List LaneCar) (x : ℕ) (beside : Beside) : Type 0 where
   pub empty : beside.is_empty ≡ side (cells_of n cars) x
   pub ahead : beside.ahead ≡ sidegap (cells_of n cars) x
@@ -87,20 +88,20 @@ pub record StandsBeside (n : ℕ) (cars : List LaneCar) (x : ℕ) (beside : Besi
   pub ahead_within : beside.ahead < n
   pub behind_within : beside.behind < n
 
--- the cars of a lane that cross, where they stood, and no others
+-- the cars of a lane that cross, at their places, and no others
 pub record LaneLeaves (crosses : ℕ → Bool) (old leaving : Lane) : Type 0 where
   pub same_length : length leaving ≡ length old
   pub each_cell : (x : ℕ) → x < length old → at leaving x ≡ cond (crosses x) (at old x) None
 
--- the answer of the car at a place of a lane, whose cars' answers stand from an index on
+-- the answer of the car at a place of a lane, whose answers are listed from an index on
 abbrev pub lane_answer : Lane → List ℕ → ℕ → ℕ → ℕ
 lane_answer lane answers from x = slice_index answers (from + lane_cars (take x lane))
 
--- does the car at a place of a lane cross, where the answers of the lane's cars stand from an index on?
+-- does the car at a place of a lane cross, if the lane's answers are listed from an index on?
 abbrev pub lane_crosses_at : Lane → List Bool → ℕ → ℕ → Bool
 lane_crosses_at lane answers from x = slice_index_or answers (from + lane_cars (take x lane)) false
 
--- the answers of the cars of lane l, where answers stand in standing order
+-- the answers of the cars of lane l, if answers are listed in standing order
 abbrev pub list_answer : ℕ → List (Vec LaneCar Global) → List ℕ → ℕ → ℕ → ℕ
 list_answer n lists answers l =
     let before = sum_by lane_cars (take l (lanes_from n lists)) in

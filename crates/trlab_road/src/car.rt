@@ -1,4 +1,4 @@
-//! Cars where they stand: all that a road tells of a car.
+//! Cars as a road reports them: lane, place, number and speed.
 
 /// A car: its number, which it keeps, its lane, 0 or 1, its place, the number of its cell along the
 /// lane from 0 on, and its speed, the cells that it went in the last step.

@@ -1,4 +1,4 @@
-//! The faults of what a road was to be made of.
+//! Why no road can be made of pictures, or of evenly spaced cars.
 
 ghost use Rattle.std.specs.Prelude.{◌≡◌};
 ghost use Rattle.trlab_road.specs.declared.fault.RoadFault.TheVariants.{Memory};
@@ -6,8 +6,7 @@ ghost use Rattle.trlab_road.specs.declared.fault.RoadFault.TheVariants.{Memory};
 use std::alloc::AllocError;
 use thiserror::Error;
 
-/// The first fault of what a road was to be made of, in the order of the variants up to
-/// `SpeedAboveLimit`.
+/// The first reason why no road can be made, in the order of the variants up to `SpeedAboveLimit`.
 #[derive(Clone, Copy, Debug, PartialEq, Eq, Error)]
 pub enum RoadFault {
     /// Neither one nor two lanes.
@@ -16,7 +15,7 @@ pub enum RoadFault {
     /// A lane with no cell or too many, or lanes of unequal length.
     #[error("the lanes have no cell, too many or unequal lengths")]
     Length,
-    /// A speed limit of 0, or above the greatest.
+    /// A speed limit of 0, or above the maximum.
     #[error("the speed limit is out of range")]
     Limit,
     /// The character at a lane and a place is neither a point nor that of a speed.

@@ -1,5 +1,5 @@
-//! What is ahead and behind on a lane: gaps in cells, and the speed of the next car. Cars follow each other
-//! as in their list, by rising place, and round the ring the first follows the last.
+//! Gaps in cells ahead and behind on a lane, and the speed of the next car. A lane's list is sorted by place,
+//! and round the ring the first car is ahead of the last.
 
 ghost use Rattle.std.specs.Prelude.{◌≡◌, ◌<◌, ◌≤◌, ℕ, length};
 ghost use Rattle.trlab_bounds.specs.declared.roads.TheConstants.{GREATEST_LENGTH};
@@ -8,16 +8,16 @@ ghost use Rattle.trlab_road.specs.Stored.{IsParted, Rises, cells_of, place_of};
 
 use crate::lane_car::{LaneCar, place_at, speed_at};
 
-/// What is ahead of a car on its own lane.
+/// The gap ahead of a car on its own lane, and the speed of its leader.
 #[derive(Clone, Copy)]
 pub struct Ahead {
     /// How many cells ahead of it are empty.
     pub gap: u32,
-    /// The speed of the next car in cells a step, its own where it is alone.
+    /// The speed of the next car in cells per step; the car's own speed if there is no other.
     pub headspeed: u32,
 }
 
-/// What is ahead of the car at an index of a lane's list; ahead of the last is the first.
+/// The gap and the leader of the car at an index of a lane's list. The leader of the last car is the first.
 pub fn look_ahead(cars: &[LaneCar], cells: usize, index: usize) -> Ahead
     requires small { cells ≤ GREATEST_LENGTH }
     requires sorted { Rises 0 cells cars.now }
@@ -41,7 +41,7 @@ pub fn look_ahead(cars: &[LaneCar], cells: usize, index: usize) -> Ahead
     }
 }
 
-/// How many cells ahead of a place are empty, where the cars from an index on are those past it.
+/// The number of empty cells ahead of a place; the cars from index `next` on are those past it.
 pub fn gap_ahead(cars: &[LaneCar], cells: usize, place: usize, next: usize) -> usize
     requires small { cells ≤ GREATEST_LENGTH }
     requires inside { place < cells }
@@ -59,8 +59,7 @@ pub fn gap_ahead(cars: &[LaneCar], cells: usize, place: usize, next: usize) -> u
     }
 }
 
-/// How many cells behind a place where no car stands are empty, where the cars from an index on
-/// are those past it.
+/// The number of empty cells behind an empty place; the cars from index `next` on are those past it.
 pub fn gap_behind(cars: &[LaneCar], cells: usize, place: usize, next: usize) -> usize
     requires small { cells ≤ GREATEST_LENGTH }
     requires inside { place < cells }

@@ -1,4 +1,4 @@
-//! Cars as lanes keep them: the lane is that of the list in which a car stands.
+//! Cars as a lane's list keeps them. The list says the lane.
 
 ghost use Rattle.std.specs.Prelude.{◌≡◌, ◌<◌, ◌≤◌, ◌&&◌, ◌↔◌, length, nat_eq, slice_index_or};
 ghost use Rattle.trlab_bounds.specs.declared.roads.TheConstants.{GREATEST_LENGTH, GREATEST_LIMIT};
@@ -40,7 +40,7 @@ impl Model for LaneCar {
 }
 
 impl LaneCar {
-    /// A car of a number, which stands at a place, in cells, with a speed, in cells a step.
+    /// A car with a number, a place in cells and a speed in cells per step.
     #[inline(always)]
     pub fn new(number: u32, place: u32, speed: u32) -> LaneCar
         requires on_lane { place ≤ GREATEST_LENGTH }
@@ -80,7 +80,7 @@ impl LaneCar {
         self.place_and_speed / 64
     }
 
-    /// Its speed, in cells a step.
+    /// Its speed, in cells per step.
     #[inline(always)]
     pub fn speed(self) -> u32
         ensures { result ≡ self.speed }

@@ -13,7 +13,7 @@ use crate::lanes::list_of;
 use crate::room::Room;
 use std::alloc::{AllocError, Global};
 
-/// A lane before its cars cross: its list, and the index from which the answers of its cars stand.
+/// A lane before its cars cross: its list, and the index of its first car's answer.
 #[derive(Clone, Copy)]
 struct AnsweredLane<'a> {
     cars: &'a [LaneCar],
@@ -56,7 +56,7 @@ fn leaving_cars(
     Ok(())
 }
 
-/// The index after a run of cars: from one that stays on, those that stay and stand before a place.
+/// The index after a run of cars that stay and are before a place. The run begins with a car that stays.
 fn run_end(lane: AnsweredLane, crosses: &[bool], begin: usize, due: u32) -> usize
     requires each { lane.from + length lane.cars.now ≤ length crosses.now }
     requires begin { begin < length lane.cars.now }

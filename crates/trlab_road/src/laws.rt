@@ -1,7 +1,7 @@
-//! Laws of pictures, of the next car ahead, of the two phases of a step and of evenly spread cars, for
-//! every road and whichever code moves the cars.
+//! Laws of pictures, of the next car ahead, of the two phases of a step and of evenly spread cars, for every
+//! road, whatever code moves the cars.
 //!
-//! Each law is the contract of a function with nothing to do.
+//! Each law is the contract of a function with an empty body.
 
 ghost use Rattle.trlab_road.specs.Laws.{GoodPicturesShowLegalRoads, NoFaultInGood, OneFirstFault, PicturesShowOneRoad};
 ghost use Rattle.trlab_road.specs.Laws.{PicturesOfLegalRoads, PicturesSayOneThing, PicturesSaySomething, PicturesSayTheRoad};
@@ -13,7 +13,7 @@ ghost use Rattle.trlab_road.specs.Laws.{OneRoadAfterLaneChange};
 ghost use Rattle.trlab_road.specs.Laws.{EvenRoadHasAllCars, EvenRoadIsLegal, NoFaultInFitting, OneEvenFault, OneEvenRoad};
 ghost use Rattle.trlab_road.specs.Laws.{EvenSaysOneThing, EvenSaysSomething};
 
-/// Pictures show one road, which is legal where they are good, and else have one first fault.
+/// Good pictures show one road, which is legal; others have one first fault.
 pub fn pictures_show_one_road()
     ensures one_road { PicturesShowOneRoad }
     ensures legal { GoodPicturesShowLegalRoads }
@@ -21,48 +21,47 @@ pub fn pictures_show_one_road()
     ensures no_fault { NoFaultInGood }
 {}
 
-/// Any limit and pictures say just one thing: the legal road that they show, or their first fault.
+/// Any limit and pictures have exactly one meaning: the legal road that they show, or their first fault.
 pub fn pictures_say_one_thing()
     ensures something { PicturesSaySomething }
     ensures one_thing { PicturesSayOneThing }
 {}
 
-/// Each legal road has good pictures, and where its cars are numbered in standing order, these say the
-/// road: what is read from what was drawn is the same.
+/// Each legal road has good pictures. If its cars are numbered in standing order, reading its pictures gives
+/// the same road.
 pub fn pictures_say_the_road()
     ensures good { PicturesOfLegalRoads }
     ensures same { PicturesSayTheRoad }
 {}
 
-/// The headspeed is the speed of the first car that is met on the way round the lane, and so the own one of a
-/// car that is alone there.
+/// The headspeed is the speed of the first car that is met on the way round the lane: the car's own speed if it
+/// is the only one.
 pub fn headspeed_is_of_the_next_car()
     ensures next { HeadspeedIsOfNextCar }
     ensures alone { HeadspeedOfLoneCar }
 {}
 
-/// Answers that fit lead to one road by the motion, and only the answers at cars count.
+/// Answers that fit lead to exactly one road after the motion, and only the answers at cars count.
 pub fn motion_gives_one_road()
     ensures some_road { SomeRoadAfterMotion }
     ensures one_road { OneRoadAfterMotion }
     ensures by_cars { MotionByCars }
 {}
 
-/// Where the answers fit, the motion of a legal road is clean and gives a legal road with as many
-/// cars.
+/// If the answers fit, the motion of a legal road is clean and gives a legal road with the same number of cars.
 pub fn motion_is_clean()
     ensures clean { MotionIsClean }
     ensures legal { MotionKeepsLegal }
     ensures same_cars { MotionKeepsCars }
 {}
 
-/// A legal road has a car of each number below the count of its cars.
+/// A legal road has a car of each number below its number of cars.
 pub fn road_has_all_numbers()
     ensures { HasAllNumbers }
 {}
 
-/// The lane change leads to one road, and only the answers at cars count. Where cars cross to empty
-/// cells alone, the lane change of a legal road is clean and gives a legal road.
+/// The lane change leads to exactly one road, and only the answers at cars count. If cars cross only to empty
+/// cells, the lane change of a legal road is clean and gives a legal road.
 pub fn lane_change_is_clean()
     ensures one_road { OneRoadAfterLaneChange }
     ensures by_cars { LaneChangeByCars }
@@ -70,7 +69,7 @@ pub fn lane_change_is_clean()
     ensures legal { LaneChangeKeepsLegal }
 {}
 
-/// Evenly spread cars make one road. Where they fit, it is legal and has all of them; else there is
+/// Evenly spaced cars make exactly one road. If they fit, it is legal and has all of them; otherwise there is
 /// one first fault.
 pub fn even_cars_make_one_road()
     ensures one_road { OneEvenRoad }
@@ -80,7 +79,7 @@ pub fn even_cars_make_one_road()
     ensures no_fault { NoFaultInFitting }
 {}
 
-/// Of evenly spread cars just one thing is said: the legal road on which they stand, or the first fault.
+/// Evenly spaced cars have exactly one meaning: the legal road that they are on, or the first fault.
 pub fn even_cars_say_one_thing()
     ensures something { EvenSaysSomething }
     ensures one_thing { EvenSaysOneThing }

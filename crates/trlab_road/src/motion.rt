@@ -1,5 +1,5 @@
-//! The motion: the cars of each lane go ahead at once, where they stand in its list. Only the last car can
-//! pass the end of the lane, and is the first then.
+//! The motion: the cars of each lane move at once, in place in its list. Only the last car can pass the end of
+//! the lane; then it becomes the first.
 
 ghost use Rattle.std.specs.Prelude.{◌≡◌, ◌+◌, ◌<◌, ◌≤◌, ℕ, IfOk, length, slice_index, slice_index_or, sum_by};
 ghost use Rattle.trlab_bounds.specs.declared.roads.TheConstants.{GREATEST_LENGTH, GREATEST_LIMIT};
@@ -11,7 +11,7 @@ ghost use Rattle.trlab_road.specs.Stored.{no_car, place_of, ListsFit, ListsMove,
 use crate::lane_car::LaneCar;
 use std::alloc::{AllocError, Global};
 
-/// How many cars are written together: so many that the compiler keeps the loop, and makes vectors of it.
+/// How many cars are written together: enough for the compiler to keep the loop and use vector instructions.
 const TOGETHER: usize = 32;
 
 /// The same speeds, each in a byte.
@@ -44,7 +44,7 @@ fn gone_together(cars: &[LaneCar], at: usize, speeds: &[u8], from: usize) -> [La
     gone
 }
 
-/// A car after it went so many cells ahead.
+/// A car after it has moved a number of cells ahead.
 #[inline(always)]
 fn go_on(car: LaneCar, speed: u32) -> LaneCar
     requires slow { speed ≤ GREATEST_LIMIT }
@@ -54,8 +54,9 @@ fn go_on(car: LaneCar, speed: u32) -> LaneCar
     LaneCar::new(car.number(), car.place() + speed, speed)
 }
 
-/// Moves the cars of a list ahead that don't pass the end of their lane, where their speeds stand from an
-/// index on: several at once, whose places and speeds are made in columns and written together.
+/// Moves the cars of a list that don't pass the end of their lane. Their speeds begin at an index of the list
+/// of speeds. Several cars are moved at once: their places and speeds are computed in columns and written
+/// together.
 fn move_straight(cars: &mut [LaneCar], speeds: &[u8], from: usize)
     requires one_each { from + length cars.old ≤ length speeds.now }
     requires slow { (k : ℕ) → k < length speeds.now → slice_index speeds.now k ≤ GREATEST_LIMIT }
@@ -76,9 +77,9 @@ fn move_straight(cars: &mut [LaneCar], speeds: &[u8], from: usize)
     }
 }
 
-/// Moves the cars of a lane ahead, where their speeds stand from an index on.
+/// Moves the cars of a lane; their speeds begin at an index of the list of speeds.
 ///
-/// A car that passes the end was the last, and is the first then.
+/// A car that passes the end was the last, and becomes the first.
 fn move_lane(cars: &mut Vec<LaneCar>, cells: u32, speeds: &[u8], from: usize)
     requires small { cells ≤ GREATEST_LENGTH }
     requires sorted { Rises 0 cells cars.old.items }
@@ -107,7 +108,7 @@ fn move_lane(cars: &mut Vec<LaneCar>, cells: u32, speeds: &[u8], from: usize)
     };
 }
 
-/// Moves the cars of all lanes ahead at once, where their speeds stand in standing order.
+/// Moves the cars of all lanes at once; speeds are listed in standing order.
 pub fn move_lanes(lanes: &mut [Vec<LaneCar>], cells: u32, speeds: &[u8])
     requires small { cells ≤ GREATEST_LENGTH }
     requires sorted { AreSorted cells lanes.old }

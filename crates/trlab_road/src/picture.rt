@@ -12,7 +12,7 @@ use trlab_bounds::roads::GREATEST_LIMIT;
 /// The character of an empty cell.
 const POINT: u8 = b'.';
 
-/// The characters of the speeds from 0 to the greatest limit.
+/// The characters of the speeds from 0 to the maximum.
 const CHARACTERS: [u8; 36] = *b"0123456789abcdefghijklmnopqrstuvwxyz";
 
 /// The character of a speed: its digit, and from 10 on a letter.
@@ -56,8 +56,8 @@ pub fn shows_cell(limit: u32, character: u8) -> bool
     character == POINT || shows_speed(limit, character)
 }
 
-/// Adds the picture of a lane: a point for an empty cell, the character of the speed for a car. Where memory
-/// ran out, the bytes stay as they were.
+/// Adds the picture of a lane: a point for an empty cell, the character of the speed for a car. If allocation
+/// fails, the bytes are unchanged.
 pub fn push_picture(out: &mut Vec<u8>, cars: &[LaneCar], cells: u32) -> Result<(), AllocError>
     requires sorted { Rises 0 cells cars.now }
     requires slow { (k : ℕ) → k < length cars.now

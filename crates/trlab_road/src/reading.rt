@@ -92,7 +92,7 @@ fn draw_lane(alloc: Global, picture: &[u8], from: u32) -> Result<Vec<LaneCar>, A
     Ok(cars)
 }
 
-/// The lanes that pictures of so many cells show, their cars numbered in standing order.
+/// The lanes that pictures of `cells` cells show, their cars numbered in standing order.
 pub fn draw_lanes(
     alloc: Global,
     pictures: &[&[u8]],

@@ -23,8 +23,7 @@ use std::snapshot::Snapshot;
 
 /// A legal road: one or two lanes of cells on a ring, with a speed limit.
 ///
-/// Cars are numbered from 0 and keep their numbers. In standing order they stand lane by lane,
-/// place rising.
+/// Cars are numbered from 0 and keep their numbers. Standing order is lane by lane, by rising place.
 #[derive(Drop)]
 pub struct Road {
     limit: u32,
@@ -47,17 +46,17 @@ impl Model for Road {
 }
 
 impl Road {
-    /// The road that pictures show, one for each lane, with its cars numbered in standing order. The
-    /// limit is 1 to 35 cells a step.
+    /// The road that pictures show, one for each lane, with its cars numbered in standing order. The limit is 1
+    /// to 35 cells per step.
     ///
-    /// A picture has one character a cell: a point for an empty cell, and for a car its speed, as a digit
+    /// A picture has one character per cell: a point for an empty cell, and for a car its speed, as a digit
     /// from 0 to 9 or, for 10 to 35, as a letter from `a` to `z`.
     ///
     /// # Errors
     ///
-    /// The first fault of the limit and the pictures: `Lanes`, then `Length`, then `Limit`, then that of
-    /// the first character, lane by lane and from left to right, that shows no cell. `Memory` may stand
-    /// in its place where memory ran out.
+    /// The first fault of the limit and the pictures: `Lanes`, then `Length`, then `Limit`, then that of the
+    /// first character, lane by lane and from left to right, that shows no cell; or `Memory` if allocation
+    /// fails.
     pub fn parse(alloc: Global, limit: u32, lanes: &[&[u8]]) -> Result<Road, RoadFault>
         ensures shown { MatchResult result
             (λ road. Shows limit (pictures_of lanes.now) road)
@@ -68,7 +67,7 @@ impl Road {
         ensures back { (road : Cells) → IsLegal road → Shows limit (pictures_of lanes.now) road
             → MatchResult result (λ next. next ≡ road) (λ fault. fault ≡ RoadFault.Memory) }
 
-        // each fault is told, unless memory ran out
+        // each fault is reported, unless allocation fails
         ensures told { (fault : RoadFault) → IsFirstFault limit (pictures_of lanes.now) fault
             → fault ≢ RoadFault.Memory → (result ≡ Err fault) ⊎ (result ≡ Err RoadFault.Memory) }
     {
@@ -82,16 +81,16 @@ impl Road {
         })
     }
 
-    /// The road on which so many cars are evenly spread over one or two lanes of 1 to 100000 cells, all
-    /// with speed 0. The limit is 1 to 35 cells a step.
+    /// A road of one or two lanes of 1 to 100,000 cells, with `count` evenly spaced cars of speed 0. The limit
+    /// is 1 to 35 cells per step.
     ///
-    /// With C cells in all, car i of n stands at flat cell i * C / n, rounded down. Flat cells
-    /// count across the lanes: place 0 of each lane, then place 1, and so on.
+    /// With C cells in all, car i of n is in flat cell i * C / n, rounded down. Flat cells count across the
+    /// lanes: place 0 of each lane, then place 1, and so on.
     ///
     /// # Errors
     ///
-    /// The first fault: `Lanes`, then `Length`, then `Limit`, then `TooManyCars`. `Memory` may stand in
-    /// its place where memory ran out.
+    /// The first fault: `Lanes`, then `Length`, then `Limit`, then `TooManyCars`; or `Memory` if allocation
+    /// fails.
     pub fn even(
         alloc: Global,
         lanes: u32,
@@ -104,7 +103,7 @@ impl Road {
             (λ fault. IsEvenFault lanes cells limit count fault) }
         ensures even { IfOk result (λ road. IsEven lanes cells limit count road) }
 
-        // each fault is told, unless memory ran out
+        // each fault is reported, unless allocation fails
         ensures told { (fault : RoadFault) → IsEvenFault lanes cells limit count fault
             → fault ≢ RoadFault.Memory → (result ≡ Err fault) ⊎ (result ≡ Err RoadFault.Memory) }
         ensures counted { IfOk result (λ road. cars road ≡ count) }
@@ -154,7 +153,7 @@ impl Road {
             && same_lanes(&self.lanes, &other.lanes)
     }
 
-    /// The picture of a lane: one character a cell, a point, or a digit or a letter for the car's speed.
+    /// The picture of a lane, one character per cell: a point, or a digit or a letter for the car's speed.
     ///
     /// # Errors
     ///
@@ -172,7 +171,7 @@ impl Road {
     ///
     /// # Errors
     ///
-    /// Where memory ran out; then the bytes stay as they were.
+    /// If allocation fails; then the bytes are unchanged.
     pub fn push_picture(&self, out: &mut Vec<u8>, lane: u32) -> Result<(), AllocError>
         requires { lane < length self.now.lanes }
         ensures added { OnOk result (out.new.items ≡ out.old.items ++ picture (lane_of self.now lane)) }
@@ -181,7 +180,7 @@ impl Road {
         push_picture(out, list_of(&self.lanes, lane), self.cells)
     }
 
-    /// Leaves the memory of this road, which is no longer needed, to the room.
+    /// Gives the memory of this road, which is no longer needed, to the room.
     pub fn leave_to(self, room: &mut Room) {
         room.keep_lists(self.lanes);
     }

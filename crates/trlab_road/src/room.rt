@@ -7,7 +7,8 @@ use crate::lanes::empty_lanes;
 use std::alloc::{AllocError, Global};
 use std::mem;
 
-/// Lists that are filled again in each lane change: they say nothing of a road, and no answer goes by them.
+/// Lists that are filled again in each lane change: their contents say nothing about a road, and no answer
+/// depends on them.
 #[derive(Drop)]
 pub struct Room {
     /// The lists of a road that is no longer needed.
@@ -27,7 +28,7 @@ impl Room {
         }
     }
 
-    /// Two lists, whatever stands in them.
+    /// Two lists with unspecified contents.
     pub(crate) fn two_lists(&mut self, alloc: Global) -> Result<Vec<Vec<LaneCar>>, AllocError>
         ensures { IfOk result (λ lists. length lists.items ≡ 2) }
     {

@@ -1,5 +1,5 @@
-//! What stands beside a car, found in the other lane's list: by binary search, or near where the car before
-//! it found its own.
+//! The surroundings of a car on the other lane, found in that lane's list by binary search, or near the index
+//! that the previous car found.
 
 ghost use Rattle.std.specs.Prelude.{◌≡◌, ◌<◌, ◌≤◌, ℕ, IfSome, if◌then◌else◌, length, nat_lt};
 ghost use Rattle.trlab_bounds.specs.declared.roads.TheConstants.{GREATEST_LENGTH};
@@ -21,24 +21,24 @@ fn first_from(cars: &[LaneCar], place: u32) -> usize
     )
 }
 
-/// What stands beside a car on the other lane.
+/// The surroundings of a car on the other lane.
 #[derive(Clone, Copy)]
 pub struct Beside {
     /// Is the side cell empty?
     pub is_empty: bool,
-    /// How many cells ahead of it are empty, 0 where it is taken.
+    /// The number of empty cells ahead of it, 0 if it is taken.
     pub ahead: u32,
-    /// How many cells behind it are empty, 0 where it is taken.
+    /// The number of empty cells behind it, 0 if it is taken.
     pub behind: u32,
-    /// How many cars of the other lane stand before the side cell.
+    /// The number of cars of the other lane before the side cell.
     pub next: usize,
 }
 
 /// How many cars are looked at together, before they are looked at one by one.
 const TOGETHER: usize = 4;
 
-/// Goes past those of the four cars from an index on that stand before a place, where there are four: by a
-/// sum, so that no branch depends on where they stand.
+/// Passes those of the next four cars that are before a place, if there are four: by a sum, so that no branch
+/// depends on their places.
 #[inline(always)]
 fn past_four(cars: &[LaneCar], place: u32, near: usize) -> usize
     requires within { near ≤ length cars.now }
@@ -56,8 +56,8 @@ fn past_four(cars: &[LaneCar], place: u32, near: usize) -> usize
     next
 }
 
-/// The index of the first car from a place on, looked for from an index near it: from car to car
-/// where no earlier car is in question, else by binary search.
+/// The index of the first car from a place on, searched from an index near it: from car to car if no earlier
+/// car is possible, else by binary search.
 fn first_near(cars: &[LaneCar], place: u32, near: usize) -> usize
     requires sorted { IsRising cars.now }
     ensures { IsFirstFrom cars.now place result }
@@ -75,7 +75,7 @@ fn first_near(cars: &[LaneCar], place: u32, near: usize) -> usize
 }
 
 /// The index of the first car from a place on, if it is one of the five cars from an index near it, the car
-/// before that index stands before the place, and it is not the first car of all.
+/// before that index is before the place, and it is not the first car of all.
 #[inline(always)]
 fn first_of_five(cars: &[LaneCar], place: u32, near: usize) -> Option<usize>
     requires sorted { IsRising cars.now }
@@ -94,7 +94,7 @@ fn first_of_five(cars: &[LaneCar], place: u32, near: usize) -> Option<usize>
     }
 }
 
-/// A number where a test holds, and else 0.
+/// A number if a test holds, else 0.
 #[inline(always)]
 fn only_if(test: bool, number: u32) -> u32
     ensures { result ≡ (if test then number else 0) }
@@ -102,8 +102,8 @@ fn only_if(test: bool, number: u32) -> u32
     if test { number } else { 0 }
 }
 
-/// What stands beside a place that is past one car and not past the next: by differences, so that no branch
-/// depends on whether the side cell is taken. Only the proof reads how many cells there are.
+/// The surroundings of a place that is past one car and not past the next: by differences, so that no branch
+/// depends on whether the side cell is taken. Only the proof reads the number of cells.
 #[inline(always)]
 fn look_between(cars: &[LaneCar], cells: usize, place: u32, next: usize) -> Beside
     requires inside { place < cells }
@@ -124,8 +124,8 @@ fn look_between(cars: &[LaneCar], cells: usize, place: u32, next: usize) -> Besi
     }
 }
 
-/// What stands beside a place, where the cars from an index on are those from there on: also past the last
-/// car of the list, and before the first.
+/// The surroundings of a place; the cars from index `next` on are those from there on. It works also past the
+/// last car of the list and before the first.
 fn look_anywhere(cars: &[LaneCar], cells: usize, place: u32, next: usize) -> Beside
     requires small { cells ≤ GREATEST_LENGTH }
     requires inside { place < cells }
@@ -150,7 +150,7 @@ fn look_anywhere(cars: &[LaneCar], cells: usize, place: u32, next: usize) -> Bes
     }
 }
 
-/// What stands beside a place, which is looked for from an index near it: mostly one of five cars is the next.
+/// The surroundings of a place, searched from an index near it: mostly one of five cars is the next.
 #[inline(always)]
 pub fn look_beside(cars: &[LaneCar], cells: usize, place: u32, near: usize) -> Beside
     requires small { cells ≤ GREATEST_LENGTH }

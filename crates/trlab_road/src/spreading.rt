@@ -11,7 +11,7 @@ use crate::lanes::empty_lanes;
 use std::alloc::{AllocError, Global};
 use trlab_bounds::roads::{GREATEST_LENGTH, GREATEST_LIMIT, MOST_LANES};
 
-/// Finds the first fault of lanes of so many cells, a limit and a count of cars.
+/// Finds the first fault of a number of lanes, their cells, a limit and a number of cars.
 pub fn check_even(lanes: u32, cells: u32, limit: u32, count: u32) -> Result<(), RoadFault>
     ensures { MatchResult result
         (λ _. CanSpread lanes cells limit count)
@@ -32,7 +32,7 @@ pub fn check_even(lanes: u32, cells: u32, limit: u32, count: u32) -> Result<(), 
     Ok(())
 }
 
-/// The flat cell of a car, where so many cars are spread over so many cells.
+/// The flat cell of a car, one of `count` evenly spaced cars on `cells` cells in all.
 fn flat_cell(cells: usize, count: usize, number: usize) -> usize
     requires few { cells ≤ MOST_LANES * GREATEST_LENGTH }
     requires room { count ≤ cells }

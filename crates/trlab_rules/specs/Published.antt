@@ -1,54 +1,55 @@
--- The published rules, on what a car sees and its random words: the motion of Nagel and Schreckenberg (1992),
--- slow starts by Barlovic, Santen, Schadschneider and Schreckenberg (1998), and the lane change of Rickert,
--- Nagel, Schreckenberg and Latour (1996), where the distances that a car asks for are this project's own.
+-- The published rules, as functions of a car's view and its random words: the motion of Nagel and Schreckenberg
+-- (1992), slow starts by Barlovic, Santen, Schadschneider and Schreckenberg (1998), and the lane change of
+-- Rickert, Nagel, Schreckenberg and Latour (1996), whose lane-change distances are this project's own.
 use Rattle.std.specs.Prelude.{ℕ, ◌+◌, ◌-◌, ◌&&◌, min, List, Bool, true, false, nat_eq, nat_lt, nat_le, if◌then◌else◌, slice_index}
 use Rattle.trlab_words.specs.Chances.{happens_on}
 use Rattle.trlab_code.specs.declared.view.View.{View}
 
--- the speed after acceleration and slowing down: one cell a step faster, but within the limit and the gap
+-- the speed after acceleration and slowing down: one cell per step faster, but within the limit and the gap
 abbrev pub safe_speed : ℕ → ℕ → ℕ → ℕ
 safe_speed speed limit gap = min (min (speed + 1) limit) gap
 
--- randomization: one cell a step slower where the chance happens, and 0 stays 0
+-- randomization: one cell per step slower if the random event happens, and 0 stays 0
 abbrev pub brake : Bool → ℕ → ℕ
 brake true speed = speed - 1
 brake false speed = speed
 
--- whether a chance, in parts of 2 ^ 31, happens on the word at an index
+-- whether an event of probability t / 2 ^ 31 happens on the word at an index
 abbrev pub happens_at : ℕ → List ℕ → ℕ → Bool
 happens_at chance words k = happens_on chance (slice_index words k)
 
--- the speed of 1992: acceleration, slowing down, and randomization with the chance p on word 0
+-- the speed of 1992: acceleration, slowing down, and randomization with probability p on word 0
 abbrev pub nasch_speed : ℕ → View → List ℕ → ℕ
 nasch_speed p view words = brake (happens_at p words 0) (safe_speed view.speed view.limit view.gap)
 
--- the chance of slow starts, by the speed before acceleration: p0 for a stopped car, and p for one that moves
+-- the probability of braking with slow starts, by the speed before acceleration: p0 for a stopped car, p for a
+-- moving one
 abbrev pub vdr_chance : ℕ → ℕ → ℕ → ℕ
 vdr_chance p p0 speed = if nat_eq speed 0 then p0 else p
 
--- the speed of 1998: that of 1992 with the chance of slow starts
+-- the speed of 1998: that of 1992 with the probability of slow starts
 abbrev pub vdr_speed : ℕ → ℕ → View → List ℕ → ℕ
 vdr_speed p p0 view words = nasch_speed (vdr_chance p p0 view.speed) view words
 
--- the lane change of 1996: a car crosses where its side cell is empty, its gap does not allow to go one
--- faster, the gap ahead on the other lane is above that, the gap behind there is above the limit, and the
--- chance c happens on word 1
+-- the lane change of 1996: a car crosses if its side cell is empty, its gap does not allow it to go one faster,
+-- the gap ahead on the other lane is above that, the gap behind there is above the limit, and an event of
+-- probability c happens on word 1
 abbrev pub rickert_crosses : ℕ → View → List ℕ → Bool
 rickert_crosses c view words =
     view.side && nat_lt view.gap (view.speed + 1) && nat_lt (view.speed + 1) view.sidegap
     && nat_lt view.limit view.sideback
     && happens_at c words 1
 
--- acceleration as worded in 1992: below the limit, and where the distance to the car ahead is above the speed
--- and one more, one cell a step faster
+-- acceleration as worded in 1992: below the limit, and if the distance to the car ahead is above the speed plus
+-- one, one cell per step faster
 abbrev pub acceleration_1992 : ℕ → ℕ → ℕ → ℕ
 acceleration_1992 speed limit distance =
     if nat_lt speed limit && nat_lt (speed + 1) distance then speed + 1 else speed
 
--- slowing down as worded in 1992: where the distance is at most the speed, to one less than the distance
+-- slowing down as worded in 1992: if the distance is at most the speed, to one less than the distance
 abbrev pub slowing_down_1992 : ℕ → ℕ → ℕ
 slowing_down_1992 speed distance = if nat_le distance speed then distance - 1 else speed
 
--- the two as worded in 1992, where the distance is one more than the gap
+-- the two as worded in 1992; the distance is one more than the gap
 abbrev pub wording_1992 : ℕ → ℕ → ℕ → ℕ
 wording_1992 speed limit gap = slowing_down_1992 (acceleration_1992 speed limit (gap + 1)) (gap + 1)

@@ -3,7 +3,7 @@ use Rattle.std.specs.Prelude.{Option, IfSome}
 use Rattle.trlab_code.specs.declared.kind.Kind.TheVariants.{Motion, Change}
 use Rattle.trlab_verify.specs.CheckedProgram.{CheckedProgram, IsChecked}
 
--- a motion program, and perhaps a change program
+-- a motion program, and possibly a change program
 pub record Programs : Type 0 where
   pub motion : CheckedProgram
   pub change : Option CheckedProgram

@@ -15,7 +15,7 @@ accelerate = Add R0 R0 R1 ∷ Get R2 Limit ∷ Min R0 R0 R2 ∷ []
 abbrev pub slow_down : List Instr
 slow_down = Get R2 Gap ∷ Min R0 R0 R2 ∷ []
 
--- randomization: one less where the flag in R3 is true, else on at `go`; 0 stays 0
+-- randomization: one less if the flag in R3 is true, else straight to `go`; 0 stays 0
 abbrev pub randomize : ℕ → List Instr
 randomize go = JumpFalse R3 go ∷ Min R1 R1 R0 ∷ Sub R0 R0 R1 ∷ []
 
@@ -23,7 +23,7 @@ randomize go = JumpFalse R3 go ∷ Min R1 R1 R0 ∷ Sub R0 R0 R1 ∷ []
 abbrev pub draw_by_speed : ℕ → ℕ → List Instr
 draw_by_speed p p0 = JumpAtMost R1 R0 5 ∷ Draw R3 0 p0 ∷ Jump 6 ∷ Draw R3 0 p ∷ []
 
--- the motion of 1992 with the chance p
+-- the motion of 1992 with probability p
 abbrev pub nasch_program : ℕ → Program
 nasch_program p = record {
   kind = Motion;
@@ -31,7 +31,7 @@ nasch_program p = record {
       Get R0 Speed ∷ Num R1 1 ∷ accelerate ++ slow_down ++ Draw R3 0 p ∷ randomize 11 ++ Go R0 ∷ [];
 }
 
--- the motion of 1998 with the chance p0 for a stopped car, and p for one that moves
+-- the motion of 1998 with probability p0 for a stopped car, and p for a moving one
 abbrev pub vdr_program : ℕ → ℕ → Program
 vdr_program p p0 = record {
   kind = Motion;
@@ -39,18 +39,17 @@ vdr_program p p0 = record {
       Get R0 Speed ∷ Num R1 1 ∷ draw_by_speed p p0 ++ accelerate ++ slow_down ++ randomize 14 ++ Go R0 ∷ [];
 }
 
--- a car stays where its gap allows to go one faster, which is then in R1
+-- a car stays if its gap allows it to go one faster; that speed is then in R1
 abbrev pub stay_unless_hindered : ℕ → List Instr
 stay_unless_hindered stay =
     Get R1 Speed ∷ Num R2 1 ∷ Add R1 R1 R2 ∷ Get R2 Gap ∷ JumpAtMost R1 R2 stay ∷ []
 
--- it stays where the gap ahead on the other lane is not above that, or the gap behind there is not above
--- the limit
+-- it stays if the gap ahead on the other lane is not above that, or the gap behind there is not above the limit
 abbrev pub stay_unless_free : ℕ → List Instr
 stay_unless_free stay =
     Get R2 SideGap ∷ JumpAtMost R2 R1 stay ∷ Get R2 SideBack ∷ Get R3 Limit ∷ JumpAtMost R2 R3 stay ∷ []
 
--- the lane change of 1996 with the chance c
+-- the lane change of 1996 with probability c
 abbrev pub rickert_program : ℕ → Program
 rickert_program c = record {
   kind = Change;

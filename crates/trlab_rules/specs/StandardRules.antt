@@ -23,17 +23,17 @@ pub record IsChange (crosses : View → List ℕ → Bool) (program : Program) (
   pub accepted : IsAccepted Change program
   pub changes : ChangesBy crosses change.program
 
--- the rule of 1992 with the chance p
+-- the rule of 1992 with probability p
 pub record IsNasch (p : ℕ) (rule : Programs) : Type 0 where
   pub motion : IsMotion (nasch_speed p) (nasch_program p) rule.motion
   pub change : rule.change ≡ None
 
--- the rule of 1998 with the chance p0 for stopped cars, and p for those that move
+-- the rule of 1998 with probability p0 for stopped cars, and p for moving ones
 pub record IsVdr (p p0 : ℕ) (rule : Programs) : Type 0 where
   pub motion : IsMotion (vdr_speed p p0) (vdr_program p p0) rule.motion
   pub change : rule.change ≡ None
 
--- the rule of 1996: the motion of 1992 with the chance p, and the lane change with the chance c
+-- the rule of 1996: the motion of 1992 with probability p, and the lane change with probability c
 pub record IsRickert (p c : ℕ) (rule : Programs) : Type 0 where
   pub motion : IsMotion (nasch_speed p) (nasch_program p) rule.motion
   pub change : MatchOption rule.change ⊥ (IsChange (rickert_crosses c) (rickert_program c))

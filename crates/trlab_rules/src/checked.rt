@@ -37,7 +37,7 @@ fn checked<K: ProgramKind>(
     }
 }
 
-/// The accepted motion of 1992, which brakes with the chance `p`.
+/// The accepted motion of 1992, which brakes with probability `p`.
 ///
 /// # Errors
 ///
@@ -48,8 +48,8 @@ pub fn nasch_motion(alloc: Global, p: Chance) -> Result<Motion, AllocError>
     checked(alloc, nasch_instrs(alloc, p)?)
 }
 
-/// The accepted motion of 1998, which brakes with the chance `p0` where the car is stopped, and with
-/// `p` where it moves.
+/// The accepted motion of 1998, which brakes with probability `p0` if the car is stopped, and with `p` if it
+/// moves.
 ///
 /// # Errors
 ///
@@ -60,7 +60,7 @@ pub fn vdr_motion(alloc: Global, p: Chance, p0: Chance) -> Result<Motion, AllocE
     checked(alloc, vdr_instrs(alloc, p, p0)?)
 }
 
-/// The accepted lane change of 1996, with the chance `c`.
+/// The accepted lane change of 1996, with probability `c`.
 ///
 /// # Errors
 ///

@@ -1,4 +1,4 @@
-//! Why there may be no standard rule: memory ran out. The verifier accepts the programs of all of them.
+//! Why a call may return no standard rule: allocation failed. The verifier accepts the programs of all of them.
 
 ghost use Rattle.std.specs.Prelude.{◌≡◌};
 ghost use Rattle.trlab_rules.specs.declared.fault.StandardFault.TheVariants.{Memory};

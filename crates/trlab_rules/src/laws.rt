@@ -14,7 +14,7 @@ pub fn standard_programs_are_accepted()
     ensures rickert { (c : ℕ) → IsAccepted OfChange (rickert_program c) }
 {}
 
-/// A chance and a draw of a program happen on the same words.
+/// A probability and a draw of a program happen on the same words.
 pub fn chances_are_those_of_draws()
     ensures { DrawsHappenAsChances }
 {}
@@ -34,7 +34,7 @@ pub fn rickert_is_published()
     ensures { (c : ℕ) → ChangesBy (rickert_crosses c) (rickert_program c) }
 {}
 
-/// The wording of 1992 gives the least of one more than the speed, the limit and the gap.
+/// The wording of 1992 gives the minimum of the speed plus one, the limit and the gap.
 pub fn wording_is_safe_speed()
     ensures { (speed limit gap : ℕ) → speed ≤ limit → wording_1992 speed limit gap ≡ safe_speed speed limit gap }
 {}

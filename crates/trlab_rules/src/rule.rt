@@ -7,7 +7,7 @@ use std::alloc::{AllocError, Global};
 use std::marker::Model;
 use trlab_verify::{Change, Motion};
 
-/// An accepted motion program, and for two lanes perhaps an accepted change program.
+/// An accepted motion program, and for two lanes possibly an accepted change program.
 #[derive(Drop)]
 pub struct Rule {
     motion: Motion,
@@ -25,7 +25,7 @@ impl Model for Rule {
 }
 
 impl Rule {
-    /// The rule of a motion program and perhaps a change program.
+    /// A rule from a motion program and possibly a change program.
     pub fn new(motion: Motion, change: Option<Change>) -> Rule
         ensures value { result ≡ record { motion = motion; change = change } }
         ensures rule { IsRule result }
@@ -33,7 +33,7 @@ impl Rule {
         Rule { motion, change }
     }
 
-    /// The program that answers each car's new speed, in cells a step.
+    /// The program that answers each car's new speed, in cells per step.
     pub fn motion(&self) -> &Motion
         ensures value { result.now ≡ self.now.motion }
         ensures rule { IsRule self.now }

@@ -13,8 +13,8 @@ use trlab_words::Chance;
 
 /// The rule of Nagel and Schreckenberg (1992), for one lane or for lanes that no car leaves.
 ///
-/// A car accelerates by one cell a step up to the limit, slows down to its gap, and then, with the
-/// chance `p` on its word 0, brakes by one.
+/// A car accelerates by one cell per step up to the limit, slows down to its gap, and then, with probability
+/// `p` on its word 0, brakes by one.
 ///
 /// # Errors
 ///
@@ -29,8 +29,7 @@ pub fn nasch(alloc: Global, p: Chance) -> Result<Rule, StandardFault>
 
 /// The rule of slow starts of Barlovic, Santen, Schadschneider and Schreckenberg (1998).
 ///
-/// It is `nasch` with the chance `p0` for a car whose speed before the step is 0, and `p` for one that
-/// moves.
+/// It is `nasch` with probability `p0` for a car whose speed before the step is 0, and `p` for a moving one.
 ///
 /// # Errors
 ///
@@ -46,9 +45,9 @@ pub fn vdr(alloc: Global, p: Chance, p0: Chance) -> Result<Rule, StandardFault>
 /// The rule of two lanes of Rickert, Nagel, Schreckenberg and Latour (1996), with distances of this
 /// project's own.
 ///
-/// A car crosses exactly where its side cell is empty, its gap is below its speed and one more, the gap
-/// ahead on the other lane is above that, the gap behind there is above the limit, and the chance `c`
-/// happens on its word 1. Then all cars move as by `nasch` with the chance `p`.
+/// A car crosses exactly if its side cell is empty, its gap is below its speed plus one, the gap ahead on the
+/// other lane is above that, the gap behind there is above the limit, and an event of probability `c` happens
+/// on its word 1. Then all cars move as with `nasch` and probability `p`.
 ///
 /// # Errors
 ///

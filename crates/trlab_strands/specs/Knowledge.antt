@@ -1,20 +1,20 @@
--- The subhistory of a strand is its own events, each with all that stood before it in the one list. A strand
--- knows how many parts it has, and which events are its own; the keeper knows the list.
+-- The subhistory of a strand is its own events, each with all earlier events of the one list. A strand knows
+-- the number of its parts, and which events are its own; the keeper knows the list.
 use Rattle.std.specs.Prelude.{◌≡◌, ℕ, ◌+◌, ◌-◌, max, Bool, true, false, cond, eqb, ltb}
 use Rattle.std.specs.Prelude.{List, [], ◌∷◌, ◌++◌, length, count_by, All}
 use Rattle.trlab_strands.specs.declared.limits.TheConstants.{ALL_PARTS}
 use Rattle.trlab_strands.specs.declared.knowledge.Noted.{Noted}
 use Rattle.trlab_strands.specs.declared.knowledge.Knowledge.{Knowledge}
 
--- how often a number is to be had: once where it is below the count, else never
+-- how often a number occurs: once if it is below the count, else never
 abbrev pub once_below : ℕ → ℕ → ℕ
 once_below k count = cond (ltb k count) 1 0
 
--- an event by what stood before it
+-- an event with the list before it
 abbrev pub noted : {E : Type 0} → List E → E → Noted E
 noted before event = record { before = before; event = event }
 
--- its number in the list: how many stood before it
+-- its number in the list: the number of earlier events
 abbrev pub number_of : {E : Type 0} → Noted E → ℕ
 number_of n = length n.before
 
@@ -22,28 +22,27 @@ number_of n = length n.before
 abbrev pub times : {E : Type 0} → ℕ → List (Noted E) → ℕ
 times k own = count_by (λ n. eqb (number_of n) k) own
 
--- the list begins with what stood before the event, and goes on with it
+-- the list begins with the events before this one, and continues with it
 abbrev pub StandsIn : {E : Type 0} → List E → Noted E → Type 0
 StandsIn {E} events n = (later : List E) × (events ≡ n.before ++ n.event ∷ later)
 
--- each of these events stands in the list
+-- each of these events is in the list
 abbrev pub StandIn : {E : Type 0} → List E → List (Noted E) → Type 0
 StandIn events own = All (StandsIn events) own
 
--- the list is a linearization of these events, that is, all of them in the order of their numbers: there are
--- as many, each stands in the list after what stood before it, and each place of the list is the number of
--- exactly one
+-- the list is a linearization of these events, that is, all of them in the order of their numbers: there are as
+-- many, each is in the list after its earlier events, and each place of the list is the number of exactly one
 pub record IsLinearization {E : Type 0} (events : List E) (own : List (Noted E)) : Type 0 where
   pub count : length own ≡ length events
   pub stand : StandIn events own
   pub once : (k : ℕ) → times k own ≡ once_below k (length events)
 
--- what is known at a seat, by its parts
+-- the knowledge of a seat, by its parts
 abbrev pub knowledge : {E : Type 0} → ℕ → List (Noted E) → ℕ → Bool → List E → Knowledge E
 knowledge parts own least keeps all =
     record { parts = parts; own = own; least = least; keeps = keeps; all = all }
 
--- what is left at the seat of a strand that was gathered into another
+-- the knowledge that is left at the seat of a strand that was gathered into another
 abbrev pub nothing : {E : Type 0} → Knowledge E
 nothing = knowledge 0 [] 0 false []
 
@@ -59,7 +58,7 @@ without_list k = knowledge k.parts k.own k.least false []
 abbrev pub list_alone : {E : Type 0} → Knowledge E → Knowledge E
 list_alone k = knowledge 0 [] 0 k.keeps k.all
 
--- what a strand keeps that gives a part away
+-- the knowledge of a strand that has given a part away
 abbrev pub less_a_part : {E : Type 0} → Knowledge E → Knowledge E
 less_a_part k = knowledge (k.parts - 1) k.own k.least k.keeps k.all
 

@@ -1,4 +1,4 @@
--- The rule of strands: what holds of all that strands and their keeper know, before and after each atomic
+-- The rule of strands: an invariant of all that strands and their keeper know, before and after each atomic
 -- step.
 use Rattle.std.specs.Prelude.{◌≡◌, ℕ, ◌≤◌, true, cond, List, [], length, sum_by}
 use mathlib.Core.Option.{some}
@@ -8,8 +8,8 @@ use Rattle.trlab_strands.specs.declared.limits.TheConstants.{ALL_PARTS}
 use Rattle.trlab_strands.specs.declared.knowledge.Knowledge.{Knowledge}
 use Rattle.trlab_strands.specs.Knowledge.{times, once_below, StandIn, up_to_date, with_event}
 
--- whoever has no part has no event; nobody's clock is ahead of the list, each own event stands in the list,
--- and whoever keeps a list keeps this one
+-- a seat without parts has no events; no clock is ahead of the list, each own event is in the list, and a seat
+-- that keeps a list keeps this one
 pub record IsSound {E : Type 0} (events : List E) (k : Knowledge E) : Type 0 where
   pub idle : k.parts ≡ 0 → k.own ≡ []
   pub rises : k.least ≤ length events
@@ -28,12 +28,12 @@ pub record AreSound {E : Type 0} (events : List E) (known : List (Knowledge E)) 
 abbrev pub KeepsStrands : {E : Type 0} → State E (Knowledge E) → Type 0
 KeepsStrands {E} s = (events : List E) × AreSound events s.views
 
--- to note what is said: it is the next event of the list, and of this strand
+-- to note an event: it becomes the next one of the list, and of this strand
 abbrev pub NotesEvent : {E : Type 0} → Step E → Me E (Knowledge E) → ℕ → Me E (Knowledge E) → Type 0
 NotesEvent {E} s old found new =
     (e : E) → s.said ≡ some e → (new ≡ (with_event old.0 e, old.1)) × (old.0.least ≤ length old.0.all)
 
--- what a strand learns by a look, and more where it keeps the list
+-- the knowledge that a strand gains by a look, and more if it keeps the list
 pub record Learns {E : Type 0} (k : Knowledge E) : Type 0 where
   pub few : k.parts ≤ ALL_PARTS
   pub stand : k.keeps ≡ true → StandIn k.all k.own

@@ -1,4 +1,4 @@
--- What callers see of strands and their keeper.
+-- Strands and their keeper as callers see them.
 use Rattle.std.specs.Prelude.{◌≡◌, ℕ, ◌+◌, ◌≤◌, List, [], ◌∷◌, ◌++◌, length}
 use Rattle.atomic_table.specs.Seated.{TableId}
 use Rattle.trlab_strands.specs.declared.tokens.Blank.{Blank}
@@ -20,7 +20,7 @@ list_of k = k.seat.me.0.all
 abbrev pub parts_of : {L E : Type 0} {ledger : Ghosts L} → Strand L E ledger → ℕ
 parts_of s = s.seat.me.0.parts
 
--- the subhistory of a strand: its own events, each with all that stood before it in the list
+-- the subhistory of a strand: its own events, each with all earlier events of the list
 abbrev pub subhistory_of : {L E : Type 0} {ledger : Ghosts L} → Strand L E ledger → List (Noted E)
 subhistory_of s = s.seat.me.0.own
 
@@ -28,20 +28,19 @@ subhistory_of s = s.seat.me.0.own
 abbrev pub least_of : {L E : Type 0} {ledger : Ghosts L} → Strand L E ledger → ℕ
 least_of s = s.seat.me.0.least
 
--- one event more, after the strand's own and after all that stood in the list, of which the strand had
--- seen no more
+-- one more event, after the strand's own and after all events of the list; the strand had seen no more of them
 abbrev pub Adds : {L E : Type 0} {ledger : Ghosts L}
     → Strand L E ledger → List E → E → Strand L E ledger → Type 0
 Adds old before event new =
     (parts_of new ≡ parts_of old) × (least_of old ≤ length before)
     × (subhistory_of new ≡ subhistory_of old ++ noted before event ∷ []) × (least_of new ≡ length before + 1)
 
--- a strand as it was
+-- an unchanged strand
 abbrev pub IsSame : {L E : Type 0} {ledger : Ghosts L} → Strand L E ledger → Strand L E ledger → Type 0
 IsSame old new =
     (parts_of new ≡ parts_of old) × (subhistory_of new ≡ subhistory_of old) × (least_of new ≡ least_of old)
 
--- the strand has now seen this many events, and had seen no more before; otherwise it is as it was
+-- the strand has now seen this many events, and had seen no more before; otherwise it is unchanged
 abbrev pub HasSeen : {L E : Type 0} {ledger : Ghosts L} → Strand L E ledger → ℕ → Strand L E ledger → Type 0
 HasSeen old count new =
     (parts_of new ≡ parts_of old) × (subhistory_of new ≡ subhistory_of old)

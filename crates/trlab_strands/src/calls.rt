@@ -36,9 +36,9 @@ impl<L: Ledger, E: Drop> Keeper<L, E> {
         self.seat = shared.split_seat::<Apart>(&mut strand.seat);
     }
 
-    /// Changes nothing, and tells how the list and a strand agree: each event of the strand stands in the
-    /// list after what stood before it; the strand has at most as many events as the list, and exactly as many
-    /// if it has all parts; and if it has as many, the list is a linearization of them.
+    /// Changes nothing, and shows how the list and a strand agree: each event of the strand is in the list
+    /// after its earlier events; the strand has at most as many events as the list, and exactly as many if it
+    /// has all parts; and if it has as many, the list is a linearization of them.
     pub fn audit(&mut self, strands: &Strands<L, E>, strand: &mut Strand<L, E>)
         ensures same { (list_of self.new ≡ list_of self.old) × IsSame strand.old strand.new }
         ensures few { parts_of strand.old ≤ ALL_PARTS }

@@ -1,18 +1,18 @@
-//! What strands and their keeper know, and the rule that holds of it in each atomic step. All of this is for
-//! contracts: at run time there is one word.
+//! The knowledge of strands and their keeper, and its invariant in each atomic step. All of this is for
+//! contracts: at run time there is only one word.
 
 use atomic_table::{Join, Play, Split, TableRule};
 use std::collections::LinkedList;
 use std::marker::PhantomData;
 
-/// An event that was noted, with all that stood in the list before it. No value of it is made.
+/// An event with all earlier events of the list. No value of this type is ever made.
 pub struct Noted<E> {
     pub before: LinkedList<E>,
     pub event: E,
 }
 
-/// What is known at a seat: of a strand its parts, the events that it noted, and the least number that its
-/// next one may have; of the keeper the whole list. No value of it is made.
+/// The knowledge of a seat: for a strand its parts, its events, and the smallest number that its next event may
+/// have; for the keeper the whole list. No value of this type is ever made.
 pub struct Knowledge<E> {
     pub parts: u32,
     pub own: LinkedList<Noted<E>>,

@@ -2,7 +2,7 @@
 
 use std::marker::Brand;
 
-/// Names the strands of one list. Each call of a program picks the name anew.
+/// Names the strands of one list. Each call of a program picks a new name.
 pub trait Ledger {
     ghost use Rattle.atomic_table.specs.Seated.{TableId};
 

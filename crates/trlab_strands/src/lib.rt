@@ -1,8 +1,8 @@
-//! What each of several threads adds to one list, which lies under a lock. A strand is what one of them
-//! added, each event with its number in the list; all strands together have each event of it, once.
+//! Which events each of several threads has added to one list under a lock. A strand has the events of one
+//! thread, each with its number in the list; all strands together have each event exactly once.
 //!
-//! So whoever has all strands knows of a whole history which of its events are whose, and in which order.
-//! Strands take no memory but one word that all of them share, and that no thread reads.
+//! So a holder of all strands knows for a whole history which thread added which event, and in which order.
+//! Strands need no memory but one word, which all of them share and no thread reads.
 #![tactic(auto)]
 
 mod calls;

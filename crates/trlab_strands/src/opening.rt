@@ -16,13 +16,13 @@ impl<E: Drop> Blank<E> {
     ///
     /// # Errors
     ///
-    /// Where there is no memory for the word that they share.
+    /// If the shared word cannot be allocated.
     pub fn new(alloc: Global) -> Result<Blank<E>, AllocError> {
         let (table, seat) = Table::of_words(alloc, &[0], &())?;
         Ok(Blank { table, seat })
     }
 
-    /// What strands share, the keeper of an empty list, and the strand with all 1024 parts.
+    /// The shared word, the keeper of an empty list, and the strand with all 1024 parts.
     pub fn open<L: Ledger>(self) -> (Strands<L, E>, Keeper<L, E>, Strand<L, E>)
         requires { name_of self ≡ L.name }
         ensures list { list_of result.1 ≡ [] }

@@ -1,4 +1,4 @@
-//! What threads hold of a list: its strands, their keeper, and what all of them share.
+//! The tokens of a list: its strands, their keeper, and the word that all of them share.
 
 ghost use Rattle.std.specs.Prelude.{◌≡◌, ◌<◌, true, false, []};
 ghost use Rattle.trlab_strands.specs.Knowledge.{opening_knowledge};
@@ -19,7 +19,7 @@ pub struct Blank<E> {
     ghost first: { seat.me ≡ (opening_knowledge, []) },
 }
 
-/// What all strands of one list share, by reference: one word.
+/// The word that all strands of one list share by reference.
 #[derive(Drop)]
 pub struct Strands<L: Ledger, E> {
     pub(crate) table: Table<E, Knowledge<E>, (), OncePerEvent<E>, Global>,
@@ -28,7 +28,7 @@ pub struct Strands<L: Ledger, E> {
     ghost one_word: { table.shared.table_id.words ≡ 1 },
 }
 
-/// Knows the whole list, and lies beside it.
+/// Knows the whole list, and is kept beside it under the lock.
 #[derive(Drop)]
 pub struct Keeper<L: Ledger, E> {
     pub(crate) seat: Seat<E, Knowledge<E>>,
@@ -38,7 +38,7 @@ pub struct Keeper<L: Ledger, E> {
     ghost keeps: { seat.me.0.keeps ≡ true },
 }
 
-/// What one thread added to the list, and the right to add more, in one part or more of 1024.
+/// The events that one thread added to the list, and the right to add more, in one or more of 1024 parts.
 #[derive(Drop)]
 pub struct Strand<L: Ledger, E> {
     pub(crate) seat: Seat<E, Knowledge<E>>,

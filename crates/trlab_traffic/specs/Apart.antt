@@ -1,4 +1,4 @@
--- Lanes that do not see each other: where nobody changes lanes, a lane goes on as if it were alone.
+-- Independent lanes: if nobody changes lanes, the other lane has no influence.
 use Rattle.std.specs.Prelude.{◌≡◌, ℕ}
 use Rattle.trlab_road.specs.Cells.{Cells, lane_of}
 use Rattle.trlab_rules.specs.Rules.{Programs}
@@ -8,7 +8,8 @@ use Rattle.trlab_step.specs.Next.{IsNext}
 use Rattle.trlab_step.specs.Run.{Seed, Sheet, ComesTo}
 use Rattle.trlab_traffic.specs.Runs.{EachRule, StaysInLane}
 
--- two roads of one limit have a lane in common, the same cars in its cells, whatever is on their other lanes
+-- two roads with the same limit have a lane in common, with the same cars in its cells; their other lanes may
+-- differ
 pub record ShareLane (l : ℕ) (road other : Cells) : Type 0 where
   pub same_limit : other.limit ≡ road.limit
   pub same_lane : lane_of other l ≡ lane_of road l

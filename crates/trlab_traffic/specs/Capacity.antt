@@ -1,6 +1,6 @@
--- Capacity: how far the cars of a road can go in a step, under any rule. They go over empty cells alone, no
--- two over the same, and none is faster than the limit. So the flow is at most that of a triangle over the
--- density, whose sides are the limit times the density, and one less the density.
+-- Capacity: the maximum distance of all cars of a road in one step, under any rule. Cars pass only over empty
+-- cells, no two over the same, and none is faster than the limit. So flow against density lies under a
+-- triangle, whose sides are the limit times the density, and one minus the density.
 use Rattle.std.specs.Prelude.{◌≡◌, ℕ, ◌+◌, ◌*◌, ◌≤◌, count_by, is_none, length, min, sum_by}
 use Rattle.trlab_road.specs.Cells.{Cells, Lane, cars, lane_cars}
 use Rattle.trlab_road.specs.Legal.{IsLegal}
@@ -31,12 +31,12 @@ empty_cells road = sum_by lane_empty_cells road.lanes
 abbrev pub CellsAreTakenOrEmpty : Type 0
 CellsAreTakenOrEmpty = (road : Cells) → cars road + empty_cells road ≡ all_cells road
 
--- the distance of a step in which each car goes by the limit
+-- the distance of a step in which each car drives at the limit
 abbrev pub distance_at_limit : Cells → ℕ
 distance_at_limit road = road.limit * cars road
 
--- the capacity of a road, the greatest distance of a step: each car goes by the limit, or each empty cell
--- is gone onto
+-- the capacity of a road, the maximum distance of a step: each car drives at the limit, or each empty cell is
+-- passed
 abbrev pub capacity : Cells → ℕ
 capacity road = min (distance_at_limit road) (empty_cells road)
 
@@ -44,7 +44,7 @@ capacity road = min (distance_at_limit road) (empty_cells road)
 abbrev pub lane_capacity : ℕ → Lane → ℕ
 lane_capacity limit lane = min (limit * lane_cars lane) (lane_empty_cells lane)
 
--- a distance is within the capacity of a road for so many steps
+-- a distance is within the capacity of a road for a number of steps
 pub record IsWithinCapacity (road : Cells) (steps distance : ℕ) : Type 0 where
   pub by_empty_cells : distance ≤ steps * empty_cells road
   pub by_limit : distance ≤ steps * distance_at_limit road
@@ -63,7 +63,7 @@ RunKeepsToCapacity =
     → IsLegal seed.road → ComesTo seed sheet step road sum
     → IsWithinCapacity seed.road (counted_steps seed step) sum.distance
 
--- so no flow is above v / (v + 1), where v is the limit: the peak of the triangle
+-- so no flow is above v / (v + 1), the peak of the triangle; v is the limit
 abbrev pub RunKeepsBelowPeak : Type 0
 RunKeepsBelowPeak =
     (seed : Seed) (sheet : Sheet) (step : ℕ) (road : Cells) (sum : StepTally)

@@ -1,4 +1,4 @@
--- Rules that leave nothing to chance: the key of a run does not matter.
+-- Deterministic rules: the key of a run does not matter.
 use Rattle.std.specs.Prelude.{◌≡◌, ℕ, ◌⊎◌, All, IfSome, List}
 use Rattle.trlab_bounds.specs.declared.programs.TheConstants.{CERTAIN}
 use Rattle.trlab_code.specs.declared.instruction.Instr.{Instr}
@@ -12,12 +12,12 @@ use Rattle.trlab_step.specs.Next.{IsNext}
 use Rattle.trlab_step.specs.Run.{Seed, Sheet, ComesTo}
 use Rattle.trlab_traffic.specs.Runs.{EachRule}
 
--- an instruction has one outcome: where it is a draw, its chance is 0 or certainty
+-- an instruction has one outcome: if it is a draw, its probability is 0 or 1
 abbrev pub HasOneOutcome : Instr → Type 0
 HasOneOutcome (Draw d k chance) = (chance ≡ 0) ⊎ (chance ≡ CERTAIN)
 HasOneOutcome _ = Unit {0}
 
--- the programs of a rule leave nothing to chance
+-- the programs of a rule are deterministic
 pub record IsCertain (rule : Programs) : Type 0 where
   pub motion : All HasOneOutcome rule.motion.program.instrs
   pub change : IfSome rule.change (λ change. All HasOneOutcome change.program.instrs)
@@ -26,7 +26,7 @@ pub record IsCertain (rule : Programs) : Type 0 where
 abbrev pub NaschWithoutRandomization : Type 0
 NaschWithoutRandomization = (rule : Programs) → IsNasch 0 rule → IsCertain rule
 
--- the next road, and what is counted, are the same for all dice, so for all keys, numbers of roads and steps
+-- the next road and the tally are the same for all dice, so for all keys, road numbers and steps
 abbrev pub StepIsDeterministic : Type 0
 StepIsDeterministic =
     (rule : Programs) (dice other : Dice) (road next : Cells) (tally : StepTally)

@@ -1,5 +1,5 @@
--- Detectors: how many cars pass the end of a cell in a step, and what that says of the cars between two of
--- them.
+-- Detectors: the number of cars that pass the end of a cell in a step, and its relation to the cars between two
+-- detectors.
 use Rattle.std.specs.Prelude.{◌≡◌, ℕ, ◌+◌, ◌-◌, ◌<◌, ◌≤◌, Bool, count_by, length, nat_lt, sum_by}
 use Rattle.std.specs.List.{range_with_len}
 use Rattle.trlab_road.specs.declared.car.Car.{Car}
@@ -17,7 +17,7 @@ use Rattle.trlab_traffic.specs.Runs.{StaysInLane}
 abbrev pub way : ℕ → ℕ → ℕ → ℕ
 way n from to = ahead n to (n - from)
 
--- where a car stood before it came to where it is by its speed
+-- the cell of a car before it moved to its cell by its speed
 abbrev pub start_of : ℕ → Car → ℕ
 start_of n car = behind n car.place car.speed
 
@@ -33,20 +33,20 @@ passages lane x = count_by (passes (length lane) x) (standing_from 0 0 lane)
 abbrev pub all_passages : Lane → ℕ
 all_passages lane = sum_by (passages lane) (range_with_len 0 (length lane))
 
--- under any rule all detectors of a road together count the distance of a step: the mean of their counts is
--- the flow
+-- under any rule all detectors of a road together count the distance of a step: the mean of their counts is the
+-- flow
 abbrev pub DetectorsCountDistance : Type 0
 DetectorsCountDistance =
     (rule : Programs) (dice : Dice) (road next : Cells) (tally : StepTally)
     → IsNext rule dice road next tally → sum_by all_passages next.lanes ≡ tally.distance
 
--- and none counts more than one car in a step: of two cars the one behind stops before where the other stood
+-- and none counts more than one car in a step: of two cars the one behind stops before the other's old cell
 abbrev pub DetectorCountsOne : Type 0
 DetectorCountsOne =
     (rule : Programs) (dice : Dice) (road next : Cells) (tally : StepTally) (l x : ℕ)
     → IsNext rule dice road next tally → x < length (lane_of next l) → passages (lane_of next l) x ≤ 1
 
--- how many cars stand in the k cells ahead of a detector
+-- the number of cars in the k cells ahead of a detector
 abbrev pub cars_ahead_of : Lane → ℕ → ℕ → ℕ
 cars_ahead_of lane x k = count_by (λ j. is_taken lane (ahead (length lane) x j)) (range_with_len 1 k)
 
@@ -56,7 +56,7 @@ abbrev pub IsContinuous : Lane → Lane → ℕ → ℕ → ℕ → ℕ → Type
 IsContinuous old new x k first second =
     cars_ahead_of new x k + second ≡ cars_ahead_of old x k + first
 
--- a step is so, under any rule without lane changes
+-- the continuity equation holds for each step, under any rule without lane changes
 abbrev pub StepIsContinuous : Type 0
 StepIsContinuous =
     (rule : Programs) (dice : Dice) (old new : Cells) (tally : StepTally) (l x k : ℕ)

@@ -1,4 +1,4 @@
--- What detectors count in the steps of a run, from the step on from which its tally counts.
+-- The counts of detectors in a run, from the first step on that its tally counts.
 use Rattle.std.specs.Prelude.{◌≡◌, ℕ, zero, suc, ◌+◌, ◌*◌, ◌<◌, ◌≤◌, if◌then◌else◌, length, min, nat_le, sum_by}
 use Rattle.std.specs.List.{range_with_len}
 use Rattle.trlab_road.specs.Cells.{Cells, Lane, lane_cars, lane_of}
@@ -10,7 +10,8 @@ use Rattle.trlab_traffic.specs.Capacity.{lane_empty_cells}
 use Rattle.trlab_traffic.specs.Detector.{IsContinuous, passages}
 use Rattle.trlab_traffic.specs.Runs.{EachRule, StaysInLane}
 
--- the detector of cell x on lane l counts so many cars in those of the first steps of a run that are counted
+-- the detector of cell x on lane l counts this number of cars in the counted steps among the first steps of a
+-- run
 abbrev pub Counts : Seed → Sheet → ℕ → ℕ → ℕ → ℕ → Type 0
 Counts seed sheet l x zero count = count ≡ 0
 Counts seed sheet l x (suc step) count =
@@ -43,7 +44,7 @@ pub record AreWithin (k first second : ℕ) : Type 0 where
   pub no_less : first ≤ second + k
   pub no_more : second ≤ first + k
 
--- however many steps a run has, what two detectors count differs by no more than the cells between them
+-- however long a run is, the counts of two detectors differ by no more than the cells between them
 abbrev pub DetectorsAgree : Type 0
 DetectorsAgree =
     (seed : Seed) (sheet : Sheet) (step : ℕ) (road : Cells) (sum : StepTally) (l x k first second : ℕ)
@@ -70,7 +71,7 @@ DetectorsCountRun =
     → sum_by count (range_with_len 0 (length (lane_of seed.road 0))) ≡ sum.distance
 
 -- on a ring of n cells, n times the count of a detector differs from the distance by at most n times the
--- cars, or the empty cells, whichever are fewer
+-- minimum of the cars and the empty cells
 abbrev pub Measures : Lane → ℕ → ℕ → Type 0
 Measures lane count distance = AreWithin (length lane * scarcer lane) (length lane * count) distance
 
@@ -83,8 +84,8 @@ DetectorMeasuresFlow =
     → x < length (lane_of seed.road 0) → Counts seed sheet 0 x step count
     → Measures (lane_of seed.road 0) count sum.distance
 
--- in at most v + 1 steps in a row, where v is the limit, a detector counts at most v cars, under any sheet of
--- rules without lane changes
+-- in at most v + 1 consecutive steps a detector counts at most v cars, under any sheet of rules without lane
+-- changes; v is the limit
 abbrev pub DetectorCountsBelowPeak : Type 0
 DetectorCountsBelowPeak =
     (seed : Seed) (sheet : Sheet) (step l x count : ℕ)

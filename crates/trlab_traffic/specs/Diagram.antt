@@ -16,8 +16,8 @@ use Rattle.trlab_traffic.specs.Runs.{always, counted_steps}
 abbrev pub FlowsAtCapacity : Seed → ℕ → StepTally → Type 0
 FlowsAtCapacity seed step sum = sum.distance ≡ counted_steps seed step * capacity seed.road
 
--- from any start, wherever the cars stand and however fast they are: where no step is counted before cars
--- have had time to come to the limit, and then to go round the ring
+-- from any initial state, whatever the cars' cells and speeds: if no step is counted before the cars had time
+-- to reach the limit and then to go round the ring
 abbrev pub NaschComesToCapacity : Type 0
 NaschComesToCapacity =
     (rule : Programs) (seed : Seed) (step : ℕ) (road : Cells) (sum : StepTally)
@@ -42,7 +42,7 @@ Rule184ComesToCapacity =
     → all_cells seed.road ≤ seed.warm + 1 → ComesTo seed (always rule) step road sum
     → FlowsAtCapacity seed step sum
 
--- where n cars stand evenly spread at the start, the time to come to the limit is enough
+-- if n cars are evenly spaced at the start, the time to reach the limit is enough
 abbrev pub EvenCarsFlowAtCapacity : Type 0
 EvenCarsFlowAtCapacity =
     (cells limit n : ℕ) (rule : Programs) (seed : Seed) (step : ℕ) (road : Cells) (sum : StepTally)

@@ -18,8 +18,8 @@ use Rattle.trlab_step.specs.Run.{Seed, Sheet, ComesTo}
 use Rattle.trlab_traffic.specs.Gone.{HasGone}
 use Rattle.trlab_traffic.specs.Runs.{EachRule, StaysInLane, always}
 
--- two runs from the same start: after so many steps no car has gone further in the slow run than in the fast
--- one, and neither have all cars together, if every step is counted
+-- two runs from the same initial state: after a number of steps no car has gone further in the slow run than in
+-- the fast one, and neither have all cars together, if every step is counted
 pub record IsNoFaster (seed : Seed) (slow fast : Sheet) (step : ℕ) : Type 0 where
   pub each_car : (number far most : ℕ)
       → HasGone seed slow step number far → HasGone seed fast step number most → far ≤ most

@@ -11,13 +11,13 @@ use Rattle.trlab_step.specs.Next.{IsNext}
 use Rattle.trlab_step.specs.Published.{AllGo, car_ahead}
 use Rattle.trlab_traffic.specs.Runs.{StaysInLane}
 
--- the second car is the next one ahead of the first on its lane, the same car where it is alone there
+-- the second car is the next one ahead of the first on its lane; the same car if there is no other
 pub record IsNextAhead (road : Cells) (car next : Car) : Type 0 where
   pub same_lane : next.lane ≡ car.lane
   pub ahead : next.place ≡ next_place (lane_of road car.lane) car.place
 
--- under any rule without lane changes the gap of a car grows by what the next car ahead goes, and shrinks
--- by what it goes itself
+-- under any rule without lane changes the gap of a car grows by the distance of the next car ahead, and shrinks
+-- by its own
 abbrev pub GapsFollow : Type 0
 GapsFollow =
     (rule : Programs) (dice : Dice) (old new : Cells) (tally : StepTally) (goes : Car → ℕ) (car next : Car)

@@ -11,7 +11,7 @@ use Rattle.trlab_step.specs.declared.tally.StepTally.{StepTally}
 use Rattle.trlab_step.specs.Next.{IsNext}
 use Rattle.trlab_step.specs.Run.{Seed, Sheet, ComesTo}
 
--- a lane that is turned by r cells: each place has what the place r cells ahead of it had
+-- a lane rotated by r cells: each place has the old cell of the place r cells ahead
 abbrev pub turned_lane : ℕ → Lane → Lane
 turned_lane r lane = map (λ x. at lane (ahead (length lane) x r)) (range_with_len 0 (length lane))
 
@@ -19,8 +19,8 @@ turned_lane r lane = map (λ x. at lane (ahead (length lane) x r)) (range_with_l
 abbrev pub turned : ℕ → Cells → Cells
 turned r road = record { limit = road.limit; lanes = map (turned_lane r) road.lanes }
 
--- the next road of a road that is turned is its next road, turned as far, with the same tally, whatever the
--- rule and the dice
+-- the next road of a rotated road is its next road, rotated as far, with the same tally, for every rule and all
+-- dice
 abbrev pub StepIsHomogeneous : Type 0
 StepIsHomogeneous =
     (rule : Programs) (dice : Dice) (road next : Cells) (tally : StepTally) (r : ℕ)

@@ -1,4 +1,4 @@
--- What keeps a jam: a car that has no gap stops.
+-- Why jams persist: a car without a gap stops.
 use Rattle.std.specs.Prelude.{◌≡◌}
 use Rattle.trlab_road.specs.declared.car.Car.{Car}
 use Rattle.trlab_road.specs.Cells.{Cells, IsAt, lane_of}
@@ -9,7 +9,7 @@ use Rattle.trlab_step.specs.declared.tally.StepTally.{StepTally}
 use Rattle.trlab_step.specs.Next.{IsNext}
 use Rattle.trlab_traffic.specs.Runs.{StaysInLane}
 
--- a car, stopped where it is
+-- a car, stopped in its cell
 abbrev pub stopped_car : Car → Car
 stopped_car car = record car { speed = 0 }
 

@@ -16,7 +16,7 @@ pub mod Overtaking
 -- runs compared car by car
 pub mod Gone
 pub mod Fastest
--- what makes no difference
+-- symmetries
 pub mod Homogeneity
 pub mod Symmetry
 pub mod Apart
@@ -27,7 +27,7 @@ pub mod Reduction
 pub mod Rule184
 -- the fundamental diagram without randomization
 pub mod Diagram
--- what detectors count
+-- the counts of detectors
 pub mod Detector
 pub mod DetectorRuns
 pub mod Rows

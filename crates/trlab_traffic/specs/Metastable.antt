@@ -1,6 +1,6 @@
--- Slow starts make free flow metastable (Barlovic and others 1998). Where cars that move never brake by
--- chance, free flow goes on for ever; where cars that are stopped always do, a road of stopped cars stays so
--- for ever, however few they are. So at one density there are two flows, and the start decides which.
+-- Slow starts make free flow metastable (Barlovic and others 1998). If moving cars never brake at random, free
+-- flow lasts for ever; if stopped cars always do, a road of stopped cars stays so for ever, however few they
+-- are. So at one density there are two flows, and the initial state decides which.
 use Rattle.std.specs.Prelude.{◌≡◌, ℕ, ◌+◌, ◌*◌, ◌≤◌, length}
 use Rattle.trlab_bounds.specs.declared.programs.TheConstants.{CERTAIN}
 use Rattle.trlab_road.specs.declared.car.Car.{Car}
@@ -19,7 +19,7 @@ use Rattle.trlab_traffic.specs.Runs.{always, counted_steps}
 pub record IsStopped (road : Cells) : Type 0 where
   pub stopped : (car : Car) → IsAt road car → car.speed ≡ 0
 
--- with the chance 0 for cars that move, and any chance p0 for those that are stopped
+-- with probability 0 for moving cars, and any probability p0 for stopped ones
 abbrev pub SlowStartsKeepFreeFlow : Type 0
 SlowStartsKeepFreeFlow =
     (p0 : ℕ) (rule : Programs) (seed : Seed) (step : ℕ) (road : Cells) (sum : StepTally)
@@ -33,14 +33,14 @@ SlowStartsTurnFreeFlow =
     → IsVdr 0 p0 rule → IsLegal seed.road → IsFree seed.road → ComesTo seed (always rule) step road sum
     → MovesAsOne seed step road
 
--- with any chance p for cars that move, and certainty for those that are stopped
+-- with any probability p for moving cars, and 1 for stopped ones
 abbrev pub SlowStartsKeepJams : Type 0
 SlowStartsKeepJams =
     (p : ℕ) (rule : Programs) (seed : Seed) (step : ℕ) (road : Cells) (sum : StepTally)
     → IsVdr p CERTAIN rule → IsLegal seed.road → IsStopped seed.road
     → ComesTo seed (always rule) step road sum → (road ≡ seed.road) × (sum.distance ≡ 0)
 
--- a legal road of one lane with so many cells, this limit and n cars
+-- a legal road of one lane with this number of cells, this limit and n cars
 pub record IsRing (cells limit n : ℕ) (road : Cells) : Type 0 where
   pub legal : IsLegal road
   pub one_lane : length road.lanes ≡ 1

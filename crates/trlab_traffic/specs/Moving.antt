@@ -1,4 +1,4 @@
--- Moving cars: each goes at least one cell per step, and at most as many as the limit.
+-- Moving cars: each moves at least one cell per step, and at most as many as the limit.
 use Rattle.std.specs.Prelude.{ℕ, ◌+◌, ◌*◌, ◌≤◌}
 use Rattle.trlab_road.specs.Cells.{Cells, cars}
 use Rattle.trlab_road.specs.Legal.{IsLegal}
@@ -10,8 +10,8 @@ use Rattle.trlab_step.specs.Run.{Seed, Sheet, ComesTo}
 use Rattle.trlab_traffic.specs.Capacity.{distance_at_limit}
 use Rattle.trlab_traffic.specs.Runs.{counted_steps}
 
--- in so many steps each car has gone at least one cell in every step in which it was not stopped, and at most
--- as many as the limit
+-- in a number of steps each car has moved at least one cell in every step in which it was not stopped, and at
+-- most as many as the limit
 pub record GoesByMovingCars (road : Cells) (steps : ℕ) (sum : StepTally) : Type 0 where
   pub cell_each : steps * cars road ≤ sum.distance + sum.stopped
   pub limit_each : sum.distance + road.limit * sum.stopped ≤ steps * distance_at_limit road

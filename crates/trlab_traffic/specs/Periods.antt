@@ -1,4 +1,4 @@
--- Rules that leave nothing to chance lead every run into a cycle: from some step on its roads repeat.
+-- Deterministic rules lead every run into a cycle: from some step on its roads repeat.
 use Rattle.std.specs.Prelude.{◌≡◌, ℕ, ◌+◌, ◌*◌, ◌^◌, ◌≤◌, length}
 use Rattle.trlab_road.specs.Cells.{Cells, cars}
 use Rattle.trlab_road.specs.Legal.{IsLegal}

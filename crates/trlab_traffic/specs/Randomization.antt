@@ -1,5 +1,5 @@
--- Randomization slows traffic: with a greater chance of braking the cars go less far in a step, by no more
--- than a cell each, and no fewer of them stop.
+-- Randomization slows traffic: with a larger probability of braking the cars move less far in a step, by at
+-- most one cell each, and no fewer of them stop.
 use Rattle.std.specs.Prelude.{ℕ, ◌+◌, ◌≤◌}
 use Rattle.trlab_road.specs.Cells.{Cells, cars}
 use Rattle.trlab_road.specs.Legal.{IsLegal}
@@ -9,13 +9,13 @@ use Rattle.trlab_machine.specs.declared.dice.Dice.{Dice}
 use Rattle.trlab_step.specs.declared.tally.StepTally.{StepTally}
 use Rattle.trlab_step.specs.Next.{IsNext}
 
--- of two steps of a road the second is no faster, by a cell for each car at most
+-- of two steps of a road the second is no faster, by at most one cell per car
 pub record IsSlower (road : Cells) (fast slow : StepTally) : Type 0 where
   pub no_further : slow.distance ≤ fast.distance
   pub cell_each : fast.distance ≤ slow.distance + cars road
   pub no_fewer_stop : fast.stopped ≤ slow.stopped
 
--- a step by the rule of 1992 with a greater chance, from the same road by the same dice
+-- a step of the rule of 1992 with a larger probability, from the same road with the same dice
 abbrev pub RandomizationSlows : Type 0
 RandomizationSlows =
     (p q : ℕ) (light heavy : Programs) (dice : Dice) (road next other : Cells) (fast slow : StepTally)

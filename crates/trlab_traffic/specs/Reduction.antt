@@ -10,19 +10,19 @@ use Rattle.trlab_step.specs.Next.{IsNext}
 use Rattle.trlab_step.specs.Run.{Seed, ComesTo}
 use Rattle.trlab_traffic.specs.Runs.{always}
 
--- by the same dice two rules lead from each legal road of so many lanes to the same next road, with the
--- same tally
+-- with the same dice two rules lead from each legal road of this number of lanes to the same next road, with
+-- the same tally
 abbrev pub GoAlike : ℕ → Programs → Programs → Type 0
 GoAlike lanes rule other =
     (dice : Dice) (road next : Cells) (tally : StepTally) → IsLegal road → length road.lanes ≡ lanes
     → IsNext rule dice road next tally ↔ IsNext other dice road next tally
 
--- the rule of 1998, where a car that is stopped brakes with the chance of all others, goes as that of 1992
+-- the rule of 1998, if stopped cars brake with the same probability as all others, is that of 1992
 abbrev pub VdrOfOneChance : Type 0
 VdrOfOneChance =
     (p lanes : ℕ) (rule other : Programs) → IsVdr p p rule → IsNasch p other → GoAlike lanes rule other
 
--- the rule of 1996 with the chance 0 of a lane change goes as that of 1992
+-- the rule of 1996 with probability 0 of a lane change is that of 1992
 abbrev pub RickertWithoutChange : Type 0
 RickertWithoutChange =
     (p : ℕ) (rule other : Programs) → IsRickert p 0 rule → IsNasch p other → GoAlike 2 rule other

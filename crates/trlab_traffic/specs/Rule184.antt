@@ -18,8 +18,8 @@ is_taken lane x = is_some (at lane x)
 abbrev pub digit : Bool → ℕ
 digit taken = if taken then 1 else 0
 
--- the elementary automaton of a number: a cell is next taken where the number has a binary digit 1 at the
--- place that the cell behind, the cell itself and the cell ahead make, read as three binary digits
+-- the elementary automaton of a number: read the cell behind, the cell itself and the cell ahead as three
+-- binary digits; the cell is taken next if the number has a binary digit 1 at that place
 abbrev pub elementary : ℕ → Bool → Bool → Bool → Bool
 elementary number behind own ahead =
     nat_eq (number / 2 ^ (4 * digit behind + 2 * digit own + digit ahead) % 2) 1
@@ -38,7 +38,7 @@ NaschIsRule184 =
     → IsNasch 0 rule → IsLegal old → old.limit ≡ 1 → IsNext rule dice old new tally
     → l < length old.lanes → GoesBy 184 (lane_of old l) (lane_of new l)
 
--- in rule 184 empty cells go by the rule by which taken ones go, the other way round the ring
+-- in rule 184 empty cells follow the same rule as taken ones, the other way round the ring
 abbrev pub EmptyCellsGoBack : Type 0
 EmptyCellsGoBack = (behind own ahead : Bool)
     → not (elementary 184 behind own ahead) ≡ elementary 184 (not ahead) (not own) (not behind)

@@ -7,7 +7,7 @@ use Rattle.trlab_step.specs.Run.{Seed, Sheet}
 abbrev pub StaysInLane : Programs → Type 0
 StaysInLane rule = rule.change ≡ None
 
--- what is so of each rule of a sheet
+-- a property of each rule of a sheet
 abbrev pub EachRule : (Programs → Type 0) → Sheet → Type 0
 EachRule IsSo sheet = All (λ (entry : ℕ × Programs). IsSo entry.1) sheet
 

@@ -35,8 +35,8 @@ ghost use Rattle.trlab_traffic.specs.Rows.{RunIsContinuousByRows, StepIsContinuo
 ghost use Rattle.trlab_traffic.specs.Rule184.{EmptyCellsGoBack, NaschIsRule184};
 ghost use Rattle.trlab_traffic.specs.Symmetry.{RickertIgnoresLane, RunIsSymmetric, StepIsSymmetric};
 
-/// In a step under any rule the cars of a legal road go, all together, over no more cells than are empty, and no
-/// further than the limit each.
+/// In a step under any rule the cars of a legal road together pass over no more cells than are empty, and each
+/// moves no further than the limit.
 pub fn step_keeps_to_capacity()
     ensures { StepKeepsToCapacity }
 {}
@@ -48,28 +48,27 @@ pub fn run_keeps_to_capacity()
     ensures run { RunKeepsToCapacity }
 {}
 
-/// No flow is above v / (v + 1), where v is the limit, whatever the density and the rules: this is the peak of the
-/// triangle.
+/// No flow is above v / (v + 1), the peak of the triangle, at any density and under any rules; v is the limit.
 pub fn run_keeps_below_peak()
     ensures { RunKeepsBelowPeak }
 {}
 
-/// A car that is not stopped goes at least one cell per step, and at most as many as the limit. So distances and stops
-/// bound each other, in steps and in runs.
+/// A car that is not stopped moves at least one cell per step, and at most as many as the limit. So distances
+/// and stops bound each other, in steps and in runs.
 pub fn moving_cars_go()
     ensures step { StepGoesByMovingCars }
     ensures run { RunGoesByMovingCars }
 {}
 
-/// At most as many cars change lanes in a step as there are cars, and at most as many as there are empty cells, under
-/// any rule; so it is per step in the counted steps of a run.
+/// At most as many cars change lanes in a step as there are cars, and at most as many as there are empty cells,
+/// under any rule. The same holds per step for the counted steps of a run.
 pub fn few_cars_change_lanes()
     ensures step { StepChangesFew }
     ensures run { RunChangesFew }
 {}
 
-/// Free flow stays free for ever under the rule of 1992 without randomization: all cars go by the limit, so the road
-/// moves as one (Nagel and Schreckenberg 1992, J. Phys. I France 2, 2221).
+/// Free flow stays free for ever under the rule of 1992 without randomization: all cars drive at the limit, so
+/// the road moves as one (Nagel and Schreckenberg 1992, J. Phys. I France 2, 2221).
 pub fn free_flow_stays_free()
     ensures step { FreeFlowGoesOn }
     ensures run { FreeFlowStaysFree }
@@ -91,14 +90,14 @@ pub fn two_flows_at_one_density()
     ensures { TwoFlowsAtOneDensity }
 {}
 
-/// With a greater chance of braking the cars of a road go less far in a step, by a cell each at most, and no fewer of
-/// them stop: under the rules of 1992 and of 1998.
+/// With a larger probability of braking the cars of a road move less far in a step, by at most one cell each,
+/// and no fewer of them stop: under the rules of 1992 and of 1998.
 pub fn randomization_slows()
     ensures nasch { RandomizationSlows }
     ensures vdr { SlowStartsSlow }
 {}
 
-/// The gap of a car changes by what the next car ahead goes and what it goes itself, under any rule without lane
+/// The gap of a car changes by the distance of the next car ahead minus its own, under any rule without lane
 /// changes.
 pub fn gaps_follow()
     ensures { GapsFollow }
@@ -178,14 +177,14 @@ pub fn lanes_are_symmetric()
     ensures run { RunIsSymmetric }
 {}
 
-/// Without lane changes the lanes of a road do not see each other: each goes on the same, whatever is on the others.
+/// Without lane changes the lanes of a road are independent: a lane's future does not depend on the other lane.
 pub fn lanes_are_apart()
     ensures step { StepKeepsLanesApart }
     ensures run { RunKeepsLanesApart }
 {}
 
-/// Where programs leave nothing to chance the key does not matter: a road has one next road for all dice, and a run
-/// is the same under all keys. The rule of 1992 without randomization is such a rule.
+/// If programs are deterministic, the key does not matter: a road has one next road for all dice, and a run is
+/// the same under all keys. The rule of 1992 without randomization is such a rule.
 pub fn certain_rules_are_deterministic()
     ensures nasch { NaschWithoutRandomization }
     ensures step { StepIsDeterministic }
@@ -198,9 +197,10 @@ pub fn certain_rules_become_periodic()
     ensures { CertainRulesBecomePeriodic }
 {}
 
-/// Two rules go as that of Nagel and Schreckenberg (1992): that of 1998 where a car that is stopped brakes with the
-/// chance of all others (Barlovic and others), and that of 1996 on two lanes where the chance of a lane change is 0
-/// (Rickert, Nagel, Schreckenberg and Latour 1996, Physica A 231, 534). Rules that go alike have the same runs.
+/// Two rules reduce to that of Nagel and Schreckenberg (1992): that of 1998 if stopped cars brake with the same
+/// probability as all others (Barlovic and others), and that of 1996 on two lanes if the probability of a lane
+/// change is 0 (Rickert, Nagel, Schreckenberg and Latour 1996, Physica A 231, 534). Rules with the same steps
+/// have the same runs.
 pub fn rules_reduce_to_nasch()
     ensures vdr { VdrOfOneChance }
     ensures rickert { RickertWithoutChange }
@@ -214,15 +214,15 @@ pub fn nasch_is_rule_184()
     ensures holes { EmptyCellsGoBack }
 {}
 
-/// Without randomization a run on one lane comes to the capacity of its road from any start, whatever the limit: the
-/// fundamental diagram is a triangle (Fukui and Ishibashi 1996, J. Phys. Soc. Japan 65, 1868, of cars that come to
-/// their speed at once). On several lanes each comes to its own capacity.
+/// Without randomization a run on one lane reaches the capacity of its road from any initial state, for every
+/// limit: the fundamental diagram is a triangle (Fukui and Ishibashi 1996, J. Phys. Soc. Japan 65, 1868, of
+/// cars that reach their speed at once). On several lanes each reaches its own capacity.
 pub fn nasch_comes_to_capacity()
     ensures one_lane { NaschComesToCapacity }
     ensures by_lane { NaschComesToCapacityByLane }
 {}
 
-/// With the limit 1 it does so a step sooner: rule 184 relaxes while a run goes round the ring (Krug and Spohn 1988,
+/// With limit 1 it does so one step sooner: rule 184 relaxes within one lap of the ring (Krug and Spohn 1988,
 /// Phys. Rev. A 38, 4271).
 pub fn rule_184_comes_to_capacity()
     ensures { Rule184ComesToCapacity }
@@ -233,9 +233,9 @@ pub fn even_cars_flow_at_capacity()
     ensures { EvenCarsFlowAtCapacity }
 {}
 
-/// What detectors count is the flow: all those of a road together count the distance of a step, under any rule, and
-/// each counts one car at most. Between two of a lane no car is lost or made, where nobody changes lanes: continuity
-/// (Lighthill and Whitham 1955, Proc. R. Soc. London A 229, 317).
+/// Detectors count the flow: all detectors of a road together count the distance of a step, under any rule, and
+/// each counts at most one car. Between two detectors of a lane no car is lost or created if nobody changes
+/// lanes: the continuity equation (Lighthill and Whitham 1955, Proc. R. Soc. London A 229, 317).
 pub fn detectors_count_flow()
     ensures distance { DetectorsCountDistance }
     ensures one { DetectorCountsOne }
@@ -254,8 +254,8 @@ pub fn detectors_count_runs()
     ensures flow { DetectorMeasuresFlow }
 {}
 
-/// In at most v + 1 steps in a row, where v is the limit, a detector counts at most v cars, if nobody changes lanes:
-/// there is room between two passages.
+/// In at most v + 1 consecutive steps a detector counts at most v cars if nobody changes lanes, because two
+/// passages need room between them; v is the limit.
 pub fn detector_counts_below_peak()
     ensures { DetectorCountsBelowPeak }
 {}

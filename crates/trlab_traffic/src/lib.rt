@@ -1,4 +1,5 @@
-//! Laws of traffic: what holds of each step and each run of a road, said over the definitions of `trlab_step`.
+//! Laws of traffic: properties of every step and every run of a road, stated over the definitions of
+//! `trlab_step`.
 #![tactic(auto)]
 
 pub mod laws;

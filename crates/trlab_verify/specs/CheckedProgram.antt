@@ -10,8 +10,8 @@ pub record CheckedProgram : Type 0 where
   pub program : Program
   pub budget : ℕ
 
--- what an accepted program of a kind keeps: it is of that kind, its control goes forward, and it is safe
--- within its budget, which is its longest way
+-- the invariant of an accepted program of a kind: it is of that kind, its jumps go forward, and it is safe
+-- within its budget, which is its longest path
 pub record IsChecked (kind : Kind) (checked : CheckedProgram) : Type 0 where
   pub program : IsProgram checked.program
   pub kind_is : checked.program.kind ≡ kind

@@ -1,4 +1,4 @@
--- What the verifier's faults tell of a program.
+-- The meaning of the verifier's faults for a program.
 use Rattle.std.specs.Prelude.{◌≢◌}
 use Rattle.trlab_code.specs.declared.kind.Kind.{Kind}
 use Rattle.trlab_code.specs.Program.{Program}
@@ -7,13 +7,13 @@ use Rattle.trlab_verify.specs.declared.fault.VerifyFault.TheVariants.{Why, Memor
 use Rattle.trlab_verify.specs.Tables.{SomeTableChecks}
 use Rattle.trlab_verify.specs.Verdict.{IsRefused}
 
--- a reason is the program's refusal; that memory ran out says nothing of the program
+-- a reason means that the program is rejected for it; a failed allocation means nothing for the program
 abbrev pub Tells : Kind → Program → VerifyFault → Type 0
 Tells kind program (Why at reason) = IsRefused kind program at reason
 Tells kind program Memory = Unit {0}
 
--- Where a program is refused as one of a kind, no table of notes checks for that kind. Nor does one check for
--- the program's own kind, unless the reason is that an instruction is of the wrong kind (2).
+-- If a program is rejected as one of a kind, no table of notes checks for that kind. Nor does one check for the
+-- program's own kind, unless the reason is that an instruction is of the wrong kind (2).
 abbrev pub NoTableChecks : Kind → Program → VerifyFault → Type 0
 NoTableChecks kind program (Why at reason) =
     ¬ (SomeTableChecks kind program) × (reason ≢ 2 → ¬ (SomeTableChecks program.kind program))

@@ -1,5 +1,5 @@
--- Incoming notes: what the ways of a program bring to its instructions, joined, as abstract interpretation
--- joins what meets; docs/PROGRAMS.md says the same in sentences.
+-- Incoming notes: the notes that a program's paths bring to an instruction, joined, as in abstract
+-- interpretation; docs/PROGRAMS.md explains them in sentences.
 use Rattle.std.specs.Prelude.{◌≡◌, ◌⊎◌, ℕ, zero, suc, ◌<◌, List, Bool, true, false, Option, Some, None, nat_eq, slice_get}
 use Rattle.trlab_code.specs.declared.kind.Kind.{Kind}
 use Rattle.trlab_code.specs.declared.instruction.Instr.{Instr}
@@ -14,7 +14,7 @@ add_note old None = old
 add_note None (Some n) = Some (join n n)
 add_note (Some m) (Some n) = Some (join m n)
 
--- a note that comes in here alone
+-- a note that comes in only here
 abbrev pub if_here : Bool → Option Note → Option Note
 if_here true edge = edge
 if_here false edge = None
@@ -37,17 +37,18 @@ abbrev pub add_notes : ℕ → Option Note → Option Instr → ℕ → Option N
 add_notes pc (Some m) (Some i) q old = add_note (add_note old (next_note_to pc m i q)) (jump_note_to m i q)
 add_notes pc _ _ q old = old
 
--- the join of what the first n instructions send to q, if something comes; to the first comes the entry note
+-- the join of the notes that the first n instructions send to q, if there are any; the first instruction also
+-- gets the entry note
 abbrev pub incoming : Kind → List Instr → ℕ → ℕ → Option Note
 incoming kind code zero q = if_here (nat_eq q 0) (Some (entry kind))
 incoming kind code (suc n) q =
     add_notes n (incoming kind code n n) (slice_get code n) q (incoming kind code n q)
 
--- the note of an instruction: the join of what comes in from earlier ones
+-- the note of an instruction: the join of the notes from earlier ones
 abbrev pub note_at : Kind → List Instr → ℕ → Option Note
 note_at kind code pc = incoming kind code pc pc
 
--- what the instruction at p sends to the one at q, as the next one or as its jump's target
+-- the note that the instruction at p sends to the one at q, as the next one or as its jump's target
 pub record Sends (kind : Kind) (code : List Instr) (p q : ℕ) (note : Note) : Type 0 where
   pub before : Note
   pub instr : Instr
@@ -55,7 +56,7 @@ pub record Sends (kind : Kind) (code : List Instr) (p q : ℕ) (note : Note) : T
   pub stands : slice_get code p ≡ Some instr
   pub sent : (next_note_to p before instr q ≡ Some note) ⊎ (jump_note_to before instr q ≡ Some note)
 
--- a note that is sent to the instruction at pc: the entry note to the first, else what an earlier one sends
+-- a note that is sent to the instruction at pc: the entry note to the first, else the note of an earlier one
 abbrev pub IsSent : Kind → List Instr → ℕ → Note → Type 0
 IsSent kind code pc note =
     ((pc ≡ 0) × (note ≡ entry kind))

@@ -17,13 +17,13 @@ use Rattle.trlab_verify.specs.declared.table.best.NotesFault.{NotesFault}
 use Rattle.trlab_verify.specs.declared.table.best.NotesFault.TheVariants.{Refused, Memory}
 use Rattle.trlab_verify.specs.Verdict.{IsRefused}
 
--- what a mark says of a register
+-- the abstract value of a register's mark
 abbrev pub said_of : Mark → Said
 said_of Unset = Nothing
 said_of (Num lo hi) = Between lo hi
 said_of (Flag imp) = Implies imp
 
--- what a form says of a variable: of the registers what is marked, of the inputs of a kind their ranges
+-- the abstract value of a variable in a form: the mark of a register, or the range of an input of the kind
 abbrev pub form_said : Kind → Form → Variable → Said
 form_said kind form (variable.Register r) = said_of (slice_index_or form.regs (register_number r) Unset)
 form_said kind form (variable.Input k) = entry_said kind (variable.Input k)
@@ -36,7 +36,7 @@ meaning kind form = record { said = form_said kind form; level = levels_in form.
 abbrev pub table_of : Kind → List Form → List Note
 table_of kind forms = map (meaning kind) forms
 
--- the form of a note that says nothing
+-- the form of the empty note
 abbrev pub empty_form : Form
 empty_form = record { regs = []; levels = []; side = false }
 
@@ -48,11 +48,11 @@ meaning_at kind forms pc = meaning kind (slice_index_or forms pc empty_form)
 abbrev pub HasLevels : Note → Type 0
 HasLevels note = (x y : Variable) → known_level note x y ≤ 2
 
--- of the inputs a note says their ranges
+-- a note contains the ranges of the inputs
 abbrev pub SaysRanges : Kind → Note → Type 0
 SaysRanges kind note = (k : Input) → note.said (variable.Input k) ≡ entry_said kind (variable.Input k)
 
--- what a fault tells of a program whose notes were asked for
+-- the meaning of a fault for a program whose notes were asked for
 abbrev pub HasNoNotes : Program → NotesFault → Type 0
 HasNoNotes program Refused = (at : ℕ) × (reason : ℕ) × IsRefused program.kind program at reason
 HasNoNotes program Memory = Unit {0}

@@ -13,7 +13,7 @@ use Rattle.trlab_verify.specs.Longest.{Follows}
 use Rattle.trlab_verify.specs.Incoming.{note_at}
 use Rattle.trlab_verify.specs.Verdict.{IsRefused}
 
--- a note that says nothing
+-- the empty note
 abbrev pub blank : Note
 blank = record { said = λ x. Nothing; level = λ x y. 0; side = false }
 
@@ -21,8 +21,8 @@ blank = record { said = λ x. Nothing; level = λ x y. 0; side = false }
 abbrev pub note_in : List Note → ℕ → Note
 note_in table pc = slice_index_or table pc blank
 
--- All is well with the notes at the instruction i, which stands at pc: another leads to it, unless it is the
--- first; there is no reason to refuse it; no note that it leads to is stronger than what comes there from it.
+-- The notes check at the instruction i, which is at pc: another instruction leads to it, unless it is the
+-- first; there is no reason to reject it; and no note after it is stronger than its transfer gives.
 pub record ChecksAt (kind : Kind) (program : Program) (note : ℕ → Note) (pc : ℕ) (i : Instr) : Type 0 where
   pub reached : 0 < pc → (p : ℕ) × Follows program.instrs p pc
   pub clear : reason_against kind program.kind (length program.instrs) pc (note pc) i ≡ None
@@ -30,7 +30,7 @@ pub record ChecksAt (kind : Kind) (program : Program) (note : ℕ → Note) (pc 
   pub jumps : (t : ℕ) → target i ≡ Some t → t < length program.instrs
       → IsNoStronger (note t) (jump_note (note pc) i)
 
--- a table checks: the first note is no stronger than that of the entry, and all is well at each instruction
+-- a table checks: the first note is no stronger than the entry note, and the notes check at each instruction
 pub record Checks (kind : Kind) (program : Program) (table : List Note) : Type 0 where
   pub one_each : length table ≡ length program.instrs
   pub first : IsNoStronger (note_in table 0) (entry kind)
@@ -51,11 +51,11 @@ abbrev pub IsNoStrongerAt : Kind → Program → ℕ → Note → Type 0
 IsNoStrongerAt kind program pc note =
     (best : Note) × (note_at kind program.instrs pc ≡ Some best) × IsNoStronger note best
 
--- how many instructions have a note where the verdict ends: no note comes to one that no way leads to
+-- the number of instructions with a note when the verdict ends: an unreachable instruction has none
 abbrev pub noted_count : ℕ → ℕ → ℕ
 noted_count at reason = if reason == 1 then at else at + 1
 
--- the notes of the first so many instructions of a program, as a table
+-- the notes of the first `count` instructions of a program, as a table
 pub record AreFirstNotes (kind : Kind) (program : Program) (count : ℕ) (table : List Note) : Type 0 where
   pub one_each : length table ≡ count
   pub each : (pc : ℕ) → pc < count → note_at kind program.instrs pc ≡ Some (note_in table pc)

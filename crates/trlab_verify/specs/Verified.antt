@@ -1,4 +1,4 @@
--- What the verifier's calls answer of a code, as a program of a kind.
+-- The results of the verifier's calls for a code, as a program of a kind.
 use Rattle.std.specs.Prelude.{◌≡◌}
 use Rattle.trlab_code.specs.declared.kind.Kind.{Kind}
 use Rattle.trlab_code.specs.Program.{Program}
@@ -19,8 +19,8 @@ pub record IsAcceptedAs (kind : Kind) (code : Program) (program : CheckedProgram
   pub safe : IsSafe kind code.instrs program.budget
   pub some_table : SomeTableChecks kind code
 
--- a code that is not accepted, which comes back, and why: a refusal, where no table of notes checks, or that
--- memory ran out
+-- a code that is not accepted, which is returned, and the reason: a rejection, and then no table of notes
+-- checks, or a failed allocation
 pub record IsRefusedAs (kind : Kind) (code : Program) (back : Program × VerifyFault) : Type 0 where
   pub same : back.0 ≡ code
   pub refused : Tells kind code back.1

@@ -8,7 +8,7 @@ ghost use Rattle.trlab_verify.specs.Longest.{IsLongest, IsForward};
 
 use trlab_code::{Instr, MOST_INSTRUCTIONS};
 
-/// The longest way from the next instruction, 0 where it may not follow.
+/// The longest path from the next instruction, 0 if it cannot follow.
 fn longest_of_next(instr: Instr, pc: usize, longest: &[u32; MOST_INSTRUCTIONS]) -> u32
     requires { IsTrue (falls instr) → pc + 1 < MOST_INSTRUCTIONS }
     ensures { result ≡ (if falls instr then slice_index longest.now (pc + 1) else 0) }
@@ -16,7 +16,7 @@ fn longest_of_next(instr: Instr, pc: usize, longest: &[u32; MOST_INSTRUCTIONS]) 
     if instr.falls() { longest[pc + 1] } else { 0 }
 }
 
-/// The longest way from a jump's target, 0 where there is none.
+/// The longest path from a jump's target, 0 if there is none.
 fn longest_of_target(instr: Instr, longest: &[u32; MOST_INSTRUCTIONS]) -> u32
     requires { IfSome (target instr) (λ target. target < MOST_INSTRUCTIONS) }
     ensures { result ≡ option_map_or (λ target. slice_index longest.now target) (target instr) 0 }
@@ -27,7 +27,7 @@ fn longest_of_target(instr: Instr, longest: &[u32; MOST_INSTRUCTIONS]) -> u32
     }
 }
 
-/// The longest way from the instruction at `pc`, where `longest` has those from the later ones.
+/// The longest path from the instruction at `pc`; `longest` has those from the later ones.
 fn longest_from(instrs: &[Instr], pc: usize, longest: &[u32; MOST_INSTRUCTIONS]) -> u32
     requires inside { pc < length instrs.now }
     requires few { length instrs.now ≤ MOST_INSTRUCTIONS }

@@ -1,5 +1,5 @@
-//! Incoming notes: each way that leads on from an instruction brings a note to where it leads, where it is
-//! joined with those that came before (docs/PROGRAMS.md).
+//! Incoming notes: each path from an instruction brings a note to its target, and is joined there with those
+//! that came before (docs/PROGRAMS.md).
 
 ghost use Rattle.std.specs.Prelude.{◌≡◌, ℕ, ◌<◌, false, length, Some, nat_eq, if◌then◌else◌};
 ghost use Rattle.trlab_code.specs.Program.{IsInRange};
@@ -53,7 +53,7 @@ fn send_jump(notes: &mut [Option<Stored>], note: &Stored, instr: Instr)
     }
 }
 
-/// The notes on the ways from the instruction at `pc` come to where they lead.
+/// Sends the notes on the paths from the instruction at `pc` to their targets.
 pub fn send(notes: &mut [Option<Stored>], pc: usize, note: &Stored, instr: Instr)
     requires inside { pc < length notes.old }
     requires in_range { IsInRange instr }

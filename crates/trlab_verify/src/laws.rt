@@ -1,6 +1,6 @@
-//! Laws of verdicts: what is proved of all programs.
+//! Laws of verdicts, for all programs.
 //!
-//! Each law is the contract of a function with nothing to do.
+//! Each law is the contract of a function with an empty body.
 
 ghost use Rattle.std.specs.Prelude.{◌≡◌, ◌≢◌, ◌⊎◌, ℕ, ◌<◌, ◌≤◌, List, Some, length};
 ghost use Rattle.trlab_code.specs.declared.instruction.Variable.{Variable};
@@ -52,9 +52,9 @@ pub fn note_is_strongest()
         ((sent : Note) → IsSent kind program.instrs pc sent → IsNoStronger other sent) → IsNoStronger other note }
 {}
 
-/// Where some table of notes checks, the program is accepted, and the verdict's notes are at least as
-/// strong at each instruction. The verdict's notes of an accepted program are such a table: so it is
-/// the best one, and a program is accepted exactly where some table checks.
+/// If some table of notes checks, the program is accepted, and the verdict's notes are at least as strong at
+/// each instruction. The verdict's notes of an accepted program are such a table: so it is the best one, and a
+/// program is accepted exactly if some table checks.
 pub fn notes_are_best()
     ensures accepted { (kind : Kind) (program : Program) (table : List Note) →
         Checks kind program table → IsAccepted kind program }
@@ -64,8 +64,8 @@ pub fn notes_are_best()
         (table : List Note) × AreVerdictNotes kind program table × Checks kind program table }
 {}
 
-/// A program is refused as one of a kind only where no table of notes checks for that kind. Nor does
-/// one then check for the program's own kind, unless an instruction is of the wrong kind (reason 2).
+/// A program is rejected as one of a kind only if no table of notes checks for that kind. Nor does one then
+/// check for the program's own kind, unless an instruction is of the wrong kind (reason 2).
 pub fn refused_without_notes()
     ensures called { (kind : Kind) (program : Program) (at reason : ℕ) →
         IsRefused kind program at reason → ¬ (SomeTableChecks kind program) }

@@ -1,6 +1,6 @@
-//! The verifier of driver programs: what it accepts is never stuck and ends within its budget, for every view
-//! and all random words. It goes once through the instructions, each by the join of its incoming notes;
-//! docs/PROGRAMS.md says how.
+//! The verifier of driver programs: an accepted program is never stuck and ends within its budget, for every
+//! view and all random words. The verifier visits each instruction once, with the join of its incoming notes;
+//! docs/PROGRAMS.md explains how.
 #![tactic(auto)]
 
 mod budget;

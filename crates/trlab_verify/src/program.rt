@@ -1,5 +1,5 @@
-//! Programs that the verifier has accepted, with their budgets. A type stands for each kind, so that no
-//! motion program is run as a change program, and all else stands once.
+//! Programs that the verifier has accepted, with their budgets. Each kind has its own type, so that no motion
+//! program is run as a change program; everything else is shared.
 
 ghost use Rattle.std.specs.Prelude.{◌≡◌, ◌↔◌, IsTrue, IfOk};
 ghost use Rattle.trlab_code.specs.declared.kind.Kind.{Kind as AKind};

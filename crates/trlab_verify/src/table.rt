@@ -1,5 +1,5 @@
 //! Tables of notes, one note for each instruction of a program. A table that checks shows that the program is
-//! safe, whoever wrote it (docs/PROGRAMS.md).
+//! safe, wherever it comes from (docs/PROGRAMS.md).
 
 mod best;
 mod check;

@@ -14,7 +14,7 @@ use std::alloc::{AllocError, Global};
 use trlab_code::{Code, Instr, Kind, MOST_INSTRUCTIONS};
 use trlab_notes::{Reason, Stored, reason_against};
 
-/// The first instruction that is refused, and the least reason there.
+/// The first rejected instruction, and the first reason there.
 #[derive(Clone, Copy)]
 pub struct Refusal {
     pub at: u32,
@@ -75,7 +75,7 @@ pub fn judge(
     None
 }
 
-/// The refusal of a program as one of this kind, or nothing where it is accepted.
+/// The rejection of a program as one of this kind, or `None` if it is accepted.
 pub fn verdict(alloc: Global, kind: Kind, code: &Code) -> Result<Option<Refusal>, AllocError>
     ensures { IfOk result (λ refusal.
         MatchOption refusal (IsAccepted kind code.now)

@@ -12,16 +12,17 @@ use crate::verdict::{Refusal, verdict};
 use std::alloc::Global;
 use trlab_code::Code;
 
-/// The code as an accepted program of the kind `K`, or the same code and why it is refused.
+/// Verifies a code as a program of the kind `K`: returns it as an accepted program, or the same code and the
+/// reason.
 ///
-/// What is accepted is safe within its budget, for every view and all random words, and the budget is
-/// its longest way, in instructions. It is accepted exactly where some table of notes checks: what is
-/// refused is beyond notes of this kind.
+/// An accepted program is safe within its budget, for every view and all random words, and the budget is its
+/// longest path, in instructions. A program is accepted exactly if some table of notes checks: rejected
+/// programs are beyond notes of this kind.
 ///
 /// # Errors
 ///
-/// `Why` where the program is refused as one of the kind: its first instruction that is refused, and
-/// the least reason there. `Memory` where memory ran out.
+/// `Why` if the program is rejected as one of the kind: its first rejected instruction, and the first reason
+/// there. `Memory` if allocation fails.
 pub fn verify_as<K: ProgramKind>(
     alloc: Global,
     code: Code,
@@ -44,24 +45,22 @@ pub fn verify_as<K: ProgramKind>(
     }
 }
 
-/// The code as an accepted motion program, or the same code and why it is refused; all is as for
-/// [`verify_as`].
+/// Verifies a code as a motion program, as [`verify_as`] does.
 ///
 /// # Errors
 ///
-/// `Why` where the program is refused as a motion program, and `Memory`.
+/// `Why` if the program is rejected as a motion program, and `Memory`.
 pub fn verify_motion(alloc: Global, code: Code) -> Result<Motion, (Code, VerifyFault)>
     ensures { MatchResult result (IsAcceptedAs OfMotion code) (IsRefusedAs OfMotion code) }
 {
     verify_as(alloc, code)
 }
 
-/// The code as an accepted change program, or the same code and why it is refused; all is as for
-/// [`verify_as`].
+/// Verifies a code as a change program, as [`verify_as`] does.
 ///
 /// # Errors
 ///
-/// `Why` where the program is refused as a change program, and `Memory`.
+/// `Why` if the program is rejected as a change program, and `Memory`.
 pub fn verify_change(alloc: Global, code: Code) -> Result<Change, (Code, VerifyFault)>
     ensures { MatchResult result (IsAcceptedAs OfChange code) (IsRefusedAs OfChange code) }
 {

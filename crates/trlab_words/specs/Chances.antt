@@ -1,6 +1,6 @@
 -- Chances, in parts of 2 ^ 31, and the random words on which they happen.
 use Rattle.std.specs.Prelude.{ℕ, ◌/◌, Bool, nat_lt}
 
--- a chance of t parts happens on a word whose half is below t
+-- an event of probability t / 2 ^ 31 happens on a word whose half is below t
 abbrev pub happens_on : ℕ → ℕ → Bool
 happens_on t word = nat_lt (word / 2) t

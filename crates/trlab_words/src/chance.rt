@@ -7,7 +7,7 @@ ghost use Rattle.trlab_bounds.specs.declared.programs.TheConstants.{CERTAIN};
 use std::marker::Model;
 use trlab_bounds::programs::CERTAIN;
 
-/// A chance, in parts of 2^31: from 0, which never happens, to `CERTAIN`.
+/// A probability times 2^31: from 0, which never happens, to `CERTAIN`.
 #[derive(Clone, Copy, Debug, PartialEq, Eq)]
 pub struct Chance {
     parts: u32,
@@ -24,7 +24,7 @@ impl Model for Chance {
 }
 
 impl Chance {
-    /// The chance of so many parts of 2^31, and `None` where they are more than the whole.
+    /// The probability `parts` / 2^31, or `None` if that is more than 1.
     pub fn new(parts: u32) -> Option<Chance>
         ensures in_range { IsSome result ↔ (parts ≤ CERTAIN) }
         ensures value { IfSome result (λ chance. chance ≡ parts) }
@@ -45,7 +45,8 @@ impl Chance {
     }
 }
 
-/// Whether a chance happens on a random word: where half of the word is below the chance's parts.
+/// Whether an event of a probability happens on a random word: if half of the word is below the probability
+/// times 2^31.
 pub fn happens(word: u32, chance: Chance) -> bool
     ensures { result ≡ happens_on chance word }
 {

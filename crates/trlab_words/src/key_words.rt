@@ -78,7 +78,7 @@ fn read_words(bytes: &[u8]) -> [u32; 8]
     ]
 }
 
-/// Word k, below 16, of each of eight cars in a step of a road: what `words` has at k for that car.
+/// Word k, below 16, of each of eight cars in a step of a road: the entry of `words` at k for that car.
 pub fn word_of_cars(key: &KeyWords, road: u32, cars: [u32; 8], step: u32, k: usize) -> [u32; 8]
     requires { k < 16 }
     ensures { (j : ℕ) → j < 8 → slice_index result j ≡ random_word key.now road (slice_index cars j) step k }

@@ -1,4 +1,4 @@
-//! The random words of a car in a step, and chances on them.
+//! The random words of a car in a step, and random events on them.
 #![tactic(auto)]
 
 mod block;

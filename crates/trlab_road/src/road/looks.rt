@@ -1,5 +1,5 @@
-//! What is seen of a road: its lanes and limit, its cars in standing order, and what is ahead of a car and
-//! beside it.
+//! Looking at a road: its lanes and limit, its cars in standing order, and the gaps of a car on its own lane
+//! and on the other.
 
 ghost use Rattle.std.specs.Prelude.{◌≡◌, ◌+◌, ◌*◌, ◌<◌, ◌≤◌, ℕ, length, slice_index, slice_index_or, false};
 ghost use Rattle.trlab_bounds.specs.declared.roads.TheConstants.{GREATEST_LENGTH, GREATEST_LIMIT, MOST_LANES};
@@ -37,7 +37,7 @@ impl Road {
         self.cells
     }
 
-    /// The speed limit, 1 to 35 cells a step.
+    /// The speed limit, 1 to 35 cells per step.
     pub fn limit(&self) -> u32
         ensures value { result ≡ self.now.limit }
         ensures legal { IsLegal self.now }
@@ -78,7 +78,7 @@ impl Road {
     }
 
     /// The headspeed of the k-th car in standing order: the speed of the next car ahead on its own lane, in
-    /// cells a step, which is its own where it is alone there.
+    /// cells per step; its own speed if there is no other car.
     pub fn headspeed(&self, k: u32) -> u32
         requires { k < cars self.now }
         ensures of_car { IsOnLane headspeed self.now k result }
@@ -87,7 +87,7 @@ impl Road {
         self.ahead(k).headspeed
     }
 
-    /// What is ahead of the k-th car in standing order on its own lane, as `gap` and `headspeed` tell.
+    /// The `gap` and the `headspeed` of the k-th car in standing order.
     pub fn ahead(&self, k: u32) -> Ahead
         requires { k < cars self.now }
         ensures value { result.gap ≡ slice_index (gaps self.now) k }
@@ -124,8 +124,7 @@ impl Road {
         list_of(&self.lanes, lane)
     }
 
-    /// Is the side cell of the k-th car in standing order, the cell beside it on the other lane,
-    /// empty?
+    /// Is the side cell of the k-th car in standing order, at the same place on the other lane, empty?
     pub fn side(&self, k: u32) -> bool
         requires below { k < cars self.now }
         requires two { length self.now.lanes ≡ 2 }
@@ -135,11 +134,10 @@ impl Road {
         self.beside(k, 0).is_empty
     }
 
-    /// What stands beside the k-th car in standing order, on the other lane: whether the side cell is
-    /// empty, and the gaps ahead and behind from there in cells, as `side`, `sidegap` and `sideback` tell.
+    /// The other lane, seen from the k-th car in standing order: its `side`, `sidegap` and `sideback`.
     ///
-    /// Asked car by car along a lane, with the `next` of the answer before as `near`, it goes on from
-    /// there; with any other `near`, as 0, it makes a binary search.
+    /// If you ask car by car along a lane and pass the `next` of the previous answer as `near`, the search
+    /// continues from there; with any other `near`, such as 0, it is a binary search.
     pub fn beside(&self, k: u32, near: usize) -> Beside
         requires below { k < cars self.now }
         requires two { length self.now.lanes ≡ 2 }
@@ -161,7 +159,7 @@ impl Road {
         }
     }
 
-    /// The gap ahead on the other lane in cells, from beside the k-th car in standing order: 0 where the
+    /// The gap ahead on the other lane in cells, from the side cell of the k-th car in standing order: 0 if the
     /// side cell is taken, n - 1 on an empty lane of n (Rickert, Nagel, Schreckenberg and Latour 1996).
     pub fn sidegap(&self, k: u32) -> u32
         requires below { k < cars self.now }
@@ -171,8 +169,8 @@ impl Road {
         self.beside(k, 0).ahead
     }
 
-    /// The gap behind on the other lane in cells, from beside the k-th car in standing order: 0 where the
-    /// side cell is taken, n - 1 on an empty lane of n (Rickert, Nagel, Schreckenberg and Latour 1996).
+    /// The gap behind on the other lane in cells, from the side cell of the k-th car in standing order: 0 if
+    /// the side cell is taken, n - 1 on an empty lane of n (Rickert, Nagel, Schreckenberg and Latour 1996).
     pub fn sideback(&self, k: u32) -> u32
         requires below { k < cars self.now }
         requires two { length self.now.lanes ≡ 2 }

@@ -12,8 +12,8 @@ use crate::room::Room;
 use std::alloc::{AllocError, Global};
 
 impl Road {
-    /// The road after the motion: all cars go ahead at once, each by its speed of the list, which stands
-    /// in standing order and gives the new speeds, in cells a step.
+    /// The road after the motion: all cars move at once by their new speeds, which are listed in standing
+    /// order, in cells per step.
     ///
     /// # Errors
     ///
@@ -30,8 +30,7 @@ impl Road {
         Ok(next)
     }
 
-    /// Moves all cars ahead at once, each by its speed of the list, which stands in standing order and
-    /// gives the new speeds. It takes no memory.
+    /// Moves all cars at once by their new speeds, which are listed in standing order. It allocates nothing.
     pub fn move_cars(&mut self, speeds: &[u8])
         requires { MayMove self.old speeds.now }
         ensures moves { (answer : ℕ → ℕ → ℕ)
@@ -42,8 +41,8 @@ impl Road {
         move_lanes(&mut self.lanes, self.cells, speeds);
     }
 
-    /// The road of two lanes after the lane change: all cars that cross do so at once. Whether each car
-    /// crosses stands in standing order.
+    /// The road of two lanes after the lane change: all cars that cross do so at once. The answers are listed
+    /// in standing order.
     ///
     /// # Errors
     ///
@@ -58,12 +57,12 @@ impl Road {
         self.after_lane_change_in(alloc, &mut Room::new(alloc), crosses)
     }
 
-    /// The road as `after_lane_change` tells it, which takes its memory from the room.
+    /// The road that `after_lane_change` returns, with memory taken from the room.
     ///
     /// # Errors
     ///
-    /// Where memory ran out; the room may have lost its lists then. Any room serves for any lane change, this
-    /// one too: no contract speaks of what stands in a room.
+    /// If allocation fails; then the room may have lost its lists. Any room serves for any lane change, also
+    /// this one: no contract speaks of a room's contents.
     pub fn after_lane_change_in(
         &self,
         alloc: Global,

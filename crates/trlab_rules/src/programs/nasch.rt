@@ -10,7 +10,7 @@ use trlab_code::Instr::{self, Add, Draw, Get, Go, JumpFalse, Min, Num, Sub};
 use trlab_code::Register::{R0, R1, R2, R3};
 use trlab_words::Chance;
 
-/// The instructions of the motion of 1992, which brakes with the chance `p`.
+/// The instructions of the motion of 1992, which brakes with probability `p`.
 ///
 /// # Errors
 ///

@@ -11,7 +11,7 @@ use trlab_code::Instr::{self, Add, Cross, Draw, Get, JumpAtMost, JumpFalse, Num,
 use trlab_code::Register::{R0, R1, R2, R3};
 use trlab_words::Chance;
 
-/// The instructions of the lane change of 1996, with the chance `c`.
+/// The instructions of the lane change of 1996, with probability `c`.
 ///
 /// # Errors
 ///

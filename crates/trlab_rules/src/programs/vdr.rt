@@ -10,8 +10,8 @@ use trlab_code::Instr::{self, Add, Draw, Get, Go, Jump, JumpAtMost, JumpFalse, M
 use trlab_code::Register::{R0, R1, R2, R3};
 use trlab_words::Chance;
 
-/// The instructions of the motion of 1998, which brakes with the chance `p0` where the car is stopped,
-/// and with `p` where it moves.
+/// The instructions of the motion of 1998, which brakes with probability `p0` if the car is stopped, and with
+/// `p` if it moves.
 ///
 /// # Errors
 ///

@@ -37,8 +37,8 @@ impl From<AllocError> for NotesFault {
     }
 }
 
-/// The form of the stored note of the instruction at `pc`. That of the first says no more of the order
-/// than what holds at the start.
+/// The form of the stored note of the instruction at `pc`. The first one contains no more of the order than
+/// holds at the start.
 fn write_at(kind: Kind, pc: usize, stored: &Stored) -> Note
     requires { SaysRanges kind (note_of stored.now) }
     ensures first { pc ≡ 0 → meaning kind result ≡ entry kind }
@@ -99,13 +99,12 @@ fn judge_notes(
 
 /// The notes with which a program is accepted as one of its own kind, one for each instruction.
 ///
-/// They are the best: of all tables that check, each note says at most what the note here says; and
-/// this table checks too.
+/// They are the best: no table that checks has a stronger note, and this table checks too.
 ///
 /// # Errors
 ///
-/// `Refused` where the program is refused as one of its own kind: then it has no notes. `Memory` where
-/// memory ran out.
+/// `Refused` if the program is rejected as one of its own kind: then it has no notes. `Memory` if allocation
+/// fails.
 pub fn notes(alloc: Global, code: &Code) -> Result<Vec<Note>, NotesFault>
     ensures accepted { IfOk result (λ notes. IsAccepted code.now.kind code.now) }
     ensures best { IfOk result (λ notes.

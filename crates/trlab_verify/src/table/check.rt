@@ -1,5 +1,5 @@
-//! Checks a table of notes that is handed in, one instruction at a time and with no memory: what the notes
-//! say is tested, and nothing is found out (docs/PROGRAMS.md).
+//! Checks a given table of notes, one instruction at a time and without allocating: the notes are tested, not
+//! inferred (docs/PROGRAMS.md).
 
 ghost use Rattle.std.specs.Prelude.{◌≡◌, ◌↔◌, ℕ, suc, ◌<◌, ◌≤◌, ◌||◌, ◌&&◌, All, IfSome, IsTrue, Some, false, length, nat_eq, slice_get};
 ghost use Rattle.trlab_code.specs.declared.instruction.Instr.{Instr as AnInstr};
@@ -18,7 +18,7 @@ use super::note::{Note, read};
 use trlab_code::{Code, Instr, Kind, MOST_INSTRUCTIONS};
 use trlab_notes::{Stored, is_no_stronger, jump_note, next_note, reason_against};
 
-/// Whether a jump leads to the instruction at q.
+/// Whether a jump goes to the instruction at q.
 fn jumps_to(instr: Instr, q: usize) -> bool
     ensures { result ≡ on_target (nat_eq q) (target instr) }
 {
@@ -59,7 +59,7 @@ fn is_within(kind: Kind, form: &Note, note: &Stored) -> bool
     }
 }
 
-/// Whether the note at the next instruction is no stronger than what comes to it from the one at `pc`.
+/// Whether the note at the next instruction is no stronger than the one that `pc` sends there.
 fn fall_checks(kind: Kind, table: &[Note], pc: usize, note: &Stored, instr: Instr) -> bool
     requires inside { pc < length table.now }
     requires in_range { IsInRange instr }
@@ -77,7 +77,7 @@ fn fall_checks(kind: Kind, table: &[Note], pc: usize, note: &Stored, instr: Inst
     }
 }
 
-/// Whether the note at a jump's target is no stronger than what comes to it.
+/// Whether the note at a jump's target is no stronger than the one that is sent there.
 fn jump_checks(kind: Kind, table: &[Note], note: &Stored, instr: Instr) -> bool
     ensures { IsTrue result ↔ ((t : ℕ) → target instr ≡ Some t → t < length table.now →
         IsNoStronger (meaning_at kind table.now t) (jump_note (note_of note.now) instr)) }
@@ -112,14 +112,13 @@ fn checks_at(kind: Kind, instrs: &[Instr], table: &[Note], pc: usize) -> bool
     fall_checks(kind, table, pc, &note, instr) && jump_checks(kind, table, &note, instr)
 }
 
-/// Whether a table of notes checks for a program of its own kind: the first note says no more than
-/// what holds at the start, each instruction is reached and has no reason to be refused, and what
-/// comes from it on each way says at least what the note there says.
+/// Whether a table of notes checks for a program of its own kind: the first note is no stronger than the entry
+/// note, each instruction is reached and there is no reason to reject it, and the note that it sends on each
+/// path is at least as strong as the one there.
 ///
-/// Where it checks, the program is never stuck and ends within its longest way, on each view and all random
-/// words, whoever made the table. This takes no memory, and judges a table that was handed in from
-/// anywhere: a table with more or fewer notes than the program has instructions does not check, and
-/// none does in which a level above 2 is looked at.
+/// If it checks, the program is never stuck and ends within its longest path, for every view and all random
+/// words, wherever the table comes from. The call allocates nothing, and accepts any table: one with more or
+/// fewer notes than the program has instructions does not check, nor does one in which a level above 2 is used.
 pub fn check_notes(code: &Code, table: &[Note]) -> bool
     ensures exact { IsTrue result ↔
         Checks code.now.kind code.now (table_of code.now.kind table.now) }

@@ -1,5 +1,5 @@
 //! The form in which callers write and read notes: marks of the registers, and levels by the numbers of
-//! variables. Of the inputs a form says nothing, since their ranges are known (docs/PROGRAMS.md).
+//! variables. A form does not list the inputs, because their ranges are known (docs/PROGRAMS.md).
 
 ghost use Rattle.std.specs.Prelude.{◌≡◌, ◌↔◌, ℕ, ◌<◌, ◌≤◌, IfSome, IsTrue, None, slice_index};
 ghost use Rattle.trlab_code.specs.declared.instruction.Variable.{Variable as AVariable};
@@ -11,33 +11,32 @@ ghost use Rattle.trlab_verify.specs.TableForm.{form_said, said_of, meaning, HasL
 use trlab_code::{Kind, VARIABLES};
 use trlab_notes::{Said, Stored, entry_levels, entry_said, level_between};
 
-/// What a note says of a register.
+/// The abstract value of a register.
 #[derive(Clone, Copy, PartialEq, Eq)]
 pub enum Mark {
     /// Nothing: the register may be unset, or hold a number on one way and a flag on another.
     Unset,
-    /// It holds a number from the first to the second, both included. Where the first is above
-    /// the second no run comes there.
+    /// It holds a number from the first to the second, both included. If the first is above the second, no run
+    /// comes there.
     Num(u32, u32),
-    /// It holds a flag. `true`: where the flag is true, the side cell is empty.
+    /// It holds a flag. `true`: if the flag is true, the side cell is empty.
     Flag(bool),
 }
 
-/// What is known of the values before an instruction, whichever way a run came there.
+/// The knowledge of the values before an instruction, on every path that leads there.
 #[derive(Clone, Copy, PartialEq, Eq)]
 pub struct Note {
-    /// What is known of the registers `r0` to `r7`.
+    /// The abstract values of the registers `r0` to `r7`.
     pub regs: [Mark; 8],
-    /// How the variables are ordered: `levels[x][y]` is 1 where variable x is at most variable y, 2 where it
-    /// is below, and 0 where nothing is known beyond what the ranges tell. The variables are `r0` to
-    /// `r7`, speed, limit, gap, sidegap, sideback, lane and headspeed. Entries with x = y, or of a variable
-    /// that holds no number, are not looked at.
+    /// The order of the variables: `levels[x][y]` is 1 if variable x is at most variable y, 2 if it is below,
+    /// and 0 if nothing is known beyond the ranges. The variables are `r0` to `r7`, speed, limit, gap, sidegap,
+    /// sideback, lane and headspeed. Entries with x = y, or of a variable that is not a number, are not used.
     pub levels: [[u8; VARIABLES]; VARIABLES],
     /// Is the side cell known to be empty?
     pub side: bool,
 }
 
-/// What a mark says.
+/// The abstract value of a mark.
 fn said_by(mark: Mark) -> Said
     ensures { result ≡ said_of mark }
 {
@@ -48,7 +47,7 @@ fn said_by(mark: Mark) -> Said
     }
 }
 
-/// The mark that says this.
+/// The mark of an abstract value.
 fn mark_of(said: Said) -> Mark
     ensures { said_of result ≡ said }
 {
@@ -59,7 +58,7 @@ fn mark_of(said: Said) -> Mark
     }
 }
 
-/// What a form says of the variables, in the order of their numbers.
+/// The abstract values of a form's variables, in the order of their numbers.
 fn variables(kind: Kind, form: &Note) -> [Said; VARIABLES]
     ensures { (x : AVariable) → said_in result x ≡ form_said kind form.now x }
 {
@@ -96,7 +95,7 @@ fn has_levels(said: &[Said; VARIABLES], levels: &[[u8; VARIABLES]; VARIABLES]) -
     true
 }
 
-/// The note that a form means, stored; there is none where a level above 2 is looked at.
+/// The note that a form means, stored; none if a level above 2 is used.
 pub fn read(kind: Kind, form: &Note) -> Option<Stored>
     ensures none { result ≡ None → ¬ (HasLevels (meaning kind form.now)) }
     ensures some { IfSome result (λ stored. HasLevels (meaning kind form.now)) }
@@ -109,7 +108,7 @@ pub fn read(kind: Kind, form: &Note) -> Option<Stored>
     Some(Stored::new(said, &form.levels, form.side))
 }
 
-/// The form of a note that says of the inputs their ranges.
+/// The form of a note that has the ranges of the inputs.
 pub fn write(kind: Kind, note: &Stored) -> Note
     requires { SaysRanges kind (note_of note.now) }
     ensures { meaning kind result ≡ note_of note.now }
@@ -125,7 +124,7 @@ pub fn write(kind: Kind, note: &Stored) -> Note
     }
 }
 
-/// The form of the first instruction's note: of the order it says what holds at the start.
+/// The form of the first instruction's note: its order is that at the start.
 pub fn first_note(kind: Kind) -> Note
     ensures { meaning kind result ≡ entry kind }
 {

@@ -17,7 +17,7 @@ use std::alloc::{AllocError, Global};
 use trlab_code::{Code, Instr, Kind, MOST_INSTRUCTIONS};
 use trlab_notes::{Reason, Stored};
 
-/// How many instructions have a note where the verdict ends at this refusal.
+/// The number of instructions with a note, if the verdict ends at this rejection.
 fn noted_count(refusal: Refusal) -> usize
     ensures { result ≡ noted_count refusal.at (reason_number refusal.reason) }
 {
@@ -27,8 +27,7 @@ fn noted_count(refusal: Refusal) -> usize
     }
 }
 
-/// The forms of the notes by which a program is refused as one of its own kind; nothing where it is
-/// accepted.
+/// The forms of the notes with which a program is rejected as one of its own kind; none if it is accepted.
 fn judge_refused(
     alloc: Global,
     kind: Kind,
@@ -53,8 +52,8 @@ fn judge_refused(
     }
 }
 
-/// The notes by which a program is refused as one of its own kind, one for each instruction up to the
-/// refused one, which has none where no way leads to it; nothing where the program is accepted.
+/// The notes with which a program is rejected as one of its own kind, one for each instruction up to the
+/// rejected one, which has none if it is unreachable; `None` if the program is accepted.
 ///
 /// # Errors
 ///
