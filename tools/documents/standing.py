@@ -16,12 +16,11 @@ DECISIONS = "docs/DECISIONS.md"
 # They tell of crates by the names of their day.
 OF_OLD = "docs/HISTORY.md", "CHANGELOG.md"
 MOST_LINES_OF_A_DECISION = 10
-MOST_LINES_OF_README = 200
 MOST_CHARACTERS = 110
 # A paragraph is indented by a list in a list at most.
 MOST_INDENTED = 5
-# Tables, figures and comments stand on one line each.
-ONE_LINE = re.compile(r" *(?:\||!\[|<!--)")
+# A row of a table, a figure or a comment is one line.
+ONE_LINE = re.compile(r" *(?:\||!\[|<!--|<img )")
 OLD_FORMS = re.compile(
     r"\b(?:want of|front of a|in vain|dearer|dearest|(?<!there )(?:is|are|was|were) none(?! of)|but for|so it is with|"
     r"upon|whence|hence|thereof|hereby|shall)\b"
@@ -247,11 +246,6 @@ def clauses_are_there():
                     yield is_there, f"{document} names the clause `{clause}` of `{function}`, which is not there"
 
 
-def readme_is_short():
-    lines = content("README.md").count("\n")
-    yield lines <= MOST_LINES_OF_README, f"README.md has {lines} lines, and is to have {MOST_LINES_OF_README} at most"
-
-
 def prose(name):
     """The lines of text of a document, no block and no table, by their numbers."""
     is_fenced = False
@@ -291,7 +285,6 @@ def verdicts():
         names_are_there,
         clauses_are_there,
         figure_is_of_the_table,
-        readme_is_short,
         lines_are_short,
         english_is_of_today,
     ):
