@@ -1,5 +1,5 @@
-"""Is the English of messages plain? Help texts, explanations, the messages of ./trlab and the docstrings of the Python
-package may use few of the words that often stand in for a noun or a condition."""
+"""Is the English plain? Help texts, explanations, the messages of ./trlab, the docstrings of the Python package and the
+pages for users may use few of the words that often stand in for a noun or a condition."""
 import ast
 import os
 import re
@@ -12,6 +12,9 @@ COMMENT = re.compile(r"//[^\n]*")
 LITERAL = re.compile(r'"((?:[^"\\]|\\.)*)"', re.S)
 MESSAGE = re.compile(r'\b(?:say|fail|echo) "([^"]*)"')
 DOCUMENTED = ast.Module, ast.ClassDef, ast.FunctionDef
+PAGES = ["README.md", *(f"docs/{name}.md" for name in "TUTORIAL CHEATSHEET FAQ PROGRAMS PYTHON STUDIES LAWS LAB ERRORS SPEED".split())]
+# Blocks, and headings, which may be questions.
+NO_PROSE = re.compile(r"^```.*?^```$|^#[^\n]*$", re.M | re.S)
 
 
 def files_below(folder, ending):
@@ -42,6 +45,8 @@ def texts():
     yield "the explanations", " ".join(map(literals, files_below("crates/trlab_sentences/src", ".rt")))
     yield "the docstrings of python/trlab", " ".join(map(docstrings, files_below("python/trlab", ".py")))
     yield "the messages of ./trlab", " ".join(MESSAGE.findall(content("trlab")))
+    for page in PAGES:
+        yield page, NO_PROSE.sub("", content(page))
 
 
 def verdicts():
