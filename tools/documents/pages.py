@@ -1,10 +1,12 @@
-"""The pages for users: is each short, and are the numbers of README.md those of the pages that it cites?"""
+"""The pages for users: is each short, is each page in the index, and are the numbers of README.md those of the pages that
+it cites?"""
 import re
 
 import standing
 
 # Words that are not in blocks.
 MOST_WORDS = {"README.md": 900, "docs/TUTORIAL.md": 1500, "docs/CHEATSHEET.md": 600, "docs/FAQ.md": 1100}
+INDEX = "docs/README.md"
 NUMBER = re.compile(r"\d+\.\d+")
 REPRODUCED = re.compile(r"^\| \[[^]]*\]\((studies/[^)]*)\): [^|]*\| (.*) \|$", re.M)
 # The row of the table of speeds that README.md cites.
@@ -16,6 +18,14 @@ def words_are_few():
     for name, most in MOST_WORDS.items():
         words = len(standing.FENCED.sub("", standing.content(name)).split())
         yield words <= most, f"{name} has {words} words outside its blocks, and is to have {most} at most"
+
+
+def index_has_all_pages():
+    """Each page of docs/ is in the index by task."""
+    for name in standing.documents():
+        if name.startswith("docs/") and name != INDEX:
+            link = f"]({name.removeprefix('docs/')})"
+            yield link in standing.content(INDEX), f"{INDEX} has no link to {name}"
 
 
 def reproduced_numbers_are_of_studies():
@@ -38,5 +48,5 @@ def speed_is_of_the_table():
 
 
 def verdicts():
-    for tried in words_are_few, reproduced_numbers_are_of_studies, speed_is_of_the_table:
+    for tried in words_are_few, index_has_all_pages, reproduced_numbers_are_of_studies, speed_is_of_the_table:
         yield from tried()
