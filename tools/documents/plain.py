@@ -12,7 +12,7 @@ COMMENT = re.compile(r"//[^\n]*")
 LITERAL = re.compile(r'"((?:[^"\\]|\\.)*)"', re.S)
 MESSAGE = re.compile(r'\b(?:say|fail|echo) "([^"]*)"')
 DOCUMENTED = ast.Module, ast.ClassDef, ast.FunctionDef
-GUIDES = "README", "TUTORIAL", "CHEATSHEET", "FAQ", "PROGRAMS", "PYTHON", "STUDIES", "LAWS", "LAB", "ERRORS", "SPEED"
+GUIDES = "README", "TUTORIAL", "CHEATSHEET", "FAQ", "PROGRAMS", "PYTHON", "STUDIES", "LAWS", "LAB", "ERRORS", "SPEED", "RELIABILITY"
 STUDIES = "studies", "studies/1992", "studies/1996", "studies/1998", "studies/exact", "studies/triangle"
 PAGES = ["README.md", *(f"docs/{name}.md" for name in GUIDES), *(f"{name}/README.md" for name in ("examples", *STUDIES))]
 # Blocks, and headings, which may be questions.
