@@ -12,9 +12,9 @@ COMMENT = re.compile(r"//[^\n]*")
 LITERAL = re.compile(r'"((?:[^"\\]|\\.)*)"', re.S)
 MESSAGE = re.compile(r'\b(?:say|fail|echo) "([^"]*)"')
 DOCUMENTED = ast.Module, ast.ClassDef, ast.FunctionDef
-GUIDES = "README", "TUTORIAL", "CHEATSHEET", "FAQ", "PROGRAMS", "PYTHON", "STUDIES", "LAWS", "LAB", "ERRORS", "SPEED", "RELIABILITY"
-STUDIES = "studies", "studies/1992", "studies/1996", "studies/1998", "studies/exact", "studies/triangle"
-PAGES = ["README.md", *(f"docs/{name}.md" for name in GUIDES), *(f"{name}/README.md" for name in ("examples", *STUDIES))]
+GUIDES = "README TUTORIAL CHEATSHEET FAQ PROGRAMS PYTHON STUDIES LAWS LAB ERRORS SPEED RELIABILITY".split()
+FOLDERS = "examples studies studies/1992 studies/1996 studies/1998 studies/exact studies/triangle".split()
+PAGES = ["README.md", *(f"docs/{name}.md" for name in GUIDES), *(f"{name}/README.md" for name in FOLDERS)]
 # Blocks, and headings, which may be questions.
 NO_PROSE = re.compile(r"^```.*?^```$|^#[^\n]*$", re.M | re.S)
 

@@ -44,7 +44,7 @@ def axes(drawing: Drawing) -> None:
     drawing.line(LEFT, BOTTOM, RIGHT, BOTTOM)
     drawing.line(LEFT, BOTTOM, LEFT, TOP)
     drawing.text((LEFT + RIGHT) / 2, BOTTOM + 42, "density (cars per cell)", "middle")
-    drawing.parts.append(f'<text x="22" y="{(TOP + BOTTOM) / 2}" text-anchor="middle" fill="{INK}" transform="rotate(-90 22 {(TOP + BOTTOM) / 2})">flow (cars per step)</text>')
+    drawing.text(22, (TOP + BOTTOM) / 2, "flow (cars per step)", "middle", turned=True)
 
 
 def is_on(density: float, stroke: str) -> bool:
@@ -58,7 +58,7 @@ def branch(drawing: Drawing, points: dict, stroke: str) -> None:
     drawing.path("M" + "L".join(f"{x:.1f} {y:.1f}" for x, y in means), stroke, 2)
     for density, runs in points.items():
         for flow in runs:
-            drawing.parts.append(f'<circle cx="{across(density):.1f}" cy="{up(flow):.1f}" r="3.5" fill="{stroke}" fill-opacity="0.6"/>')
+            drawing.circle(across(density), up(flow), 3.5, stroke, 0.6)
 
 
 def draw() -> str:

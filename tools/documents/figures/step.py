@@ -28,6 +28,17 @@ def rows() -> list:
     ]
 
 
+def hop(drawing: Drawing, lane: Lane, begin: float, end: float) -> None:
+    """An arrow above a lane from one place to another, or past the end of the ring to its beginning."""
+    y = lane.y - 5
+    if end > begin:
+        drawing.path(f"M{begin:.1f} {y:.1f}q{(end - begin) / 2:.1f} -17 {end - begin:.1f} 2", INK, 1.2, head=True)
+    else:
+        out, back = lane.left(CELLS) + 16, lane.left(0) - 4
+        drawing.path(f"M{begin:.1f} {y:.1f}Q{begin + 40:.1f} {y - 15:.1f} {out:.1f} {y - 11:.1f}", INK, 1.2, head=True)
+        drawing.path(f"M{back:.1f} {y - 9:.1f}Q{end - 10:.1f} {y - 9:.1f} {end:.1f} {y + 2:.1f}", INK, 1.2, head=True)
+
+
 def draw() -> str:
     drawing = Drawing(800, 330)
     before = [speed for _, speed in CARS]
@@ -35,15 +46,9 @@ def draw() -> str:
         lane = Lane(drawing, 180, 20 + 62 * place, CELLS)
         drawing.text(170, lane.y + (14 if more else 20), title, "end", weight="bold")
         drawing.text(170, lane.y + 30, more, "end", 12)
-        for car, (cell, speed) in enumerate(zip(cells, speeds)):
-            changed = BLUE if speed > before[car] else RED if speed < before[car] else None
-            lane.car(cell, speed, changed)
-            if place == 4 and cell != CARS[car][0]:
-                begin, end = lane.middle(CARS[car][0]), lane.middle(cell)
-                if end > begin:
-                    drawing.path(f"M{begin:.1f} {lane.y - 5:.1f}Q{(begin + end) / 2:.1f} {lane.y - 22:.1f} {end:.1f} {lane.y - 3:.1f}", INK, 1.2, head=True)
-                else:
-                    drawing.path(f"M{begin:.1f} {lane.y - 5:.1f}Q{begin + 40:.1f} {lane.y - 20:.1f} {lane.left(CELLS) + 16:.1f} {lane.y - 16:.1f}", INK, 1.2, head=True)
-                    drawing.path(f"M{lane.left(0) - 4:.1f} {lane.y - 14:.1f}Q{end - 10:.1f} {lane.y - 14:.1f} {end:.1f} {lane.y - 3:.1f}", INK, 1.2, head=True)
+        for (begin, _), cell, speed, old in zip(CARS, cells, speeds, before):
+            lane.car(cell, speed, BLUE if speed > old else RED if speed < old else None)
+            if cell != begin:
+                hop(drawing, lane, lane.middle(begin), lane.middle(cell))
         before = speeds
     return drawing.svg()

@@ -1,5 +1,5 @@
 """Three workers share the segments of a road by tickets."""
-from .svg import FRAME, INK, Drawing
+from .svg import FRAME, Drawing
 
 WIDE, LEFT = 76, 60
 WORKERS = ("#0072b2", "#e08b00", "#00805c")
@@ -17,14 +17,20 @@ def segments(drawing: Drawing, y: float, title: str, what: str) -> None:
         drawing.text(x + WIDE / 2, y + 24, f"{what} {number}", "middle", 12)
 
 
+def joined(drawing: Drawing, x1: float, y1: float, x2: float, y2: float, stroke: str) -> None:
+    """A curved arrow from above to below."""
+    middle = (y1 + y2) / 2
+    drawing.path(f"M{x1:.1f} {y1}C{x1:.1f} {middle} {x2:.1f} {middle} {x2:.1f} {y2}", stroke, 1.3, head=True)
+
+
 def draw() -> str:
     drawing = Drawing(740, 410)
     segments(drawing, 40, "the cars of a road, cut into segments", "segment")
     places = [LEFT + 100 + 204 * worker for worker in range(len(WORKERS))]
     for number, worker in enumerate(DRAWN):
-        begin = LEFT + (number + 0.5) * WIDE
-        drawing.path(f"M{begin:.1f} 80C{begin:.1f} 110 {places[worker]} 108 {places[worker]} 138", WORKERS[worker], 1.3, head=True)
-        drawing.path(f"M{places[worker]} 226C{places[worker]} 262 {begin:.1f} 256 {begin:.1f} 288", WORKERS[worker], 1.3, head=True)
+        middle = LEFT + (number + 0.5) * WIDE
+        joined(drawing, middle, 80, places[worker], 138, WORKERS[worker])
+        joined(drawing, places[worker], 226, middle, 288, WORKERS[worker])
     for worker, middle in enumerate(places):
         tickets = ", ".join(str(number) for number, by in enumerate(DRAWN) if by == worker)
         drawing.box(middle - 85, 140, 170, 86, "white", WORKERS[worker], 6, 2)
@@ -32,8 +38,8 @@ def draw() -> str:
         drawing.text(middle, 188, f"has drawn {tickets}", "middle")
         drawing.text(middle, 210, "asks these cars", "middle", 12)
     segments(drawing, 290, "", "answers")
-    drawing.text(LEFT, 352, "the answers in the order of their tickets: those of one worker, whoever drew which ticket", weight="bold")
+    drawing.text(LEFT, 352, "in ticket order: the same answers as from one worker, whoever drew which ticket", weight="bold")
     drawing.box(LEFT, 370, 150, 28, "#f6f6f6", FRAME)
     drawing.text(LEFT + 75, 389, "next ticket", "middle")
-    drawing.text(LEFT + 162, 389, "the only number that all workers write: each draw adds 1 in one atomic step", fill=INK)
+    drawing.text(LEFT + 162, 389, "the only number that all workers write: each draw adds 1 in one atomic step")
     return drawing.svg()

@@ -17,8 +17,9 @@ def draw() -> str:
     end = FROM
     while end + EVERY <= STEPS:
         end += EVERY
-        drawing.measure(LEFT + WIDE * (end - EVERY) + 3, LEFT + WIDE * end - 3, Y - 14, f"window of {EVERY} steps", below=False)
-        drawing.arrow(LEFT + WIDE * end, Y + 32, LEFT + WIDE * end, Y + 50, BLUE)
-        drawing.text(LEFT + WIDE * end, Y + 66, f"row with step {end}", "middle", fill=BLUE)
+        left, right = LEFT + WIDE * (end - EVERY), LEFT + WIDE * end
+        drawing.measure(left + 3, right - 3, Y - 14, f"window of {EVERY} steps", below=False)
+        drawing.arrow(right, Y + 32, right, Y + 50, BLUE)
+        drawing.text(right, Y + 66, f"row with step {end}", "middle", fill=BLUE)
     drawing.text(LEFT, Y + 66, "grey: not counted", "start", 12, "#707070")
     return drawing.svg()
