@@ -1,10 +1,12 @@
-"""Is the English plain? Help texts, explanations, the messages of ./trlab, the docstrings of the Python package and the
-pages for users may use few of the words that often stand in for a noun or a condition."""
+"""Is the English of messages and pages plain? Help texts, explanations, the messages of ./trlab, the docstrings of the
+Python package, the pages for users and those with a word limit may use few of the words that often replace a noun or a
+condition."""
 import ast
 import os
 import re
 
 from finder import TOP
+from standing import MOST_WORDS
 
 STAND_INS = re.compile(r"\b(?:what|whoever|alone|told|stands?|where)\b", re.I)
 MOST_STAND_INS = 5  # per 1000 words
@@ -15,8 +17,8 @@ DOCUMENTED = ast.Module, ast.ClassDef, ast.FunctionDef
 GUIDES = "README TUTORIAL CHEATSHEET FAQ PROGRAMS PYTHON STUDIES LAWS LAB ERRORS SPEED".split()
 FOLDERS = "examples studies studies/1992 studies/1996 studies/1998 studies/exact studies/triangle".split()
 PAGES = ["README.md", *(f"docs/{name}.md" for name in GUIDES), *(f"{name}/README.md" for name in FOLDERS)]
-# Blocks, and headings, which may be questions.
-NO_PROSE = re.compile(r"^```.*?^```$|^#[^\n]*$", re.M | re.S)
+# Blocks, code, links, and headings, which may be questions.
+NO_PROSE = re.compile(r"^```.*?^```$|`[^`]*`|\]\([^)]*\)|^#[^\n]*$", re.M | re.S)
 
 
 def files_below(folder, ending):
@@ -47,8 +49,8 @@ def texts():
     yield "the explanations", " ".join(map(literals, files_below("crates/trlab_sentences/src", ".rt")))
     yield "the docstrings of python/trlab", " ".join(map(docstrings, files_below("python/trlab", ".py")))
     yield "the messages of ./trlab", " ".join(MESSAGE.findall(content("trlab")))
-    for page in PAGES:
-        yield page, NO_PROSE.sub("", content(page))
+    for page in sorted({*PAGES, *MOST_WORDS}):
+        yield page, NO_PROSE.sub(" ", content(page))
 
 
 def verdicts():

@@ -13,9 +13,24 @@ from finder import TOP
 ARCHITECTURE = "docs/ARCHITECTURE.md"
 MAPS = ARCHITECTURE, "docs/EXTENDING.md"
 DECISIONS = "docs/DECISIONS.md"
-# They tell of crates by the names of their day.
-OF_OLD = "docs/HISTORY.md", "CHANGELOG.md"
-MOST_LINES_OF_A_DECISION = 10
+# It speaks of crates by the names of their day.
+OF_OLD = "CHANGELOG.md"
+MOST_WORDS_OF_A_DECISION = 60
+# Pages grow with every change, and each sentence seems useful. A page at its limit needs a cut before an addition.
+MOST_WORDS = {
+    "CHANGELOG.md": 1000,
+    "CONTRIBUTING.md": 1750,
+    "docs/ARCHITECTURE.md": 2900,
+    "docs/BOOK.md": 1750,
+    "docs/DECISIONS.md": 3900,
+    "docs/EMBEDDING.md": 900,
+    "docs/EXTENDING.md": 1600,
+    "docs/GLOSSARY.md": 2800,
+    "docs/GUARANTEES.md": 5000,
+    "docs/LAWS.md": 3900,
+    "docs/RELIABILITY.md": 2300,
+    "docs/SPEED.md": 2900,
+}
 MOST_CHARACTERS = 110
 # A paragraph is indented by a list in a list at most.
 MOST_INDENTED = 5
@@ -25,10 +40,12 @@ OLD_FORMS = re.compile(
     r"\b(?:want of|front of a|in vain|dearer|dearest|(?<!there )(?:is|are|was|were) none(?! of)|but for|so it is with|"
     r"upon|whence|hence|thereof|hereby|shall)\b"
 )
-# In DECISIONS.md and HISTORY.md a decision is cited as (12) or (12, 14); elsewhere after the name of the file.
+# In DECISIONS.md a decision is cited as (12) or (12, 14); elsewhere after the name of the file.
 CITED_AT_HOME = re.compile(r"\((\d{1,3}(?:,\s+\d{1,3})*)\)")
 CITED_ELSEWHERE = re.compile(r"DECISIONS\.md\)?,?\s+((?:\d{1,3}(?:,\s+|\s+and\s+|\s+to\s+)?)+)")
-BEGUN = re.compile(r"(\d+)\. \*\*")
+DECISION = re.compile(r"^\*\*(\d+)\. (.*?)(?=\n\n|\n*\Z)", re.M | re.S)
+# A list would be numbered anew by whatever shows the page.
+DECISION_IN_A_LIST = re.compile(r"^(\d+)\. \*\*", re.M)
 LAYER = re.compile(r"^# (.*)\n((?:trlab_\w+:.*\n)+)", re.M)
 CRATE = re.compile(r"`(trlab_\w+)(/[\w./]+)?`")
 FILE = re.compile(r"`((?:\w+/)*\w+\.(?:rt|antt))`")
@@ -69,33 +86,24 @@ def documents():
 
 
 def decisions():
-    """The numbers of the decisions in the order of the page, each with its lines."""
-    found = {}
-    for line in content(DECISIONS).split("\n"):
-        begun = BEGUN.match(line)
-        if begun:
-            found.setdefault(int(begun[1]), []).append([])
-            lines = found[int(begun[1])][-1]
-        elif not line:
-            lines = []
-        if begun or (found and line.startswith("   ")):
-            lines.append(line)
-    return found
+    """The number of each decision and its text, in the order of the page."""
+    return [(int(number), text) for number, text in DECISION.findall(content(DECISIONS))]
 
 
-def decisions_are_told_once():
-    """Each number stands once and in order, none is left out, and each decision is short."""
-    found = decisions()
-    yield list(found) == list(range(1, len(found) + 1)), f"{DECISIONS} is out of order: tools/documents/renumber"
-    for number, texts in found.items():
-        is_short = all(len(lines) <= MOST_LINES_OF_A_DECISION for lines in texts)
-        wrong = f"decision {number} is there twice, or is longer than {MOST_LINES_OF_A_DECISION} lines"
-        yield len(texts) == 1 and is_short, wrong
+def decisions_are_short():
+    """Each number is of one decision, and each decision is short. Numbers are for good, so some are missing."""
+    numbers = [number for number, _ in decisions()]
+    for number, text in decisions():
+        is_short = len(text.split()) <= MOST_WORDS_OF_A_DECISION
+        wrong = f"decision {number} is there twice, or has more than {MOST_WORDS_OF_A_DECISION} words"
+        yield numbers.count(number) == 1 and is_short, wrong
+    for number in DECISION_IN_A_LIST.findall(content(DECISIONS)):
+        yield False, f"{DECISIONS} has decision {number} as an item of a list; begin it with **{number}. "
 
 
 def form_of_citations(name):
     """How a file cites decisions: the numbers are the first group."""
-    return CITED_AT_HOME if name in (DECISIONS, "docs/HISTORY.md") else CITED_ELSEWHERE
+    return CITED_AT_HOME if name == DECISIONS else CITED_ELSEWHERE
 
 
 def citations(name):
@@ -106,7 +114,7 @@ def citations(name):
 
 def citations_exist():
     """Each decision that a document, a source or a script cites is there."""
-    there = decisions()
+    there = dict(decisions())
     for name in known_files():
         try:
             cited = set(citations(name))
@@ -166,7 +174,7 @@ def layers_agree():
 def crates_are_there():
     """Each crate that a document names is there, and so is each of its files that is named with it."""
     for name in documents():
-        if name not in OF_OLD:
+        if name != OF_OLD:
             for crate, path in sorted(set(CRATE.findall(content(name)))):
                 is_there = os.path.exists(os.path.join(TOP, "crates", crate + path))
                 yield is_there, f"{name} names {crate}{path}, which is not there"
@@ -219,7 +227,7 @@ def words_of_sources():
 def names_are_there():
     """Each name of code that a document cites, as `IsNext` or `take_step`, stands in some source."""
     for document in documents():
-        if document not in OF_OLD:
+        if document != OF_OLD:
             cited = filter(CODE.fullmatch, QUOTED.findall(FENCED.sub("", content(document))))
             for name in sorted({name for code in cited for name in NAME.findall(code)} - NOT_USED):
                 yield name in words_of_sources(), f"{document} names `{name}`, which stands in no source"
@@ -239,11 +247,18 @@ def clauses():
 def clauses_are_there():
     """Each clause that a document names after a function is one of it."""
     for document in documents():
-        if document not in OF_OLD:
+        if document != OF_OLD:
             for function, cited in CITED_CLAUSES.findall(re.sub(r"\s+", " ", content(document))):
                 for clause in QUOTED.findall(cited):
                     is_there = clause in clauses().get(function, ())
                     yield is_there, f"{document} names the clause `{clause}` of `{function}`, which is not there"
+
+
+def pages_are_short():
+    """Each page with a word limit keeps to it; the symbols between the columns of a table count, as for `wc -w`."""
+    for page, most in MOST_WORDS.items():
+        words = len(content(page).split())
+        yield words <= most, f"{page} has {words} words, and is to have {most} at most"
 
 
 def prose(name):
@@ -274,7 +289,7 @@ def english_is_of_today():
 
 def verdicts():
     for tried in (
-        decisions_are_told_once,
+        decisions_are_short,
         citations_exist,
         links_lead_somewhere,
         versions_agree,
@@ -285,6 +300,7 @@ def verdicts():
         names_are_there,
         clauses_are_there,
         figure_is_of_the_table,
+        pages_are_short,
         lines_are_short,
         english_is_of_today,
     ):
