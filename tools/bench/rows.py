@@ -1,5 +1,4 @@
 """A row of the table, and the table as text."""
-import re
 from typing import NamedTuple
 
 import tools
@@ -76,16 +75,7 @@ def cells_of(text):
     return dict(zip(COLUMNS, cells)) if is_row else {}
 
 
-def is_main(cells):
-    """Whether README shows a row: long roads with three cars on ten cells, and work that four threads share."""
-    is_rule = re.fullmatch("`[^`]*`", cells["what"]) and cells["cells"] == "100000"
-    if is_rule:
-        return int(cells["cars"]) == 30000 * int(cells["lanes"])
-    return cells["what"].endswith((", 4 workers", ", 4 runners")) and "at least" in cells["wanted"]
-
-
-def selected(table, columns):
-    """A table in Markdown, with some of its columns and, if these are not all, with the rows that README shows."""
+def written(table):
+    """The rows of a printed table in Markdown, below their heading."""
     found = filter(None, map(cells_of, table.splitlines()))
-    some = [cells for cells in found if columns == COLUMNS or is_main(cells)]
-    return "\n".join(heading(columns) + [line([cells[column] for column in columns]) for cells in some]) + "\n"
+    return "\n".join(heading(COLUMNS) + [line(list(cells.values())) for cells in found]) + "\n"

@@ -1,5 +1,6 @@
 """Is the English of messages and pages plain? Help texts, explanations, the messages of ./trlab, the docstrings of the
-Python package and the pages with a word limit may use few of the words that often replace a noun or a condition."""
+Python package, the pages for users and those with a word limit may use few of the words that often replace a noun or a
+condition."""
 import ast
 import os
 import re
@@ -12,8 +13,12 @@ MOST_STAND_INS = 5  # per 1000 words
 COMMENT = re.compile(r"//[^\n]*")
 LITERAL = re.compile(r'"((?:[^"\\]|\\.)*)"', re.S)
 MESSAGE = re.compile(r'\b(?:say|fail|echo) "([^"]*)"')
-CODE = re.compile(r"^```.*?^```$|`[^`]*`|\]\([^)]*\)", re.M | re.S)
 DOCUMENTED = ast.Module, ast.ClassDef, ast.FunctionDef
+GUIDES = "README TUTORIAL CHEATSHEET FAQ PROGRAMS PYTHON STUDIES LAWS LAB ERRORS SPEED".split()
+FOLDERS = "examples studies studies/1992 studies/1996 studies/1998 studies/exact studies/triangle".split()
+PAGES = ["README.md", *(f"docs/{name}.md" for name in GUIDES), *(f"{name}/README.md" for name in FOLDERS)]
+# Blocks, code, links, and headings, which may be questions.
+NO_PROSE = re.compile(r"^```.*?^```$|`[^`]*`|\]\([^)]*\)|^#[^\n]*$", re.M | re.S)
 
 
 def files_below(folder, ending):
@@ -44,8 +49,8 @@ def texts():
     yield "the explanations", " ".join(map(literals, files_below("crates/trlab_sentences/src", ".rt")))
     yield "the docstrings of python/trlab", " ".join(map(docstrings, files_below("python/trlab", ".py")))
     yield "the messages of ./trlab", " ".join(MESSAGE.findall(content("trlab")))
-    for page in MOST_WORDS:
-        yield page, CODE.sub(" ", content(page))
+    for page in sorted({*PAGES, *MOST_WORDS}):
+        yield page, NO_PROSE.sub(" ", content(page))
 
 
 def verdicts():

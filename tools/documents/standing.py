@@ -31,14 +31,13 @@ MOST_WORDS = {
     "docs/RELIABILITY.md": 2300,
     "docs/SPEED.md": 650,
 }
-MOST_LINES_OF_README = 200
 MOST_CHARACTERS = 110
 # A paragraph is indented by a list in a list at most.
 MOST_INDENTED = 5
 # The part of a page that a script writes.
 WRITTEN_BY_A_SCRIPT = re.compile(r"<!-- .*? -->.*?<!-- end -->", re.S)
-# Tables, figures and comments stand on one line each.
-ONE_LINE = re.compile(r" *(?:\||!\[|<!--)")
+# A row of a table, a figure or a comment is one line.
+ONE_LINE = re.compile(r" *(?:\||!\[|<!--|<img )")
 OLD_FORMS = re.compile(
     r"\b(?:want of|front of a|in vain|dearer|dearest|(?<!there )(?:is|are|was|were) none(?! of)|but for|so it is with|"
     r"upon|whence|hence|thereof|hereby|shall)\b"
@@ -264,11 +263,6 @@ def pages_are_short():
         yield words <= most, f"{page} has {words} words, and is to have {most} at most"
 
 
-def readme_is_short():
-    lines = content("README.md").count("\n")
-    yield lines <= MOST_LINES_OF_README, f"README.md has {lines} lines, and is to have {MOST_LINES_OF_README} at most"
-
-
 def prose(name):
     """The lines of text of a document, no block and no table, by their numbers."""
     is_fenced = False
@@ -308,7 +302,6 @@ def verdicts():
         names_are_there,
         clauses_are_there,
         figure_is_of_the_table,
-        readme_is_short,
         pages_are_short,
         lines_are_short,
         english_is_of_today,

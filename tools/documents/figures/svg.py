@@ -1,0 +1,115 @@
+"""Drawings as SVG text: shapes, words, arrows, and roads of cells with cars."""
+from typing import List, Optional
+
+# Text and lines, frames, what is stressed, what is allowed, what is forbidden.
+INK, FRAME, BLUE, GREEN, RED = "#303030", "#b0b0b0", "#0072b2", "#00805c", "#c04000"
+# Red, green and blue of the colour map viridis at nine equal distances, as in docs/spacetime.awk.
+MAP = [
+    (68, 1, 84), (71, 45, 123), (59, 82, 139), (44, 114, 142), (33, 145, 140),
+    (40, 174, 128), (94, 201, 98), (173, 220, 48), (253, 231, 37),
+]
+
+
+def colour(speed: int, fastest: int) -> str:
+    """The colour of a car: dark if it is stopped, light at the highest speed."""
+    at = 8 * 0.92 * speed / fastest
+    k = min(int(at), 7)
+    parts = (round(a + (b - a) * (at - k)) for a, b in zip(MAP[k], MAP[k + 1]))
+    return "#" + "".join(f"{part:02x}" for part in parts)
+
+
+class Drawing:
+    """An image that grows by shapes; the last one is on top."""
+
+    def __init__(self, width: int, height: int) -> None:
+        self.width, self.height = width, height
+        self.parts: List[str] = []
+
+    def box(
+        self, x: float, y: float, wide: float, high: float,
+        fill: str = "white", stroke: str = FRAME, round_by: float = 4, width: float = 1,
+    ) -> None:
+        self.parts.append(
+            f'<rect x="{x:.1f}" y="{y:.1f}" width="{wide:.1f}" height="{high:.1f}" rx="{round_by}" '
+            f'fill="{fill}" stroke="{stroke}" stroke-width="{width}"/>'
+        )
+
+    def text(
+        self, x: float, y: float, words: str, anchor: str = "start",
+        size: float = 13, fill: str = INK, weight: str = "", family: str = "", turned: bool = False,
+    ) -> None:
+        """Words whose left end, middle or right end is at x, on the line y; they may be turned to be read upwards."""
+        for sign, escaped in ("&", "&amp;"), ("<", "&lt;"), (">", "&gt;"):
+            words = words.replace(sign, escaped)
+        more = (f' font-weight="{weight}"' if weight else "") + (f' font-family="{family}"' if family else "")
+        more += f' transform="rotate(-90 {x:.1f} {y:.1f})"' if turned else ""
+        begin = f'<text x="{x:.1f}" y="{y:.1f}" text-anchor="{anchor}" font-size="{size}" fill="{fill}"{more}>'
+        self.parts.append(f"{begin}{words}</text>")
+
+    def code(self, x: float, y: float, words: str, anchor: str = "start", size: float = 13, fill: str = INK) -> None:
+        self.text(x, y, words, anchor, size, fill, family="monospace")
+
+    def circle(self, x: float, y: float, radius: float, fill: str, opacity: float = 1) -> None:
+        self.parts.append(f'<circle cx="{x:.1f}" cy="{y:.1f}" r="{radius}" fill="{fill}" fill-opacity="{opacity}"/>')
+
+    def line(self, x1: float, y1: float, x2: float, y2: float, stroke: str = INK) -> None:
+        ends = f'x1="{x1:.1f}" y1="{y1:.1f}" x2="{x2:.1f}" y2="{y2:.1f}"'
+        self.parts.append(f'<line {ends} stroke="{stroke}" stroke-width="1.2"/>')
+
+    def path(self, steps: str, stroke: str = INK, width: float = 1.5, head: bool = False, dashes: str = "") -> None:
+        """A path of SVG's own steps, with an arrow head at its end if wanted."""
+        more = f' marker-end="url(#{self._head(stroke)})"' if head else ""
+        more += f' stroke-dasharray="{dashes}"' if dashes else ""
+        self.parts.append(f'<path d="{steps}" stroke="{stroke}" stroke-width="{width}" fill="none"{more}/>')
+
+    def arrow(self, x1: float, y1: float, x2: float, y2: float, stroke: str = INK, width: float = 1.5) -> None:
+        self.path(f"M{x1:.1f} {y1:.1f}L{x2:.1f} {y2:.1f}", stroke, width, head=True)
+
+    def _head(self, stroke: str) -> str:
+        """The name of an arrow head of a colour, which is defined once."""
+        name = f"head{stroke.strip('#')}"
+        if not any(f'id="{name}"' in part for part in self.parts):
+            place = 'refX="6.5" refY="4" markerWidth="6" markerHeight="6" orient="auto"'
+            shape = f'<path d="M0 0L8 4L0 8z" fill="{stroke}"/>'
+            self.parts.append(f'<defs><marker id="{name}" viewBox="0 0 8 8" {place}>{shape}</marker></defs>')
+        return name
+
+    def measure(self, x1: float, x2: float, y: float, words: str, stroke: str = BLUE, below: bool = True) -> None:
+        """A line with ends from x1 to x2, and words at its middle."""
+        for x in x1, x2:
+            self.line(x, y - 4, x, y + 4, stroke)
+        self.line(x1, y, x2, y, stroke)
+        self.text((x1 + x2) / 2, y + 17 if below else y - 8, words, "middle", fill=stroke)
+
+    def svg(self) -> str:
+        letters = 'font-family="sans-serif" font-size="13"'
+        return "\n".join([
+            f'<svg xmlns="http://www.w3.org/2000/svg" viewBox="0 0 {self.width} {self.height}" {letters}>',
+            f'<rect width="{self.width}" height="{self.height}" fill="white"/>',
+            *self.parts,
+            "</svg>\n",
+        ])
+
+
+class Lane:
+    """A lane of a drawing: cells of one size from left to right."""
+
+    def __init__(self, drawing: Drawing, x: float, y: float, cells: int, size: float = 30, fastest: int = 5) -> None:
+        self.drawing, self.x, self.y, self.cells, self.size, self.fastest = drawing, x, y, cells, size, fastest
+        for cell in range(cells):
+            drawing.box(x + cell * size, y, size, size, round_by=0)
+
+    def left(self, cell: float) -> float:
+        """Where a cell begins."""
+        return self.x + cell * self.size
+
+    def middle(self, cell: float) -> float:
+        return self.left(cell + 0.5)
+
+    def car(self, cell: int, speed: int, mark: Optional[str] = None) -> None:
+        """A car with its speed, in a frame of the colour `mark` if it is stressed."""
+        room, side = self.size * 0.1, self.size * 0.8
+        fill = colour(speed, self.fastest)
+        self.drawing.box(self.left(cell) + room, self.y + room, side, side, fill, mark or fill, 5, 3 if mark else 1)
+        shade = "white" if speed <= 0.6 * self.fastest else INK
+        self.drawing.text(self.middle(cell), self.y + self.size * 0.66, str(speed), "middle", self.size * 0.5, shade, "bold")

@@ -1,0 +1,18 @@
+"""Images that pages show at their own width, so that the letters of all have one size."""
+import re
+
+SHOWN = re.compile(r'<img src="([^"]+)" width="(\d+)" alt="[^"]+">')
+
+
+def content(path):
+    """The bytes of a file, or None if it is not there."""
+    try:
+        with open(path, "rb") as file:
+            return file.read()
+    except FileNotFoundError:
+        return None
+
+
+def width(image):
+    """The width of an SVG image in pixels."""
+    return int(re.search(rb'viewBox="0 0 (\d+)', image)[1])
