@@ -9,7 +9,7 @@ mod program;
 mod road;
 
 ghost use Rattle.std.specs.Prelude.{IfOk, IfSome};
-ghost use Rattle.trlab_repairs.specs.Repairs.{Helps};
+ghost use Rattle.trlab_diagnosis.specs.Repairs.{Helps};
 
 use crate::candidates::code::{hex_candidates, version_candidate};
 use crate::candidates::label::label_candidate;
@@ -17,15 +17,17 @@ use crate::candidates::line::line_candidates;
 use crate::candidates::number::number_candidates;
 use crate::candidates::operand::operand_candidates;
 use crate::candidates::program::word_candidates;
-pub use crate::candidates::road::{FRONT, LANE_LINE};
 use crate::candidates::road::{cell_candidate, lanes_candidate};
+pub use crate::candidates::road::{FRONT, LANE_LINE};
 use crate::draft::{Draft, Put};
+use crate::line::Place;
 use crate::line_name::{LineName, put_after};
+use crate::repair::{Repair, Slip};
+use crate::subject::Subject;
 use crate::tried::{MOST_TRIED, first_that_helps};
 use std::alloc::{AllocError, Global};
 use trlab_asm::Why;
 use trlab_code::CodeFault;
-use trlab_repairs::{Place, Repair, Slip, Subject};
 use trlab_road::RoadFault;
 use trlab_texts::Cause;
 

@@ -1,8 +1,9 @@
 //! Drafts: repairs that may be tried, of which nothing is written yet.
 
 use crate::digits::KEY_DIGITS;
+use crate::edit::Edit;
+use crate::repair::{Change, Repair, Slip};
 use std::alloc::{AllocError, Global};
-use trlab_repairs::{Change, Edit, Repair, Slip};
 
 /// What replaces the bytes that go.
 #[derive(Clone, Copy)]

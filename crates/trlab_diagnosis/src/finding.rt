@@ -8,9 +8,11 @@ use crate::digits::{KEY_DIGITS, digits_at, first_no_digit};
 use crate::finding::program::program_finding;
 use crate::finding::road::{lane_finding, speed_finding};
 use crate::finding::text::{line_finding, order_finding, work_finding, wrong_number};
+use crate::line::Place;
 use crate::line_name::LineName;
+use crate::odd::Oddity;
 use crate::operands::Operand;
-use trlab_repairs::{Oddity, Place, Subject};
+use crate::subject::Subject;
 use trlab_road::RoadFault;
 use trlab_texts::Cause;
 

@@ -1,7 +1,7 @@
 //! The lines of job and sweep texts, by their names.
 
 use crate::alike::{is_named_among, is_spelled};
-use trlab_repairs::Subject;
+use crate::subject::Subject;
 
 /// A line of a job or sweep text, by its name.
 #[derive(Clone, Copy, PartialEq, Eq)]

@@ -1,11 +1,11 @@
 //! What operands instructions have.
 
 use crate::alike::is_spelled;
+use crate::instruction::{name_and_operands, start_of_name};
 use crate::numbers::{CHANCE, Range};
 use trlab_asm::{INPUTS, Mnemonic, REGISTERS, Why, is_label, mnemonic_named};
 use trlab_bounds::programs::{GREATEST_NUMBER, WORDS};
 use trlab_lines::{cut, is_numeral, only_word, without_indent};
-use trlab_repairs::{name_and_operands, start_of_name};
 
 /// What an operand of an instruction has to be.
 #[derive(Clone, Copy)]

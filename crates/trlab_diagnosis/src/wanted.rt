@@ -1,9 +1,11 @@
 //! Which lines may stand at a place of a job or sweep text: the readers are asked.
 
+use crate::line::Place;
 use crate::line_name::{LINES, LineName, TOP_LINES, put_after};
+use crate::reread::may_follow;
+use crate::subject::Subject;
 use crate::tried::LONGEST_ASKED;
 use std::alloc::{AllocError, Global};
-use trlab_repairs::{Place, Subject, may_follow};
 
 /// Below this line of a text no line of its top stands: it is asked for the others alone.
 const LAST_TOP_LINE: u32 = 6;

@@ -12,13 +12,13 @@ use Rattle.trlab_campaign.specs.Ending.{EndsSo, OutputEnds}
 use Rattle.trlab_campaign.specs.Refusal.{too_big_line}
 use Rattle.trlab_campaign.specs.Writers.{SinkBytes, AddsNone}
 use Rattle.trlab_campaign.proofs.Endings.{output_ends, kept_at_memory}
-use Rattle.trlab_pages.specs.Plain.{IsPlain}
-use Rattle.trlab_repairs.specs.Subjects.{subject_of}
-use Rattle.trlab_repairs.specs.declared.subject.Subject.{Subject}
-use Rattle.trlab_repairs.specs.declared.subject.Subject.TheVariants.{Job, Sweep, Check}
+use Rattle.trlab_lines.specs.Plain.{IsPlain}
+use Rattle.trlab_diagnosis.specs.Subjects.{subject_of}
+use Rattle.trlab_diagnosis.specs.declared.subject.Subject.{Subject}
+use Rattle.trlab_diagnosis.specs.declared.subject.Subject.TheVariants.{Job, Sweep, Check}
 use Rattle.trlab_explain.specs.Explanations.{BeginsWith, Explains, ExplainsAs, TellsNumber, TellsAs, topic_front}
-use Rattle.trlab_sentences.specs.Numbers.{is_known}
-use Rattle.trlab_sentences.specs.declared.topics.Topic.{Topic}
+use Rattle.trlab_explain.specs.Numbers.{is_known}
+use Rattle.trlab_explain.specs.declared.topics.Topic.{Topic}
 
 -- two parts were put after a text, the second unless memory ran out
 pub parts_put : {A E : Type 0} (r : Result A E) (old mid new first last : List ℕ) → mid ≡ old ++ first → OnOk r (new ≡ mid ++ last) → OnOk r (new ≡ old ++ (first ++ last))

@@ -1,6 +1,6 @@
 -- What is told of a text, whatever words are chosen: where it is refused, how that begins.
 use Rattle.std.specs.Prelude.{◌≡◌, ℕ, true, false, not, All, List, ◌++◌, codes, decimal, Option, None, Some, Result, Ok, Err}
-use Rattle.trlab_pages.specs.Plain.{IsPlain}
+use Rattle.trlab_lines.specs.Plain.{IsPlain}
 use Rattle.trlab_lines.specs.Lines.{lines_of}
 use Rattle.trlab_verify.specs.Verdict.{IsAccepted, IsRefused}
 use Rattle.trlab_texts.specs.Reading.{Fault}
@@ -9,14 +9,14 @@ use Rattle.trlab_jobs.specs.Check.{Check as CheckSaid, CheckText}
 use Rattle.trlab_jobs.specs.Sweep.{Sweep as SweepSaid, SweepText}
 use Rattle.trlab_campaign.specs.CheckOutput.{refused_line}
 use Rattle.trlab_campaign.specs.Refusal.{Outputs, fault_line}
-use Rattle.trlab_repairs.specs.Quoting.{line_at}
-use Rattle.trlab_repairs.specs.Subjects.{subject_of}
-use Rattle.trlab_repairs.specs.declared.subject.Subject.{Subject}
-use Rattle.trlab_repairs.specs.declared.subject.Subject.TheVariants.{Job, Sweep, Check}
-use Rattle.trlab_sentences.specs.Quotes.{quote_line}
-use Rattle.trlab_sentences.specs.Numbers.{is_known}
-use Rattle.trlab_sentences.specs.declared.topics.Topic.{Topic}
-use Rattle.trlab_sentences.specs.declared.topics.Topic.TheVariants.{Cause, Reason}
+use Rattle.trlab_diagnosis.specs.Quoting.{line_at}
+use Rattle.trlab_diagnosis.specs.Subjects.{subject_of}
+use Rattle.trlab_diagnosis.specs.declared.subject.Subject.{Subject}
+use Rattle.trlab_diagnosis.specs.declared.subject.Subject.TheVariants.{Job, Sweep, Check}
+use Rattle.trlab_explain.specs.Quotes.{quote_line}
+use Rattle.trlab_explain.specs.Numbers.{is_known}
+use Rattle.trlab_explain.specs.declared.topics.Topic.{Topic}
+use Rattle.trlab_explain.specs.declared.topics.Topic.TheVariants.{Cause, Reason}
 
 -- how a fault is told: the line by which the text is refused, and the line of the text
 abbrev pub fault_head : List ℕ → Fault → List ℕ

@@ -5,15 +5,14 @@ ghost use Rattle.trlab_campaign.specs.Ending.{EngineEnds, HandsOn, OutputEnds};
 ghost use Rattle.trlab_campaign.specs.Refusal.{too_big_line};
 ghost use Rattle.trlab_campaign.specs.Writers.{AddsNone, bytes_of};
 ghost use Rattle.trlab_campaign.specs.declared.end.End.TheVariants.{DeviceFault, Memory};
-ghost use Rattle.trlab_pages.specs.Plain.{IsPlain};
+ghost use Rattle.trlab_lines.specs.Plain.{IsPlain};
 ghost use Rattle.trlab_explain.specs.Explanations.{BeginsWith, Explains};
 
-use crate::fault::explain_fault;
-use crate::texts::explain_as;
+use crate::texts::{explain_as, explain_fault};
 use std::alloc::{AllocError, AllocGlobal, Global};
 use trlab_campaign::{Cause, End, Engine, Sink, Source, run_engine, write_output};
-use trlab_pages::Page;
-use trlab_repairs::{Subject, subject_of};
+use trlab_diagnosis::{Subject, subject_of};
+use trlab_lines::Page;
 
 /// The page on a text that is too big.
 fn too_big_page(alloc: Global) -> Result<(bool, Page), AllocError>

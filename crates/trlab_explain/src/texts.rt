@@ -1,24 +1,47 @@
 //! The explanations of texts, each as its command reads it.
 
 ghost use Rattle.std.specs.Prelude.{IfOk};
-ghost use Rattle.trlab_explain.specs.Explanations.{TellsAs};
+ghost use Rattle.trlab_explain.specs.Explanations.{TellsAs, TellsFault};
 
-use crate::fault::explain_fault;
-use crate::good::explain_good;
-use crate::verdict::explain_program;
+use crate::check::explain_program;
+use crate::fault::fault_words;
+use crate::head::{push_below, push_fault_head};
+use crate::job::job_page;
+use crate::sweep::sweep_page;
 use std::alloc::{AllocError, Global};
+use trlab_diagnosis::{Place, Subject};
 use trlab_jobs::{read_check, read_job, read_sweep};
-use trlab_pages::Page;
-use trlab_repairs::Subject;
-use trlab_sentences::{job_page, sweep_page};
-use trlab_texts::TextFault;
+use trlab_lines::Page;
+use trlab_texts::{Cause, TextFault};
+
+/// That a text is refused for its first fault, and the page on it.
+///
+/// # Errors
+///
+/// Where memory ran out.
+pub fn explain_fault(
+    alloc: Global,
+    subject: Subject,
+    text: &[u8],
+    line: u32,
+    cause: Cause,
+) -> Result<(bool, Page), AllocError>
+    ensures { IfOk result (λ told.
+        TellsFault text.now (record { line = line; cause = cause }) told.0 told.1) }
+{
+    let place = Place::at(text, line);
+    let mut page = Page::new(alloc);
+    push_fault_head(&mut page, line, place.line, cause)?;
+    push_below(&mut page, fault_words(alloc, subject, place, cause))?;
+    Ok((true, page))
+}
 
 /// Whether a job text is refused, and the page on it.
 fn explain_job(alloc: Global, text: &[u8]) -> Result<(bool, Page), AllocError>
     ensures { IfOk result (λ told. TellsAs Subject.Job text.now told.0 told.1) }
 {
     match read_job(alloc, text) {
-        Ok(job) => explain_good(job_page(alloc, text, &job)),
+        Ok(job) => Ok((false, job_page(alloc, text, &job)?)),
         Err(TextFault::At { line, cause }) => {
             explain_fault(alloc, Subject::Job, text, line, cause)
         }
@@ -31,7 +54,7 @@ fn explain_sweep(alloc: Global, text: &[u8]) -> Result<(bool, Page), AllocError>
     ensures { IfOk result (λ told. TellsAs Subject.Sweep text.now told.0 told.1) }
 {
     match read_sweep(alloc, text) {
-        Ok(sweep) => explain_good(sweep_page(alloc, text, &sweep)),
+        Ok(sweep) => Ok((false, sweep_page(alloc, text, &sweep)?)),
         Err(TextFault::At { line, cause }) => {
             explain_fault(alloc, Subject::Sweep, text, line, cause)
         }

@@ -1,69 +1,92 @@
-//! The explanation of the verdict on a program.
+//! What is told of the program of a check text.
 
-ghost use Rattle.std.specs.Prelude.{IfOk};
-ghost use Rattle.trlab_verify.specs.Faults.{Tells};
-ghost use Rattle.trlab_jobs.specs.Check.{Check as CheckSaid};
-ghost use Rattle.trlab_explain.specs.Explanations.{BeginsWith, TellsProgram};
-ghost use Rattle.trlab_campaign.specs.CheckOutput.{refused_line};
+mod accepted;
+pub mod instr_lines;
+mod marks;
+pub mod placed;
+pub mod reasons;
+pub mod refusal;
 
-use crate::good::explain_good;
-use crate::head::{push_below, push_refused_line};
+use crate::verdict::accepted::push_accepted;
+use crate::verdict::instr_lines::instr_lines;
+use crate::verdict::placed::Placed;
+use crate::verdict::refusal::push_refused;
 use std::alloc::{AllocError, Global};
-use trlab_code::{Code, Kind};
-use trlab_jobs::Check;
-use trlab_pages::Page;
-use trlab_sentences::{accepted_page, refused_words};
-use trlab_verify::{VerifyFault, verify_change, verify_motion};
+use trlab_asm::disassemble;
+use trlab_code::Code;
+use trlab_lines::{Page, next_line};
+use trlab_notes::Reason;
+use trlab_texts::word::without_prefix;
 
-/// The page on a program that is refused.
-fn refused_page(
+/// The program of a check text, if it stands there in lines: what is after the first line.
+fn lines_of_program(text: &[u8]) -> Option<&[u8]> {
+    let (line, below) = next_line(text)?;
+    let line = without_prefix(b"notes ", line).unwrap_or(line);
+    if without_prefix(b"code ", line).is_some() {
+        return None;
+    }
+    Some(below)
+}
+
+/// What the verifier says of a program.
+#[derive(Clone, Copy)]
+enum Verdict {
+    /// It is accepted, with this budget.
+    Accepted(u32),
+    /// It is refused for this reason.
+    Refused(Reason),
+}
+
+/// The page on the verdict on the program of a check text.
+fn verdict_page(
     alloc: Global,
     text: &[u8],
     code: &Code,
-    at: u32,
-    reason: u32,
-) -> Result<Page, AllocError>
-    ensures { IfOk result (BeginsWith (refused_line at reason)) }
-{
+    verdict: Verdict,
+) -> Result<Page, AllocError> {
+    let listing = disassemble(alloc, code)?;
+    let own = lines_of_program(text);
+    let lines = instr_lines(alloc, 1, own.unwrap_or(&listing))?;
+    let program = Placed {
+        code,
+        lines: &lines,
+        is_listed: own.is_none(),
+    };
     let mut page = Page::new(alloc);
-    push_refused_line(&mut page, at, reason)?;
-    push_below(&mut page, refused_words(alloc, text, code, reason))?;
+    match verdict {
+        Verdict::Accepted(budget) => push_accepted(alloc, &mut page, program, budget)?,
+        Verdict::Refused(reason) => push_refused(alloc, &mut page, program, reason)?,
+    }
     Ok(page)
 }
 
-/// What is told of a program that the verifier does not accept.
-fn explain_refusal(
-    alloc: Global,
-    text: &[u8],
-    code: &Code,
-    fault: VerifyFault,
-) -> Result<(bool, Page), AllocError>
-    ensures { (check : CheckSaid) → Tells check.program.kind check.program fault
-        → IfOk result (λ told. TellsProgram check told.0 told.1) }
-{
-    match fault {
-        VerifyFault::Why { at, reason } => Ok((true, refused_page(alloc, text, code, at, reason)?)),
-        VerifyFault::Memory => Err(AllocError),
-    }
-}
-
-/// Whether the program of a check text is refused, and the page on it.
+/// The page on a program that is accepted.
 ///
 /// # Errors
 ///
 /// Where memory ran out.
-pub fn explain_program(alloc: Global, text: &[u8], check: Check) -> Result<(bool, Page), AllocError>
-    ensures { IfOk result (λ told. TellsProgram check told.0 told.1) }
-{
-    let Check { code, .. } = check;
-    match code.kind() {
-        Kind::Motion => match verify_motion(alloc, code) {
-            Ok(motion) => explain_good(accepted_page(alloc, text, motion.code(), motion.budget())),
-            Err((code, fault)) => explain_refusal(alloc, text, &code, fault),
-        },
-        Kind::Change => match verify_change(alloc, code) {
-            Ok(change) => explain_good(accepted_page(alloc, text, change.code(), change.budget())),
-            Err((code, fault)) => explain_refusal(alloc, text, &code, fault),
-        },
+pub fn accepted_page(
+    alloc: Global,
+    text: &[u8],
+    code: &Code,
+    budget: u32,
+) -> Result<Page, AllocError> {
+    verdict_page(alloc, text, code, Verdict::Accepted(budget))
+}
+
+/// What is told, below the head of its page, of a program that is refused for the reason of a number.
+///
+/// # Errors
+///
+/// Where memory ran out.
+pub fn refused_words(
+    alloc: Global,
+    text: &[u8],
+    code: &Code,
+    reason: u32,
+) -> Result<Page, AllocError> {
+    match Reason::from_number(reason) {
+        Some(reason) => verdict_page(alloc, text, code, Verdict::Refused(reason)),
+        None => Ok(Page::new(alloc)),
     }
 }

@@ -3,7 +3,7 @@
 use crate::candidates::Candidates;
 use crate::digits::{KEY_DIGITS, digits_at, first_no_digit};
 use crate::draft::Put;
-use trlab_repairs::Slip;
+use crate::repair::Slip;
 use trlab_texts::word::head_word;
 
 /// The digit that a letter was meant to be.

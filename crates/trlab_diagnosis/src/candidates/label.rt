@@ -4,11 +4,12 @@ use crate::alike::Choice;
 use crate::candidates::Candidates;
 use crate::candidates::program::is_program_head;
 use crate::draft::Put;
+use crate::line::Place;
 use crate::operands::{OperandWord, operand_at_fault};
+use crate::repair::Slip;
 use std::alloc::{AllocError, Global};
 use trlab_asm::Why;
 use trlab_lines::{label_and_rest, next_line, without_comment};
-use trlab_repairs::{Place, Slip};
 
 /// A choice of labels once one more line was looked at, before which `at` bytes stand.
 fn choice_after(

@@ -5,12 +5,14 @@ use crate::candidates::Candidates;
 use crate::candidates::number::density_candidate;
 use crate::candidates::program::end_candidates;
 use crate::draft::{Put, has_odd_blanks};
+use crate::instruction::name_and_operands;
 use crate::line_name::{CHECK_NAMES, LineName, is_name_of_line};
+use crate::repair::Slip;
 use crate::rules::{RULES, after_rule};
+use crate::subject::{Subject, is_named, subject_of};
 use std::alloc::AllocError;
 use trlab_asm::mnemonic_named;
 use trlab_lines::cut;
-use trlab_repairs::{Slip, Subject, is_named, name_and_operands, subject_of};
 use trlab_texts::word::{head_word, without_prefix};
 
 /// The longest line that is rewritten.

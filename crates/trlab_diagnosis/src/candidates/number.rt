@@ -4,10 +4,10 @@ use crate::candidates::Candidates;
 use crate::candidates::road::LANES_LINE;
 use crate::draft::Put;
 use crate::numbers::{NumberWord, first_wrong_number, fraction_of, nearest_part};
+use crate::repair::Slip;
 use trlab_bounds::programs::CERTAIN;
 use trlab_bounds::roads::{GREATEST_LENGTH, MOST_LANES};
 use trlab_lines::cut;
-use trlab_repairs::Slip;
 use trlab_texts::word::number_after;
 
 /// The number of a line above the one at fault that is a name and a number, or 0.

@@ -5,11 +5,12 @@ use crate::candidates::Candidates;
 use crate::candidates::number::{chance_candidates, whole_candidates};
 use crate::candidates::program::other_comment_candidates;
 use crate::draft::Put;
+use crate::instruction::{name_and_operands, start_of_name};
 use crate::operands::{Operand, OperandWord, operand_at_fault};
+use crate::repair::Slip;
 use std::alloc::AllocError;
 use trlab_asm::{INPUTS, REGISTERS, Why};
 use trlab_lines::{is_numeral, without_indent};
-use trlab_repairs::{Slip, name_and_operands, start_of_name};
 use trlab_texts::word::without_prefix;
 
 /// Adds the name of one of these that a word is spelled nearly as. A number is none, also after an `r`.

@@ -3,11 +3,13 @@
 use crate::alike::{edits_within, is_spelled, nearest};
 use crate::candidates::Candidates;
 use crate::draft::Put;
+use crate::instruction::{name_and_operands, start_of_name};
 use crate::line_name::LineName;
+use crate::repair::Slip;
+use crate::subject::Subject;
 use std::alloc::{AllocError, Global};
 use trlab_asm::{MNEMONICS, is_label, mnemonic_named};
 use trlab_lines::{cut, label_and_rest, next_line, without_comment};
-use trlab_repairs::{Slip, Subject, name_and_operands, start_of_name};
 use trlab_texts::word::head_word;
 
 /// The first words of the lines after which a program begins.

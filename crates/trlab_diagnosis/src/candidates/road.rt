@@ -2,7 +2,9 @@
 
 use crate::candidates::Candidates;
 use crate::draft::Put;
-use trlab_repairs::{Place, Slip, Subject};
+use crate::line::Place;
+use crate::repair::Slip;
+use crate::subject::Subject;
 use trlab_texts::word::without_prefix;
 
 /// The longest lane beside which an empty one is put.

@@ -2,10 +2,10 @@
 
 use crate::finding::Finding;
 use crate::finding::text::number_finding;
+use crate::instruction::name_and_operands;
 use crate::operands::{operand_at_fault, operands_of};
 use trlab_asm::{Why, is_label, mnemonic_named};
 use trlab_lines::{label_and_rest, without_comment};
-use trlab_repairs::name_and_operands;
 
 /// Whether what stands before `:` is no label.
 fn label_finding(line: &[u8]) -> Option<Finding<'_>> {

@@ -2,8 +2,8 @@
 
 use crate::candidates::{FRONT, LANE_LINE};
 use crate::finding::Finding;
+use crate::line::Place;
 use trlab_bounds::roads::GREATEST_LIMIT;
-use trlab_repairs::Place;
 use trlab_texts::word::number_after;
 
 /// The line of a job text with its limit.

@@ -2,11 +2,13 @@
 
 use crate::alike::is_spelled;
 use crate::finding::Finding;
+use crate::line::Place;
 use crate::line_name::{LineName, is_name};
 use crate::numbers::{NumberWord, Range, first_wrong_number};
+use crate::odd::oddity_of;
 use crate::rules::{after_rule, rule_named};
+use crate::subject::Subject;
 use trlab_lines::{cut, next_line};
-use trlab_repairs::{Place, Subject, oddity_of};
 use trlab_texts::word::{head_word, long_number};
 
 /// How many words a text has, with one space between two.
