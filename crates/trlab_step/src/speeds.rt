@@ -6,9 +6,7 @@ ghost use Rattle.trlab_step.specs.Answers.{IsSpeedsPart, dice_of};
 
 use crate::block::{BLOCK, ask_motions};
 use std::alloc::{AllocError, Global};
-use trlab_machine::{
-    Column, Dice, FEW, LANES, REGISTERS, Views, run_few_motions, run_motions,
-};
+use trlab_machine::{Column, Dice, FEW, LANES, REGISTERS, Views, run_few_motions, run_motions};
 use trlab_road::Road;
 use trlab_verify::Motion;
 use trlab_words::Key;
