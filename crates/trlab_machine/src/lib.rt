@@ -21,10 +21,10 @@ mod views;
 mod waiting;
 
 pub use change::{Chosen, run_change};
-pub use changes::run_changes;
-pub use columns::{Column, Flags, LANES};
+pub use changes::{run_changes, run_few_changes};
+pub use columns::{Column, FEW, Flags, LANES};
 pub use dice::Dice;
 pub use motion::{Moved, run_motion};
-pub use motions::run_motions;
+pub use motions::{run_few_motions, run_motions};
 pub use registers::{REGISTERS, RegisterColumns};
 pub use views::Views;

@@ -14,7 +14,7 @@ pub type Registers = [u32; REGISTERS];
 
 /// The registers of all cars of a block, a column for each. A program reads none that it has not written, so
 /// any numbers may stand there before a run: they are kept from block to block, and nothing clears them.
-pub type RegisterColumns = [Column; REGISTERS];
+pub type RegisterColumns<const N: usize> = [Column<N>; REGISTERS];
 
 /// The number in a register.
 pub fn value(registers: &Registers, register: Register) -> u32

@@ -3,7 +3,6 @@ use Rattle.std.proofs.Common.{◌≡◌, ◌∙◌, ℕ, ◌+◌, ◌%◌, ◌<�
 use Rattle.std.specs.Prelude.{slice_index, slice_index_or}
 use Rattle.trlab_bounds.specs.declared.roads.TheConstants.{GREATEST_LIMIT}
 use Rattle.trlab_code.specs.declared.kind.Kind.TheVariants.{Motion, Change}
-use Rattle.trlab_machine.specs.declared.columns.TheConstants.{LANES}
 use Rattle.trlab_machine.specs.declared.dice.Dice.{Dice}
 use Rattle.trlab_machine.specs.declared.views.Views.{Views}
 use Rattle.trlab_machine.specs.Blocks.{CrossesWith, MovesWith, car_words, view_of}
@@ -16,22 +15,22 @@ use Rattle.trlab_step.proofs.Parts.{more_fits, more_free}
 use Rattle.trlab_verify.specs.CheckedProgram.{CheckedProgram}
 
 -- the first cars of a block
-module _ (size : ℕ) (few : size ≤ LANES) where
+module _ {n : ℕ} (size : ℕ) (few : size ≤ n) where
   inside : {X : Type 0} (all : List X) (j : ℕ) → j < length (take size all) → j < size
   inside all j below = let short = length-take size all in omega (arith, short, below)
 
-  near : (j : ℕ) → j < size → j < LANES
+  near : (j : ℕ) → j < size → j < n
   near j low = omega (arith, low, few)
 
-  module _ (program : CheckedProgram) (dice : Dice) (road : Cells) (begin : ℕ) (views : Views) (many : views.cars ≡ size) where
+  module _ (program : CheckedProgram) (dice : Dice) (road : Cells) (begin : ℕ) (views : Views n) (many : views.cars ≡ size) where
     -- a speed within the limit that a view shows is its own lowest byte
     byte_same : (speed limit : ℕ) → speed ≤ limit → limit ≤ GREATEST_LIMIT → speed % 256 ≡ speed
     byte_same speed limit within low = omega (arith, within, low)
 
     -- the speeds of a block, each in a byte, are those that its cars go by
     pub block_goes : (column bytes : List ℕ) → ((j : ℕ) → j < size → IsAsked Motion road (begin + j) (view_of views j) (slice_index views.number j))
-        → ((j : ℕ) → j < LANES → j < views.cars → MovesWith program.program.instrs (view_of views j) (car_words dice views j) program.budget (slice_index column j))
-        → ((j : ℕ) → j < LANES → slice_index bytes j ≡ slice_index column j % 256)
+        → ((j : ℕ) → j < n → j < views.cars → MovesWith program.program.instrs (view_of views j) (car_words dice views j) program.budget (slice_index column j))
+        → ((j : ℕ) → j < n → slice_index bytes j ≡ slice_index column j % 256)
         → (j : ℕ) → j < length (take size bytes) → GoesBy program dice road (begin + j) (get_or (take size bytes) j 0)
     block_goes column bytes asked moves low j below =
         let first = inside bytes j below in
@@ -43,7 +42,7 @@ module _ (size : ℕ) (few : size ≤ LANES) where
 
     -- whether the cars of a block cross
     pub block_crosses : (flags : List Bool) → ((j : ℕ) → j < size → IsAsked Change road (begin + j) (view_of views j) (slice_index views.number j))
-        → ((j : ℕ) → j < LANES → j < views.cars → CrossesWith program.program.instrs (view_of views j) (car_words dice views j) program.budget (slice_index_or flags j false))
+        → ((j : ℕ) → j < n → j < views.cars → CrossesWith program.program.instrs (view_of views j) (car_words dice views j) program.budget (slice_index_or flags j false))
         → (j : ℕ) → j < length (take size flags) → CrossesBy program dice road (begin + j) (get_or (take size flags) j false)
     block_crosses flags asked chooses j below =
         let first = inside flags j below in

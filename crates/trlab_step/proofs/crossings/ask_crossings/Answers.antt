@@ -59,17 +59,11 @@ overflow_add-begin c = let low = begin_low c.args.from c.args.to c.loop-block.bl
 pub overflow_add-end : goal.overflow_add-end
 overflow_add-end c = let low = end_low c.args.from c.args.to c.loop-block.block c.requires.rising c.div_ceil-block-end.ensures c.loop-block-test.true c.min.result c.min.ensures in let to = c.ranges.to in omega (arith, low, to)
 
-pub ask_changes-requires-clause-rising : goal.ask_changes-requires-clause-rising
-ask_changes-requires-clause-rising c = end_after c.args.from c.args.to c.loop-block.block c.requires.rising c.div_ceil-block-end.ensures c.loop-block-test.true c.min.result c.min.ensures
-
-pub ask_changes-requires-clause-few : goal.ask_changes-requires-clause-few
-ask_changes-requires-clause-few c = end_near c.args.from c.args.to c.loop-block.block c.requires.rising c.div_ceil-block-end.ensures c.loop-block-test.true c.min.result c.min.ensures
-
-pub ask_changes-requires-clause-within : goal.ask_changes-requires-clause-within
-ask_changes-requires-clause-within c = let low = end_low c.args.from c.args.to c.loop-block.block c.requires.rising c.div_ceil-block-end.ensures c.loop-block-test.true c.min.result c.min.ensures in let within = c.requires.within in omega (arith, low, within)
-
-pub ask_changes-requires-clause-two_lanes : goal.ask_changes-requires-clause-two_lanes
-ask_changes-requires-clause-two_lanes c = c.requires.two_lanes
+pub ask_changes-requires : goal.ask_changes-requires
+ask_changes-requires c =
+    let low = end_low c.args.from c.args.to c.loop-block.block c.requires.rising c.div_ceil-block-end.ensures c.loop-block-test.true c.min.result c.min.ensures in
+    let within = c.requires.within in
+    (omega arith, (end_after c.args.from c.args.to c.loop-block.block c.requires.rising c.div_ceil-block-end.ensures c.loop-block-test.true c.min.result c.min.ensures, (end_near c.args.from c.args.to c.loop-block.block c.requires.rising c.div_ceil-block-end.ensures c.loop-block-test.true c.min.result c.min.ensures, (omega (arith, low, within), c.requires.two_lanes))))
 
 pub run_changes-answers-requires : goal.run_changes-answers-requires
 run_changes-answers-requires c = λ k near low. (c.ask_changes.ensures.each k (rw c.ask_changes.ensures.cars at low)).is_view

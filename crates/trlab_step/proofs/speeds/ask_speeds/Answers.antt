@@ -60,14 +60,11 @@ overflow_add-begin c = let low = begin_low c.args.from c.args.to c.loop-block.bl
 pub overflow_add-end : goal.overflow_add-end
 overflow_add-end c = let low = end_low c.args.from c.args.to c.loop-block.block c.requires.rising c.div_ceil-block-end.ensures c.loop-block-test.true c.min.result c.min.ensures in let to = c.ranges.to in omega (arith, low, to)
 
-pub ask_motions-requires-clause-rising : goal.ask_motions-requires-clause-rising
-ask_motions-requires-clause-rising c = end_after c.args.from c.args.to c.loop-block.block c.requires.rising c.div_ceil-block-end.ensures c.loop-block-test.true c.min.result c.min.ensures
-
-pub ask_motions-requires-clause-few : goal.ask_motions-requires-clause-few
-ask_motions-requires-clause-few c = end_near c.args.from c.args.to c.loop-block.block c.requires.rising c.div_ceil-block-end.ensures c.loop-block-test.true c.min.result c.min.ensures
-
-pub ask_motions-requires-clause-within : goal.ask_motions-requires-clause-within
-ask_motions-requires-clause-within c = let low = end_low c.args.from c.args.to c.loop-block.block c.requires.rising c.div_ceil-block-end.ensures c.loop-block-test.true c.min.result c.min.ensures in let within = c.requires.within in omega (arith, low, within)
+pub ask_motions-requires : goal.ask_motions-requires
+ask_motions-requires c =
+    let low = end_low c.args.from c.args.to c.loop-block.block c.requires.rising c.div_ceil-block-end.ensures c.loop-block-test.true c.min.result c.min.ensures in
+    let within = c.requires.within in
+    (omega arith, (end_after c.args.from c.args.to c.loop-block.block c.requires.rising c.div_ceil-block-end.ensures c.loop-block-test.true c.min.result c.min.ensures, (end_near c.args.from c.args.to c.loop-block.block c.requires.rising c.div_ceil-block-end.ensures c.loop-block-test.true c.min.result c.min.ensures, omega (arith, low, within))))
 
 pub run_motions-requires : goal.run_motions-requires
 run_motions-requires c = λ k near low. (c.ask_motions.ensures.each k (rw c.ask_motions.ensures.cars at low)).is_view

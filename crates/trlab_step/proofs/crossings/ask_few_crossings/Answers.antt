@@ -1,0 +1,31 @@
+use Rattle.std.proofs.Common.{◌≡◌, ◌≤◌, ◌+◌, ◌-◌, arith, length, length-take-le, refl, rules, take}
+use Rattle.std.proofs.lemmas.Result.{err_from_is_err_and}
+use Rattle.trlab_machine.specs.declared.columns.TheConstants.{FEW}
+use Rattle.trlab_step.specs.Answers.{AnswersCrossing}
+use Rattle.trlab_step.proofs.BlockAnswers.{block_crosses, more_are_free, more_crossings}
+use Rattle.trlab_step.proofs.Blocks.{free_none, part_none}
+use Rattle.trlab_step.proofs.crossings.ask_few_crossings.Goals as goal
+
+pub run_few_changes-answers-requires : goal.run_few_changes-answers-requires
+run_few_changes-answers-requires c = λ k near low. (c.ask_changes.ensures.each k (rw c.ask_changes.ensures.cars at low)).is_view
+
+pub returns-in_err-extend_from_slice : goal.returns-in_err-extend_from_slice
+returns-in_err-extend_from_slice c = let p = err_from_is_err_and c.from_residual.result c.from_residual.ensures.1 in rw p.1 tt
+
+pub returns : goal.returns
+returns c =
+    let program = c.args.change.now in
+    let dice = c.args.dice.now in
+    let road = c.args.road.now in
+    let from = c.args.from in
+    let size = c.args.to - from in
+    let few : size ≤ FEW = omega (arith, c.requires.few) in
+    let block = take size c.run_few_changes-answers.result in
+    let whole : length c.run_few_changes-answers.result ≡ FEW = search rules in
+    let count : length block ≡ size = length-take-le size c.run_few_changes-answers.result (omega (arith, whole, few)) in
+    let end : from + length block ≡ c.args.to = omega (arith, count, c.requires.rising) in
+    let goes = block_crosses size few program dice road from c.ask_changes.new.views c.ask_changes.ensures.cars c.run_few_changes-answers.result c.ask_changes.ensures.each c.run_few_changes-answers.ensures in
+    let none = c.clear.ensures.items in
+    let here = part_none (AnswersCrossing program dice road) road from from _ none refl in
+    rw c.in_ok-extend_from_slice.ensures.items
+    (more_crossings program dice road from from _ _ block end goes here, more_are_free program dice road from from _ _ block end goes here (free_none road from _ none))
