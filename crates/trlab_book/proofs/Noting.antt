@@ -1,8 +1,8 @@
 -- What is noted at a desk is the last event of the history.
 use denote.Struct.Props.{props}
 use Rattle.std.proofs.Math.Logic.{∥∥₁_elim}
-use Rattle.std.proofs.lemmas.Bool.{ltb-false, not-true}
-use Rattle.std.proofs.Common.{◌≡◌, ◌≤◌, length, arith, Bool, true, false, List, [], ◌∷◌, ◌++◌, refl, sym, ap, ◌∙◌, subst, MatchBool}
+use Rattle.std.proofs.lemmas.Bool.{MatchBool-at_false, ltb-false, not-true}
+use Rattle.std.proofs.Common.{◌≡◌, ◌↔◌, ◌≤◌, length, arith, Bool, true, false, List, [], ◌∷◌, ◌++◌, refl, sym, ap, ◌∙◌, subst, MatchBool}
 use Rattle.trlab_sequential_book.specs.declared.event.Call.{Call}
 use Rattle.trlab_sequential_book.specs.declared.event.Event.{Event}
 use Rattle.trlab_sequential_book.specs.declared.event.Reply.{Reply}
@@ -17,20 +17,22 @@ use Rattle.trlab_strands.specs.Tokens as strand
 use Rattle.trlab_book.specs.declared.desk.Desk.{Desk}
 use Rattle.trlab_book.specs.declared.kept.Kept.{Kept}
 use Rattle.trlab_book.specs.Desks.{IsNoEvent, IsOneEvent, MakesOf, PutsDown, least_of, parts_of, tells_full}
-use Rattle.trlab_book.specs.Events.{Appends, IsUnchanged, Makes, TellsFull}
+use Rattle.trlab_book.specs.Events.{Appends, HasCome, IsUnchanged, Makes, TellsFull}
 
 appended : (old new : Kept) (call : Call) (told : Reply) (one : Bool) → MatchBool one (Appends old call told new) (IsUnchanged old new)
     → MatchBool one (new.history.items ≡ old.history.items ++ event call told ∷ []) (new.history.items ≡ old.history.items)
 appended old new call told true made = made.history ∙ ap (λ r. old.history.items ++ event call r ∷ []) (sym made.answered)
 appended old new call told false made = made.history
 
--- where a call is an event, the history ends with it and with its reply
-pub next_event : (old new : Kept) (call : Call) (told reply : Reply) (list : List Event) → Makes old call told new → reply ≡ told → old.history.items ≡ list
-    → MatchBool (is_event reply) (new.history.items ≡ list ++ event call reply ∷ []) (new.history.items ≡ list)
-next_event old new call told reply list made same was =
-    let P : Reply → List Event → Type 0 = λ r l. MatchBool (is_event r) (new.history.items ≡ l ++ event call r ∷ []) (new.history.items ≡ l) in
-    let here : P told old.history.items = appended old new call told (is_event told) made in
-    subst (λ (l : List Event). P reply l) was (subst (λ (r : Reply). P r old.history.items) (sym same) here)
+-- a call under the lock comes to the events that the keeper knows
+pub has_come : (old new : Kept) (call : Call) (told : Reply) (list : List Event) → Makes old call told new → TellsFull old told → old.history.items ≡ list
+    → HasCome list call told new
+has_come old new call told list made full was = record {
+  history = subst (λ (l : List Event). MatchBool (is_event told) (new.history.items ≡ l ++ event call told ∷ []) (new.history.items ≡ l)) was (appended old new call told (is_event told) made);
+  full = λ none.
+      let same : IsUnchanged old new = MatchBool-at_false (Appends old call told new) (IsUnchanged old new) none made in
+      subst (λ (b : State). (told ≡ Refused HistoryFull) ↔ (is_full b ≡ true)) (sym same.book) full;
+}
 
 -- a full book has had MOST_EVENTS events
 history_is_full : (kept : Kept) → is_full kept.book ≡ true → MOST_EVENTS ≤ length kept.history.items
@@ -57,12 +59,11 @@ module _ {L : Type 0} {ledger : Ghosts L} where
       by_full false is same = same
 
   -- a call that is made under the lock, and put down at a desk, is one of this desk
-  pub is_made : (Holds : State → Type 0) (old new : Kept) (call : Call) (told reply : Reply) (list : List Event) (from to : Desk L ledger)
-      → Makes old call told new → reply ≡ told → old.history.items ≡ list → (is_event told ≡ true → Holds old.book) → TellsFull old told
-      → PutsDown from list call reply to → MakesOf Holds from call told to
-  is_made Holds old new call told reply list from to made same was holds full noted =
-      let down : PutsDown from list call told to = subst (λ (r : Reply). PutsDown from list call r to) same noted in
-      (down.0, by_event (is_event told) refl made down.1)
+  pub is_made : (Holds : State → Type 0) (old new : Kept) (call : Call) (told : Reply) (list : List Event) (from to : Desk L ledger)
+      → Makes old call told new → old.history.items ≡ list → (is_event told ≡ true → Holds old.book) → TellsFull old told
+      → PutsDown from list call told to → MakesOf Holds from call told to
+  is_made Holds old new call told list from to made was holds full noted =
+      (noted.0, by_event (is_event told) refl made noted.1)
     where
       by_event : (one : Bool) → is_event told ≡ one → MatchBool one (Appends old call told new) (IsUnchanged old new)
           → MatchBool one (strand.Adds from.strand list (event call told) to.strand) (MatchBool (tells_full told) (strand.HasSeen from.strand (length list) to.strand) (strand.IsSame from.strand to.strand))

@@ -2,7 +2,7 @@
 use Rattle.std.specs.List.{position}
 use Rattle.std.proofs.Common.{◌≡◌, ℕ, ◌+◌, ◌==◌, ◌||◌, inl, inr, max, ◌↔◌, IsTrue, Bool, List, [], ◌∷◌, ◌++◌, true, false, map, refl, sym, ap, subst, ◌∙◌, arith, length-append, MatchBool, Option, Some, None, slice_get, slice_set}
 use Rattle.std.specs.Prelude.{Result, Ok, Err, ◌⊎◌, is_some, not, ltb, length, if◌then◌else◌}
-use Rattle.std.proofs.lemmas.Bool.{MatchBool-at_false, MatchBool-at_true, cond-false, cond_both, false≢true}
+use Rattle.std.proofs.lemmas.Bool.{MatchBool-at_false, MatchBool-at_true, cond-false, cond-true, cond_both, false≢true}
 use Rattle.std.proofs.lemmas.List.{map-append}
 use Rattle.std.proofs.Math.Logic.{∥∥₁_map}
 use Rattle.trlab_sequential_book.specs.declared.event.Call.{Call}
@@ -184,38 +184,45 @@ memory_is {A} (Err fault) is = ap Err (by fault is)
     by StrangerLease is = absurd (false≢true is)
     by HistoryFull is = absurd (false≢true is)
 
--- a call of a book that is not full, its answer, and what its event has added to the history
+-- an answer that says that memory ran out is not that of a full book
+pub memory_free : {A : Type 0} (answer : Result A BookFault) (full : Bool) → (full ≡ true → answer ≡ Err HistoryFull) → is_memory answer ≡ true → full ≡ false
+memory_free answer false says is = refl
+memory_free answer true says is = absurd (false≢true (sym (ap is_memory (says refl)) ∙ is))
+
+-- a call of a book, its answer, and what its event has added to the history
 pub record IsPut (s t : State) (call : Call) (said : Reply) (history items : List Event) : Type 0 where
-  pub free : is_full s ≡ false
   pub ran_out : Bool
+  pub free : ran_out ≡ true → is_full s ≡ false
   pub memory : ran_out ≡ true → said ≡ Refused Memory
   pub replies : RepliesAs ran_out said s call
   pub leads : LeadsAs ran_out s call t
   pub items_are : MatchBool (is_event said) (items ≡ history ++ event call said ∷ []) (items ≡ history)
 
 -- it is what `put_event` leaves
-pub put : {s t : State} {call noted : Call} {told said : Reply} {history items : List Event} (ran_out : Bool) → is_full s ≡ false
+pub put : {s t : State} {call noted : Call} {told said : Reply} {history items : List Event} (ran_out : Bool) → (ran_out ≡ true → is_full s ≡ false)
     → (ran_out ≡ true → said ≡ Refused Memory) → RepliesAs ran_out said s call → LeadsAs ran_out s call t → noted ≡ call → told ≡ said
     → MatchBool (is_event told) (items ≡ history ++ event noted told ∷ []) (items ≡ history) → IsPut s t call said history items
 put {s} {t} {call} {noted} {told} {said} {history} {items} ran_out free memory replies leads noted_is told_is ensured =
     let P : Call → Reply → Type 0 = λ c r. MatchBool (is_event r) (items ≡ history ++ event c r ∷ []) (items ≡ history) in
     record {
-      free = free;
       ran_out = ran_out;
+      free = free;
       memory = memory;
       replies = replies;
       leads = leads;
       items_are = subst (λ (r : Reply). P call r) told_is (subst (λ (c : Call). P c told) noted_is ensured);
     }
 
--- where memory ran out nothing has changed
+-- where the book is full, or memory ran out, nothing has changed
 record Stays (s t : State) (said : Reply) (history items : List Event) : Type 0 where
-  memory : said ≡ Refused Memory
+  none : is_event said ≡ false
+  full : (said ≡ Refused HistoryFull) ↔ (is_full s ≡ true)
   state : t ≡ s
   items_are : items ≡ history
 
 -- else there is an event more
 record Grows (s t : State) (call : Call) (said : Reply) (history items : List Event) : Type 0 where
+  free : is_full s ≡ false
   reply : said ≡ reply_of s call
   is_one : is_event said ≡ true
   state : t ≡ after s call
@@ -223,18 +230,38 @@ record Grows (s t : State) (call : Call) (said : Reply) (history items : List Ev
 
 settled : {s t : State} {call : Call} {said : Reply} {history items : List Event} → IsPut s t call said history items
     → Stays s t said history items ⊎ Grows s t call said history items
-settled {s} {t} {call} {said} {history} {items} p = by p.ran_out p.memory p.replies p.leads
+settled {s} {t} {call} {said} {history} {items} p = by p.ran_out p.free p.memory p.replies p.leads
   where
-    by : (ran_out : Bool) → (ran_out ≡ true → said ≡ Refused Memory) → RepliesAs ran_out said s call → LeadsAs ran_out s call t
+    clash : said ≡ Refused Memory → said ≡ Refused HistoryFull → ⊥
+    clash memory full = cc
+
+    judged : said ≡ reply_of s call → t ≡ after s call → (full : Bool) → is_full s ≡ full
         → Stays s t said history items ⊎ Grows s t call said history items
-    by true memory replies leads = inl (record {
-      memory = memory refl;
+    judged replies leads true is =
+        let made : State =
+        record { count = s.count + 1; next = next_after s.next (served s call).reply; jobs = (served s call).jobs } in
+        let refusal : said ≡ Refused HistoryFull =
+        replies ∙ cond-true (is_full s) (Refused HistoryFull) (served s call).reply is in
+        let none : is_event said ≡ false = ap is_event refusal in
+        inl (record {
+          none = none;
+          full = (λ _. is, λ _. refusal);
+          state = leads ∙ cond-true (is_full s) s made is;
+          items_are = MatchBool-at_false _ _ none p.items_are;
+        })
+    judged replies leads false is =
+        let one : is_event said ≡ true = ap is_event replies ∙ call_is_event s call is in
+        inr (record { free = is; reply = replies; is_one = one; state = leads; items_are = MatchBool-at_true _ _ one p.items_are })
+
+    by : (ran_out : Bool) → (ran_out ≡ true → is_full s ≡ false) → (ran_out ≡ true → said ≡ Refused Memory) → RepliesAs ran_out said s call → LeadsAs ran_out s call t
+        → Stays s t said history items ⊎ Grows s t call said history items
+    by true free memory replies leads = inl (record {
+      none = ap is_event (memory refl);
+      full = (λ full. absurd (clash (memory refl) full), λ full. absurd (false≢true (sym (free refl) ∙ full)));
       state = leads;
       items_are = MatchBool-at_false _ _ (ap is_event (memory refl)) p.items_are;
     })
-    by false memory replies leads =
-        let one : is_event said ≡ true = ap is_event replies ∙ call_is_event s call p.free in
-        inr (record { reply = replies; is_one = one; state = leads; items_are = MatchBool-at_true _ _ one p.items_are })
+    by false free memory replies leads = judged replies leads (is_full s) refl
 
 -- the history replays to the book, as it did before
 pub replays_put : {s t : State} {call : Call} {said : Reply} {history items : List Event} → IsPut s t call said history items
@@ -243,7 +270,7 @@ replays_put {s} {t} {call} {said} {history} {items} p replays = by (settled p)
   where
     by : Stays s t said history items ⊎ Grows s t call said history items → ∥ Replays items t ∥₁
     by (inl stays) = rw (stays.items_are, stays.state) replays
-    by (inr grows) = replays_on history items s t call said replays p.free grows.items_are grows.reply grows.state
+    by (inr grows) = replays_on history items s t call said replays grows.free grows.items_are grows.reply grows.state
 
 -- what the call has done to the book and its history
 pub makes_put : (old ready new : Kept) (call : Call) (said : Reply) → IsUnchanged old ready
@@ -255,7 +282,7 @@ makes_put old ready new call said same p = by (settled p)
 
     by : Stays ready.book new.book said ready.history.items new.history.items ⊎ Grows ready.book new.book call said ready.history.items new.history.items
         → Makes old call said new
-    by (inl stays) = subst P (sym (ap is_event stays.memory)) (record {
+    by (inl stays) = subst P (sym stays.none) (record {
       history = stays.items_are ∙ same.history;
       book = stays.state ∙ same.book;
     })
@@ -267,20 +294,19 @@ makes_put old ready new call said same p = by (settled p)
       answered = grows.reply ∙ ap (λ b. reply_of b call) same.book;
     })
 
--- its answer does not say that the history is full, since it is not
+-- its answer says that the history is full exactly where it is
 pub tells_put : {t : State} {call : Call} {items : List Event} (old ready : Kept) (said : Reply) → IsUnchanged old ready
     → IsPut ready.book t call said ready.history.items items → TellsFull old said
-tells_put {t} {call} {items} old ready said same p = (
-  λ full. absurd (by (settled p) full),
-  λ full. absurd (false≢true (sym (sym (ap is_full same.book) ∙ p.free) ∙ full)),
-)
+tells_put {t} {call} {items} old ready said same p =
+    subst (λ (b : State). (said ≡ Refused HistoryFull) ↔ (is_full b ≡ true)) same.book (by (settled p))
   where
-    clash : said ≡ Refused Memory → said ≡ Refused HistoryFull → ⊥
-    clash memory full = cc
-
-    by : Stays ready.book t said ready.history.items items ⊎ Grows ready.book t call said ready.history.items items → said ≡ Refused HistoryFull → ⊥
-    by (inl stays) full = clash stays.memory full
-    by (inr grows) full = false≢true (sym (ap is_event full) ∙ grows.is_one)
+    by : Stays ready.book t said ready.history.items items ⊎ Grows ready.book t call said ready.history.items items
+        → (said ≡ Refused HistoryFull) ↔ (is_full ready.book ≡ true)
+    by (inl stays) = stays.full
+    by (inr grows) = (
+      λ full. absurd (false≢true (sym (ap is_event full) ∙ grows.is_one)),
+      λ full. absurd (false≢true (sym grows.free ∙ full)),
+    )
 
 -- two answers to one question are the same
 one_answer : (a b : Bool) (P : Type 0) → (IsTrue a ↔ P) → (IsTrue b ↔ P) → a ≡ b

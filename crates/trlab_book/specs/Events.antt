@@ -1,7 +1,8 @@
 -- What a call does to a book with its history.
-use Rattle.std.specs.Prelude.{◌≡◌, ◌↔◌, true, ◌++◌, ◌∷◌, [], MatchBool}
+use Rattle.std.specs.Prelude.{◌≡◌, ◌↔◌, true, false, List, ◌++◌, ◌∷◌, [], MatchBool}
 use Rattle.trlab_sequential_book.specs.declared.fault.BookFault.TheVariants.{HistoryFull}
 use Rattle.trlab_sequential_book.specs.declared.event.Call.{Call}
+use Rattle.trlab_sequential_book.specs.declared.event.Event.{Event}
 use Rattle.trlab_sequential_book.specs.declared.event.Reply.{Reply}
 use Rattle.trlab_sequential_book.specs.declared.event.Reply.TheVariants.{Refused}
 use Rattle.trlab_book.specs.declared.kept.Kept.{Kept}
@@ -23,6 +24,13 @@ pub record IsUnchanged (old new : Kept) : Type 0 where
 -- a call that is an event appends it; another changes nothing
 abbrev pub Makes : Kept → Call → Reply → Kept → Type 0
 Makes old c told new = MatchBool (is_event told) (Appends old c told new) (IsUnchanged old new)
+
+-- a call with this reply has come to a book whose events were `before`: its history ends with this event, or
+-- where the call is none has nothing more; then it is full exactly where the reply says so
+pub record HasCome (before : List Event) (c : Call) (told : Reply) (kept : Kept) : Type 0 where
+  pub history : MatchBool (is_event told)
+      (kept.history.items ≡ before ++ event c told ∷ []) (kept.history.items ≡ before)
+  pub full : is_event told ≡ false → (told ≡ Refused HistoryFull) ↔ (is_full kept.book ≡ true)
 
 -- the answer says that the history is full exactly where it is
 abbrev pub TellsFull : Kept → Reply → Type 0

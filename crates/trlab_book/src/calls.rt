@@ -1,29 +1,27 @@
 //! Calls of a shared book through a desk: each takes the lock once, and is one event of the desk's
 //! subhistory: this call, as it was made, with the reply that its caller has.
 
-ghost use Rattle.std.specs.Prelude.{◌≡◌, ◌++◌, ◌∷◌, [], Bool, false, IfErr, MatchBool};
+ghost use Rattle.std.specs.Prelude.{◌≡◌, Bool, false, IfErr, length};
 ghost use Rattle.trlab_sequential_book.specs.Answers.{back_reply, done_reply, is_event, lease_reply};
 ghost use Rattle.trlab_sequential_book.specs.Answers.{number_reply, order_reply, seen_reply};
 ghost use Rattle.trlab_sequential_book.specs.Comparison.{LeaseCall, OrderCall, offered};
-ghost use Rattle.trlab_sequential_book.specs.Replay.{event};
 ghost use Rattle.trlab_sequential_book.specs.declared.event.Call.{Call};
 ghost use Rattle.trlab_sequential_book.specs.declared.event.Call.TheVariants.{Cancel, GiveBack, Read};
 ghost use Rattle.trlab_sequential_book.specs.declared.event.Call.TheVariants.{Replace, Revoke, Submit};
+ghost use Rattle.trlab_sequential_book.specs.declared.event.Reply.{Reply};
 ghost use Rattle.trlab_sequential_book.specs.declared.event.Reply.TheVariants.{Refused};
+ghost use Rattle.trlab_book.specs.Events.{HasCome};
 ghost use Rattle.trlab_book.specs.Desks.{IsNoEvent, IsOfLease, IsOfOrder, IsOfRead, Makes, MakesOf};
 ghost use Rattle.trlab_book.specs.Desks.{PutsDown, TellsSame, parts_of};
 ghost use Rattle.trlab_strands.specs.Tokens.{list_of};
 
 use crate::desk::{Desk, Locked, SharedBook};
 use crate::events::{copied_replace, copied_submit};
-use crate::replies::{
-    is_event, reply_to_back, reply_to_done, reply_to_lease, reply_to_number, reply_to_order,
-    reply_to_read, tells_full,
-};
+use crate::kept::Kept;
 use std::alloc::Global;
 use std::sync::Wait;
 use trlab_rules::Rule;
-use trlab_sequential_book::{BookFault, BoxedSeed, Event, Lease, Order, Reply, Seed, Snapshot};
+use trlab_sequential_book::{BookFault, BoxedSeed, Event, Lease, Order, Seed, Snapshot};
 use trlab_strands::{Keeper, Ledger, Strands};
 
 impl<L: Ledger> SharedBook<L> {
@@ -50,9 +48,9 @@ impl<L: Ledger> SharedBook<L> {
         let copied = copied_submit(alloc, &boxed, &rule, steps);
         let mut guard = self.lock.lock(rt);
         let Locked { kept, keeper } = &mut *guard;
+        let before = kept.history.len();
         let answer = kept.submit_copied(alloc, boxed, rule, steps, copied);
-        let reply = reply_to_number(&answer);
-        note_event(keeper, &self.strands, desk, &kept.history, reply);
+        note_event(keeper, &self.strands, desk, kept, before);
         answer
     }
 
@@ -63,15 +61,9 @@ impl<L: Ledger> SharedBook<L> {
     {
         let mut guard = self.lock.lock(rt);
         let Locked { kept, keeper } = &mut *guard;
-        let fault = kept.fault_without_memory();
-        note_event(
-            keeper,
-            &self.strands,
-            desk,
-            &kept.history,
-            Reply::Refused(fault),
-        );
-        fault
+        let before = kept.history.len();
+        note_event(keeper, &self.strands, desk, kept, before);
+        kept.fault_without_memory()
     }
 
     /// Puts a rule in force from the first step on that was never ordered, and answers that step.
@@ -92,9 +84,9 @@ impl<L: Ledger> SharedBook<L> {
         let copied = copied_replace(alloc, job, &rule);
         let mut guard = self.lock.lock(rt);
         let Locked { kept, keeper } = &mut *guard;
+        let before = kept.history.len();
         let answer = kept.replace_copied(job, rule, copied);
-        let reply = reply_to_number(&answer);
-        note_event(keeper, &self.strands, desk, &kept.history, reply);
+        note_event(keeper, &self.strands, desk, kept, before);
         answer
     }
 
@@ -113,9 +105,9 @@ impl<L: Ledger> SharedBook<L> {
     {
         let mut guard = self.lock.lock(rt);
         let Locked { kept, keeper } = &mut *guard;
+        let before = kept.history.len();
         let answer = kept.lease(alloc);
-        let reply = reply_to_lease(&answer);
-        note_event(keeper, &self.strands, desk, &kept.history, reply);
+        note_event(keeper, &self.strands, desk, kept, before);
         answer
     }
 
@@ -137,9 +129,9 @@ impl<L: Ledger> SharedBook<L> {
     {
         let mut guard = self.lock.lock(rt);
         let Locked { kept, keeper } = &mut *guard;
+        let before = kept.history.len();
         let answer = kept.order(alloc, lease);
-        let reply = reply_to_order(&answer);
-        note_event(keeper, &self.strands, desk, &kept.history, reply);
+        note_event(keeper, &self.strands, desk, kept, before);
         answer
     }
 
@@ -161,9 +153,9 @@ impl<L: Ledger> SharedBook<L> {
     {
         let mut guard = self.lock.lock(rt);
         let Locked { kept, keeper } = &mut *guard;
+        let before = kept.history.len();
         let answer = kept.give_back(lease);
-        let reply = reply_to_back(&answer);
-        note_event(keeper, &self.strands, desk, &kept.history, reply);
+        note_event(keeper, &self.strands, desk, kept, before);
         answer
     }
 
@@ -177,9 +169,9 @@ impl<L: Ledger> SharedBook<L> {
     {
         let mut guard = self.lock.lock(rt);
         let Locked { kept, keeper } = &mut *guard;
+        let before = kept.history.len();
         let answer = kept.revoke(job);
-        let reply = reply_to_done(&answer);
-        note_event(keeper, &self.strands, desk, &kept.history, reply);
+        note_event(keeper, &self.strands, desk, kept, before);
         answer
     }
 
@@ -193,9 +185,9 @@ impl<L: Ledger> SharedBook<L> {
     {
         let mut guard = self.lock.lock(rt);
         let Locked { kept, keeper } = &mut *guard;
+        let before = kept.history.len();
         let answer = kept.cancel(job);
-        let reply = reply_to_done(&answer);
-        note_event(keeper, &self.strands, desk, &kept.history, reply);
+        note_event(keeper, &self.strands, desk, kept, before);
         answer
     }
 
@@ -215,38 +207,32 @@ impl<L: Ledger> SharedBook<L> {
     {
         let mut guard = self.lock.lock(rt);
         let Locked { kept, keeper } = &mut *guard;
+        let before = kept.history.len();
         let answer = kept.read(alloc, job);
-        let reply = reply_to_read(&answer);
-        note_event(keeper, &self.strands, desk, &kept.history, reply);
+        note_event(keeper, &self.strands, desk, kept, before);
         answer
     }
 }
 
-/// If the reply makes a call an event, adds the last event of the history to the desk's subhistory; if it says
-/// that the history is full, lets the desk see the history. A call breaks the invariant of `Locked` and this
-/// restores it, so it takes the parts of `Locked` one by one.
+/// If the history has grown since it had so many events, adds its new event to the desk's subhistory; if it has
+/// not, and is full, lets the desk see all of it. A call breaks the invariant of `Locked` and this restores it,
+/// so it takes the parts of `Locked` one by one.
 fn note_event<L: Ledger>(
     keeper: &mut Keeper<L, Event>,
     strands: &Strands<L, Event>,
     desk: &mut Desk<L>,
-    history: &Vec<Event>,
-    reply: Reply,
+    kept: &Kept,
+    before: usize,
 )
-    ensures { (call : Call)
-        → MatchBool (is_event reply)
-        (history.now.items ≡ list_of keeper.old ++ event call reply ∷ [])
-        (history.now.items ≡ list_of keeper.old)
-        → (history.now.items ≡ list_of keeper.new)
-        × PutsDown desk.old (list_of keeper.old) call reply desk.new }
+    requires { before ≡ length (list_of keeper.old) }
+    ensures { (call : Call) (told : Reply) → HasCome (list_of keeper.old) call told kept.now
+        → (kept.now.history.items ≡ list_of keeper.new)
+        × PutsDown desk.old (list_of keeper.old) call told desk.new }
 {
-    if !is_event(reply) {
-        if tells_full(reply) {
-            keeper.look(strands, &mut desk.strand);
-        }
-        return;
-    }
-    if let Some(event) = history.last() {
+    if let Some(event) = kept.history.get(before) {
         keeper.note(strands, &mut desk.strand, event);
         desk.count = desk.count.saturating_add(1);
+    } else if kept.book.is_full() {
+        keeper.look(strands, &mut desk.strand);
     }
 }

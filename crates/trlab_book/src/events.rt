@@ -40,19 +40,16 @@ impl Kept {
         }
     }
 
-    /// Makes room for one event more.
+    /// Makes room for one event more. Whether the history is full, the book says by its answer to the call.
     fn make_room(&mut self) -> Result<(), BookFault>
         ensures same { IsUnchanged self.old self.new }
         ensures room { OnOk result (vec_len self.new.history < vec_capacity self.new.history) }
-        ensures full { (result ≡ Err HistoryFull) ↔ (is_full self.old.book ≡ true) }
-        ensures free { OnOk result (is_full self.new.book ≡ false) }
         ensures none { IfErr result (λ f. is_event (Refused f) ≡ false) }
+        ensures full { IfErr result (λ f.
+            (Refused f ≡ Refused HistoryFull) ↔ (is_full self.old.book ≡ true)) }
     {
-        if self.book.is_full() {
-            return Err(BookFault::HistoryFull);
-        }
         if self.history.reserve(1).is_err() {
-            return Err(BookFault::Memory);
+            return Err(self.fault_without_memory());
         }
         Ok(())
     }
@@ -61,13 +58,16 @@ impl Kept {
     fn make_room_for(&mut self, copied: Result<Call, AllocError>) -> Result<Call, BookFault>
         ensures same { IsUnchanged self.old self.new }
         ensures room { OnOk result (vec_len self.new.history < vec_capacity self.new.history) }
-        ensures full { (result ≡ Err HistoryFull) ↔ (is_full self.old.book ≡ true) }
-        ensures free { OnOk result (is_full self.new.book ≡ false) }
         ensures none { IfErr result (λ f. is_event (Refused f) ≡ false) }
+        ensures full { IfErr result (λ f.
+            (Refused f ≡ Refused HistoryFull) ↔ (is_full self.old.book ≡ true)) }
         ensures call { IfOk result (λ call. copied ≡ Ok call) }
     {
+        let Ok(call) = copied else {
+            return Err(self.fault_without_memory());
+        };
         self.make_room()?;
-        Ok(copied?)
+        Ok(call)
     }
 
     /// Submits a job.

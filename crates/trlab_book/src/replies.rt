@@ -3,7 +3,6 @@
 ghost use Rattle.std.specs.Prelude.{◌≡◌};
 ghost use Rattle.trlab_sequential_book.specs.Answers.{back_reply, done_reply, is_event, lease_reply};
 ghost use Rattle.trlab_sequential_book.specs.Answers.{number_reply, order_reply, seen_reply};
-ghost use Rattle.trlab_book.specs.Desks.{tells_full};
 
 use trlab_sequential_book::{BookFault, Lease, Order, Reply, Snapshot};
 
@@ -15,13 +14,6 @@ pub fn is_event(reply: Reply) -> bool
         reply,
         Reply::Refused(BookFault::Memory | BookFault::HistoryFull)
     )
-}
-
-/// Whether a reply says that the history is full.
-pub fn tells_full(reply: Reply) -> bool
-    ensures { result ≡ tells_full reply }
-{
-    matches!(reply, Reply::Refused(BookFault::HistoryFull))
 }
 
 pub fn reply_to_number(answer: &Result<u32, BookFault>) -> Reply

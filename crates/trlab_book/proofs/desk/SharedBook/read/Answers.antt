@@ -1,7 +1,7 @@
 use Rattle.trlab_sequential_book.specs.declared.event.Call.TheVariants.{Read}
 use Rattle.trlab_sequential_book.specs.Answers.{seen_reply}
 use Rattle.trlab_book.specs.Desks.{IsOfRead}
-use Rattle.trlab_book.proofs.Noting.{is_made, next_event}
+use Rattle.trlab_book.proofs.Noting.{has_come, is_made}
 use Rattle.trlab_book.proofs.desk.SharedBook.read.Goals as goal
 
 pub invariant_of-deref_mut : goal.invariant_of-deref_mut
@@ -9,12 +9,12 @@ invariant_of-deref_mut g c =
     let kept = c.deref_mut.result.now.kept in
     let call = Read c.args.job in
     let told = seen_reply c.read-answer.result in
-    record { noted = (c.note_event.ensures call (next_event kept c.read-answer.new.self call told c.reply_to_read-reply.result _ c.read-answer.ensures.made c.reply_to_read-reply.ensures c.deref_mut.result.now.noted)).0 }
+    record { noted = (c.note_event.ensures call told (has_come kept c.read-answer.new.self call told _ c.read-answer.ensures.made c.read-answer.ensures.full c.deref_mut.result.now.noted)).0 }
 
 pub returns : goal.returns
 returns g c =
     let kept = c.deref_mut.result.now.kept in
     let call = Read c.args.job in
     let told = seen_reply c.read-answer.result in
-    is_made (IsOfRead c.args.job c.read-answer.result) kept c.read-answer.new.self call told c.reply_to_read-reply.result _ c.args.desk.now c.note_event.new.desk c.read-answer.ensures.made c.reply_to_read-reply.ensures c.deref_mut.result.now.noted (λ is. c.read-answer.ensures.seen) c.read-answer.ensures.full
-    (c.note_event.ensures call (next_event kept c.read-answer.new.self call told c.reply_to_read-reply.result _ c.read-answer.ensures.made c.reply_to_read-reply.ensures c.deref_mut.result.now.noted)).1
+    is_made (IsOfRead c.args.job c.read-answer.result) kept c.read-answer.new.self call told _ c.args.desk.now c.note_event.new.desk c.read-answer.ensures.made c.deref_mut.result.now.noted (λ is. c.read-answer.ensures.seen) c.read-answer.ensures.full
+    (c.note_event.ensures call told (has_come kept c.read-answer.new.self call told _ c.read-answer.ensures.made c.read-answer.ensures.full c.deref_mut.result.now.noted)).1

@@ -1,6 +1,6 @@
 use Rattle.trlab_sequential_book.specs.declared.event.Call.TheVariants.{Replace}
 use Rattle.trlab_sequential_book.specs.Answers.{number_reply}
-use Rattle.trlab_book.proofs.Noting.{is_made, next_event}
+use Rattle.trlab_book.proofs.Noting.{has_come, is_made}
 use Rattle.trlab_book.proofs.desk.SharedBook.replace.Goals as goal
 
 pub invariant_of-deref_mut : goal.invariant_of-deref_mut
@@ -8,12 +8,12 @@ invariant_of-deref_mut g c =
     let kept = c.deref_mut.result.now.kept in
     let call = Replace c.args.job c.args.rule in
     let told = number_reply c.replace_copied-answer.result in
-    record { noted = (c.note_event.ensures call (next_event kept c.replace_copied-answer.new.self call told c.reply_to_number-reply.result _ c.replace_copied-answer.ensures.made c.reply_to_number-reply.ensures c.deref_mut.result.now.noted)).0 }
+    record { noted = (c.note_event.ensures call told (has_come kept c.replace_copied-answer.new.self call told _ c.replace_copied-answer.ensures.made c.replace_copied-answer.ensures.full c.deref_mut.result.now.noted)).0 }
 
 pub returns : goal.returns
 returns g c =
     let kept = c.deref_mut.result.now.kept in
     let call = Replace c.args.job c.args.rule in
     let told = number_reply c.replace_copied-answer.result in
-    is_made (λ book. Unit {0}) kept c.replace_copied-answer.new.self call told c.reply_to_number-reply.result _ c.args.desk.now c.note_event.new.desk c.replace_copied-answer.ensures.made c.reply_to_number-reply.ensures c.deref_mut.result.now.noted (λ is. tt) c.replace_copied-answer.ensures.full
-    (c.note_event.ensures call (next_event kept c.replace_copied-answer.new.self call told c.reply_to_number-reply.result _ c.replace_copied-answer.ensures.made c.reply_to_number-reply.ensures c.deref_mut.result.now.noted)).1
+    is_made (λ book. Unit {0}) kept c.replace_copied-answer.new.self call told _ c.args.desk.now c.note_event.new.desk c.replace_copied-answer.ensures.made c.deref_mut.result.now.noted (λ is. tt) c.replace_copied-answer.ensures.full
+    (c.note_event.ensures call told (has_come kept c.replace_copied-answer.new.self call told _ c.replace_copied-answer.ensures.made c.replace_copied-answer.ensures.full c.deref_mut.result.now.noted)).1

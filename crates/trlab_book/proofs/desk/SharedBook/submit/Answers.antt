@@ -1,6 +1,6 @@
 use Rattle.trlab_sequential_book.specs.declared.event.Call.TheVariants.{Submit}
 use Rattle.trlab_sequential_book.specs.Answers.{number_reply}
-use Rattle.trlab_book.proofs.Noting.{is_made, next_event}
+use Rattle.trlab_book.proofs.Noting.{has_come, is_made}
 use Rattle.trlab_book.proofs.desk.SharedBook.submit.Goals as goal
 
 pub invariant_of-deref_mut : goal.invariant_of-deref_mut
@@ -8,12 +8,12 @@ invariant_of-deref_mut g c =
     let kept = c.deref_mut.result.now.kept in
     let call = Submit c.in-Ok.boxed c.args.rule c.args.steps in
     let told = number_reply c.submit_copied-answer.result in
-    record { noted = (c.note_event.ensures call (next_event kept c.submit_copied-answer.new.self call told c.reply_to_number-reply.result _ c.submit_copied-answer.ensures.made c.reply_to_number-reply.ensures c.deref_mut.result.now.noted)).0 }
+    record { noted = (c.note_event.ensures call told (has_come kept c.submit_copied-answer.new.self call told _ c.submit_copied-answer.ensures.made c.submit_copied-answer.ensures.full c.deref_mut.result.now.noted)).0 }
 
 pub returns : goal.returns
 returns g c =
     let kept = c.deref_mut.result.now.kept in
     let call = Submit c.in-Ok.boxed c.args.rule c.args.steps in
     let told = number_reply c.submit_copied-answer.result in
-    rw (← c.in-Ok.ensures) (is_made (λ book. Unit {0}) kept c.submit_copied-answer.new.self call told c.reply_to_number-reply.result _ c.args.desk.now c.note_event.new.desk c.submit_copied-answer.ensures.made c.reply_to_number-reply.ensures c.deref_mut.result.now.noted (λ is. tt) c.submit_copied-answer.ensures.full
-    (c.note_event.ensures call (next_event kept c.submit_copied-answer.new.self call told c.reply_to_number-reply.result _ c.submit_copied-answer.ensures.made c.reply_to_number-reply.ensures c.deref_mut.result.now.noted)).1)
+    rw (← c.in-Ok.ensures) (is_made (λ book. Unit {0}) kept c.submit_copied-answer.new.self call told _ c.args.desk.now c.note_event.new.desk c.submit_copied-answer.ensures.made c.deref_mut.result.now.noted (λ is. tt) c.submit_copied-answer.ensures.full
+    (c.note_event.ensures call told (has_come kept c.submit_copied-answer.new.self call told _ c.submit_copied-answer.ensures.made c.submit_copied-answer.ensures.full c.deref_mut.result.now.noted)).1)

@@ -3,12 +3,12 @@ use Rattle.std.proofs.lemmas.Bool.{OnTrue_from}
 use Rattle.trlab_sequential_book.specs.Answers.{is_memory, order_reply}
 use Rattle.trlab_sequential_book.specs.Comparison.{IsRuleAt, IsSame, OrderCall, offered}
 use Rattle.trlab_sequential_book.specs.Machine.{State}
-use Rattle.trlab_book.proofs.Replaying.{IsPut, makes_offered, memory_is, put, replays_put, tells_put}
+use Rattle.trlab_book.proofs.Replaying.{IsPut, makes_offered, memory_free, memory_is, put, replays_put, tells_put}
 use Rattle.trlab_book.proofs.kept.Kept.order.Goals as goal
 
 event : (c : goal.After-put_event)
     → IsPut c.make_room.new.self.book c.order_as-answer.new.self (OrderCall (offered c.args.lease.now c.is_same-same.result)) (order_reply c.order_as-answer.result) c.make_room.new.self.history.items c.put_event.new.history.items
-event c = put (is_memory c.order_as-answer.result) c.in_ok-make_room.ensures.free (λ is. ap order_reply (memory_is c.order_as-answer.result is)) c.order_as-answer.ensures.reply c.order_as-answer.ensures.state (ap OrderCall c.parts_of_lease.ensures) c.reply_to_order-reply.ensures c.put_event.ensures
+event c = put (is_memory c.order_as-answer.result) (memory_free c.order_as-answer.result _ c.order_as-answer.ensures.full) (λ is. ap order_reply (memory_is c.order_as-answer.result is)) c.order_as-answer.ensures.reply c.order_as-answer.ensures.state (ap OrderCall c.parts_of_lease.ensures) c.reply_to_order-reply.ensures c.put_event.ensures
 
 pub invariant_of-self : goal.invariant_of-self
 invariant_of-self c = record { replays = replays_put (event c) c.make_room.new.self.replays }

@@ -1,12 +1,12 @@
 use Rattle.std.proofs.Common.{rules, ap}
 use Rattle.trlab_sequential_book.specs.Answers.{is_memory, number_reply}
 use Rattle.trlab_sequential_book.specs.declared.event.Call.TheVariants.{Replace}
-use Rattle.trlab_book.proofs.Replaying.{IsPut, makes_put, memory_is, put, replays_put, tells_put}
+use Rattle.trlab_book.proofs.Replaying.{IsPut, makes_put, memory_free, memory_is, put, replays_put, tells_put}
 use Rattle.trlab_book.proofs.kept.Kept.replace_copied.Goals as goal
 
 event : (c : goal.After-put_event)
     → IsPut c.make_room_for.new.self.book c.replace-answer.new.self (Replace c.args.job c.args.rule) (number_reply c.replace-answer.result) c.make_room_for.new.self.history.items c.put_event.new.history.items
-event c = put (is_memory c.replace-answer.result) c.in_ok-call.ensures.free (λ is. ap number_reply (memory_is c.replace-answer.result is)) c.replace-answer.ensures.reply c.replace-answer.ensures.state (search (rules, c.in_ok-call.ensures.call, c.requires)) c.reply_to_number-reply.ensures c.put_event.ensures
+event c = put (is_memory c.replace-answer.result) (memory_free c.replace-answer.result _ c.replace-answer.ensures.full) (λ is. ap number_reply (memory_is c.replace-answer.result is)) c.replace-answer.ensures.reply c.replace-answer.ensures.state (search (rules, c.in_ok-call.ensures.call, c.requires)) c.reply_to_number-reply.ensures c.put_event.ensures
 
 pub invariant_of-self : goal.invariant_of-self
 invariant_of-self c = record { replays = replays_put (event c) c.make_room_for.new.self.replays }
