@@ -507,6 +507,11 @@ class Pages:
         self.assertEqual(nameless, [])
         twice = self.page.js("const all = [...document.querySelectorAll('[id]')].map(it => it.id); return all.filter((it, k) => all.indexOf(it) !== k)")
         self.assertEqual(twice, [])
+        unknown = self.page.js("""return ['aria-describedby', 'aria-labelledby']
+            .flatMap(name => [...document.querySelectorAll(`[${name}]`)].flatMap(it => it.getAttribute(name).split(' ')))
+            .filter(id => !document.getElementById(id))""")
+        self.assertEqual(unknown, [])
+        self.assertEqual(self.page.js("return document.getElementById('rate').getAttribute('aria-valuetext')"), "33 steps per second")
         self.page.js("document.activeElement.blur(); scrollTo(0, 0)")
         seen = []
         for _ in range(60):

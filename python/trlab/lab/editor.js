@@ -57,8 +57,9 @@ export class Editor {
     const [numbers, sheet] = box.children;
     Object.assign(this, { sheet, first: numbers.children[0], last: numbers.children[1], gap: sheet.children[0], code: sheet.children[1] });
     this.words = this.gap.firstChild;
+    this.words.id = id + "words";
     this.code.setAttribute("aria-labelledby", id + "label");
-    this.code.setAttribute("aria-describedby", id + "verdict");
+    this.code.setAttribute("aria-describedby", `${id}verdict ${id}words`);
     this.editable(true);
     this.code.addEventListener("input", () => { this.tell(0); this.changed(); });
     this.code.addEventListener("paste", event => { // for browsers that do not know plaintext-only
