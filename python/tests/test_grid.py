@@ -148,6 +148,14 @@ class Frames(unittest.TestCase):
         self.assertRaisesRegex(ValueError, "'sed' is not an axis", frame.means, "sed")
         self.assertRaisesRegex(ValueError, "'flw' is not a column", frame.means, "seed", of=["flw"])
 
+    def test_means_of_named_measurements(self):
+        rows = Grid(lambda seed, key: seed, seed=[1, 3]).run(
+            call=lambda seed: [{"kind": "gap", "value": seed, "note": str(seed)}, {"kind": "time", "value": 2 * seed, "note": ""}]
+        )
+        means = rows.means("seed")
+        self.assertEqual(means.columns, ("point", "count", "kind", "value", "value_error"))
+        self.assertEqual([(it.kind, it.value) for it in means], [("gap", 2), ("time", 4)])
+
     def test_means_of_a_large_sample(self):
         mean, error = mean_and_error([0.0, 1.0] * 50)
         self.assertEqual((mean, round(error, 6)), (0.5, 0.050252))

@@ -336,6 +336,38 @@ class Pages:
         self.page.press(*[Keys.DOWN] * 4)
         self.hold(lambda: "Known before line 5: r0:" in self.page.text("motionfacts"))
 
+    def fix(self, name):
+        """Click on the change that the message in an editor proposes."""
+        self.hold(lambda: self.page.js("return document.querySelector(`#${arguments[0]} .words button`) !== null", name))
+        self.page.js("document.querySelector(`#${arguments[0]} .words button`).click()", name)
+        self.hold(lambda: "Accepted" in self.page.text(f"{name}verdict"))
+
+    def test_a_change_that_you_click(self):
+        job = f"road 1\n{KEY}\nlimit 5\nlane 0.0.......\nrule nasch 0\nsteps 100\n"
+        for line, wrong in (
+            ("limit 5\n", ""), ("steps 100\n", ""), ("limit 5\n", "limit 5\nlimit 5\n"), ("limit 5", "Limit 5"), ("limit 5", "limit 05"),
+            ("nasch 0", "nasch 0 ; free"), ("rule nasch 0", "\trule nasch 0"), (KEY, "key 0"), ("steps", "\nsteps"),
+        ):
+            with self.subTest(line=line, wrong=wrong):
+                self.write("#text .code", job.replace(line, wrong).rstrip("\n"))
+                self.fix("text")
+                self.assertEqual(self.page.job(), job)
+        self.assertEqual(self.page.js("return lab.job.cars"), 2)
+
+    def test_a_change_of_a_program_that_you_click(self):
+        self.page.set("model", "own")
+        for wrong, fixed in ("gte r0, gap\ngo r0", "get r0, gap\ngo r0"), ("get r0, gap\njump 3\ngo r0", "get r0, gap\njump @3\ngo r0"):
+            self.hold(lambda: "Accepted" in self.page.text("motionverdict"))
+            self.write("#motion .code", f"motion\nget r1, limit\n{wrong}".replace("go r0", "min r0, r0, r1\ngo r0"))
+            self.hold(lambda: "Rejected" in self.page.text("motionverdict"))
+            self.fix("motion")
+            wanted = f"motion\nget r1, limit\n{fixed}\n".replace("go r0", "min r0, r0, r1\ngo r0")
+            self.hold(lambda: f"rule own\n{wanted}end\n" in self.page.job())
+        fixed = self.page.later("""const {repaired} = await import('./editor.js');
+            return [["a bc d\\n", "Line 1, column 3: delete `b`."], ["a\\n", "Line 1, column 1: replace `\\\\xff` with `b`."], ["a\\n", "Known before it:"]]
+                .map(it => repaired(...it))""")
+        self.assertEqual(fixed, ["a c d\n", None, None])
+
     def test_a_rejected_file(self):
         self.open("road 2\n")
         self.hold(lambda: "a.job is rejected" in self.page.text("fault"))
@@ -475,6 +507,11 @@ class Pages:
         self.assertEqual(nameless, [])
         twice = self.page.js("const all = [...document.querySelectorAll('[id]')].map(it => it.id); return all.filter((it, k) => all.indexOf(it) !== k)")
         self.assertEqual(twice, [])
+        unknown = self.page.js("""return ['aria-describedby', 'aria-labelledby']
+            .flatMap(name => [...document.querySelectorAll(`[${name}]`)].flatMap(it => it.getAttribute(name).split(' ')))
+            .filter(id => !document.getElementById(id))""")
+        self.assertEqual(unknown, [])
+        self.assertEqual(self.page.js("return document.getElementById('rate').getAttribute('aria-valuetext')"), "33 steps per second")
         self.page.js("document.activeElement.blur(); scrollTo(0, 0)")
         seen = []
         for _ in range(60):

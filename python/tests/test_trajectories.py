@@ -301,6 +301,13 @@ class ByArrays(Base, unittest.TestCase):
         for grid in paths.lane, paths.cell, paths.distance, paths.speed, paths.headways(), paths.ahead():
             self.assertEqual((grid.shape, grid.dtype.name), ((61, 15), "int32"))
 
+    def test_jams_are_those_of_lists(self):
+        for job in ONE_LANE + TWO_LANES:
+            pictures = replace(job, steps=4 * job.steps).run()
+            with mock.patch.dict(sys.modules, numpy=None):
+                expected = pictures.trajectories().jams()
+            self.assertEqual(pictures.trajectories().jams(), expected)
+
 
 class Windows(unittest.TestCase):
     def test_stopped_time_is_that_of_the_pictures(self):

@@ -67,7 +67,9 @@ class Frame(Sequence[Any]):
 
         Every column of numbers, or every column in `of`, holds its mean, and `NAME_error` the standard error of that
         mean: the standard deviation of the n values divided by the square root of n, or NaN if n is 1. `count` is n.
-        The errors are right if the values are independent, as those of different keys are."""
+        The errors are right if the values are independent, as those of different keys are.
+
+        A column of texts is kept if all rows that are averaged together have the same text."""
         if axis not in self.axes:
             raise ValueError(f"{axis!r} is not an axis of the frame: these are {', '.join(self.axes)}")
         others = [name for name in self.axes if name != axis]
@@ -75,13 +77,20 @@ class Frame(Sequence[Any]):
         for row in self._rows:
             groups.setdefault(tuple(getattr(row, name) for name in others), []).append(row)
         measured = self._measured() if of is None else [self._checked(name) for name in of]
+        texts = [name for name in self.columns if name not in self.axes and self._is_name(name, groups.values())]
         rows = []
         for place, group in groups.items():
             means: Columns = {**dict(zip(others, place)), "count": len(group)}
+            means.update((name, getattr(group[0], name)) for name in texts)
             for name in measured:
                 means[name], means[f"{name}_error"] = mean_and_error([getattr(row, name) for row in group])
             rows.append(means)
         return Frame(others, rows)
+
+    def _is_name(self, name: str, groups: Iterable[Sequence[Any]]) -> bool:
+        """Whether a column has texts only, and a single one in each group of rows."""
+        is_text = all(isinstance(getattr(row, name), str) for row in self._rows)
+        return is_text and all(len({getattr(row, name) for row in group}) == 1 for group in groups)
 
     def _measured(self) -> List[str]:
         """The columns of numbers that are not axes."""

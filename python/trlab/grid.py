@@ -62,8 +62,9 @@ class Grid:
     def run(self, **options: Any) -> Frame:
         """Runs all inputs, with the options of `trlab.results`, and returns one frame of all results.
 
-        A result is a table, a number, a named tuple or mapping, or a list of those. With `errors="keep"` choices
-        without a result are in `frame.errors`."""
+        A result is a table, a number, a named tuple or mapping, or a list of those. For example, a `call` that returns
+        `[{"kind": "gap", "value": 3.5}, {"kind": "speed", "value": 4.2}]` gives two rows for each choice.
+        With `errors="keep"` choices without a result are in `frame.errors`."""
         found = dict(self.results(**options))
         return frame_of({choice: found[choice] for choice in self.inputs}, self.names)
 

@@ -69,15 +69,19 @@ class Trajectories:
         equal. Raises `ValueError` if `places` is negative."""
         if places < 0:
             raise ValueError(f"places must be at least 0, not {places}")
-        return _grid([_ahead(row, places, self.lanes) for row in self._rows("lane", "cell")])
+        if self._by_numpy:
+            return self._by_numpy.leaders(self, places)
+        return [_ahead(row, places, self.lanes) for row in self._rows("lane", "cell")]
 
     def headways(self) -> Grid:
         """The gap ahead of every car, indexed `[step][car]`: the number of empty cells between the car and the next one on
         its lane, 0 to `length` - 1. A car alone on its lane has the gap `length` - 1."""
-        return _grid([
+        if self._by_numpy:
+            return self._by_numpy.gaps(self, self.ahead())
+        return [
             [(cells[leader] - cell - 1) % self.length for cell, leader in zip(cells, _ahead((lanes, cells), 1, self.lanes))]
             for lanes, cells in self._rows("lane", "cell")
-        ])
+        ]
 
     def detector(self, cell: int, lane: int = 0) -> List[int]:
         """The number of cars, 0 or 1, that pass the end of a cell of a lane in each step, without the first row.
@@ -87,6 +91,8 @@ class Trajectories:
         self._need_cell(cell)
         if not 0 <= lane < self.lanes:
             raise ValueError(f"lane must be between 0 and {self.lanes - 1}, not {lane}")
+        if self._by_numpy:
+            return list(self._by_numpy.passed(self, cell, lane))
         return [
             sum(1 for x, on, v in zip(cells, lanes, speeds) if (x - 1 - cell) % self.length < v and on == lane)
             for lanes, cells, speeds in list(self._rows("lane", "cell", "speed"))[1:]
@@ -114,13 +120,19 @@ class Trajectories:
         Two stopped cars are connected if they are in neighbouring cells of one lane in the same step, or if they are
         the same car in consecutive steps. Cars that were stopped in the first picture count as well. A jam in the first
         or last picture is marked `is_cut`; leave these out of a mean, or make the window much longer than a jam."""
+        last_row = len(self) - 1
+        if self._by_numpy:
+            return [
+                Jam(self.first + first, last - first + 1, cars, size, first == 0 or last == last_row)
+                for first, last, cars, size in self._by_numpy.jams(self)
+            ]
         roots: List[int] = []
         stopped = list(_stopped_clusters(self._rows("lane", "cell", "speed"), self.length, roots))
         parts: Dict[int, _Part] = {}
         for row, cars in enumerate(stopped):
             for car, label in cars.items():
                 parts.setdefault(_root(roots, label), _Part(row, set(), [])).add(row, car)
-        return [part.jam(self.first, len(stopped) - 1) for part in parts.values()]
+        return [part.jam(self.first, last_row) for part in parts.values()]
 
     def speed_correlation(self, places: int = 0, later: int = 0) -> float:
         """The correlation of speeds, -1 to 1, between a car and the car `places` places ahead on its lane, `later` steps
@@ -131,19 +143,32 @@ class Trajectories:
         of the speeds does not vary. Raises `ValueError` if `later` is not between 0 and the number of steps."""
         if not 0 <= later < len(self):
             raise ValueError(f"later must be between 0 and {len(self) - 1}, not {later}")
-        speeds, leaders = _plain(self.speed), _plain(self.ahead(places))
+        sums = self._by_numpy.sums_of_speeds if self._by_numpy else Trajectories._sums
+        n, x, y, xx, yy, xy = sums(self, places, later)
+        spread = (n * xx - x * x) * (n * yy - y * y)
+        return float((n * xy - x * y) / math.sqrt(spread)) if spread else math.nan
+
+    @property
+    def _by_numpy(self) -> Any:
+        """The same results by numpy, if the grids are arrays."""
+        if isinstance(self.cell, list):
+            return None
+        from . import along
+
+        return along
+
+    def _sums(self, places: int, later: int) -> List[int]:
+        """The sums of 1, x, y, x*x, y*y and x*y, if x is the speed of a car and y that of the other one later."""
         sums = [0] * 6
-        for row, follower, leader in zip(leaders, speeds, speeds[later:]):
+        for row, follower, leader in zip(self.ahead(places), self.speed, self.speed[later:]):
             for x, y in zip(follower, [leader[car] for car in row]):
                 for place, number in enumerate((1, x, y, x * x, y * y, x * y)):
                     sums[place] += number
-        n, x, y, xx, yy, xy = sums
-        spread = (n * xx - x * x) * (n * yy - y * y)
-        return (n * xy - x * y) / math.sqrt(spread) if spread else math.nan
+        return sums
 
     def _rows(self, *names: str) -> Iterator[Tuple[List[int], ...]]:
-        """Rows of these fields, side by side, as lists."""
-        return zip(*(_plain(getattr(self, name)) for name in names))
+        """Rows of these fields, which are lists, side by side."""
+        return zip(*(getattr(self, name) for name in names))
 
     def _need_cell(self, cell: int) -> None:
         if not 0 <= cell < self.length:
@@ -210,12 +235,3 @@ def _ahead(row: Tuple[List[int], ...], places: int, lanes: int) -> List[int]:
 def _plain(grid: Grid) -> List[List[int]]:
     """A grid as lists."""
     return grid if isinstance(grid, list) else grid.tolist()  # type: ignore[no-any-return]
-
-
-def _grid(rows: List[List[int]]) -> Grid:
-    """Lists as a grid."""
-    try:
-        import numpy
-    except ImportError:
-        return rows
-    return numpy.array(rows, dtype=numpy.int32)

@@ -29,7 +29,7 @@ MOST_WORDS = {
     "docs/GUARANTEES.md": 5000,
     "docs/LAWS.md": 3900,
     "docs/RELIABILITY.md": 2300,
-    "docs/SPEED.md": 800,
+    "docs/SPEED.md": 830,
 }
 MOST_CHARACTERS = 110
 # A paragraph is indented by a list in a list at most.

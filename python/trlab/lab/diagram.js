@@ -1,8 +1,9 @@
 // The fundamental diagram: flow against density. Runs are points, sweeps are curves, and thin lines show the maximum that
 // is proved for every rule: a triangle for each maximum speed.
 
-const ACCENT = "#1d5f9e", OLD = "#a5adb8", SOFT = "#656d78", INK = "#16191d";
-const tag = (name, what, words = "") => `<${name} ${Object.entries(what).map(it => `${it[0]}="${it[1]}"`).join(" ")}>${words}</${name}>`;
+import { ACCENT, INK, SOFT, tag } from "./draw.js";
+
+const OLD = "#a5adb8";
 export const across = density => 34 + 316 * density;
 const safe = words => words.replace(/[&<>]/g, it => `&#${it.charCodeAt(0)};`);
 

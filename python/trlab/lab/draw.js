@@ -1,9 +1,10 @@
 // Drawings of a road. Each draws with a pen, which is the context of a canvas or an `SvgPen`, and a view:
 // { film, step, scene, share, lens, car }. `share` is the part of the way from the step before, 0 to 1.
 
-import { EMPTY, clamp, upTo } from "./job.js";
+import { EMPTY, clamp, speedOf, upTo } from "./job.js";
 
-const LINE = "#e3e6ea", WASH = "#f1f3f5", ACCENT = "#1d5f9e", FAINT = "#cdd3da", INK = "#16191d", SOFT = "#656d78", OTHER = "#c8501e";
+export const ACCENT = "#1d5f9e", INK = "#16191d", SOFT = "#656d78";
+const LINE = "#e3e6ea", WASH = "#f1f3f5", FAINT = "#cdd3da", OTHER = "#c8501e";
 // Dark red, orange, sky, blue: these differ in lightness too, and without red and green.
 const RAMP = [[122, 16, 22], [208, 66, 24], [243, 154, 46], [142, 196, 232], [76, 142, 200], [26, 86, 150]];
 const MANY = 3000; // With more cars, one mark for each dot shows its slowest car, and nothing moves between steps.
@@ -14,7 +15,7 @@ export function colour(share) {
   const place = clamp(share, 0, 1) * (RAMP.length - 1), k = Math.min(RAMP.length - 2, Math.floor(place));
   return RAMP[k].map((from, part) => Math.round(from + (RAMP[k + 1][part] - from) * (place - k)));
 }
-export const paint = (v, limit) => `rgb(${colour(v / limit).join(",")})`;
+const paint = (v, limit) => `rgb(${colour(v / limit).join(",")})`;
 
 /** The context of a canvas, cleared, at the size that it has on the page. */
 export function fresh(canvas) {
@@ -30,7 +31,7 @@ export function fresh(canvas) {
 }
 
 const short = number => +number.toFixed(2);
-const tag = (name, what, words = "") => `<${name}${Object.entries(what).map(it => ` ${it[0]}="${it[1]}"`).join("")}>${words}</${name}>`;
+export const tag = (name, what, words = "") => `<${name}${Object.entries(what).map(it => ` ${it[0]}="${it[1]}"`).join("")}>${words}</${name}>`;
 /** The parts of a canvas context that these drawings use, written as SVG. */
 export class SvgPen {
   constructor() { Object.assign(this, { parts: [], path: "", boxes: "", lineWidth: 1 }); }
@@ -165,7 +166,7 @@ function drawRoad(pen, view, { top, tall, from, cells, width }) {
   }
 }
 /** The places of both bands; a short road has only one. */
-export function bandsOf({ film: { length, lanes }, lens }, width, height) {
+function bandsOf({ film: { length, lanes }, lens }, width, height) {
   const near = Math.round(width / 9), two = lanes === 2;
   if (length <= near * 1.5) return [{ top: (height - (two ? 48 : 30)) / 2, tall: two ? 24 : 30, from: 0, cells: length, width }];
   const large = { tall: two ? 19 : 26, top: height - (two ? 39 : 27), from: lens - near / 2, cells: near, width };
@@ -221,9 +222,9 @@ export class Rows {
   begin(key, film, wide, rows) {
     Object.assign(this, { key, film, step: -1, image: this.pen.createImageData(wide, 1), table: new Uint32Array(128) });
     Object.assign(this.pen.canvas, { width: wide, height: rows * film.lanes });
-    for (const v of upTo(film.limit + 1)) {
-      const [red, green, blue] = colour(v / film.limit);
-      this.table[v < 10 ? v + 48 : v + 87] = 0xff000000 | blue << 16 | green << 8 | red;
+    for (let sign = 48; sign < 123; sign++) { // from `0` to `z`
+      const [red, green, blue] = colour(speedOf(sign) / film.limit);
+      this.table[sign] = 0xff000000 | blue << 16 | green << 8 | red;
     }
   }
   row(step, rows, wide) {
@@ -258,7 +259,7 @@ function drawPath(pen, width, high, top, { film, car, step }) {
 
 // Curves beside the space-time diagram, with the same time axis
 
-export const CURVES = ["flow", "density", "speed", "stopped"];
+const CURVES = ["flow", "density", "speed", "stopped"];
 const SPAN = 25;
 /** Averages over the last 25 kept steps, from a step to another one. */
 export function smooth(film, name, from, to) {
@@ -309,7 +310,7 @@ export const FIGURES = {
       const { cells } = film.of(now), tall = high / film.lanes;
       for (let k = 0; k < cells.length; k++) {
         if (cells[k] === EMPTY) continue;
-        pen.fillStyle = paint(cells[k] < 58 ? cells[k] - 48 : cells[k] - 87, film.limit);
+        pen.fillStyle = paint(speedOf(cells[k]), film.limit);
         pen.fillRect(k % film.length * scale, (now - top) * high + Math.floor(k / film.length) * tall, scale, tall);
       }
     }

@@ -2,6 +2,26 @@
 
 import { upTo } from "./job.js";
 
+/** The sentences of an explanation that propose a change: the part of the line that goes, from and to, and what replaces it. */
+const CHANGES = [
+  [/^Above line (\d+), add the line `(.*)`\.$/, (line, put) => [0, 0, put + "\n"]],
+  [/^At the (end), add the line `(.*)`\.$/, (line, put) => [0, 0, put + "\n"]],
+  [/^Delete line (\d+)\.$/, line => [0, line.length + 1, ""]],
+  [/^Replace line (\d+) with `(.*)`\.$/, (line, put) => [0, line.length, put]],
+  [/^Line (\d+): delete everything from column (\d+) on\.$/, (line, column) => [column - 1, line.length, ""]],
+  [/^Line (\d+), column (\d+): insert `(.*)`\.$/, (line, column, put) => [column - 1, column - 1, put]],
+  [/^Line (\d+), column (\d+): delete `(.*)`\.$/, (line, column, gone) => [column - 1, +column + gone.length - 1, ""]],
+  [/^Line (\d+), column (\d+): replace `(.*)` with `(.*)`\.$/, (line, column, gone, put) => [column - 1, +column + gone.length - 1, put]],
+];
+/** The text after the change that a sentence proposes, or null if it proposes none. */
+export function repaired(text, sentence) {
+  const [form, part] = CHANGES.find(it => it[0].test(sentence)) ?? [];
+  if (!form || sentence.includes("\\x")) return null; // bytes that the explanation only shows
+  const [number, ...words] = form.exec(sentence).slice(1), lines = text.split("\n"), at = number === "end" ? lines.length - 1 : number - 1;
+  const start = upTo(at).reduce((sum, k) => sum + lines[k].length + 1, 0), [from, to, put] = part(lines[at], ...words);
+  return text.slice(0, start + from) + put + text.slice(start + to);
+}
+
 /** The only place that reads the text of `trlab explain`: whether the input is accepted; the line of the fault, and the
  * words about it; the known facts before each line; and the maximum number of instructions of a program. */
 export function readExplanation(said) {
@@ -28,7 +48,7 @@ export async function explain(kind, text) {
 }
 
 const LONGEST = 262144;
-/** An editor of plain lines with numbers. `tell` opens a gap for words below a line; `changed` is called after typing. */
+/** An editor of plain lines with numbers. `tell` opens a gap for words below a line; `changed` is called after a change. */
 export class Editor {
   constructor(id) {
     const box = this.box = document.getElementById(id);
@@ -37,8 +57,9 @@ export class Editor {
     const [numbers, sheet] = box.children;
     Object.assign(this, { sheet, first: numbers.children[0], last: numbers.children[1], gap: sheet.children[0], code: sheet.children[1] });
     this.words = this.gap.firstChild;
+    this.words.id = id + "words";
     this.code.setAttribute("aria-labelledby", id + "label");
-    this.code.setAttribute("aria-describedby", id + "verdict");
+    this.code.setAttribute("aria-describedby", `${id}verdict ${id}words`);
     this.editable(true);
     this.code.addEventListener("input", () => { this.tell(0); this.changed(); });
     this.code.addEventListener("paste", event => { // for browsers that do not know plaintext-only
@@ -68,12 +89,23 @@ export class Editor {
     const part = before.cloneContents();
     return part.textContent.split("\n").length + part.querySelectorAll("br").length;
   }
+  /** A sentence of an explanation: a button if it proposes a change. */
+  sentence(words) {
+    const fixed = this.long ? null : repaired(this.value, words);
+    if (fixed === null) return Object.assign(document.createElement("p"), { textContent: words });
+    const fix = () => {
+      this.value = fixed;
+      this.code.focus();
+      this.changed();
+    };
+    return Object.assign(document.createElement("button"), { type: "button", textContent: words, onclick: fix });
+  }
   /** Number the lines, and show words below one of them; line 0 means no words. */
   tell(line, said = "") {
     const high = 20, lines = this.long ? [""] : this.value.split("\n").slice(0, -1), to = Math.min(line || lines.length, lines.length);
     const longest = lines.reduce((most, now) => Math.max(most, now.length), 0);
     this.sheet.style.minWidth = `calc(${longest + 1}ch + 68px)`; // so that no line wraps
-    this.words.textContent = said;
+    this.words.replaceChildren(...said.split("\n").map(sentence => this.sentence(sentence)));
     this.words.style.width = `${this.box.clientWidth - 68}px`;
     this.gap.hidden = !line;
     this.words.style.marginTop = `${to * high + 4}px`;

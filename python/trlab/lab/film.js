@@ -1,9 +1,7 @@
 // A run: its snapshots arrive as a stream, and the last ones are kept so that the page can step back.
 
-import { EMPTY, clamp } from "./job.js";
+import { EMPTY, clamp, speedOf } from "./job.js";
 
-/** A car's speed from its character. */
-const speedOf = sign => sign < 58 ? sign - 48 : sign - 87;
 /** The bytes of a run's output before the snapshot of a step: `step N` and the lanes, each with its line end. */
 export function bytesBefore(step, { length, lanes }) {
   let digits = step; // every number has one digit, and another one from each power of ten on

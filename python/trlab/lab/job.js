@@ -1,6 +1,8 @@
 // Job files: a job is an object, a job file is its text, and each is made from the other.
 
 export const EMPTY = 46; // the byte `.`
+/** A car's speed from its character. */
+export const speedOf = sign => sign < 58 ? sign - 48 : sign - 87;
 const ALWAYS = 2 ** 31, SIGNS = "0123456789abcdefghijklmnopqrstuvwxyz";
 export const clamp = (x, least, most) => Math.min(most, Math.max(least, x));
 export const upTo = count => Array.from({ length: count }, (_, k) => k);
@@ -79,17 +81,11 @@ function twister(seed) {
     s[at] = (s[at] ^ mixed(at - 1, 1566083941)) - at;
     on();
   }
-  s[0] = 0x80000000;
-  at = 624;
+  [s[0], at] = [0x80000000, 0];
   const draw = () => {
-    if (at === 624) {
-      for (let k = 0; k < 624; k++) {
-        const y = (s[k] & 0x80000000) | (s[(k + 1) % 624] & 0x7fffffff);
-        s[k] = s[(k + 397) % 624] ^ y >>> 1 ^ (y & 1 ? 0x9908b0df : 0);
-      }
-      at = 0;
-    }
-    let y = s[at++];
+    const next = (at + 1) % 624, mix = (s[at] & 0x80000000) | (s[next] & 0x7fffffff);
+    let y = s[at] = s[(at + 397) % 624] ^ mix >>> 1 ^ (mix & 1 ? 0x9908b0df : 0);
+    at = next;
     y ^= y >>> 11;
     y ^= y << 7 & 0x9d2c5680;
     y ^= y << 15 & 0xefc60000;

@@ -139,6 +139,7 @@ export class Player {
     const most = Math.min(limit, 9), bars = upTo(most + 1).map(() => document.createElement("i"));
     bars.forEach((bar, k) => bar.style.background = `rgb(${colour(k / most)})`);
     $("legend").replaceChildren("stopped", ...bars, `${limit} cells per step`);
+    $("legend").setAttribute("aria-label", `Colours: dark red for stopped cars, dark blue for ${limit} cells per step`);
   }
 
   // Controls
@@ -154,6 +155,7 @@ export class Player {
   setRate() {
     this.rate = Math.round(2000 ** ($("rate").value / 100));
     $("rateout").textContent = this.rate;
+    $("rate").setAttribute("aria-valuetext", `${this.rate} steps per second`);
   }
   one() {
     this.setPlaying(false);
