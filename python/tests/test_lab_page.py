@@ -364,9 +364,9 @@ class Pages:
             wanted = f"motion\nget r1, limit\n{fixed}\n".replace("go r0", "min r0, r0, r1\ngo r0")
             self.hold(lambda: f"rule own\n{wanted}end\n" in self.page.job())
         fixed = self.page.later("""const {repaired} = await import('./editor.js');
-            return [["a bc d\\n", "Line 1, column 3: delete `b`."], ["a\\n", "Line 1, column 1: replace `\\\\xff` with `b`."], ["a\\n", "Known before it:"]]
-                .map(it => repaired(...it))""")
-        self.assertEqual(fixed, ["a c d\n", None, None])
+            return ["Line 1, column 3: delete `b`.", "Line 1, column 1: replace `\\\\xff` with `b`.", "Line 1, column 1: insert `\\\\xff`.", "Known before it:"]
+                .map(it => repaired("a bc d\\n", it))""")
+        self.assertEqual(fixed, ["a c d\n", None, None, None])
 
     def test_a_rejected_file(self):
         self.open("road 2\n")

@@ -2,24 +2,25 @@
 
 import { upTo } from "./job.js";
 
-/** The sentences of an explanation that propose a change: the part of the line that goes, from and to, and what replaces it. */
+/** The sentences of an explanation that propose a change of a line: the place in the line, what goes there, and what comes. */
 const CHANGES = [
-  [/^Above line (\d+), add the line `(.*)`\.$/, (line, put) => [0, 0, put + "\n"]],
-  [/^At the (end), add the line `(.*)`\.$/, (line, put) => [0, 0, put + "\n"]],
-  [/^Delete line (\d+)\.$/, line => [0, line.length + 1, ""]],
-  [/^Replace line (\d+) with `(.*)`\.$/, (line, put) => [0, line.length, put]],
-  [/^Line (\d+): delete everything from column (\d+) on\.$/, (line, column) => [column - 1, line.length, ""]],
-  [/^Line (\d+), column (\d+): insert `(.*)`\.$/, (line, column, put) => [column - 1, column - 1, put]],
-  [/^Line (\d+), column (\d+): delete `(.*)`\.$/, (line, column, gone) => [column - 1, +column + gone.length - 1, ""]],
-  [/^Line (\d+), column (\d+): replace `(.*)` with `(.*)`\.$/, (line, column, gone, put) => [column - 1, +column + gone.length - 1, put]],
+  [/^Above line (\d+), add the line `(.*)`\.$/, (line, put) => [0, "", put + "\n"]],
+  [/^At the (end), add the line `(.*)`\.$/, (line, put) => [0, "", put + "\n"]],
+  [/^Delete line (\d+)\.$/, line => [0, line + "\n", ""]],
+  [/^Replace line (\d+) with `(.*)`\.$/, (line, put) => [0, line, put]],
+  [/^Line (\d+): delete everything from column (\d+) on\.$/, (line, column) => [column - 1, line.slice(column - 1), ""]],
+  [/^Line (\d+), column (\d+): insert `(.*)`\.$/, (line, column, put) => [column - 1, "", put]],
+  [/^Line (\d+), column (\d+): delete `(.*)`\.$/, (line, column, gone) => [column - 1, gone, ""]],
+  [/^Line (\d+), column (\d+): replace `(.*)` with `(.*)`\.$/, (line, column, gone, put) => [column - 1, gone, put]],
 ];
 /** The text after the change that a sentence proposes, or null if it proposes none. */
 export function repaired(text, sentence) {
   const [form, part] = CHANGES.find(it => it[0].test(sentence)) ?? [];
-  if (!form || sentence.includes("\\x")) return null; // bytes that the explanation only shows
+  if (!form) return null;
   const [number, ...words] = form.exec(sentence).slice(1), lines = text.split("\n"), at = number === "end" ? lines.length - 1 : number - 1;
-  const start = upTo(at).reduce((sum, k) => sum + lines[k].length + 1, 0), [from, to, put] = part(lines[at], ...words);
-  return text.slice(0, start + from) + put + text.slice(start + to);
+  const [from, gone, put] = part(lines[at], ...words), start = upTo(at).reduce((sum, k) => sum + lines[k].length + 1, from);
+  // Explanations write some bytes as `\x` and two digits.
+  return text.startsWith(gone, start) && !put.includes("\\x") ? text.slice(0, start) + put + text.slice(start + gone.length) : null;
 }
 
 /** The only place that reads the text of `trlab explain`: whether the input is accepted; the line of the fault, and the

@@ -40,7 +40,7 @@ const inForce = () => job.rules.findLast(rule => rule.at <= Math.max(0, player.s
 
 // Runs
 
-/** Run a job file from the start, or on from the step that is shown. */
+/** Run a job file. */
 function drive(source, on = false) {
   settle();
   const { length, lanes, steps } = job;
@@ -64,8 +64,12 @@ function settle() {
 function begin() {
   if (job.start === "file" && !roadFits(job)) job.start = "random";
   if (job.rules.some(rule => rule.live)) job.rules = [{ ...inForce(), at: 0, live: false }];
+  runJob();
+}
+/** Write the job as a file and run it: from the start, or on from the step that is shown. */
+function runJob(on = false) {
   text.value = jobText(job);
-  drive(text.value);
+  drive(text.value, on);
   show();
   judge();
 }
@@ -80,10 +84,7 @@ function changeRule(what) {
     return begin();
   }
   job.rules = [...job.rules.filter(other => other.at < step), { ...rule, at: step }];
-  text.value = jobText(job);
-  drive(text.value, true);
-  show();
-  judge();
+  runJob(true);
 }
 /** Change the length or the lanes, and keep the density. */
 function resize(what) {
