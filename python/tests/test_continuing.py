@@ -7,6 +7,7 @@ from unittest import mock
 
 from tests.by_pictures import windows
 from trlab import Job, Nasch, Own, Picture, Rickert, SlowToStart, Sweep, Table, Window, continuing, jam, random
+from trlab.program import ask_by_line
 
 HALF = Own("motion\nget r0, gap\ndiv r0, r0, 2\nget r1, limit\nmin r0, r0, r1\ngo r0\n")
 ONE = Job(limit=5, length=60, density=0.3, start=random(1), rule=Nasch(0.25), steps=50, key=7, at={10: Nasch(0.5), 30: HALF})
@@ -83,6 +84,14 @@ class LongRuns(unittest.TestCase):
             pictures = TWO.run()
             for every, first in (1, 0), (1, 20), (7, 0), (7, 3), (20, 20), (3, 41), (60, 50), (1, 51):
                 self.assertEqual(list(continuing.pictures(TWO, every, first, [])), pictures[first::every])
+                self.assertEqual(TWO.run(every=every, first=first), pictures[first::every])
+
+    def test_other_pictures_are_not_asked_for(self):
+        asked = []
+        with short_inputs(20), mock.patch.object(continuing, "ask_by_line", lambda words, text: asked.append(words) or ask_by_line(words, text)):
+            self.assertEqual([it.step for it in TWO.pictures(every=25, first=10)], [10, 35])
+            TWO.series(every=40)
+        self.assertEqual({(*words,) for words in asked if words[0] == "run"}, {("run", "--every", "5"), ("run", "--from", "20")})
 
     def test_rules_take_over_at_their_steps(self):
         stop, go = Nasch(1), Nasch(0)

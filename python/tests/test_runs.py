@@ -11,7 +11,7 @@ from pathlib import Path
 from unittest import mock
 
 from tests.by_pictures import windows
-from trlab import Failed, Job, Nasch, Own, Point, Refused, Rickert, SlowToStart, Sweep, Table, Window
+from trlab import Failed, Job, Nasch, Own, Picture, Pictures, Point, Refused, Rickert, SlowToStart, Sweep, Table, Window
 from trlab import check, even, find_program, jam, map, moving, random, read_tables, write_texts
 from trlab.program import ask
 
@@ -70,6 +70,33 @@ class Runs(unittest.TestCase):
         pictures = Job(limit=5, length=1000, cars=100, rule=Nasch(0), steps=500000).pictures()
         self.assertEqual(next(pictures).step, 0)
         pictures.close()
+
+    def test_every_nth_picture(self):
+        one = Job(limit=5, length=60, density=0.3, start=random(1), rule=Nasch(0.25), steps=50, key=7)
+        two = Job(limit=3, length=40, lanes=2, cars=20, start=random(2), rule=Rickert(0.25, 1), steps=50, at={35: Nasch(0.5)})
+        for job in one, two:
+            each = job.run()
+            for every, first in (1, 0), (1, 20), (7, 0), (7, 3), (50, 0), (20, 10), (3, 50), (60, 50), (1, 51), (500000, 500000):
+                with self.subTest(every=every, first=first):
+                    shown = job.run(every=every, first=first, workers=2)
+                    self.assertEqual(shown, each[first::every])
+                    self.assertEqual(list(job.pictures(every=every, first=first)), shown)
+                    self.assertEqual(shown.text(), Pictures.read(shown.text()).text())
+
+    def test_what_is_asked_of_a_run(self):
+        with tempfile.TemporaryDirectory() as folder:
+            with stand_in(folder, f"echo $@ >>{folder}/words\ncat >/dev/null\necho step 5\necho 0.\n"):
+                job = Job(limit=5, start=[0, None], rule=Nasch(0), steps=5)
+                told = [job.run(), job.run(3), job.run(every=10, first=5, workers=3), list(job.pictures(2, 4, 1))]
+            self.assertEqual(told, 4 * [[Picture(5, ("0.",))]])
+            words = (Path(folder) / "words").read_text().splitlines()
+        self.assertEqual(words, ["run", "run --workers 3", "run --every 10 --from 5 --workers 3", "run --every 4 --from 1 --workers 2"])
+
+    def test_numbers_of_steps_are_judged_by_the_program(self):
+        job = Job(limit=5, start=[0, None], rule=Nasch(0), steps=5)
+        for options in {"every": 0}, {"every": 500001}, {"first": -1}, {"first": 500001}:
+            for call in job.run, job.series, lambda **options: list(job.pictures(**options)):
+                self.assertRaises(Failed, call, **options)
 
     def test_more_than_a_pipe_holds(self):
         job = Job(limit=5, length=100000, density=1, lanes=2, rule=Rickert(0, 1), steps=1)

@@ -5,7 +5,6 @@ it, under the key that `Job.continued` derives. So its pictures depend only on t
 they are counted."""
 from __future__ import annotations
 
-from collections import deque
 from dataclasses import replace
 from itertools import islice
 from math import gcd
@@ -64,11 +63,15 @@ def _parts(job: Job, last_of: Callable[[Job], Picture]) -> Iterator[_Part]:
 
 def pictures(job: Job, every: int, first: int, words: List[str]) -> Iterator[Picture]:
     """Every `every`-th picture from the step `first` on, one by one, of a job of more steps than one input has, with these
-    options of `trlab run`."""
+    options of `trlab run`.
+
+    The program is asked for the last picture of each input too, so it leaves out the other pictures only as far as the
+    steps of an input allow."""
     whole("every", every, 1), whole("first", first, 0)
+    options = ["--every", str(gcd(every, first, MOST_STEPS)), *words]
     last: List[Picture] = []
     for offset, part in _parts(job, lambda _: last.pop()):
-        for picture in pictures_in(ask_by_line(["run", *words], part.text())):
+        for picture in pictures_in(ask_by_line(["run", *options], part.text())):
             last[:] = [picture]
             # The first picture of a part is the last one of the part before it.
             step = offset + picture.step
@@ -97,9 +100,9 @@ def _narrow_windows(job: Job, width: int, first: int, words: List[str]) -> Itera
 
 
 def _last_picture(job: Job, words: List[str]) -> Picture:
-    """The last picture of an input. Of its output only the last lines are kept."""
-    lines = deque(ask_by_line(["run", *words], job.text()), maxlen=1 + len(job.road()))
-    return next(pictures_in(lines))
+    """The last picture of an input, the only one for which the program is asked."""
+    (last,) = pictures_in(ask_by_line(["run", "--from", str(job.steps), *words], job.text()))
+    return last
 
 
 def _joined(narrow: Iterator[Window], count: int) -> Iterator[Window]:

@@ -176,7 +176,7 @@ class Table(ResultList[Row]):
 
 
 class Pictures(ResultList[Picture]):
-    """The pictures of a run, of step 0 and after each step.
+    """The pictures of a run, of step 0 and after each step, or of every n-th step.
 
     They can be used like a list, and can be changed. Pictures of a run are kept as one byte per cell, and a `Picture` is
     made each time you ask for one."""

@@ -79,29 +79,31 @@ class Job:
             lines += [f"at {step} {first}", *others]
         return _text(lines)
 
-    def run(self, workers: int = 1) -> Pictures:
-        """The pictures of the road, of step 0 and after each step."""
-        if self.steps > MOST_STEPS:
-            return Pictures(self.pictures(workers))
-        return Pictures.read(ask_for_bytes(["run", *_option("workers", workers, 1)], self.text()))
+    def run(self, workers: int = 1, every: int = 1, first: int = 0) -> Pictures:
+        """The pictures of the road, of step 0 and after each step; or those of the steps `first`, `first + every` and so
+        on, as `trlab run` writes them. The other pictures are never made, so a long run fits in memory:
 
-    def pictures(self, workers: int = 1) -> Iterator[Picture]:
-        """Iterate over the pictures while the program runs, for runs too long to hold in memory."""
-        options = _option("workers", workers, 1)
+            job.run(every=100, first=5000).space_time()
+
+        Trajectories need the picture of every step."""
         if self.steps > MOST_STEPS:
-            return continuing.pictures(self, 1, 0, options)
-        return pictures_in(ask_by_line(["run", *options], self.text()))
+            return Pictures(self.pictures(workers, every, first))
+        return Pictures.read(ask_for_bytes(["run", *_shown(every, first, workers)], self.text()))
+
+    def pictures(self, workers: int = 1, every: int = 1, first: int = 0) -> Iterator[Picture]:
+        """Iterate over the pictures of `run` while the program runs, for runs too long to hold in memory."""
+        if self.steps > MOST_STEPS:
+            return continuing.pictures(self, every, first, _option("workers", workers, 1))
+        return pictures_in(ask_by_line(["run", *_shown(every, first, workers)], self.text()))
 
     def series(self, every: int = 1, first: int = 0, workers: int = 1) -> Table[Window]:
         """The counts of each window of `every` steps, from the step `first` on, as `trlab series` writes them.
 
         A job of more than 500,000 steps takes about twice the time per step, because its road at the end of each input
         is computed by a second run."""
-        options = _option("workers", workers, 1)
         if self.steps > MOST_STEPS:
-            return continuing.series(self, every, first, options)
-        options = _option("every", every, 1) + _option("from", first, 0) + options
-        return Table.read(Window, ask(["series", *options], self.text()))
+            return continuing.series(self, every, first, _option("workers", workers, 1))
+        return Table.read(Window, ask(["series", *_shown(every, first, workers)], self.text()))
 
     def continued(self, picture: Picture, key: Optional[Key] = None, steps: Optional[int] = None) -> Job:
         """A job of `steps` steps (by default as many as this one has) that begins with the road of `picture`, which is
@@ -244,6 +246,11 @@ def _text(lines: Sequence[str]) -> str:
 def _option(name: str, number: int, unsaid: int) -> List[str]:
     """The words of an option, none where it is what holds without them."""
     return [] if number == unsaid else [f"--{name}", str(number)]
+
+
+def _shown(every: int, first: int, workers: int) -> List[str]:
+    """The options of `trlab run` and `trlab series`."""
+    return _option("every", every, 1) + _option("from", first, 0) + _option("workers", workers, 1)
 
 
 def explain(text: Union[str, Job, Sweep]) -> str:

@@ -2,7 +2,7 @@
 cases/README.md says how they are written."""
 import os
 import re
-from typing import NamedTuple
+from typing import NamedTuple, Optional
 
 import tools
 
@@ -18,10 +18,10 @@ class Broken(Exception):
 
 
 class Part(NamedTuple):
-    """Words at the left of a file, the number of their line, and the text beside them."""
+    """Words at the left of a file, the number of their line, and the text beside them, or None if there is none."""
     words: str
     line: int
-    text: str
+    text: Optional[str]
 
 
 class Case(NamedTuple):
@@ -62,18 +62,18 @@ def parts_of(content):
         words, bar, text = line.partition("|")
         words, text = words.strip() if bar else line, text.removeprefix(" ")
         if words and not words.isdigit():
-            parts.append(Part(words, number, ""))
+            parts.append(Part(words, number, None))
         if bar:
             more = lines_of(text, int(words) if words.isdigit() else 1)
             if not parts or more is None:
                 raise Broken(f"line {number}")
-            parts[-1] = parts[-1]._replace(text=parts[-1].text + more)
+            parts[-1] = parts[-1]._replace(text=(parts[-1].text or "") + more)
     return parts
 
 
 def calls_of(part, front):
     """The command lines of a part and what each is given; nothing where its words are no command's."""
-    words, text = part.words, part.text
+    words, text = part.words, part.text or ""
     if words == "words":
         return [line.split() for line in text.split("\n")[:-1]], front
     if words in SIXTEEN:
@@ -87,10 +87,10 @@ def calls_of(part, front):
 
 def wanted_by(part):
     """The status, the output and how much of it stands in a part; nothing where it is no answer."""
-    if part.words == "status" and part.text.strip().isdigit():
+    if part.words == "status" and (part.text or "").strip().isdigit():
         return int(part.text), b"", "nothing"
     ends = {"done": (0, "all"), "refused": (1, "all"), "begins": (0, "first lines")}
-    if part.words not in ends or not part.text:
+    if part.words not in ends or part.text is None:
         return None
     status, told = ends[part.words]
     return status, part.text.encode(), told
@@ -110,7 +110,7 @@ def cases_of(name, content):
         elif part.words.startswith("== ") and not part.text:
             title = part.words[3:]
         elif part.words == "front":
-            front = part.text
+            front = part.text or ""
         elif found := calls_of(part, front):
             asked = part.line, found
         else:

@@ -12,8 +12,11 @@ use Rattle.trlab_jobs.specs.Check.{Check, CheckText}
 use Rattle.trlab_campaign.specs.CheckOutput.{VerdictOutput, IsCheckOutput}
 use Rattle.trlab_jobs.specs.Sweep.{Sweep, SweepText}
 use Rattle.trlab_campaign.specs.SweepOutput.{SweepOutput, IsSweepOutput}
-use Rattle.trlab_campaign.specs.Ending.{EndsSo, EndsTooBig, OutputEnds, WroteAll, WrotePrefix}
-use Rattle.trlab_campaign.specs.Writers.{SinkBytes, AddsNone}
+use Rattle.std.proofs.lemmas.Option.{IfSome_then}
+use Rattle.trlab_campaign.specs.declared.device.Sink as Sink
+use Rattle.trlab_campaign.specs.declared.device.Source as Source
+use Rattle.trlab_campaign.specs.Ending.{EngineEnds, EndsSo, EndsTooBig, OutputEnds, WroteAll, WrotePrefix}
+use Rattle.trlab_campaign.specs.Writers.{SinkBytes, AddsNone, bytes_of}
 use Rattle.trlab_campaign.proofs.WrittenBytes.{prefix_kept}
 
 -- a whole output was written, and the last call kept the bytes
@@ -37,6 +40,20 @@ ends_among IsOwn IsWhole Memory old new among (inl kept) = inl kept
 ends_among IsOwn IsWhole Memory old new among (inr wrote) = inr (wrote.0, (wrote.1.0, (among wrote.0 wrote.1.0 wrote.1.1.0, wrote.1.1.1)))
 ends_among IsOwn IsWhole DeviceFault old new among (inl kept) = inl kept
 ends_among IsOwn IsWhole DeviceFault old new among (inr wrote) = inr (wrote.0, (wrote.1.0, (among wrote.0 wrote.1.0 wrote.1.1.0, wrote.1.1.1)))
+
+-- an engine of some outputs is one of all outputs that these are among
+pub engine_ends_among : {S K : Type 0} (source : Source.Ghosts S) (sink : Sink.Ghosts K) (own whole : List ℕ → Outputs) (e : End) (before after : S) (old new : K)
+    → ((text : List ℕ) (refused : Bool) (out : List ℕ) → own text refused out → whole text refused out)
+    → EngineEnds source sink own e before after old new → EngineEnds source sink whole e before after old new
+engine_ends_among source sink own whole e before after old new among ends = record {
+  exact = (ends.exact.0, (ends.exact.1.0, ends_among (own ends.exact.0) (whole ends.exact.0) e (bytes_of sink old) (bytes_of sink new) (among ends.exact.0) ends.exact.1.1));
+  answer = IfSome_then (source.left before) ends.answer (λ text. ends_among (own text) (whole text) e (bytes_of sink old) (bytes_of sink new) (among text));
+  silent = ends.silent;
+  handed = ends.handed;
+  device = ends.device;
+  read = ends.read;
+  stops = ends.stops;
+}
 
 -- what is written for a job or a sweep that a text says
 pub text_ends : (Output : Job → Outputs) (e : End) (text : List ℕ) (job : Job) (old new : SinkBytes)

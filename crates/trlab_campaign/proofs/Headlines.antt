@@ -1,5 +1,5 @@
 -- One worker drives the roads of each text that is not refused.
-use Rattle.std.proofs.Common.{ℕ, List, false, true≢false, sym, subst, length}
+use Rattle.std.proofs.Common.{ℕ, Bool, List, false, true≢false, sym, subst, length}
 use Rattle.std.specs.Prelude.{Result, Ok, Err, IfOk}
 use Rattle.trlab_diagram.specs.declared.point.Point.{Point}
 use Rattle.trlab_road.specs.Cells.{Cells}
@@ -27,24 +27,24 @@ use Rattle.trlab_campaign.proofs.Points.{suits}
 use Rattle.trlab_campaign.proofs.Sheets.{plain_sheet}
 use Rattle.trlab_campaign.proofs.SomePoints.{even_some}
 
-drives_job : (text out : List ℕ) (says : Result Job Fault) → JobText text says → IfOk says IsStored → OutputFor JobOutput says false out → IsDrivenJob text out
-drives_job text out (Ok job) says stored output =
+drives_job : (shown : ℕ → Bool) (text out : List ℕ) (says : Result Job Fault) → JobText text says → IfOk says IsStored → OutputFor (JobOutput shown) says false out → IsDrivenJob shown text out
+drives_job shown text out (Ok job) says stored output =
     let roads = output.1.0 in
-    let shown = output.1.1 in
+    let is = output.1.1 in
     record {
       job = job;
       says = says;
       roads = roads;
-      driven = runs_are_driven (seed_of job) (sheet_of job) job.steps roads stored.legal (plain_sheet job stored) shown.road_at;
-      pictures = shown.pictures;
+      driven = runs_are_driven (seed_of job) (sheet_of job) job.steps roads stored.legal (plain_sheet job stored) is.road_at;
+      pictures = is.pictures;
     }
-drives_job text out (Err fault) says stored output = absurd (true≢false (sym output.0))
+drives_job shown text out (Err fault) says stored output = absurd (true≢false (sym output.0))
 
 pub job_texts_are_driven : JobTextsAreDriven
-job_texts_are_driven text out is =
+job_texts_are_driven shown text out is =
     let found = says_plain text in
     let same = jobs.one_thing text is.0 found.0 is.1.0 found.1.0 in
-    drives_job text out found.0 found.1.0 found.1.1 (subst (λ (says : Result Job Fault). OutputFor JobOutput says false out) same is.1.1)
+    drives_job shown text out found.0 found.1.0 found.1.1 (subst (λ (says : Result Job Fault). OutputFor (JobOutput shown) says false out) same is.1.1)
 
 -- the road on which cars are evenly spread is legal
 even_is_legal : (setup : Setup) (cars : ℕ) (road : Cells) → Spreads setup.shape cars → IsEven setup.shape.lanes setup.shape.cells setup.shape.limit cars road → IsLegal road

@@ -13,6 +13,7 @@ pub mod OneSeries
 pub mod Faults
 pub mod Endings
 pub mod OneOutput
+pub mod Shown
 pub mod OneVerdict
 pub mod SomeVerdict
 pub mod OneEntry

@@ -1,5 +1,5 @@
 -- What comes of a text that is not refused: one worker drives its roads.
-use Rattle.std.specs.Prelude.{◌≡◌, ◌+◌, ◌<◌, ℕ, false, List, Ok, length, slice_index_or}
+use Rattle.std.specs.Prelude.{◌≡◌, ◌+◌, ◌<◌, ℕ, Bool, false, List, Ok, length, slice_index_or}
 use Rattle.trlab_diagram.specs.declared.point.Point.{Point}
 use Rattle.trlab_diagram.specs.Table.{points_text}
 use Rattle.trlab_road.specs.Cells.{Cells}
@@ -10,22 +10,24 @@ use Rattle.trlab_step.specs.Run.{IsTallyAt}
 use Rattle.trlab_jobs.specs.Job.{Job, JobText, seed_of, sheet_of}
 use Rattle.trlab_jobs.specs.Shapes.{all_steps}
 use Rattle.trlab_jobs.specs.Sweep.{Setup, Sweep, SweepText}
-use Rattle.trlab_campaign.specs.Output.{IsOutput, steps_text}
+use Rattle.trlab_campaign.specs.Output.{IsShownOutput, steps_text}
 use Rattle.trlab_campaign.specs.SweepOutput.{IsSweepOutput, point_of}
 use Rattle.trlab_campaign.specs.SweepOutput as sweep
 
 -- the output for a job text: it says a job, one worker drives the job's road, and the pictures are of
--- the roads on the way
-pub record IsDrivenJob (text out : List ℕ) : Type 0 where
+-- the roads on the way, at the steps that are shown
+pub record IsDrivenJob (shown : ℕ → Bool) (text out : List ℕ) : Type 0 where
   pub job : Job
   pub says : JobText text (Ok job)
   pub roads : ℕ → Cells
   pub driven : IsDriven (seed_of job) (sheet_of job) job.steps roads
-  pub pictures : out ≡ steps_text roads (job.steps + 1)
+  pub pictures : out ≡ steps_text shown roads (job.steps + 1)
 
--- each output for a job text that is no refusal is so
+-- each output for a job text that is no refusal is so, whichever steps are shown
 abbrev pub JobTextsAreDriven : Type 0
-JobTextsAreDriven = (text out : List ℕ) → IsOutput text false out → IsDrivenJob text out
+JobTextsAreDriven =
+    (shown : ℕ → Bool) (text out : List ℕ)
+    → IsShownOutput shown text false out → IsDrivenJob shown text out
 
 -- a point of a sweep: one worker drives its road, whose cars are evenly spread at the start, and what is
 -- told of them is what was counted on the way

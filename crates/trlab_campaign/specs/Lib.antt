@@ -21,3 +21,4 @@ pub mod Ending
 pub mod Counting
 pub mod Laws
 pub mod SeriesLaws
+pub mod ShownLaws

@@ -1,5 +1,6 @@
 -- What is written for a job text.
-use Rattle.std.specs.Prelude.{◌≡◌, ℕ, ◌+◌, ◌≤◌, false, List, [], ◌∷◌, ◌++◌, flat_map, decimal, codes, Result}
+use Rattle.std.specs.Prelude.{◌≡◌, ℕ, ◌+◌, ◌-◌, ◌%◌, ◌≤◌, ◌&&◌, Bool, true, false, nat_eq, nat_le, if◌then◌else◌}
+use Rattle.std.specs.Prelude.{List, [], ◌∷◌, ◌++◌, flat_map, decimal, codes, Result}
 use Rattle.std.specs.List.{range_with_len}
 use Rattle.trlab_road.specs.Cells.{Cells}
 use Rattle.trlab_road.specs.Pictures.{picture}
@@ -17,26 +18,41 @@ abbrev pub step_text : ℕ → Cells → List ℕ
 step_text step road =
     codes "step " ++ (decimal step ++ (10 ∷ flat_map (λ lane. picture_line (picture lane)) road.lanes))
 
--- the text of a run's first steps, where its road at each step is known
-abbrev pub steps_text : (ℕ → Cells) → ℕ → List ℕ
-steps_text roads count = flat_map (λ step. step_text step (roads step)) (range_with_len 0 count)
+-- which steps are shown: each, or every so many from one on, that is `from`, `from + every` and so on
+abbrev pub each_step : ℕ → Bool
+each_step step = true
 
--- the output of a job: the pictures of its road at each step, from the start to the last step
-pub record IsRunText (job : Job) (roads : ℕ → Cells) (out : List ℕ) : Type 0 where
+abbrev pub every_from : ℕ → ℕ → ℕ → Bool
+every_from every from step = nat_le from step && nat_eq ((step - from) % every) 0
+
+-- the text of a step that is shown; for another step there is none
+abbrev pub shown_text : (ℕ → Bool) → ℕ → Cells → List ℕ
+shown_text shown step road = if shown step then step_text step road else []
+
+-- the text of a run's first steps, as far as they are shown, where its road at each step is known
+abbrev pub steps_text : (ℕ → Bool) → (ℕ → Cells) → ℕ → List ℕ
+steps_text shown roads count = flat_map (λ step. shown_text shown step (roads step)) (range_with_len 0 count)
+
+-- the output of a job: the pictures of its road at each step that is shown, from the start to the last step
+pub record IsRunText (job : Job) (shown : ℕ → Bool) (roads : ℕ → Cells) (out : List ℕ) : Type 0 where
   pub road_at : (step : ℕ) → step ≤ job.steps
       → IsRoadAt (seed_of job) (sheet_of job) step (roads step)
-  pub pictures : out ≡ steps_text roads (job.steps + 1)
+  pub pictures : out ≡ steps_text shown roads (job.steps + 1)
 
 -- what is written for a job, which is no refusal
-abbrev pub JobOutput : Job → Outputs
-JobOutput job refused out = (refused ≡ false) × ((roads : ℕ → Cells) × IsRunText job roads out)
+abbrev pub JobOutput : (ℕ → Bool) → Job → Outputs
+JobOutput shown job refused out =
+    (refused ≡ false) × ((roads : ℕ → Cells) × IsRunText job shown roads out)
 
 -- the whole output for a job text, by what is written for a job, and whether it is a refusal
 abbrev pub IsOutputOf : (Job → Outputs) → List ℕ → Outputs
 IsOutputOf Output text refused out =
     (says : Result Job Fault) × (JobText text says × OutputFor Output says refused out)
 
--- the whole output for a text, and whether it is a refusal
+-- the whole output for a text by the steps that are shown, and whether it is a refusal
+abbrev pub IsShownOutput : (ℕ → Bool) → List ℕ → Outputs
+IsShownOutput shown text refused out = IsOutputOf (JobOutput shown) text refused out
+
+-- the same where each step is shown
 abbrev pub IsOutput : List ℕ → Outputs
-IsOutput text refused out =
-    (says : Result Job Fault) × (JobText text says × OutputFor JobOutput says refused out)
+IsOutput text refused out = IsShownOutput each_step text refused out

@@ -8,14 +8,14 @@ ghost use Rattle.trlab_campaign.specs.Capacity.{SweepsKeepToCapacity};
 ghost use Rattle.trlab_campaign.specs.CheckOutput.{IsCheckOutput};
 ghost use Rattle.trlab_campaign.specs.Headline.{JobTextsAreDriven, SweepTextsAreDriven};
 ghost use Rattle.trlab_campaign.specs.Laws.{HasOneOutput, HasSomeOutput};
-ghost use Rattle.trlab_campaign.specs.Output.{IsOutput};
 ghost use Rattle.trlab_campaign.specs.SeriesLaws.{LanesOfSeriesAddUp, SeriesHasOneOutput, SeriesHasSomeOutput};
+ghost use Rattle.trlab_campaign.specs.ShownLaws.{EverySoManyAreShown, EveryStepFromStartIsEach, ShownHasOneOutput, ShownHasSomeOutput};
 ghost use Rattle.trlab_campaign.specs.SweepOutput.{IsSweepOutput};
 
 /// The output for a job text that is not refused has the pictures of the roads through which one worker
-/// drives, from the road that the text shows to that after its last step: each step is under the rule
-/// in force, its programs end within their budgets, no car goes onto or through another, and none is
-/// lost or made.
+/// drives, at the steps that are shown from the road of the text to that after its last step: each step is
+/// under the rule in force, its programs end within their budgets, no car goes onto or through another, and
+/// none is lost or made.
 pub fn job_texts_are_driven()
     ensures { JobTextsAreDriven }
 {}
@@ -26,10 +26,17 @@ pub fn sweep_texts_are_driven()
     ensures { SweepTextsAreDriven }
 {}
 
-/// Any job text has just one output, and it is a refusal or it is none.
+/// Any job text has just one output, whichever steps are shown, and it is a refusal or it is none.
 pub fn text_has_one_output()
-    ensures some_output { HasSomeOutput IsOutput }
-    ensures one_output { HasOneOutput IsOutput }
+    ensures some_output { ShownHasSomeOutput }
+    ensures one_output { ShownHasOneOutput }
+{}
+
+/// The steps that are shown are so many steps apart, from the first one on. Every step from step 0 on is each
+/// step.
+pub fn steps_are_shown_apart()
+    ensures apart { EverySoManyAreShown }
+    ensures each { EveryStepFromStartIsEach }
 {}
 
 /// Any check text has just one output, and it is a refusal or it is none.

@@ -27,7 +27,9 @@ pub use engine::{Engine, run_engine};
 pub use output::{push_fault_line, push_refused_line};
 pub use progress::{Milestone, Observer};
 pub use refusal::write_output;
-pub use run::{run_job_text, run_job_text_observed};
+pub use run::{
+    ShownSteps, run_job_text, run_job_text_observed, run_shown_text, run_shown_text_observed,
+};
 pub use series::{Windows, run_series_text, run_series_text_observed};
 pub use sweep::{run_sweep_text, run_sweep_text_observed};
 // What callers of the engines need besides: the bounds of their arguments, and what texts say.

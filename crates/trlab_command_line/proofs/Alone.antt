@@ -44,26 +44,36 @@ ok_same x y e = cc
 
 -- ---- `run`
 
-abbrev of_run : Text × List Row → Text × Option Text × Option Text
-of_run p = (p.0, one_of (codes "workers") p.1, one_of (codes "progress") p.1)
+-- the name of a command, and what its options have
+abbrev of_numbers : Text × List Row → Text × Option Text × Option Text × Option Text × Option Text
+of_numbers p = (
+  p.0,
+  one_of (codes "workers") p.1,
+  one_of (codes "every") p.1,
+  one_of (codes "from") p.1,
+  one_of (codes "progress") p.1,
+)
 
-run_has : option_map of_run (subcommand_of command_line (codes "run" ∷ [])) ≡ Some (codes "run", Some (codes "1"), Some (codes "false"))
+run_has : option_map of_numbers (subcommand_of command_line (codes "run" ∷ []))
+    ≡ Some (codes "run", Some (codes "1"), Some (codes "1"), Some (codes "0"), Some (codes "false"))
 unfolding clap_on_literals
 run_has = refl
 
-pub run_alone : (request : Request) → Asks (subcommand_of command_line (codes "run" ∷ [])) request → request ≡ Run 1 false
-run_alone request a = go request a (ap (λ t. t.0) (some_same _ _ (sym run_has ∙ ap (option_map of_run) a.1)))
+pub run_alone : (request : Request) → Asks (subcommand_of command_line (codes "run" ∷ [])) request → request ≡ Run 1 1 0 false
+run_alone request a = go request a (ap (λ t. t.0) (some_same _ _ (sym run_has ∙ ap (option_map of_numbers) a.1)))
   where
-    go : (request : Request) → Asks (subcommand_of command_line (codes "run" ∷ [])) request → codes "run" ≡ name_of request → request ≡ Run 1 false
+    go : (request : Request) → Asks (subcommand_of command_line (codes "run" ∷ [])) request → codes "run" ≡ name_of request → request ≡ Run 1 1 0 false
     go Check a is = absurd (differ (codes "run") (codes "check") refl is)
     go (Sweep runners workers progress) a is = absurd (differ (codes "run") (codes "sweep") refl is)
     go (Series workers every from progress) a is = absurd (differ (codes "run") (codes "series") refl is)
     go (Explain explained) a is = absurd (differ (codes "run") (codes "explain") refl is)
-    go (Run workers progress) a is =
-        let has = some_same _ _ (sym (ap (option_map of_run) a.1) ∙ run_has) in
+    go (Run workers every from progress) a is =
+        let has = some_same _ _ (sym (ap (option_map of_numbers) a.1) ∙ run_has) in
         let one : workers ≡ 1 = number_is (codes "workers") (codes "1") a.0 workers (ap (λ t. t.1) has) a.2.0 in
-        let off : progress ≡ false = flag_is a.0 progress (ap (λ t. t.2) has) a.2.1 in
-        rw (one, off) refl
+        let each : every ≡ 1 = number_is (codes "every") (codes "1") a.0 every (ap (λ t. t.2) has) a.2.1 in
+        let first : from ≡ 0 = number_is (codes "from") (codes "0") a.0 from (ap (λ t. t.3) has) a.2.2 in
+        let off : progress ≡ false = flag_is a.0 progress (ap (λ t. t.4) has) a.2.3 in
+        rw (one, each, first, off) refl
 
 -- ---- `sweep`
 
@@ -79,7 +89,7 @@ sweep_alone request a = go request a (ap (λ t. t.0) (some_same _ _ (sym sweep_h
   where
     go : (request : Request) → Asks (subcommand_of command_line (codes "sweep" ∷ [])) request → codes "sweep" ≡ name_of request → request ≡ Sweep 1 1 false
     go Check a is = absurd (differ (codes "sweep") (codes "check") refl is)
-    go (Run workers progress) a is = absurd (differ (codes "sweep") (codes "run") refl is)
+    go (Run workers every from progress) a is = absurd (differ (codes "sweep") (codes "run") refl is)
     go (Series workers every from progress) a is = absurd (differ (codes "sweep") (codes "series") refl is)
     go (Explain explained) a is = absurd (differ (codes "sweep") (codes "explain") refl is)
     go (Sweep runners workers progress) a is =
@@ -91,30 +101,21 @@ sweep_alone request a = go request a (ap (λ t. t.0) (some_same _ _ (sym sweep_h
 
 -- ---- `series`
 
-abbrev of_series : Text × List Row → Text × Option Text × Option Text × Option Text × Option Text
-of_series p = (
-  p.0,
-  one_of (codes "workers") p.1,
-  one_of (codes "every") p.1,
-  one_of (codes "from") p.1,
-  one_of (codes "progress") p.1,
-)
-
-series_has : option_map of_series (subcommand_of command_line (codes "series" ∷ []))
+series_has : option_map of_numbers (subcommand_of command_line (codes "series" ∷ []))
     ≡ Some (codes "series", Some (codes "1"), Some (codes "1"), Some (codes "0"), Some (codes "false"))
 unfolding clap_on_literals
 series_has = refl
 
 pub series_alone : (request : Request) → Asks (subcommand_of command_line (codes "series" ∷ [])) request → request ≡ Series 1 1 0 false
-series_alone request a = go request a (ap (λ t. t.0) (some_same _ _ (sym series_has ∙ ap (option_map of_series) a.1)))
+series_alone request a = go request a (ap (λ t. t.0) (some_same _ _ (sym series_has ∙ ap (option_map of_numbers) a.1)))
   where
     go : (request : Request) → Asks (subcommand_of command_line (codes "series" ∷ [])) request → codes "series" ≡ name_of request → request ≡ Series 1 1 0 false
     go Check a is = absurd (differ (codes "series") (codes "check") refl is)
-    go (Run workers progress) a is = absurd (differ (codes "series") (codes "run") refl is)
+    go (Run workers every from progress) a is = absurd (differ (codes "series") (codes "run") refl is)
     go (Sweep runners workers progress) a is = absurd (differ (codes "series") (codes "sweep") refl is)
     go (Explain explained) a is = absurd (differ (codes "series") (codes "explain") refl is)
     go (Series workers every from progress) a is =
-        let has = some_same _ _ (sym (ap (option_map of_series) a.1) ∙ series_has) in
+        let has = some_same _ _ (sym (ap (option_map of_numbers) a.1) ∙ series_has) in
         let one : workers ≡ 1 = number_is (codes "workers") (codes "1") a.0 workers (ap (λ t. t.1) has) a.2.0 in
         let each : every ≡ 1 = number_is (codes "every") (codes "1") a.0 every (ap (λ t. t.2) has) a.2.1 in
         let first : from ≡ 0 = number_is (codes "from") (codes "0") a.0 from (ap (λ t. t.3) has) a.2.2 in
@@ -135,7 +136,7 @@ explain_alone request a = go request a (ap (λ t. t.0) (some_same _ _ (sym expla
   where
     go : (request : Request) → Asks (subcommand_of command_line (codes "explain" ∷ [])) request → codes "explain" ≡ name_of request → request ≡ Explain (OfText None)
     go Check a is = absurd (differ (codes "explain") (codes "check") refl is)
-    go (Run workers progress) a is = absurd (differ (codes "explain") (codes "run") refl is)
+    go (Run workers every from progress) a is = absurd (differ (codes "explain") (codes "run") refl is)
     go (Sweep runners workers progress) a is = absurd (differ (codes "explain") (codes "sweep") refl is)
     go (Series workers every from progress) a is = absurd (differ (codes "explain") (codes "series") refl is)
     go (Explain explained) a is =

@@ -75,8 +75,14 @@ run = record {
   all = (
     (inl (record { action = refl; range = refl }), refl),
     (
-      (inr (inl (record { action = refl; range = refl; text = codes "true"; missing = refl })), refl),
-      ((inr (inr (record { action = refl; range = refl })), refl), tt),
+      (inl (record { action = refl; range = refl }), refl),
+      (
+        (inl (record { action = refl; range = refl }), refl),
+        (
+          (inr (inl (record { action = refl; range = refl; text = codes "true"; missing = refl })), refl),
+          ((inr (inr (record { action = refl; range = refl })), refl), tt),
+        ),
+      ),
     ),
   );
 }

@@ -55,9 +55,10 @@ command name arguments = fold with_rule (new_app name) arguments
 abbrev pub check_command : App
 check_command = command (codes "check") []
 
--- the command `run`, with the options `--workers` and `--progress`
+-- the command `run`, with the options `--every`, `--from`, `--workers` and `--progress`
 abbrev pub run_command : App
-run_command = command (codes "run") (workers_option ∷ progress_flag ∷ [])
+run_command =
+    command (codes "run") (every_option ∷ from_option ∷ workers_option ∷ progress_flag ∷ [])
 
 -- the command `sweep`, with the options `--runners`, `--workers` and `--progress`
 abbrev pub sweep_command : App

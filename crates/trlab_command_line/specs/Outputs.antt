@@ -2,7 +2,7 @@
 use Rattle.std.specs.Prelude.{◌≡◌, ℕ, List, false}
 use Rattle.trlab_campaign.specs.CheckOutput.{IsCheckOutput}
 use Rattle.trlab_campaign.specs.Refusal.{Outputs}
-use Rattle.trlab_campaign.specs.Output.{IsOutput}
+use Rattle.trlab_campaign.specs.Output.{IsShownOutput, every_from}
 use Rattle.trlab_campaign.specs.SeriesOutput.{IsSeriesOutput}
 use Rattle.trlab_campaign.specs.SweepOutput.{IsSweepOutput}
 use Rattle.trlab_explain.specs.Explanations.{Explains, TellsNumber}
@@ -11,11 +11,12 @@ use Rattle.trlab_command_line.specs.declared.arguments.Request.{Request}
 use Rattle.trlab_command_line.specs.declared.arguments.Request.TheVariants.{Check, Explain, Run, Series, Sweep}
 
 -- the whole output of a command for a text, and whether it is a refusal: `check` writes a verdict on a
--- program, `run` the pictures of a job, `sweep` the table of a sweep and `series` that of a job's windows,
--- whatever the number of workers and of runners, and `explain` what is told of the text, or of a number
+-- program, `run` the pictures of a job at the steps that are shown, `sweep` the table of a sweep and `series`
+-- that of a job's windows, whatever the number of workers and of runners, and `explain` what is told of the
+-- text, or of a number
 abbrev pub output_of : Request → List ℕ → Outputs
 output_of Check text = IsCheckOutput text
-output_of (Run workers progress) text = IsOutput text
+output_of (Run workers every from progress) text = IsShownOutput (every_from every from) text
 output_of (Sweep runners workers progress) text = IsSweepOutput text
 output_of (Series workers every from progress) text = IsSeriesOutput every from text
 output_of (Explain (Text subject)) text = Explains subject text

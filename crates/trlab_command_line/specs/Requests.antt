@@ -15,7 +15,7 @@ use Rattle.trlab_bounds.specs.declared.runs.TheConstants.{MOST_RUNNERS, MOST_STE
 -- the name of the command that is asked for
 abbrev pub name_of : Request → Text
 name_of Check = codes "check"
-name_of (Run workers progress) = codes "run"
+name_of (Run workers every from progress) = codes "run"
 name_of (Sweep runners workers progress) = codes "sweep"
 name_of (Series workers every from progress) = codes "series"
 name_of (Explain explained) = codes "explain"
@@ -23,8 +23,9 @@ name_of (Explain explained) = codes "explain"
 -- the matches of a command give what is asked for: the numbers of its options, and whether to tell progress
 abbrev pub Give : List Row → Request → Type 0
 Give rows Check = ⊤
-Give rows (Run workers progress) =
-    GivesNumber (codes "workers") rows workers × GivesFlag (codes "progress") rows progress
+Give rows (Run workers every from progress) =
+    GivesNumber (codes "workers") rows workers × GivesNumber (codes "every") rows every
+    × GivesNumber (codes "from") rows from × GivesFlag (codes "progress") rows progress
 Give rows (Sweep runners workers progress) =
     GivesNumber (codes "runners") rows runners × GivesNumber (codes "workers") rows workers
     × GivesFlag (codes "progress") rows progress
@@ -40,7 +41,9 @@ Asks entered request = (rows : List Row) × (entered ≡ Some (name_of request, 
 -- numbers of runners, of workers and of steps are those that an engine takes
 abbrev pub HasCounts : Request → Type 0
 HasCounts Check = ⊤
-HasCounts (Run workers progress) = (1 ≤ workers) × (workers ≤ MOST_WORKERS)
+HasCounts (Run workers every from progress) =
+    ((1 ≤ workers) × (workers ≤ MOST_WORKERS))
+    × ((1 ≤ every) × (every ≤ MOST_STEPS)) × (from ≤ MOST_STEPS)
 HasCounts (Sweep runners workers progress) =
     ((1 ≤ runners) × (runners ≤ MOST_RUNNERS)) × ((1 ≤ workers) × (workers ≤ MOST_WORKERS))
 HasCounts (Series workers every from progress) =

@@ -28,6 +28,10 @@ pub enum Request {
     Run {
         /// How many workers may share the work, 1 to 16.
         workers: u32,
+        /// How many steps there are from a step that is shown to the next one, 1 to 500000.
+        every: u32,
+        /// The first step that is shown, 0 to 500000.
+        from: u32,
         /// Whether to tell how far the work is.
         progress: bool,
     },
@@ -66,6 +70,8 @@ fn request_of(alloc: Global, name: &str, matches: &ArgMatches) -> Result<Request
         "check" => Ok(Request::Check),
         "run" => Ok(Request::Run {
             workers: count_of(matches, "workers"),
+            every: number_of(matches, "every"),
+            from: number_of(matches, "from"),
             progress: flag_of(matches, "progress"),
         }),
         "sweep" => Ok(Request::Sweep {
@@ -84,9 +90,9 @@ fn request_of(alloc: Global, name: &str, matches: &ArgMatches) -> Result<Request
     }
 }
 
-/// What the arguments after the program's name ask for: `check`, `run` with `--workers n`, `sweep` with
-/// `--runners n` and `--workers n`, `series` with `--every n`, `--from s` and `--workers n`, or `explain`
-/// with a command, or a topic and a number. Each number of runners or workers is from 1 to 16, and 1 where
+/// What the arguments after the program's name ask for: `check`, `run` or `series` with `--every n`, `--from s`
+/// and `--workers n`, `sweep` with `--runners n` and `--workers n`, or `explain` with a command, or a topic and
+/// a number. Each number of runners or workers is from 1 to 16, and 1 where
 /// it is not given; n of `--every` is from 1 to 500000, or 1, and s from 0 to 500000, or 0. `run`, `sweep`
 /// and `series` take `--progress` too.
 ///
@@ -100,7 +106,7 @@ pub fn read_words(alloc: Global, arguments: &[String]) -> Result<Request, Error>
     ensures counts { IfOk result HasCounts }
     ensures named { IfOk result (IsNamedFirst (map string_bytes arguments.now)) }
     ensures run_alone { map string_bytes arguments.now ≡ codes "run" ∷ []
-        → IfOk result (λ request. request ≡ Request.Run 1 false) }
+        → IfOk result (λ request. request ≡ Request.Run 1 1 0 false) }
     ensures sweep_alone { map string_bytes arguments.now ≡ codes "sweep" ∷ []
         → IfOk result (λ request. request ≡ Request.Sweep 1 1 false) }
     ensures series_alone { map string_bytes arguments.now ≡ codes "series" ∷ []

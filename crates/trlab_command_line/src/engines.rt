@@ -14,8 +14,8 @@ use std::alloc::AllocGlobal;
 use std::sync::Wait;
 use std::thread::Threads;
 use trlab_campaign::{
-    End, Observer, Sink, Source, Windows, check_text, run_job_text_observed,
-    run_series_text_observed, run_sweep_text_observed,
+    End, Observer, ShownSteps, Sink, Source, Windows, check_text, run_series_text_observed,
+    run_shown_text_observed, run_sweep_text_observed,
 };
 use trlab_explain::{explain_number, explain_text};
 
@@ -46,9 +46,15 @@ pub fn carry_out<R: AllocGlobal + Threads + Wait + Sync, S: Source, K: Sink, O: 
 {
     match request {
         Request::Check => check_text(rt, reader, writer),
-        Request::Run { workers, .. } => run_job_text_observed(
-            rt, reader, writer, workers, observer,
-        ),
+        Request::Run {
+            workers,
+            every,
+            from,
+            ..
+        } => {
+            let shown = ShownSteps::new(every, from);
+            run_shown_text_observed(rt, reader, writer, workers, &shown, observer)
+        }
         Request::Sweep {
             runners,
             workers,

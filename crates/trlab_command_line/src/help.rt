@@ -64,7 +64,7 @@ Example:
 
 /// The help of `trlab run`.
 pub const RUN: Help = Help {
-    about: "Run a job and print the road at every step",
+    about: "Run a job and print the road at every step, or at every n-th",
     usage: "trlab run [OPTIONS] < FILE",
     after: "\
 Standard input:
@@ -74,6 +74,7 @@ Standard input:
 Standard output:
   For each step, a line `step s` and one line per lane. `.` is an empty cell;
   any other character is a car and its speed: 0 to 9, then a (10) to z (35).
+  With `--every n` and `--from s` only the steps s, s + n, s + 2n and so on.
   Or `fault line N cause K` if the input is rejected: `trlab explain run < FILE`
   explains the problem. File format and causes: docs/TEXTS.md.
 
@@ -134,6 +135,12 @@ Standard output:
 Example:
   trlab series --every 10 < examples/overtaking.job",
 };
+
+/// The option `--every` of `run`.
+pub const SHOWN_EVERY_HELP: &str = "Steps from one printed road to the next, 1 to 500000";
+
+/// The option `--from` of `run`.
+pub const SHOWN_FROM_HELP: &str = "First step to print, 0 to 500000";
 
 /// The option `--every` of `series`.
 pub const EVERY_HELP: &str = "Steps per window, 1 to 500000";

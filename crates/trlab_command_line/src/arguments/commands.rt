@@ -9,7 +9,10 @@ use crate::arguments::options::{
     every_option, from_option, number_argument, progress_flag, runners_option, what_argument,
     workers_option,
 };
-use crate::help::{ABOUT, AFTER, CHECK, EXPLAIN, Help, RUN, SERIES, SWEEP, VERSION};
+use crate::help::{
+    ABOUT, AFTER, CHECK, EVERY_HELP, EXPLAIN, FROM_HELP, Help, RUN, SERIES, SHOWN_EVERY_HELP,
+    SHOWN_FROM_HELP, SWEEP, VERSION,
+};
 use clap::Command;
 use std::alloc::{AllocError, Global};
 
@@ -38,6 +41,8 @@ fn run_command<'a>(alloc: Global) -> Result<Command<'a>, AllocError>
     ensures local { IfOk result (λ command. (fields_of command).has_globals ≡ false) }
 {
     bare_command(alloc, "run", RUN)
+        .arg(every_option(alloc, SHOWN_EVERY_HELP))?
+        .arg(from_option(alloc, SHOWN_FROM_HELP))?
         .arg(workers_option(alloc))?
         .arg(progress_flag(alloc))
 }
@@ -59,8 +64,8 @@ fn series_command<'a>(alloc: Global) -> Result<Command<'a>, AllocError>
     ensures local { IfOk result (λ command. (fields_of command).has_globals ≡ false) }
 {
     bare_command(alloc, "series", SERIES)
-        .arg(every_option(alloc))?
-        .arg(from_option(alloc))?
+        .arg(every_option(alloc, EVERY_HELP))?
+        .arg(from_option(alloc, FROM_HELP))?
         .arg(workers_option(alloc))?
         .arg(progress_flag(alloc))
 }

@@ -4,9 +4,7 @@ ghost use Rattle.std.specs.Prelude.{◌≡◌, false};
 ghost use Rattle.clap.specs.Words.{rule_of};
 ghost use Rattle.trlab_command_line.specs.CommandLine.{count_option, every_option, from_option, number_argument, number_option, progress_flag, runners_option, what_argument, workers_option};
 
-use crate::help::{
-    EVERY_HELP, FROM_HELP, NUMBER_HELP, PROGRESS_HELP, RUNNERS_HELP, WHAT_HELP, WORKERS_HELP,
-};
+use crate::help::{NUMBER_HELP, PROGRESS_HELP, RUNNERS_HELP, WHAT_HELP, WORKERS_HELP};
 use clap::{Arg, ArgAction, value_parser};
 use std::alloc::Global;
 use trlab_bounds::runs::{MOST_RUNNERS, MOST_STEPS, MOST_WORKERS};
@@ -55,20 +53,20 @@ pub fn runners_option<'a>(alloc: Global) -> Arg<'a>
     count_option(alloc, "runners", MOST_RUNNERS, RUNNERS_HELP)
 }
 
-/// The option `--every n`.
-pub fn every_option<'a>(alloc: Global) -> Arg<'a>
+/// The option `--every n`, with the help of its command.
+pub fn every_option<'a>(alloc: Global, help: &'a str) -> Arg<'a>
     ensures rule { rule_of result ≡ every_option }
     ensures local { result.global ≡ false }
 {
-    count_option(alloc, "every", MOST_STEPS, EVERY_HELP)
+    count_option(alloc, "every", MOST_STEPS, help)
 }
 
-/// The option `--from s`.
-pub fn from_option<'a>(alloc: Global) -> Arg<'a>
+/// The option `--from s`, with the help of its command.
+pub fn from_option<'a>(alloc: Global, help: &'a str) -> Arg<'a>
     ensures rule { rule_of result ≡ from_option }
     ensures local { result.global ≡ false }
 {
-    number_option(alloc, "from", 0, MOST_STEPS, "0", FROM_HELP)
+    number_option(alloc, "from", 0, MOST_STEPS, "0", help)
 }
 
 /// The flag `--progress`.

@@ -12,6 +12,20 @@ count_of-requires c =
     let entered : IsEntered (codes "run") rows = subst (λ n. IsEntered n rows) c.in-run.is c.requires in
     option_of run (codes "workers") (codes "1") 1 MOST_WORKERS refl rows entered
 
+pub number_of-requires : goal.number_of-requires
+number_of-requires c =
+    let rows = rows_of (found_of c.args.matches.now) in
+    let entered : IsEntered (codes "run") rows = subst (λ n. IsEntered n rows) c.in-run.is c.requires in
+    let given = option_of run (codes "every") (codes "1") 1 MOST_STEPS refl rows entered in
+    (1, MOST_STEPS, given.0, omega arith, given.1)
+
+pub number_of-requires-in-run : goal.number_of-requires-in-run
+number_of-requires-in-run c =
+    let rows = rows_of (found_of c.args.matches.now) in
+    let entered : IsEntered (codes "run") rows = subst (λ n. IsEntered n rows) c.in-run.is c.requires in
+    let given = option_of run (codes "from") (codes "0") 0 MOST_STEPS refl rows entered in
+    (0, MOST_STEPS, given.0, omega arith, given.1)
+
 pub flag_of-requires : goal.flag_of-requires
 flag_of-requires c =
     let rows = rows_of (found_of c.args.matches.now) in
@@ -42,15 +56,15 @@ count_of-requires-in-series c =
     let entered : IsEntered (codes "series") rows = subst (λ n. IsEntered n rows) c.in-series.is c.requires in
     option_of series (codes "workers") (codes "1") 1 MOST_WORKERS refl rows entered
 
-pub number_of-requires : goal.number_of-requires
-number_of-requires c =
+pub number_of-requires-in-series : goal.number_of-requires-in-series
+number_of-requires-in-series c =
     let rows = rows_of (found_of c.args.matches.now) in
     let entered : IsEntered (codes "series") rows = subst (λ n. IsEntered n rows) c.in-series.is c.requires in
     let given = option_of series (codes "every") (codes "1") 1 MOST_STEPS refl rows entered in
     (1, MOST_STEPS, given.0, omega arith, given.1)
 
-pub number_of-requires-in-series : goal.number_of-requires-in-series
-number_of-requires-in-series c =
+pub number_of-requires-in-series-2 : goal.number_of-requires-in-series-2
+number_of-requires-in-series-2 c =
     let rows = rows_of (found_of c.args.matches.now) in
     let entered : IsEntered (codes "series") rows = subst (λ n. IsEntered n rows) c.in-series.is c.requires in
     let given = option_of series (codes "from") (codes "0") 0 MOST_STEPS refl rows entered in
@@ -68,6 +82,17 @@ explaining_of-requires c =
     let entered : IsEntered (codes "explain") rows = subst (λ n. IsEntered n rows) c.in-explain.is c.requires in
     number_has explain refl rows entered
 
+pub returns-in-run-clause-counts : goal.returns-in-run-clause-counts
+returns-in-run-clause-counts c =
+    let rows = rows_of (found_of c.args.matches.now) in
+    let entered : IsEntered (codes "run") rows = subst (λ n. IsEntered n rows) c.in-run.is c.requires in
+    let workers = c.count_of.ensures in
+    let every = option_of run (codes "every") (codes "1") 1 MOST_STEPS refl rows entered in
+    let from = option_of run (codes "from") (codes "0") 0 MOST_STEPS refl rows entered in
+    let some = c.number_of.ensures.within 1 MOST_STEPS every.0 (omega arith) every.1 in
+    let few = c.number_of-in-run.ensures.within 0 MOST_STEPS from.0 (omega arith) from.1 in
+    ((workers.some, workers.few), some, few.1)
+
 pub returns-in-series-clause-counts : goal.returns-in-series-clause-counts
 returns-in-series-clause-counts c =
     let rows = rows_of (found_of c.args.matches.now) in
@@ -75,8 +100,8 @@ returns-in-series-clause-counts c =
     let workers = c.count_of-in-series.ensures in
     let every = option_of series (codes "every") (codes "1") 1 MOST_STEPS refl rows entered in
     let from = option_of series (codes "from") (codes "0") 0 MOST_STEPS refl rows entered in
-    let some = c.number_of.ensures.within 1 MOST_STEPS every.0 (omega arith) every.1 in
-    let few = c.number_of-in-series.ensures.within 0 MOST_STEPS from.0 (omega arith) from.1 in
+    let some = c.number_of-in-series.ensures.within 1 MOST_STEPS every.0 (omega arith) every.1 in
+    let few = c.number_of-in-series-2.ensures.within 0 MOST_STEPS from.0 (omega arith) from.1 in
     ((workers.some, workers.few), some, few.1)
 
 pub unreachable-requires : goal.unreachable-requires

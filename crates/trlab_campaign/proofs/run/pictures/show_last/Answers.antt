@@ -2,7 +2,7 @@ use Rattle.trlab_campaign.proofs.run.pictures.show_last.Goals as goal
 
 pub returns : goal.returns
 returns g c =
-    let seen = rw (c.step-text.ensures.value, c.road.ensures.value) at c.see.ensures in
+    let seen = rw (c.has-text.ensures, c.step-text.ensures.value, c.road.ensures.value) at c.see.ensures in
     record {
       road = rw c.road.ensures.value at c.road.ensures.run;
       wrote = c.write_made.ensures.wrote _ seen;

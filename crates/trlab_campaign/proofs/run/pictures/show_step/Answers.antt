@@ -8,7 +8,7 @@ pub returns-in_err-write_made : goal.returns-in_err-write_made
 returns-in_err-write_made g c =
     let fault = err_from_is_err_and c.from_residual.result c.from_residual.ensures.1 in
     let writer = c.in_err-write_made.ensures.writer in
-    let seen = rw c.step-text.ensures.value at c.advance_showing-advanced.ensures.seen in
+    let seen = rw (c.has-text.ensures, c.step-text.ensures.value) at c.advance_showing-advanced.ensures.seen in
     record {
       road = c.advance_showing-advanced.ensures.run;
       wrote = rw fault.1 (c.in_err-write_made.ensures.wrote _ seen);
@@ -19,7 +19,7 @@ returns-in_err-write_made g c =
 pub returns-in-Err : goal.returns-in-Err
 returns-in-Err g c =
     let writer = c.in_ok-write_made.ensures.writer in
-    let seen = rw c.step-text.ensures.value at c.advance_showing-advanced.ensures.seen in
+    let seen = rw (c.has-text.ensures, c.step-text.ensures.value) at c.advance_showing-advanced.ensures.seen in
     record {
       road = c.advance_showing-advanced.ensures.run;
       wrote = prefix_whole _ _ _ (c.in_ok-write_made.ensures.wrote _ seen);
@@ -30,7 +30,7 @@ returns-in-Err g c =
 pub returns-in-Ok : goal.returns-in-Ok
 returns-in-Ok g c =
     let writer = c.in_ok-write_made.ensures.writer in
-    let seen = rw c.step-text.ensures.value at c.advance_showing-advanced.ensures.seen in
+    let seen = rw (c.has-text.ensures, c.step-text.ensures.value) at c.advance_showing-advanced.ensures.seen in
     record {
       road = c.advance_showing-advanced.ensures.run;
       wrote = c.in_ok-write_made.ensures.wrote _ seen;

@@ -1,0 +1,90 @@
+-- Which steps are shown.
+use Rattle.std.proofs.Common.{◌≡◌, ℕ, ◌+◌, ◌-◌, ◌*◌, ◌/◌, ◌%◌, ◌<◌, ◌≤◌, ◌&&◌, Bool, true, false, List, refl, sym, ◌∙◌, ap, subst, arith, inl, inr, nat_eq, nat_le}
+use Rattle.std.specs.Prelude.{Result, Ok, Err}
+use Rattle.std.proofs.lemmas.Bool.{cases_lt, eqb-true, false≢true, le-leb, leb-true}
+use Rattle.std.proofs.lemmas.Nat.{div-add-mod', mul-le}
+use Rattle.std.proofs.Math.Nat.{mod-lt, mul-mod_left}
+use Rattle.trlab_texts.specs.Reading.{Fault}
+use Rattle.trlab_jobs.specs.Job.{Job}
+use Rattle.trlab_campaign.specs.Output.{IsOutput, IsShownOutput, JobOutput, each_step, every_from, shown_text}
+use Rattle.trlab_campaign.specs.Refusal.{OutputFor}
+use Rattle.trlab_campaign.specs.ShownLaws.{EverySoManyAreShown, EveryStepFromStartIsEach}
+use Rattle.trlab_campaign.proofs.Lines.{pieces_agree}
+
+-- both sides of a conjunction
+both : (a b : Bool) → (a && b) ≡ true → (a ≡ true) × (b ≡ true)
+both true b is = (refl, is)
+both false b is = absurd (false≢true is)
+
+both_true : (a b : Bool) → a ≡ true → b ≡ true → (a && b) ≡ true
+both_true a b p q = rw (p, q) refl
+
+-- a step that is shown is so many times `every` steps after `from`
+pub apart : (every from step : ℕ) → every_from every from step ≡ true → (k : ℕ) × (step ≡ from + k * every)
+apart every from step is =
+    let parts = both (nat_le from step) (nat_eq ((step - from) % every) 0) is in
+    let past : from ≤ step = leb-true from step parts.0 in
+    let none : (step - from) % every ≡ 0 = eqb-true _ _ parts.1 in
+    let whole = div-add-mod' (step - from) every in
+    ((step - from) / every, omega (arith, past, none, whole))
+
+-- and each such step is shown
+at_multiple : (every from k : ℕ) → every_from every from (from + k * every) ≡ true
+at_multiple every from k =
+    let behind : from + k * every - from ≡ k * every = omega arith in
+    let none : (from + k * every - from) % every ≡ 0 = ap (λ n. n % every) behind ∙ mul-mod_left k every in
+    both_true _ _ (le-leb from (from + k * every) (omega arith)) (rw none refl)
+
+pub every_so_many_are_shown : EverySoManyAreShown
+every_so_many_are_shown every from step =
+    (apart every from step, λ at. subst (λ (s : ℕ). every_from every from s ≡ true) (sym at.1) (at_multiple every from at.0))
+
+-- what is not true is false
+not_true : (b : Bool) → (b ≡ true → ⊥) → b ≡ false
+not_true true never = absurd (never refl)
+not_true false never = refl
+
+-- no step is shown before the first
+pub none_before : (every from step : ℕ) → step < from → every_from every from step ≡ false
+none_before every from step before = not_true _ (λ is. let at = apart every from step is in omega (arith, before, at.1))
+
+-- nor between the last and the end of the run
+pub none_after : (every from steps last step : ℕ) → 1 ≤ every → from ≤ steps → last ≡ steps - (steps - from) % every → last < step → step ≤ steps → every_from every from step ≡ false
+none_after every from steps last step some past is after within = not_true _ shown_is_absurd
+  where
+    shown_is_absurd : every_from every from step ≡ true → ⊥
+    shown_is_absurd shown =
+        let at = apart every from step shown in
+        let count = (steps - from) / every in
+        let whole = div-add-mod' (steps - from) every in
+        let rest = mod-lt (steps - from) {m = every} (omega (arith, some)) in
+        let first : last ≡ from + count * every = omega (arith, is, past, whole) in
+        elim (cases_lt count at.0) [
+          | inl later ↦ let product = mul-le (count + 1) every at.0 every (omega (arith, later)) (omega arith) in
+              let more : (count + 1) * every ≡ count * every + every = omega arith in
+              omega (arith, at.1, within, whole, rest, product, more, past)
+          | inr early ↦ let product = mul-le at.0 every count every early (omega arith) in omega (arith, at.1, after, first, product)
+        ]
+
+-- every step from step 0 on is each step
+every_one : (step : ℕ) → every_from 1 0 step ≡ each_step step
+every_one step =
+    let one : step ≡ 0 + step * 1 = omega arith in
+    subst (λ (s : ℕ). every_from 1 0 s ≡ true) (sym one) (at_multiple 1 0 step)
+
+-- where the same steps are shown, the outputs are the same
+shown_alike : (shown other : ℕ → Bool) → ((step : ℕ) → shown step ≡ other step) → (says : Result Job Fault) (refused : Bool) (out : List ℕ)
+    → OutputFor (JobOutput shown) says refused out → OutputFor (JobOutput other) says refused out
+shown_alike shown other same (Ok job) refused out p =
+    let roads = p.1.0 in
+    let is = p.1.1 in
+    let agree = pieces_agree (λ s. shown_text shown s (roads s)) (λ s. shown_text other s (roads s)) 0 (job.steps + 1) (λ s below. rw (same s) refl) in
+    (p.0, (roads, record { road_at = is.road_at; pictures = is.pictures ∙ agree }))
+shown_alike shown other same (Err fault) refused out p = p
+
+pub each_of_every_one : (text : List ℕ) (refused : Bool) (out : List ℕ) → IsShownOutput (every_from 1 0) text refused out → IsOutput text refused out
+each_of_every_one text refused out p = (p.0, (p.1.0, shown_alike (every_from 1 0) each_step every_one p.0 refused out p.1.1))
+
+pub every_step_from_start_is_each : EveryStepFromStartIsEach
+every_step_from_start_is_each text refused out =
+    (each_of_every_one text refused out, λ p. (p.0, (p.1.0, shown_alike each_step (every_from 1 0) (λ step. sym (every_one step)) p.0 refused out p.1.1)))

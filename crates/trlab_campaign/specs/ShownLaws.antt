@@ -1,0 +1,24 @@
+-- Laws of the steps that are shown, and of the outputs that show them.
+use Rattle.std.specs.Prelude.{◌≡◌, ◌↔◌, ℕ, ◌+◌, ◌*◌, Bool, true, List}
+use Rattle.trlab_campaign.specs.Laws.{HasOneOutput, HasSomeOutput}
+use Rattle.trlab_campaign.specs.Output.{IsOutput, IsShownOutput, every_from}
+
+-- the steps that are shown are `from`, `from + every`, `from + 2 * every` and so on
+abbrev pub EverySoManyAreShown : Type 0
+EverySoManyAreShown =
+    (every from step : ℕ)
+    → (every_from every from step ≡ true) ↔ ((k : ℕ) × (step ≡ from + k * every))
+
+-- every step from step 0 on is each step: the output is the same
+abbrev pub EveryStepFromStartIsEach : Type 0
+EveryStepFromStartIsEach =
+    (text : List ℕ) (refused : Bool) (out : List ℕ)
+    → IsShownOutput (every_from 1 0) text refused out ↔ IsOutput text refused out
+
+-- whichever steps are shown, any job text has an output
+abbrev pub ShownHasSomeOutput : Type 0
+ShownHasSomeOutput = (shown : ℕ → Bool) → HasSomeOutput (IsShownOutput shown)
+
+-- and only one
+abbrev pub ShownHasOneOutput : Type 0
+ShownHasOneOutput = (shown : ℕ → Bool) → HasOneOutput (IsShownOutput shown)
