@@ -21,7 +21,7 @@ mod views;
 mod waiting;
 
 pub use change::{Chosen, run_change};
-pub use changes::{run_changes, run_few_changes};
+pub use changes::run_changes;
 pub use columns::{Column, FEW, Flags, LANES};
 pub use dice::Dice;
 pub use motion::{Moved, run_motion};

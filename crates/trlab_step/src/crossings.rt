@@ -1,13 +1,13 @@
 //! Who crosses in a lane change, as a change program answers the cars of a road: it is run for a block of cars
 //! at a time, and looks on the other lane from where the car before was.
 
-ghost use Rattle.std.specs.Prelude.{◌≡◌, ◌≤◌, ◌+◌, IfOk, OnOk, length};
+ghost use Rattle.std.specs.Prelude.{◌≡◌, ◌≤◌, IfOk, OnOk, length};
 ghost use Rattle.trlab_road.specs.Cells.{cars};
 ghost use Rattle.trlab_step.specs.Answers.{IsCrossesPart, dice_of};
 
 use crate::block::{BLOCK, ask_changes};
 use std::alloc::{AllocError, Global};
-use trlab_machine::{Dice, FEW, LANES, REGISTERS, Views, run_changes, run_few_changes};
+use trlab_machine::{Dice, LANES, REGISTERS, Views, run_changes};
 use trlab_road::Road;
 use trlab_verify::Change;
 use trlab_words::Key;
@@ -67,13 +67,10 @@ pub fn ask_crossings(
     requires two_lanes { length road.now.lanes ≡ 2 }
     ensures { OnOk result (IsCrossesPart change.now dice.now road.now from to crosses.new.items) }
 {
-    if to - from <= FEW as u32 {
-        return ask_few_crossings(crosses, road, change, dice, from, to);
-    }
     let mut near = 0;
     crosses.clear();
     crosses.reserve((to - from) as usize)?;
-    let mut views = Views::<LANES>::new();
+    let mut views = Views::new();
     let mut registers = [[0; LANES]; REGISTERS];
     for block in 0..(to - from).div_ceil(BLOCK) {
         let begin = from + BLOCK * block;
@@ -82,34 +79,5 @@ pub fn ask_crossings(
         let answers = run_changes(change, &views, dice, &mut registers);
         crosses.extend_from_slice(&answers[..(end - begin) as usize])?;
     }
-    Ok(())
-}
-
-/// The same for so few cars that one small block has them all.
-///
-/// # Errors
-///
-/// Where an allocation was refused.
-fn ask_few_crossings(
-    crosses: &mut Vec<bool>,
-    road: &Road,
-    change: &Change,
-    dice: &Dice,
-    from: u32,
-    to: u32,
-) -> Result<(), AllocError>
-    requires rising { from ≤ to }
-    requires few { to ≤ from + FEW }
-    requires within { to ≤ cars road.now }
-    requires two_lanes { length road.now.lanes ≡ 2 }
-    ensures { OnOk result (IsCrossesPart change.now dice.now road.now from to crosses.new.items) }
-{
-    let mut near = 0;
-    crosses.clear();
-    let mut views = Views::<FEW>::new();
-    let mut registers = [[0; FEW]; REGISTERS];
-    ask_changes(&mut views, road, from, to, &mut near);
-    let answers = run_few_changes(change, &views, dice, &mut registers);
-    crosses.extend_from_slice(&answers[..(to - from) as usize])?;
     Ok(())
 }
