@@ -15,10 +15,31 @@ use hex::FromHexError;
 use std::alloc::Global;
 use trlab_code::Kind;
 use trlab_rules::{Rule, nasch, rickert, vdr};
-use trlab_texts::word::word_after;
-use trlab_texts::{Cause, LineFault, Rest, TextFault, program};
+use trlab_texts::{
+    Cause, LineFault, LineName, LineNames, Refusal, Rest, TextFault, Wanted, program,
+};
 use trlab_verify::{Change, ChangeKind, MotionKind};
 use trlab_words::Chance;
+
+/// How many lanes a road has, and on which line a text says so.
+#[derive(Clone, Copy)]
+pub struct Lanes {
+    pub count: u32,
+    pub line: u32,
+}
+
+impl Lanes {
+    /// The refusal of a text whose line of this number needs two lanes.
+    fn refusal<'a>(self, number: u32) -> Refusal<'a>
+        ensures { result ≡ TextFault.At number Cause.OneLane }
+    {
+        let fault = TextFault::At {
+            line: number,
+            cause: Cause::OneLane,
+        };
+        Refusal::new(fault, b"", Wanted::SecondLane { line: self.line })
+    }
+}
 
 /// The rule of a line `rule nasch t`.
 fn nasch_rule(alloc: Global, brake: Chance) -> Result<Rule, LineFault>
@@ -68,9 +89,9 @@ fn rickert_rule(
 fn code_misplacement(alloc: Global, line: &[u8]) -> LineFault
     ensures { ReportsCause (code_misplacement (word_after (codes "code ") line.now)) result }
 {
-    let digits = match word_after(b"code ", line) {
-        Ok(digits) => digits,
-        Err(cause) => return LineFault::Wrong(cause),
+    let digits = match program::code_digits(line) {
+        Ok(digits) => digits.bytes(),
+        Err(refusal) => return LineFault::Wrong(refusal.cause()),
     };
     match hex::decode(alloc, digits) {
         Ok(_) => LineFault::Wrong(Cause::OneLane),
@@ -79,34 +100,43 @@ fn code_misplacement(alloc: Global, line: &[u8]) -> LineFault
     }
 }
 
+/// The refusal of a line by what is wrong with it as a change program on a road of one lane.
+fn misplaced_code<'a>(lanes: Lanes, number: u32, line: &'a [u8], fault: LineFault) -> Refusal<'a>
+    ensures { result ≡ fault_at number fault }
+{
+    if fault == LineFault::Wrong(Cause::OneLane) {
+        lanes.refusal(number)
+    } else {
+        program::code_refusal(number, line, LineNames::none(), fault)
+    }
+}
+
 /// What is wrong with a change part on a road of one lane.
-fn misplacement(alloc: Global, rest: Rest<'_>) -> TextFault
+fn misplacement(alloc: Global, lanes: Lanes, rest: Rest<'_>) -> Refusal<'_>
     ensures { ReportsFault (misplacement rest.entry.number rest.entry.left) result }
 {
     let first = rest.number();
-    let (line, after) = match rest.next_line() {
+    let (line, after) = match rest.next_line(LineName::Change) {
         Ok(found) => found,
-        Err(fault) => return fault,
+        Err(refusal) => return refusal,
     };
     if program::heads(Kind::Change, line) {
         match after.part() {
-            Ok(_) => TextFault::At {
-                line: first,
-                cause: Cause::OneLane,
-            },
-            Err(fault) => fault,
+            Ok(_) => lanes.refusal(first),
+            Err(refusal) => refusal,
         }
     } else {
-        code_misplacement(alloc, line).at(first)
+        let fault = code_misplacement(alloc, line);
+        misplaced_code(lanes, first, line, fault)
     }
 }
 
 /// A change part, which is a fault on a road of one lane.
-fn change_by(alloc: Global, one_lane: bool, rest: Rest<'_>) -> Result<(Change, Rest<'_>), TextFault>
-    ensures { Reports (change_by one_lane rest.entry) result }
+fn change_by(alloc: Global, lanes: Lanes, rest: Rest<'_>) -> Result<(Change, Rest<'_>), Refusal<'_>>
+    ensures { Reports (change_by (nat_eq lanes.count 1) rest.entry) result }
 {
-    if one_lane {
-        Err(misplacement(alloc, rest))
+    if lanes.count == 1 {
+        Err(misplacement(alloc, lanes, rest))
     } else {
         program::accepted_part::<ChangeKind>(alloc, rest)
     }
@@ -122,25 +152,27 @@ fn next_is_change(rest: &Rest<'_>) -> bool
 /// A change part, if there is one.
 fn change_part(
     alloc: Global,
-    lanes: u32,
+    lanes: Lanes,
     rest: Rest<'_>,
-) -> Result<(Option<Change>, Rest<'_>), TextFault>
-    ensures { Reports (change_part lanes rest.entry) result }
+) -> Result<(Option<Change>, Rest<'_>), Refusal<'_>>
+    ensures { Reports (change_part lanes.count rest.entry) result }
 {
     if next_is_change(&rest) {
-        let (change, rest) = change_by(alloc, lanes == 1, rest)?;
+        let (change, rest) = change_by(alloc, lanes, rest)?;
         Ok((Some(change), rest))
-    } else {
+    } else if lanes.count == 1 {
         Ok((None, rest))
+    } else {
+        Ok((None, rest.or(LineName::Change)))
     }
 }
 
 /// Own programs: a motion part, and perhaps a change part.
-fn own_rule(alloc: Global, lanes: u32, rest: Rest<'_>) -> Result<(Rule, Rest<'_>), TextFault>
-    requires some { 1 ≤ lanes }
-    requires few { lanes ≤ 2 }
-    ensures told { Reports (own_rule lanes rest.entry) result }
-    ensures suits { IfOk result (λ found. IsRuleFor lanes found.0) }
+fn own_rule(alloc: Global, lanes: Lanes, rest: Rest<'_>) -> Result<(Rule, Rest<'_>), Refusal<'_>>
+    requires some { 1 ≤ lanes.count }
+    requires few { lanes.count ≤ 2 }
+    ensures told { Reports (own_rule lanes.count rest.entry) result }
+    ensures suits { IfOk result (λ found. IsRuleFor lanes.count found.0) }
 {
     let (motion, rest) = program::accepted_part::<MotionKind>(alloc, rest)?;
     let (change, rest) = change_part(alloc, lanes, rest)?;
@@ -149,53 +181,59 @@ fn own_rule(alloc: Global, lanes: u32, rest: Rest<'_>) -> Result<(Rule, Rest<'_>
 
 /// What a line says, and the rest after it.
 fn of_line(
+    lanes: Lanes,
     number: u32,
     say: Result<Rule, LineFault>,
     rest: Rest<'_>,
-) -> Result<(Rule, Rest<'_>), TextFault>
+) -> Result<(Rule, Rest<'_>), Refusal<'_>>
     ensures { MatchResult say
         (λ rule. result ≡ Ok (rule, rest.entry))
         (λ fault. result ≡ Err (fault_at number fault)) }
 {
     match say {
         Ok(rule) => Ok((rule, rest)),
-        Err(fault) => Err(fault.at(number)),
+        Err(fault) => Err(misplaced_code(lanes, number, b"", fault)),
     }
 }
 
 /// The rule of a line that was read, or of the programs after it; `number` is that of the line.
 pub fn rule_from(
     alloc: Global,
-    lanes: u32,
+    lanes: Lanes,
     number: u32,
     line: RuleLine<Chance>,
     rest: Rest<'_>,
-) -> Result<(Rule, Rest<'_>), TextFault>
-    requires some { 1 ≤ lanes }
-    requires few { lanes ≤ 2 }
-    ensures told { Reports (rule_from lanes number line rest.entry) result }
-    ensures suits { IfOk result (λ found. IsRuleFor lanes found.0) }
+) -> Result<(Rule, Rest<'_>), Refusal<'_>>
+    requires some { 1 ≤ lanes.count }
+    requires few { lanes.count ≤ 2 }
+    ensures told { Reports (rule_from lanes.count number line rest.entry) result }
+    ensures suits { IfOk result (λ found. IsRuleFor lanes.count found.0) }
 {
     match line {
-        RuleLine::Nasch { brake } => of_line(number, nasch_rule(alloc, brake), rest),
+        RuleLine::Nasch { brake } => of_line(lanes, number, nasch_rule(alloc, brake), rest),
         RuleLine::Vdr { moving, stopped } => {
-            of_line(number, vdr_rule(alloc, moving, stopped), rest)
+            of_line(lanes, number, vdr_rule(alloc, moving, stopped), rest)
         }
         RuleLine::Rickert { brake, crossing } => {
-            of_line(number, rickert_rule(alloc, lanes, brake, crossing), rest)
+            of_line(
+                lanes,
+                number,
+                rickert_rule(alloc, lanes.count, brake, crossing),
+                rest,
+            )
         }
         RuleLine::Own => own_rule(alloc, lanes, rest),
     }
 }
 
 /// A rule for a road of so many lanes: a line `rule ..`, and own programs after it.
-pub fn rule(alloc: Global, lanes: u32, rest: Rest<'_>) -> Result<(Rule, Rest<'_>), TextFault>
-    requires some { 1 ≤ lanes }
-    requires few { lanes ≤ 2 }
-    ensures told { Reports (rule lanes rest.entry) result }
-    ensures suits { IfOk result (λ found. IsRuleFor lanes found.0) }
+pub fn rule(alloc: Global, lanes: Lanes, rest: Rest<'_>) -> Result<(Rule, Rest<'_>), Refusal<'_>>
+    requires some { 1 ≤ lanes.count }
+    requires few { lanes.count ≤ 2 }
+    ensures told { Reports (rule lanes.count rest.entry) result }
+    ensures suits { IfOk result (λ found. IsRuleFor lanes.count found.0) }
 {
     let number = rest.number();
-    let (line, rest) = rest.read_line(rule_line)?;
+    let (line, rest) = rest.read_line(LineName::Rule, rule_line)?;
     rule_from(alloc, lanes, number, line, rest)
 }
