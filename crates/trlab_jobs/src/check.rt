@@ -11,7 +11,7 @@ use std::marker::Model;
 use trlab_bounds::texts::TEXT_LIMIT;
 use trlab_code::{Code, Kind};
 use trlab_lines::next_line;
-use trlab_texts::program::{code_line, code_refusal, heads, program_after};
+use trlab_texts::program::{heads, parse_code, program_after};
 use trlab_texts::word::without_prefix;
 use trlab_texts::{Cause, LineName, LineNames, Refusal, TextFault};
 
@@ -75,15 +75,15 @@ fn headings() -> LineNames {
 fn code_alone<'a>(alloc: Global, line: &'a [u8], rest: &[u8]) -> Result<Code, Refusal<'a>>
     ensures { Reports (LoneCodeSays line.now (lines_of rest.now)) result }
 {
-    match code_line(alloc, line) {
+    match parse_code(alloc, line) {
         Ok(code) => {
             if rest.is_empty() {
                 Ok(code)
             } else {
-                Err(Refusal::no_line(2, b"", LineNames::none()))
+                Err(Refusal::no_line(2, LineNames::none()))
             }
         }
-        Err(fault) => Err(code_refusal(1, line, headings(), fault)),
+        Err(refusal) => Err(refusal.at(1, headings())),
     }
 }
 
@@ -104,7 +104,7 @@ fn read_lines(alloc: Global, text: &[u8]) -> Result<Check, Refusal<'_>>
     ensures { Reports (CheckLinesSay (lines_of text.now)) result }
 {
     let Some((first, rest)) = next_line(text) else {
-        return Err(Refusal::no_line(1, b"", headings()));
+        return Err(Refusal::no_line(1, headings()));
     };
     let (question, line) = question_of(first);
     match read_program(alloc, line, rest) {
@@ -124,7 +124,7 @@ pub fn parse_check(alloc: Global, text: &[u8]) -> Result<Check, Refusal<'_>>
     ensures { Reports (CheckText text.now) result }
 {
     if text.len() > TEXT_LIMIT {
-        return Err(Refusal::of(TextFault::At {
+        return Err(Refusal::bare(TextFault::At {
             line: 0,
             cause: Cause::TooBig,
         }));

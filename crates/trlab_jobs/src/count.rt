@@ -10,33 +10,33 @@ use crate::limits::{MOST_CARS, MOST_POINTS, MOST_WORK};
 use std::alloc::Global;
 use trlab_road::RoadFault;
 use trlab_texts::{
-    Cause, Excerpt, LineName, LineRefusal, Quantity, Refusal, Rest, TextFault, Wanted,
+    Cause, Excerpt, LineName, Objection, Quantity, Refusal, Rest, TextFault, Wanted,
 };
 
 /// A count of cars at the point of this number: there is room for the point, for the cars, and for
 /// the steps of all points so far.
-fn admit_cars<'a>(cells: u32, steps: u32, point: u32, count: u32) -> Result<u32, LineRefusal<'a>>
+fn admit_cars<'a>(cells: u32, steps: u32, point: u32, count: u32) -> Result<u32, Objection<'a>>
     ensures value { result ≡ admit_cars cells steps point count }
     ensures room { OnOk result (point ≤ MOST_POINTS) }
 {
     if point > MOST_POINTS {
-        return Err(LineRefusal::of(Cause::TooMany));
+        return Err(Objection::bare(Cause::TooMany));
     }
     if count > cells {
-        return Err(LineRefusal::of(Cause::Road(RoadFault::TooManyCars)));
+        return Err(Objection::bare(Cause::Road(RoadFault::TooManyCars)));
     }
     if u64::from(point) * u64::from(steps) > u64::from(MOST_WORK) {
         let wanted = Wanted::Work {
             points: point,
             steps,
         };
-        return Err(LineRefusal::new(Cause::Work, b"", wanted));
+        return Err(Objection::new(Cause::Work, b"", wanted));
     }
     Ok(count)
 }
 
 /// The line `cars n` of the point of this number.
-fn cars_line(cells: u32, steps: u32, point: u32, line: &[u8]) -> Result<u32, LineRefusal<'_>>
+fn cars_line(cells: u32, steps: u32, point: u32, line: &[u8]) -> Result<u32, Objection<'_>>
     ensures value { result ≡ cars_line cells steps point line.now }
     ensures room { OnOk result (point ≤ MOST_POINTS) }
 {
@@ -73,7 +73,7 @@ fn counts_to_end(
     while !rest.is_end() {
         let (count, after) = count(cells, steps, point, rest)?;
         if counts.push(count).is_err() {
-            return Err(Refusal::of(TextFault::Memory));
+            return Err(Refusal::memory());
         }
         point += 1;
         rest = after;

@@ -100,7 +100,7 @@ pub fn parse_job(alloc: Global, text: &[u8]) -> Result<Job, Refusal<'_>>
     ensures stored { IfOk result IsStored }
 {
     if text.len() > TEXT_LIMIT {
-        return Err(Refusal::of(TextFault::At {
+        return Err(Refusal::bare(TextFault::At {
             line: 0,
             cause: Cause::TooBig,
         }));

@@ -11,12 +11,10 @@ ghost use Rattle.trlab_jobs.specs.Lanes.{lane_word, second_lane, line_of_fault, 
 use std::alloc::Global;
 use trlab_bounds::roads::GREATEST_LENGTH;
 use trlab_road::{Road, RoadFault};
-use trlab_texts::{
-    Cause, Excerpt, LineName, LineNames, LineRefusal, Refusal, Rest, TextFault, Wanted,
-};
+use trlab_texts::{Cause, Excerpt, LineName, Objection, Refusal, Rest, TextFault, Wanted};
 
 /// The picture of the line `lane P`.
-fn lane_word(line: &[u8]) -> Result<Excerpt<'_>, LineRefusal<'_>>
+fn lane_word(line: &[u8]) -> Result<Excerpt<'_>, Objection<'_>>
     ensures { result ≡ lane_word line.now }
 {
     Excerpt::word_after(LineName::Lane.name_and_space(), line)
@@ -110,7 +108,7 @@ fn shown<'a>(
 {
     match Road::parse(alloc, limit, pictures) {
         Ok(road) => Ok(road),
-        Err(RoadFault::Memory) => Err(Refusal::of(TextFault::Memory)),
+        Err(RoadFault::Memory) => Err(Refusal::memory()),
         Err(fault) => Err(lanes_refusal(first, last, limit, cells, fault)),
     }
 }

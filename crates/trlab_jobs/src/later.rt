@@ -73,7 +73,7 @@ pub fn later_rules(
     while !rest.is_end() {
         let ((from, rule), after) = later_rule(alloc, room, lanes, steps, least, rest)?;
         if later.push((from, rule)).is_err() {
-            return Err(Refusal::of(TextFault::Memory));
+            return Err(Refusal::memory());
         }
         room -= 1;
         least = from + 1;

@@ -16,7 +16,8 @@ use std::alloc::Global;
 use trlab_code::Kind;
 use trlab_rules::{Rule, nasch, rickert, vdr};
 use trlab_texts::{
-    Cause, LineFault, LineName, LineNames, Refusal, Rest, TextFault, Wanted, program,
+    Cause, LineFault, LineName, LineNames, LineRefusal, Objection, Refusal, Rest, TextFault,
+    Wanted, program,
 };
 use trlab_verify::{Change, ChangeKind, MotionKind};
 use trlab_words::Chance;
@@ -29,85 +30,71 @@ pub struct Lanes {
 }
 
 impl Lanes {
-    /// The refusal of a text whose line of this number needs two lanes.
-    fn refusal<'a>(self, number: u32) -> Refusal<'a>
-        ensures { result ≡ TextFault.At number Cause.OneLane }
+    /// That two lanes are wanted.
+    fn too_few<'a>(self) -> LineRefusal<'a>
+        ensures { result ≡ LineFault.Wrong Cause.OneLane }
     {
-        let fault = TextFault::At {
-            line: number,
-            cause: Cause::OneLane,
-        };
-        Refusal::new(fault, b"", Wanted::SecondLane { line: self.line })
+        let wanted = Wanted::SecondLane { line: self.line };
+        LineRefusal::of(Objection::new(Cause::OneLane, b"", wanted))
     }
 }
 
 /// The rule of a line `rule nasch t`.
-fn nasch_rule(alloc: Global, brake: Chance) -> Result<Rule, LineFault>
+fn nasch_rule<'a>(alloc: Global, brake: Chance) -> Result<Rule, LineRefusal<'a>>
     ensures told { ReportsLine (MotionSays (nasch_program brake)) result }
     ensures suits { IfOk result (λ rule. (lanes : ℕ) → IsRuleFor lanes rule) }
 {
     match nasch(alloc, brake) {
         Ok(rule) => Ok(rule),
-        Err(_) => Err(LineFault::Memory),
+        Err(_) => Err(LineRefusal::memory()),
     }
 }
 
 /// The rule of a line `rule vdr t t0`.
-fn vdr_rule(alloc: Global, moving: Chance, stopped: Chance) -> Result<Rule, LineFault>
+fn vdr_rule<'a>(alloc: Global, moving: Chance, stopped: Chance) -> Result<Rule, LineRefusal<'a>>
     ensures told { ReportsLine (MotionSays (vdr_program moving stopped)) result }
     ensures suits { IfOk result (λ rule. (lanes : ℕ) → IsRuleFor lanes rule) }
 {
     match vdr(alloc, moving, stopped) {
         Ok(rule) => Ok(rule),
-        Err(_) => Err(LineFault::Memory),
+        Err(_) => Err(LineRefusal::memory()),
     }
 }
 
 /// The rule of a line `rule rickert t c`, which is refused on a road of one lane.
-fn rickert_rule(
+fn rickert_rule<'a>(
     alloc: Global,
-    lanes: u32,
+    lanes: Lanes,
     brake: Chance,
     crossing: Chance,
-) -> Result<Rule, LineFault>
-    requires some { 1 ≤ lanes }
-    requires few { lanes ≤ 2 }
+) -> Result<Rule, LineRefusal<'a>>
+    requires some { 1 ≤ lanes.count }
+    requires few { lanes.count ≤ 2 }
     ensures told { ReportsLine
-        (ExchangeSays (nat_eq lanes 1) (nasch_program brake) (rickert_program crossing)) result }
-    ensures suits { IfOk result (λ rule. IsRuleFor lanes rule) }
+        (ExchangeSays (nat_eq lanes.count 1) (nasch_program brake) (rickert_program crossing)) result }
+    ensures suits { IfOk result (λ rule. IsRuleFor lanes.count rule) }
 {
-    if lanes == 1 {
-        return Err(LineFault::Wrong(Cause::OneLane));
+    if lanes.count == 1 {
+        return Err(lanes.too_few());
     }
     match rickert(alloc, brake, crossing) {
         Ok(rule) => Ok(rule),
-        Err(_) => Err(LineFault::Memory),
+        Err(_) => Err(LineRefusal::memory()),
     }
 }
 
 /// What is wrong with the line `code X` of a change program on a road of one lane.
-fn code_misplacement(alloc: Global, line: &[u8]) -> LineFault
+fn code_misplacement(alloc: Global, lanes: Lanes, line: &[u8]) -> LineRefusal<'_>
     ensures { ReportsCause (code_misplacement (word_after (codes "code ") line.now)) result }
 {
     let digits = match program::code_digits(line) {
-        Ok(digits) => digits.bytes(),
-        Err(refusal) => return LineFault::Wrong(refusal.cause()),
+        Ok(digits) => digits,
+        Err(objection) => return LineRefusal::of(objection),
     };
-    match hex::decode(alloc, digits) {
-        Ok(_) => LineFault::Wrong(Cause::OneLane),
-        Err(FromHexError::OutOfMemory) => LineFault::Memory,
-        Err(_) => LineFault::Wrong(Cause::Hex),
-    }
-}
-
-/// The refusal of a line by what is wrong with it as a change program on a road of one lane.
-fn misplaced_code<'a>(lanes: Lanes, number: u32, line: &'a [u8], fault: LineFault) -> Refusal<'a>
-    ensures { result ≡ fault_at number fault }
-{
-    if fault == LineFault::Wrong(Cause::OneLane) {
-        lanes.refusal(number)
-    } else {
-        program::code_refusal(number, line, LineNames::none(), fault)
+    match hex::decode(alloc, digits.bytes()) {
+        Ok(_) => lanes.too_few(),
+        Err(FromHexError::OutOfMemory) => LineRefusal::memory(),
+        Err(_) => LineRefusal::of(digits.no_hex()),
     }
 }
 
@@ -122,12 +109,11 @@ fn misplacement(alloc: Global, lanes: Lanes, rest: Rest<'_>) -> Refusal<'_>
     };
     if program::heads(Kind::Change, line) {
         match after.part() {
-            Ok(_) => lanes.refusal(first),
+            Ok(_) => lanes.too_few().at(first, LineNames::none()),
             Err(refusal) => refusal,
         }
     } else {
-        let fault = code_misplacement(alloc, line);
-        misplaced_code(lanes, first, line, fault)
+        code_misplacement(alloc, lanes, line).at(first, LineNames::none())
     }
 }
 
@@ -180,19 +166,18 @@ fn own_rule(alloc: Global, lanes: Lanes, rest: Rest<'_>) -> Result<(Rule, Rest<'
 }
 
 /// What a line says, and the rest after it.
-fn of_line(
-    lanes: Lanes,
+fn of_line<'a>(
     number: u32,
-    say: Result<Rule, LineFault>,
-    rest: Rest<'_>,
-) -> Result<(Rule, Rest<'_>), Refusal<'_>>
-    ensures { MatchResult say
+    say: Result<Rule, LineRefusal<'a>>,
+    rest: Rest<'a>,
+) -> Result<(Rule, Rest<'a>), Refusal<'a>>
+    ensures { MatchResult say.entry
         (λ rule. result ≡ Ok (rule, rest.entry))
         (λ fault. result ≡ Err (fault_at number fault)) }
 {
     match say {
         Ok(rule) => Ok((rule, rest)),
-        Err(fault) => Err(misplaced_code(lanes, number, b"", fault)),
+        Err(refusal) => Err(refusal.at(number, LineNames::none())),
     }
 }
 
@@ -210,17 +195,12 @@ pub fn rule_from(
     ensures suits { IfOk result (λ found. IsRuleFor lanes.count found.0) }
 {
     match line {
-        RuleLine::Nasch { brake } => of_line(lanes, number, nasch_rule(alloc, brake), rest),
+        RuleLine::Nasch { brake } => of_line(number, nasch_rule(alloc, brake), rest),
         RuleLine::Vdr { moving, stopped } => {
-            of_line(lanes, number, vdr_rule(alloc, moving, stopped), rest)
+            of_line(number, vdr_rule(alloc, moving, stopped), rest)
         }
         RuleLine::Rickert { brake, crossing } => {
-            of_line(
-                lanes,
-                number,
-                rickert_rule(alloc, lanes.count, brake, crossing),
-                rest,
-            )
+            of_line(number, rickert_rule(alloc, lanes, brake, crossing), rest)
         }
         RuleLine::Own => own_rule(alloc, lanes, rest),
     }

@@ -3,7 +3,7 @@
 ghost use Rattle.std.specs.Prelude.{◌≡◌, ◌<◌, ◌≤◌, IfOk, OnOk, option_map};
 ghost use Rattle.trlab_jobs.specs.RuleLines.{rule_words, chance_of, rule_numbers, rule_line, later_words, admit_step, later_line};
 
-use trlab_texts::{Cause, Excerpt, LineRefusal, Quantity, Wanted};
+use trlab_texts::{Cause, Excerpt, Objection, Quantity, Wanted};
 use trlab_words::{CERTAIN, Chance};
 
 /// A rule as a line states it, by words or by the chances that they write.
@@ -49,7 +49,7 @@ fn rule_words<'a>(line: &Excerpt<'a>) -> Option<RuleLine<Excerpt<'a>>>
 }
 
 /// The chance that a word writes, in parts of 2^31.
-fn chance_of(word: Excerpt<'_>) -> Result<Chance, LineRefusal<'_>>
+fn chance_of(word: Excerpt<'_>) -> Result<Chance, Objection<'_>>
     ensures { result ≡ chance_of word.entry }
 {
     match Chance::new(word.number(0, CERTAIN, Quantity::Probability)?) {
@@ -59,7 +59,7 @@ fn chance_of(word: Excerpt<'_>) -> Result<Chance, LineRefusal<'_>>
 }
 
 /// The numbers of a rule line, from left to right.
-fn rule_numbers<'a>(words: RuleLine<Excerpt<'a>>) -> Result<RuleLine<Chance>, LineRefusal<'a>>
+fn rule_numbers<'a>(words: RuleLine<Excerpt<'a>>) -> Result<RuleLine<Chance>, Objection<'a>>
     ensures { result ≡ rule_numbers words.entry }
 {
     match words {
@@ -81,12 +81,12 @@ fn rule_numbers<'a>(words: RuleLine<Excerpt<'a>>) -> Result<RuleLine<Chance>, Li
 }
 
 /// A line `rule ..`: its words, and then its numbers.
-pub fn rule_line(line: &[u8]) -> Result<RuleLine<Chance>, LineRefusal<'_>>
+pub fn rule_line(line: &[u8]) -> Result<RuleLine<Chance>, Objection<'_>>
     ensures { result ≡ rule_line line.now }
 {
     match rule_words(&Excerpt::of(line)) {
         Some(words) => rule_numbers(words),
-        None => Err(LineRefusal::of(Cause::Line)),
+        None => Err(Objection::no_line()),
     }
 }
 
@@ -104,20 +104,20 @@ fn later_words<'a>(line: &Excerpt<'a>) -> Option<(Excerpt<'a>, RuleLine<Excerpt<
 
 /// The step of a later rule, where there is room for the rule, and the step is from `least` on and below
 /// `steps`.
-fn admit_step<'a>(room: u32, steps: u32, least: u32, step: u64) -> Result<u32, LineRefusal<'a>>
+fn admit_step<'a>(room: u32, steps: u32, least: u32, step: u64) -> Result<u32, Objection<'a>>
     ensures value { result ≡ admit_step room steps least step }
     ensures room { OnOk result (0 < room) }
     ensures rises { IfOk result (λ from. least ≤ from) }
     ensures within { IfOk result (λ from. from < steps) }
 {
     if room == 0 {
-        return Err(LineRefusal::of(Cause::TooMany));
+        return Err(Objection::bare(Cause::TooMany));
     }
     if u64::from(least) <= step && step < u64::from(steps) {
         Ok(step as u32)
     } else {
         let wanted = Wanted::Step { least, steps };
-        Err(LineRefusal::new(Cause::Order, b"", wanted))
+        Err(Objection::new(Cause::Order, b"", wanted))
     }
 }
 
@@ -127,14 +127,14 @@ pub fn later_line(
     steps: u32,
     least: u32,
     line: &[u8],
-) -> Result<(u32, RuleLine<Chance>), LineRefusal<'_>>
+) -> Result<(u32, RuleLine<Chance>), Objection<'_>>
     ensures value { result ≡ later_line room steps least line.now }
     ensures room { OnOk result (0 < room) }
     ensures rises { IfOk result (λ at. least ≤ at.0) }
     ensures within { IfOk result (λ at. at.0 < steps) }
 {
     let Some((step, rule)) = later_words(&Excerpt::of(line)) else {
-        return Err(LineRefusal::of(Cause::Line));
+        return Err(Objection::no_line());
     };
     let step = step.long_number()?;
     let rule = rule_numbers(rule)?;

@@ -10,7 +10,7 @@ ghost use Rattle.trlab_jobs.specs.Shapes.{shape, span};
 
 use trlab_bounds::roads::{GREATEST_LENGTH, GREATEST_LIMIT, MOST_LANES};
 use trlab_bounds::runs::MOST_STEPS;
-use trlab_texts::{Excerpt, LineName, LineRefusal, Quantity, Refusal, Rest};
+use trlab_texts::{Excerpt, LineName, Objection, Quantity, Refusal, Rest};
 
 /// What the roads of a sweep have in common.
 #[derive(Clone, Copy)]
@@ -34,7 +34,7 @@ pub struct Span {
 
 /// The line that is a name and a number from `low` to `high`.
 #[tactic(auto, using(crate::proofs::Ranges::number_low, crate::proofs::Ranges::number_high))]
-fn number_line(name: LineName, low: u32, high: u32, line: &[u8]) -> Result<u32, LineRefusal<'_>>
+fn number_line(name: LineName, low: u32, high: u32, line: &[u8]) -> Result<u32, Objection<'_>>
     ensures value { result ≡ number_within low high (word_after (name_and_space name) line.now) }
     ensures low { IfOk result (λ n. low ≤ n) }
     ensures high { IfOk result (λ n. n ≤ high) }

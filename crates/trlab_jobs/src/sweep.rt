@@ -16,7 +16,7 @@ use std::alloc::Global;
 use std::marker::Model;
 use trlab_bounds::texts::TEXT_LIMIT;
 use trlab_rules::Rule;
-use trlab_texts::{Cause, LineName, LineRefusal, Refusal, Rest, TextFault};
+use trlab_texts::{Cause, LineName, Objection, Refusal, Rest, TextFault};
 use trlab_words::Key;
 
 /// What a sweep text says. It can be run: the rule is for the lanes, and there is room for the cars of
@@ -77,13 +77,13 @@ impl Model for Setup {
 }
 
 /// The line `sweep 1`.
-fn sweep_line(line: &[u8]) -> Result<(), LineRefusal<'_>>
+fn sweep_line(line: &[u8]) -> Result<(), Objection<'_>>
     ensures { result ≡ sweep_line line.now }
 {
     if line == b"sweep 1".as_slice() {
         Ok(())
     } else {
-        Err(LineRefusal::of(Cause::Line))
+        Err(Objection::no_line())
     }
 }
 
@@ -159,7 +159,7 @@ pub fn parse_sweep(alloc: Global, text: &[u8]) -> Result<Sweep, Refusal<'_>>
     ensures stored { IfOk result IsStoredSweep }
 {
     if text.len() > TEXT_LIMIT {
-        return Err(Refusal::of(TextFault::At {
+        return Err(Refusal::bare(TextFault::At {
             line: 0,
             cause: Cause::TooBig,
         }));

@@ -1,11 +1,14 @@
 -- Where parts of some bytes of a line are.
-use Rattle.std.proofs.Common.{◌≡◌, ◌==◌, ℕ, ◌+◌, ◌≤◌, List, [], ◌∷◌, ◌++◌, length, take, drop, get_or, refl, sym, ◌∙◌, ap, subst, arith, length-append, take-append-drop, drop-cons, add-one}
-use Rattle.std.specs.Prelude.{Option, None, Some, unwrap_or}
+use Rattle.std.proofs.Common.{Bool, true, false, cond, ◌≡◌, ◌==◌, ℕ, ◌+◌, ◌≤◌, List, [], ◌∷◌, ◌++◌, length, take, drop, get_or, refl, sym, ◌∙◌, ap, subst, arith, length-append, take-append-drop, drop-cons, add-one}
+use Rattle.std.specs.Prelude.{Option, None, Some, unwrap_or, Result, Ok, Err, nat_le, ◌&&◌}
 use Rattle.std.specs.List.{position}
 use Rattle.std.proofs.lemmas.List.{append_assoc, append-nil}
 use Rattle.std.proofs.lemmas.List.Quantifiers.{position-Some}
 use Rattle.std.proofs.Math.Seq.{append_snoc}
 use Rattle.trlab_lines.specs.Cutting.{around, cut, without_prefix}
+use Rattle.trlab_texts.specs.declared.fault.Cause.{Cause}
+use Rattle.trlab_texts.specs.declared.fault.Cause.TheVariants.{Number}
+use Rattle.trlab_texts.specs.Words.{within}
 use Rattle.trlab_texts.specs.Places.{IsAt}
 use Rattle.trlab_texts.proofs.Said.{behind_front}
 
@@ -66,3 +69,12 @@ after_cut line bytes front rest at c is e =
     let parts = cut_parts c bytes front rest e in
     let there = last_part line bytes (front ++ (parts.0 ∷ [])) rest at is (parts.1 ∙ sym (append_snoc front parts.0 rest)) in
     subst (λ n. IsAt line n rest) (omega (arith, length-append front (parts.0 ∷ []))) there
+
+within_fails : (inside : Bool) (n : ℕ) (cause : Cause) → ◌≡◌ {A = Result ℕ Cause} (Err cause) (cond inside (Ok n) (Err Number)) → ◌≡◌ {A = Result ℕ Cause} (cond inside (Ok n) (Err Number)) (Err Number)
+within_fails true n cause e = absurd (cc e)
+within_fails false n cause e = refl
+
+-- the one cause for which a word is no number of a range
+pub only_number : (low high : ℕ) (found : Option ℕ) (cause : Cause) → Err cause ≡ within low high found → within low high found ≡ Err Number
+only_number low high None cause e = refl
+only_number low high (Some n) cause e = within_fails (nat_le low n && nat_le n high) n cause e

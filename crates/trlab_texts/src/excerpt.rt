@@ -8,7 +8,7 @@ ghost use Rattle.trlab_texts.specs.LineNames.{name_and_space};
 
 use crate::fault::Cause;
 use crate::line_name::LineName;
-use crate::refusal::LineRefusal;
+use crate::refusal::Objection;
 use crate::wanted::{Quantity, Wanted};
 use crate::word;
 use std::marker::Model;
@@ -50,7 +50,7 @@ impl<'a> Excerpt<'a> {
     /// # Errors
     ///
     /// `Cause::Line` where anything else is there.
-    pub fn word_after(name: &[u8], line: &'a [u8]) -> Result<Excerpt<'a>, LineRefusal<'a>>
+    pub fn word_after(name: &[u8], line: &'a [u8]) -> Result<Excerpt<'a>, Objection<'a>>
         ensures { result ≡ word_after name.now line.now }
     {
         match Excerpt::of(line).after(name) {
@@ -58,10 +58,10 @@ impl<'a> Excerpt<'a> {
                 if word.is_word() {
                     Ok(word)
                 } else {
-                    Err(LineRefusal::new(Cause::Line, line, Wanted::Nothing))
+                    Err(Objection::no_line())
                 }
             }
-            None => Err(LineRefusal::new(Cause::Line, line, Wanted::Nothing)),
+            None => Err(Objection::no_line()),
         }
     }
 
@@ -76,7 +76,7 @@ impl<'a> Excerpt<'a> {
         high: u32,
         quantity: Quantity,
         line: &'a [u8],
-    ) -> Result<u32, LineRefusal<'a>>
+    ) -> Result<u32, Objection<'a>>
         ensures { result ≡ number_within low high (word_after (name_and_space name) line.now) }
     {
         let word = Excerpt::word_after(name.name_and_space(), line)?;
@@ -161,12 +161,13 @@ impl<'a> Excerpt<'a> {
     /// # Errors
     ///
     /// `Cause::Number` for anything else.
-    pub fn number(self, low: u32, high: u32, quantity: Quantity) -> Result<u32, LineRefusal<'a>>
+    #[tactic(auto, using(crate::proofs::Places::only_number))]
+    pub fn number(self, low: u32, high: u32, quantity: Quantity) -> Result<u32, Objection<'a>>
         ensures { result ≡ within low high (number_of self.entry) }
     {
         match word::number_from(low, high, self.bytes) {
             Ok(n) => Ok(n),
-            Err(cause) => Err(self.no_number(cause, u64::from(low), u64::from(high), quantity)),
+            Err(_) => Err(self.no_number(u64::from(low), u64::from(high), quantity)),
         }
     }
 
@@ -175,27 +176,36 @@ impl<'a> Excerpt<'a> {
     /// # Errors
     ///
     /// `Cause::Number` for anything else.
-    pub fn long_number(self) -> Result<u64, LineRefusal<'a>>
+    #[tactic(auto, using(crate::proofs::Places::only_number))]
+    pub fn long_number(self) -> Result<u64, Objection<'a>>
         ensures { result ≡ within 0 LONGEST_NUMBER (number_of self.entry) }
     {
         match word::long_number(self.bytes) {
             Ok(n) => Ok(n),
-            Err(cause) => Err(self.no_number(cause, 0, LONGEST_NUMBER, Quantity::Other)),
+            Err(_) => Err(self.no_number(0, LONGEST_NUMBER, Quantity::Other)),
         }
     }
 
-    /// The refusal of the line for this cause, where hexadecimal digits are wanted in place of these bytes.
-    pub fn no_digits(self, cause: Cause) -> LineRefusal<'a>
-        ensures { result ≡ cause }
+    /// That these bytes are no key.
+    pub fn no_key(self) -> Objection<'a>
+        ensures { result ≡ Cause.Key }
     {
         let wanted = Wanted::Digits { at: self.at };
-        LineRefusal::new(cause, self.line, wanted)
+        Objection::new(Cause::Key, self.line, wanted)
     }
 
-    /// The refusal of the line for this cause, where a number of this range is wanted in place of these bytes.
-    fn no_number(self, cause: Cause, least: u64, most: u64, quantity: Quantity) -> LineRefusal<'a>
-        requires { within least most (number_of self) ≡ Err cause }
-        ensures { result ≡ cause }
+    /// That these bytes are no bytes in hexadecimal digits.
+    pub fn no_hex(self) -> Objection<'a>
+        ensures { result ≡ Cause.Hex }
+    {
+        let wanted = Wanted::Digits { at: self.at };
+        Objection::new(Cause::Hex, self.line, wanted)
+    }
+
+    /// That these bytes are no number of this range.
+    fn no_number(self, least: u64, most: u64, quantity: Quantity) -> Objection<'a>
+        requires { within least most (number_of self) ≡ Err Cause.Number }
+        ensures { result ≡ Cause.Number }
     {
         let Excerpt { line, at, bytes } = self;
         let wanted = Wanted::Number {
@@ -205,6 +215,6 @@ impl<'a> Excerpt<'a> {
             most,
             quantity,
         };
-        LineRefusal::new(cause, line, wanted)
+        Objection::new(Cause::Number, line, wanted)
     }
 }

@@ -14,6 +14,6 @@ pub mod word;
 pub use excerpt::Excerpt;
 pub use fault::{Cause, LineFault, TextFault};
 pub use line_name::{LineName, LineNames};
-pub use refusal::{LineRefusal, Refusal};
+pub use refusal::{LineRefusal, Objection, Refusal};
 pub use rest::Rest;
 pub use wanted::{Quantity, Wanted};

@@ -1,77 +1,151 @@
-//! Refusals: the fault of a file or of a line, and what the reader wanted there.
+//! Refusals: the fault of a line or of a file, and what the reader wanted there.
 
-ghost use Rattle.std.specs.Prelude.{◌≡◌};
+ghost use Rattle.std.specs.Prelude.{◌≡◌, []};
+ghost use Rattle.trlab_texts.specs.Reading.{fault_at};
 ghost use Rattle.trlab_texts.specs.Wanted.{IsWanted, IsWantedIn};
+ghost use Rattle.trlab_texts.specs.declared.wanted.Wanted.TheVariants.{Nothing};
 
 use crate::fault::{Cause, LineFault, TextFault};
 use crate::line_name::LineNames;
 use crate::wanted::Wanted;
 use std::marker::Model;
 
-/// Why a line was not read, and what was wanted in it.
+/// What is wrong in a line, and what was wanted in place of it.
 #[derive(Drop)]
-pub struct LineRefusal<'a> {
+pub struct Objection<'a> {
     cause: Cause,
     line: &'a [u8],
     wanted: Wanted,
 }
 
-impl<'a> Model for LineRefusal<'a> {
+impl<'a> Model for Objection<'a> {
     ghost use Rattle.trlab_texts.specs.declared.fault.Cause.{Cause as WhatIsWrong};
     ghost use Rattle.trlab_texts.specs.Wanted.{IsWantedIn};
 
     ghost Value = { WhatIsWrong };
 
-    ghost view = { λ refusal. refusal.cause };
+    ghost view = { λ objection. objection.cause };
 
-    ghost invariant = { λ refusal. IsWantedIn refusal.line.now refusal.cause refusal.wanted };
+    ghost invariant = { λ objection. IsWantedIn objection.line.now objection.cause objection.wanted };
 }
 
-impl<'a> LineRefusal<'a> {
-    /// A refusal for a cause, and what was wanted in place of it in this line.
-    pub fn new(cause: Cause, line: &'a [u8], wanted: Wanted) -> LineRefusal<'a>
+impl<'a> Objection<'a> {
+    /// An objection for a cause, and what was wanted in this line.
+    pub fn new(cause: Cause, line: &'a [u8], wanted: Wanted) -> Objection<'a>
         requires { IsWantedIn line.now cause wanted }
         ensures { result ≡ cause }
     {
-        LineRefusal {
+        Objection {
             cause,
             line,
             wanted,
         }
     }
 
-    /// A refusal that says nothing but its cause.
-    pub fn of(cause: Cause) -> LineRefusal<'a>
+    /// An objection for a cause that says all.
+    pub fn bare(cause: Cause) -> Objection<'a>
+        requires { IsWantedIn [] cause Nothing }
         ensures { result ≡ cause }
     {
-        LineRefusal::new(cause, b"", Wanted::Nothing)
+        Objection::new(cause, b"", Wanted::Nothing)
     }
 
-    /// What is wrong in the line.
-    pub fn cause(&self) -> Cause
-        ensures { result ≡ self.now }
+    /// That another line is wanted.
+    pub fn no_line() -> Objection<'a>
+        ensures { result ≡ Cause.Line }
     {
-        self.cause
+        Objection::new(Cause::Line, b"", Wanted::Lines(LineNames::none()))
     }
 
-    /// The refusal of the file whose line of this number it is. A line that is not the right one could have been
-    /// one of these.
-    pub fn at(self, line: u32, names: LineNames) -> Refusal<'a>
-        ensures { result ≡ TextFault.At line self.entry }
+    /// The refusal of a text whose line of this number it is; a line that is not the right one could have been one
+    /// of these.
+    pub fn at(self, number: u32, names: LineNames) -> Refusal<'a>
+        ensures { result ≡ TextFault.At number self.entry }
     {
-        let LineRefusal {
-            cause,
-            line: text,
-            wanted,
-        } = self;
-        if cause == Cause::Line {
-            return Refusal::no_line(line, text, names);
-        }
-        Refusal::new(TextFault::At { line, cause }, text, wanted)
+        LineRefusal::of(self).at(number, names)
     }
 }
 
-/// Why a file was not read, and what was wanted at its first fault.
+/// Why a line was not read, and what was wanted in it.
+#[derive(Drop)]
+pub struct LineRefusal<'a> {
+    fault: LineFault,
+    line: &'a [u8],
+    wanted: Wanted,
+}
+
+impl<'a> Model for LineRefusal<'a> {
+    ghost use Rattle.trlab_texts.specs.declared.fault.LineFault.{LineFault as FaultOfLine};
+    ghost use Rattle.trlab_texts.specs.Wanted.{IsWantedAt};
+
+    ghost Value = { FaultOfLine };
+
+    ghost view = { λ refusal. refusal.fault };
+
+    ghost invariant = { λ refusal. IsWantedAt refusal.line.now refusal.fault refusal.wanted };
+}
+
+impl<'a> LineRefusal<'a> {
+    /// The refusal of a line for what is wrong in it.
+    pub fn of(objection: Objection<'a>) -> LineRefusal<'a>
+        ensures { result ≡ LineFault.Wrong objection.entry }
+    {
+        let Objection {
+            cause,
+            line,
+            wanted,
+        } = objection;
+        LineRefusal {
+            fault: LineFault::Wrong(cause),
+            line,
+            wanted,
+        }
+    }
+
+    /// Memory ran out.
+    pub fn memory() -> LineRefusal<'a>
+        ensures { result ≡ LineFault.Memory }
+    {
+        LineRefusal {
+            fault: LineFault::Memory,
+            line: b"",
+            wanted: Wanted::Nothing,
+        }
+    }
+
+    /// The fault alone.
+    pub fn fault(&self) -> LineFault
+        ensures { result ≡ self.now }
+    {
+        self.fault
+    }
+
+    /// The refusal of a text whose line of this number it is; a line that is not the right one could have been one
+    /// of these.
+    pub fn at(self, number: u32, names: LineNames) -> Refusal<'a>
+        ensures { result ≡ fault_at number self.entry }
+    {
+        let LineRefusal {
+            fault,
+            line,
+            wanted,
+        } = self;
+        match fault {
+            LineFault::Wrong(Cause::Line) => Refusal::no_line(number, names),
+            LineFault::Wrong(cause) => Refusal {
+                fault: TextFault::At {
+                    line: number,
+                    cause,
+                },
+                line,
+                wanted,
+            },
+            LineFault::Memory => Refusal::memory(),
+        }
+    }
+}
+
+/// Why a text was not read, and what was wanted at its first fault.
 #[derive(Drop)]
 pub struct Refusal<'a> {
     fault: TextFault,
@@ -91,7 +165,7 @@ impl<'a> Model for Refusal<'a> {
 }
 
 impl<'a> Refusal<'a> {
-    /// A refusal for a fault, and what was wanted in place of it in this line.
+    /// A refusal for a fault, and what was wanted in this line.
     pub fn new(fault: TextFault, line: &'a [u8], wanted: Wanted) -> Refusal<'a>
         requires { IsWanted line.now fault wanted }
         ensures { result ≡ fault }
@@ -103,22 +177,30 @@ impl<'a> Refusal<'a> {
         }
     }
 
-    /// A refusal that says nothing but its fault.
-    pub fn of(fault: TextFault) -> Refusal<'a>
+    /// A refusal for a fault that says all.
+    pub fn bare(fault: TextFault) -> Refusal<'a>
+        requires { IsWanted [] fault Nothing }
         ensures { result ≡ fault }
     {
         Refusal::new(fault, b"", Wanted::Nothing)
     }
 
-    /// The refusal of a file at a line that is missing, or that is none of these.
-    pub fn no_line(number: u32, line: &'a [u8], names: LineNames) -> Refusal<'a>
+    /// Memory ran out.
+    pub fn memory() -> Refusal<'a>
+        ensures { result ≡ TextFault.Memory }
+    {
+        Refusal::bare(TextFault::Memory)
+    }
+
+    /// The refusal of a text at a line that is missing, or that is none of these.
+    pub fn no_line(number: u32, names: LineNames) -> Refusal<'a>
         ensures { result ≡ TextFault.At number Cause.Line }
     {
         let fault = TextFault::At {
             line: number,
             cause: Cause::Line,
         };
-        Refusal::new(fault, line, Wanted::Lines(names))
+        Refusal::new(fault, b"", Wanted::Lines(names))
     }
 
     /// The fault alone.
@@ -128,17 +210,7 @@ impl<'a> Refusal<'a> {
         self.fault
     }
 
-    /// The line in which `wanted` names a place; it may be empty where it names none.
-    pub fn line(&self) -> &'a [u8] {
-        self.line
-    }
-
-    /// What was wanted at the fault.
-    pub fn wanted(&self) -> &Wanted {
-        &self.wanted
-    }
-
-    /// The fault, the line in which a place may be named, and what was wanted there.
+    /// The fault, the line in which a place may be named, and what was wanted.
     pub fn into_parts(self) -> (TextFault, &'a [u8], Wanted)
         ensures fault { result.0 ≡ self.entry }
         ensures wanted { IsWanted result.1.now result.0 result.2 }
@@ -149,11 +221,5 @@ impl<'a> Refusal<'a> {
             wanted,
         } = self;
         (fault, line, wanted)
-    }
-
-    /// What was wanted at the fault, by value.
-    pub fn into_wanted(self) -> Wanted {
-        let Refusal { wanted, .. } = self;
-        wanted
     }
 }

@@ -11,7 +11,7 @@ ghost use Rattle.trlab_texts.specs.Reading.{Reports, line};
 ghost use Rattle.trlab_texts.specs.Words.{next_word_is};
 
 use crate::line_name::{LineName, LineNames};
-use crate::refusal::{LineRefusal, Refusal};
+use crate::refusal::{Objection, Refusal};
 use crate::word::head_word;
 use std::marker::Model;
 use trlab_lines::next_line;
@@ -102,7 +102,7 @@ impl<'a> Rest<'a> {
     pub fn ended(&self, name: LineName) -> Refusal<'a>
         ensures { result ≡ TextFault.At self.now.number Cause.Line }
     {
-        Refusal::no_line(self.number, b"", self.names_with(name))
+        Refusal::no_line(self.number, self.names_with(name))
     }
 
     /// The next line, if there is one, and the rest after it.
@@ -141,7 +141,7 @@ impl<'a> Rest<'a> {
     /// # Errors
     ///
     /// That of `next_line`, or the cause that the rule finds, at the number of the line.
-    pub fn read_line<T, F: FnOnce(&'a [u8]) -> Result<T, LineRefusal<'a>>>(
+    pub fn read_line<T, F: FnOnce(&'a [u8]) -> Result<T, Objection<'a>>>(
         self,
         name: LineName,
         rule: F,
@@ -190,6 +190,6 @@ impl<'a> Rest<'a> {
             left = rest;
         }
         let names = LineNames::none().with(LineName::End);
-        Err(Refusal::no_line(number + lines, b"", names))
+        Err(Refusal::no_line(number + lines, names))
     }
 }

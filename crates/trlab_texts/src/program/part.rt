@@ -9,7 +9,7 @@ ghost use Rattle.trlab_texts.specs.Programs.{VerdictSays, heading, part, program
 
 use crate::fault::{Cause, TextFault};
 use crate::line_name::LineName;
-use crate::program::code::{code_line_of, code_refusal};
+use crate::program::code::parse_code_of;
 use crate::refusal::Refusal;
 use crate::rest::Rest;
 use crate::wanted::Wanted;
@@ -45,8 +45,8 @@ pub fn program_after(
     match assemble(alloc, kind, text) {
         Ok(code) => Ok(code),
         Err(fault) => match fault.why {
-            Why::Memory => Err(Refusal::of(TextFault::Memory)),
-            why => Err(Refusal::of(TextFault::At {
+            Why::Memory => Err(Refusal::memory()),
+            why => Err(Refusal::bare(TextFault::At {
                 line: first + fault.line as u32,
                 cause: Cause::Program(why),
             })),
@@ -74,9 +74,9 @@ fn program_part(alloc: Global, kind: Kind, rest: Rest<'_>) -> Result<(Code, Rest
         let code = program_after(alloc, kind, first, lines)?;
         return Ok((code, after));
     }
-    match code_line_of(alloc, kind, line) {
+    match parse_code_of(alloc, kind, line) {
         Ok(code) => Ok((code, after)),
-        Err(fault) => Err(code_refusal(first, line, names, fault)),
+        Err(refusal) => Err(refusal.at(first, names)),
     }
 }
 
@@ -98,7 +98,7 @@ fn accepted<'a, K: ProgramKind>(
                 };
                 Err(Refusal::new(told, b"", Wanted::Program { code, at }))
             }
-            VerifyFault::Memory => Err(Refusal::of(TextFault::Memory)),
+            VerifyFault::Memory => Err(Refusal::memory()),
         },
     }
 }

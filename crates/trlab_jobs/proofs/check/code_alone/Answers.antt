@@ -14,4 +14,4 @@ returns-else-is_empty c =
     rw c.no_line.ensures (code_before_others c.args.line.now (lines_of c.args.rest.now) c.in-Ok.code c.in-Ok.ensures (λ none. let test = ended.1 none in cc))
 
 pub returns-in-Err : goal.returns-in-Err
-returns-in-Err c = rw c.code_refusal.ensures (no_code_alone c.args.line.now (lines_of c.args.rest.now) c.in-Err.fault c.in-Err.ensures)
+returns-in-Err c = rw c.at.ensures (no_code_alone c.args.line.now (lines_of c.args.rest.now) c.in-Err.refusal c.in-Err.ensures)
