@@ -1,6 +1,5 @@
 -- The lines that state rules: their words, and then their numbers.
 use Rattle.std.specs.Prelude.{ℕ, ◌==◌, ◌&&◌, List, codes, nat_le, nat_lt, Option, None, Some, ok_or, Result, Ok, Err, option_map, option_and_then, if◌then◌else◌}
-use Rattle.std.specs.Borrow.{Bor}
 use Rattle.std.specs.Str.{bytes_eq}
 use Rattle.trlab_bounds.specs.declared.programs.TheConstants.{CERTAIN}
 use Rattle.trlab_texts.specs.declared.fault.Cause.{Cause}
@@ -84,14 +83,3 @@ later_line room steps least text =
     rule_numbers words.1 >>= λ rule.
     admit_step room steps least step >>= λ from.
     Ok (from, rule)
-
--- the words of a rule line, as the code keeps them by references
-abbrev pub stored_words : RuleLine (Bor (List ℕ)) → RuleLine (List ℕ)
-stored_words (Nasch p) = Nasch p.now
-stored_words (Vdr p p0) = Vdr p.now p0.now
-stored_words (Rickert p c) = Rickert p.now c.now
-stored_words Own = Own
-
--- the same of a later line
-abbrev pub stored_later : Bor (List ℕ) × RuleLine (Bor (List ℕ)) → List ℕ × RuleLine (List ℕ)
-stored_later parts = (parts.0.now, stored_words parts.1)

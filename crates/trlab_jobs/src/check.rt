@@ -11,9 +11,9 @@ use std::marker::Model;
 use trlab_bounds::texts::TEXT_LIMIT;
 use trlab_code::{Code, Kind};
 use trlab_lines::next_line;
-use trlab_texts::program::{code_line, heads, program_after};
+use trlab_texts::program::{heads, parse_code, program_after};
 use trlab_texts::word::without_prefix;
-use trlab_texts::{Cause, TextFault};
+use trlab_texts::{Cause, LineName, LineNames, Refusal, TextFault};
 
 /// What is asked of a program.
 #[derive(Clone, Copy, PartialEq, Eq)]
@@ -64,27 +64,31 @@ fn heading_kind(line: &[u8]) -> Option<Kind>
     }
 }
 
+/// The lines with which a check text may begin.
+fn headings() -> LineNames {
+    LineNames::none()
+        .with(LineName::Motion)
+        .with(LineName::Change)
+}
+
 /// The program of the line `code X`, after which no more may stand.
-fn code_alone(alloc: Global, line: &[u8], rest: &[u8]) -> Result<Code, TextFault>
+fn code_alone<'a>(alloc: Global, line: &'a [u8], rest: &[u8]) -> Result<Code, Refusal<'a>>
     ensures { Reports (LoneCodeSays line.now (lines_of rest.now)) result }
 {
-    match code_line(alloc, line) {
+    match parse_code(alloc, line) {
         Ok(code) => {
             if rest.is_empty() {
                 Ok(code)
             } else {
-                Err(TextFault::At {
-                    line: 2,
-                    cause: Cause::Line,
-                })
+                Err(Refusal::no_line(2, LineNames::none()))
             }
         }
-        Err(fault) => Err(fault.at(1)),
+        Err(refusal) => Err(refusal.at(1, headings())),
     }
 }
 
 /// The program that begins on a line and goes on in the lines after it, which are not too long.
-fn read_program(alloc: Global, line: &[u8], rest: &[u8]) -> Result<Code, TextFault>
+fn read_program<'a>(alloc: Global, line: &'a [u8], rest: &'a [u8]) -> Result<Code, Refusal<'a>>
     requires { length rest.now ≤ TEXT_LIMIT }
     ensures { Reports (ProgramSays line.now (lines_of rest.now)) result }
 {
@@ -95,15 +99,12 @@ fn read_program(alloc: Global, line: &[u8], rest: &[u8]) -> Result<Code, TextFau
 }
 
 /// What the lines of a text that is not too long ask for.
-fn read_lines(alloc: Global, text: &[u8]) -> Result<Check, TextFault>
+fn read_lines(alloc: Global, text: &[u8]) -> Result<Check, Refusal<'_>>
     requires { length text.now ≤ TEXT_LIMIT }
     ensures { Reports (CheckLinesSay (lines_of text.now)) result }
 {
     let Some((first, rest)) = next_line(text) else {
-        return Err(TextFault::At {
-            line: 1,
-            cause: Cause::Line,
-        });
+        return Err(Refusal::no_line(1, headings()));
     };
     let (question, line) = question_of(first);
     match read_program(alloc, line, rest) {
@@ -113,20 +114,34 @@ fn read_lines(alloc: Global, text: &[u8]) -> Result<Check, TextFault>
 }
 
 /// Reads a check text: a program of either kind, on which a verdict is asked for, and perhaps its
-/// notes.
+/// notes. Says what it wanted where it refuses one.
 ///
 /// # Errors
 ///
 /// The first fault of the text, at its line, which is 0 where the text is too long; or that memory
 /// ran out.
-pub fn read_check(alloc: Global, text: &[u8]) -> Result<Check, TextFault>
+pub fn parse_check(alloc: Global, text: &[u8]) -> Result<Check, Refusal<'_>>
     ensures { Reports (CheckText text.now) result }
 {
     if text.len() > TEXT_LIMIT {
-        return Err(TextFault::At {
+        return Err(Refusal::bare(TextFault::At {
             line: 0,
             cause: Cause::TooBig,
-        });
+        }));
     }
     read_lines(alloc, text)
+}
+
+/// Reads a check text.
+///
+/// # Errors
+///
+/// The fault with which `parse_check` refuses it.
+pub fn read_check(alloc: Global, text: &[u8]) -> Result<Check, TextFault>
+    ensures { Reports (CheckText text.now) result }
+{
+    match parse_check(alloc, text) {
+        Ok(check) => Ok(check),
+        Err(refusal) => Err(refusal.fault()),
+    }
 }

@@ -1,43 +1,42 @@
 //! The lanes of a job's road: one line `lane P` or two, whose pictures are judged together.
 
-ghost use Rattle.std.specs.Prelude.{◌≡◌, ◌+◌, ◌∷◌, IfOk, option_map, option_to_list};
+ghost use Rattle.std.specs.Prelude.{◌≡◌, ◌+◌, [], ◌∷◌, IfOk, option_map, option_to_list};
 ghost use Rattle.std.specs.Result.{result_map_both};
 ghost use Rattle.trlab_road.specs.Legal.{IsLegal};
+ghost use Rattle.trlab_road.specs.Pictures.{pictures_of};
+ghost use Rattle.trlab_texts.specs.Wanted.{IsWantedIn};
 ghost use Rattle.trlab_texts.specs.Reading.{Reports, line, exactly};
 ghost use Rattle.trlab_jobs.specs.Lanes.{lane_word, second_lane, line_of_fault, LanesSay, PicturesSay, lanes};
 
 use std::alloc::Global;
+use trlab_bounds::roads::GREATEST_LENGTH;
 use trlab_road::{Road, RoadFault};
-use trlab_texts::word::word_after;
-use trlab_texts::{Cause, Rest, TextFault};
+use trlab_texts::{Cause, Excerpt, LineName, Objection, Refusal, Rest, TextFault, Wanted};
 
 /// The picture of the line `lane P`.
-fn lane_word(line: &[u8]) -> Result<&[u8], Cause>
-    ensures { result_map_both (λ word. word.now) (λ cause. cause) result ≡ lane_word line.now }
+fn lane_word(line: &[u8]) -> Result<Excerpt<'_>, Objection<'_>>
+    ensures { result ≡ lane_word line.now }
 {
-    word_after(b"lane ", line)
+    Excerpt::word_after(LineName::Lane.name_and_space(), line)
 }
 
 /// The picture of a lane that must stand here.
-fn lane(rest: Rest<'_>) -> Result<(&[u8], Rest<'_>), TextFault>
-    ensures told { Reports (line (exactly lane_word) rest.entry)
-        (result_map_both (λ found. (found.0.now, found.1)) (λ fault. fault) result) }
+fn lane(rest: Rest<'_>) -> Result<(Excerpt<'_>, Rest<'_>), Refusal<'_>>
+    ensures told { Reports (line (exactly lane_word) rest.entry) result }
     ensures next { IfOk result (λ found. found.1.number ≡ rest.entry.number + 1) }
 {
-    rest.read_line(lane_word)
+    rest.read_line(LineName::Lane, lane_word)
 }
 
 /// The picture of a second lane, where the next line states a lane.
-fn second_lane(rest: Rest<'_>) -> Result<(Option<&[u8]>, Rest<'_>), TextFault>
-    ensures { Reports (second_lane rest.entry)
-        (result_map_both (λ found. (option_map (λ picture. picture.now) found.0, found.1))
-        (λ fault. fault) result) }
+fn second_lane(rest: Rest<'_>) -> Result<(Option<Excerpt<'_>>, Rest<'_>), Refusal<'_>>
+    ensures { Reports (second_lane rest.entry) result }
 {
-    if rest.next_word_is(b"lane") {
+    if rest.next_word_is(LineName::Lane.word()) {
         let (picture, rest) = lane(rest)?;
         Ok((Some(picture), rest))
     } else {
-        Ok((None, rest))
+        Ok((None, rest.or(LineName::Lane)))
     }
 }
 
@@ -57,37 +56,91 @@ fn line_of_fault(first: u32, last: u32, fault: RoadFault) -> u32
     }
 }
 
+/// What is wanted in place of lanes with this fault, of which the first has so many cells.
+fn wanted_by(limit: u32, cells: usize, fault: RoadFault) -> Wanted
+    ensures { IsWantedIn [] (Cause.Road fault) result }
+{
+    match fault {
+        RoadFault::Length => Wanted::Cells {
+            first: if cells <= GREATEST_LENGTH as usize {
+                cells as u32
+            } else {
+                0
+            },
+        },
+        RoadFault::SpeedAboveLimit { .. } => Wanted::Speed { limit },
+        RoadFault::Lanes
+        | RoadFault::Limit
+        | RoadFault::Character { .. }
+        | RoadFault::Memory
+        | RoadFault::TooManyCars => Wanted::Nothing,
+    }
+}
+
+/// The refusal of lanes from the line `first` to the line `last`, of which the first has so many cells.
+fn lanes_refusal<'a>(
+    first: u32,
+    last: u32,
+    limit: u32,
+    cells: usize,
+    fault: RoadFault,
+) -> Refusal<'a>
+    ensures { result ≡ TextFault.At (line_of_fault first last fault) (Cause.Road fault) }
+{
+    let told = TextFault::At {
+        line: line_of_fault(first, last, fault),
+        cause: Cause::Road(fault),
+    };
+    Refusal::new(told, b"", wanted_by(limit, cells, fault))
+}
+
+/// The road that these pictures show, from the line `first` to the line `last`; the first has so many cells.
+fn shown<'a>(
+    alloc: Global,
+    first: u32,
+    last: u32,
+    limit: u32,
+    cells: usize,
+    pictures: &[&[u8]],
+) -> Result<Road, Refusal<'a>>
+    ensures told { Reports (LanesSay first last limit (pictures_of pictures.now)) result }
+    ensures legal { IfOk result (λ road. IsLegal road) }
+{
+    match Road::parse(alloc, limit, pictures) {
+        Ok(road) => Ok(road),
+        Err(RoadFault::Memory) => Err(Refusal::memory()),
+        Err(fault) => Err(lanes_refusal(first, last, limit, cells, fault)),
+    }
+}
+
 /// The road that one picture or two show, of which the first stands on the line `first`, before the
 /// line `after`.
-fn road_of(
+fn road_of<'a>(
     alloc: Global,
     first: u32,
     after: u32,
     limit: u32,
-    picture: &[u8],
-    second: Option<&[u8]>,
-) -> Result<Road, TextFault>
+    picture: Excerpt<'a>,
+    second: Option<Excerpt<'a>>,
+) -> Result<Road, Refusal<'a>>
     requires { after ≡ first + 1 }
     ensures told { Reports
-        (PicturesSay first limit picture.now (option_map (λ picture. picture.now) second.entry)) result }
+        (PicturesSay first limit picture.entry second.entry) result }
     ensures legal { IfOk result (λ road. IsLegal road) }
 {
-    let (road, last) = match second {
-        None => (Road::parse(alloc, limit, &[picture]), first),
-        Some(second) => (Road::parse(alloc, limit, &[picture, second]), after),
-    };
-    match road {
-        Ok(road) => Ok(road),
-        Err(RoadFault::Memory) => Err(TextFault::Memory),
-        Err(fault) => Err(TextFault::At {
-            line: line_of_fault(first, last, fault),
-            cause: Cause::Road(fault),
-        }),
+    let picture = picture.bytes();
+    let cells = picture.len();
+    match second {
+        None => shown(alloc, first, first, limit, cells, &[picture]),
+        Some(second) => {
+            let pictures = [picture, second.bytes()];
+            shown(alloc, first, after, limit, cells, &pictures)
+        }
     }
 }
 
 /// The lanes of a road: the line `lane P`, and the next line where it states a lane.
-pub fn lanes(alloc: Global, limit: u32, rest: Rest<'_>) -> Result<(Road, Rest<'_>), TextFault>
+pub fn lanes(alloc: Global, limit: u32, rest: Rest<'_>) -> Result<(Road, Rest<'_>), Refusal<'_>>
     ensures told { Reports (lanes limit rest.entry) result }
     ensures legal { IfOk result (λ found. IsLegal found.0) }
 {

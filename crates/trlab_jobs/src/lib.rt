@@ -14,6 +14,6 @@ mod rule_line;
 mod shape;
 mod sweep;
 
-pub use check::{Check, Question, read_check};
-pub use job::{Job, read_job};
-pub use sweep::{Sweep, read_sweep};
+pub use check::{Check, Question, parse_check, read_check};
+pub use job::{Job, parse_job, read_job};
+pub use sweep::{Sweep, parse_sweep, read_sweep};

@@ -6,41 +6,40 @@ ghost use Rattle.trlab_jobs.specs.Job.{road_line, key_line, limit_line, steps_li
 use hex::FromHex;
 use trlab_bounds::roads::GREATEST_LIMIT;
 use trlab_bounds::runs::MOST_STEPS;
-use trlab_texts::Cause;
-use trlab_texts::word::{number_after, word_after};
+use trlab_texts::{Excerpt, LineName, Objection, Quantity};
 
 /// The line `road 1`.
-pub fn road_line(line: &[u8]) -> Result<(), Cause>
+pub fn road_line(line: &[u8]) -> Result<(), Objection<'_>>
     ensures { result ≡ road_line line.now }
 {
     if line == b"road 1".as_slice() {
         Ok(())
     } else {
-        Err(Cause::Line)
+        Err(Objection::no_line())
     }
 }
 
 /// The line `key H`, where H is 64 hexadecimal digits of either case.
-pub fn key_line(line: &[u8]) -> Result<[u8; 32], Cause>
+pub fn key_line(line: &[u8]) -> Result<[u8; 32], Objection<'_>>
     ensures { result ≡ key_line line.now }
 {
-    let digits = word_after(b"key ", line)?;
-    match <[u8; 32]>::from_hex(digits) {
+    let digits = Excerpt::word_after(LineName::Key.name_and_space(), line)?;
+    match <[u8; 32]>::from_hex(digits.bytes()) {
         Ok(key) => Ok(key),
-        Err(_) => Err(Cause::Key),
+        Err(_) => Err(digits.no_key()),
     }
 }
 
 /// The line `limit n`, the speed limit of the road: 1 to `GREATEST_LIMIT` cells a step.
-pub fn limit_line(line: &[u8]) -> Result<u32, Cause>
+pub fn limit_line(line: &[u8]) -> Result<u32, Objection<'_>>
     ensures { result ≡ limit_line line.now }
 {
-    number_after(b"limit ", 1, GREATEST_LIMIT, line)
+    Excerpt::number_after(LineName::Limit, 1, GREATEST_LIMIT, Quantity::Other, line)
 }
 
 /// The line `steps n`, how many steps are run: 0 to `MOST_STEPS`.
-pub fn steps_line(line: &[u8]) -> Result<u32, Cause>
+pub fn steps_line(line: &[u8]) -> Result<u32, Objection<'_>>
     ensures { result ≡ steps_line line.now }
 {
-    number_after(b"steps ", 0, MOST_STEPS, line)
+    Excerpt::number_after(LineName::Steps, 0, MOST_STEPS, Quantity::Other, line)
 }

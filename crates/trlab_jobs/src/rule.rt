@@ -15,98 +15,114 @@ use hex::FromHexError;
 use std::alloc::Global;
 use trlab_code::Kind;
 use trlab_rules::{Rule, nasch, rickert, vdr};
-use trlab_texts::word::word_after;
-use trlab_texts::{Cause, LineFault, Rest, TextFault, program};
+use trlab_texts::{
+    Cause, LineFault, LineName, LineNames, LineRefusal, Objection, Refusal, Rest, TextFault,
+    Wanted, program,
+};
 use trlab_verify::{Change, ChangeKind, MotionKind};
 use trlab_words::Chance;
 
+/// How many lanes a road has, and on which line a text says so.
+#[derive(Clone, Copy)]
+pub struct Lanes {
+    pub count: u32,
+    pub line: u32,
+}
+
+impl Lanes {
+    /// That two lanes are wanted.
+    fn too_few<'a>(self) -> LineRefusal<'a>
+        ensures { result ≡ LineFault.Wrong Cause.OneLane }
+    {
+        let wanted = Wanted::SecondLane { line: self.line };
+        LineRefusal::of(Objection::new(Cause::OneLane, b"", wanted))
+    }
+}
+
 /// The rule of a line `rule nasch t`.
-fn nasch_rule(alloc: Global, brake: Chance) -> Result<Rule, LineFault>
+fn nasch_rule<'a>(alloc: Global, brake: Chance) -> Result<Rule, LineRefusal<'a>>
     ensures told { ReportsLine (MotionSays (nasch_program brake)) result }
     ensures suits { IfOk result (λ rule. (lanes : ℕ) → IsRuleFor lanes rule) }
 {
     match nasch(alloc, brake) {
         Ok(rule) => Ok(rule),
-        Err(_) => Err(LineFault::Memory),
+        Err(_) => Err(LineRefusal::memory()),
     }
 }
 
 /// The rule of a line `rule vdr t t0`.
-fn vdr_rule(alloc: Global, moving: Chance, stopped: Chance) -> Result<Rule, LineFault>
+fn vdr_rule<'a>(alloc: Global, moving: Chance, stopped: Chance) -> Result<Rule, LineRefusal<'a>>
     ensures told { ReportsLine (MotionSays (vdr_program moving stopped)) result }
     ensures suits { IfOk result (λ rule. (lanes : ℕ) → IsRuleFor lanes rule) }
 {
     match vdr(alloc, moving, stopped) {
         Ok(rule) => Ok(rule),
-        Err(_) => Err(LineFault::Memory),
+        Err(_) => Err(LineRefusal::memory()),
     }
 }
 
 /// The rule of a line `rule rickert t c`, which is refused on a road of one lane.
-fn rickert_rule(
+fn rickert_rule<'a>(
     alloc: Global,
-    lanes: u32,
+    lanes: Lanes,
     brake: Chance,
     crossing: Chance,
-) -> Result<Rule, LineFault>
-    requires some { 1 ≤ lanes }
-    requires few { lanes ≤ 2 }
+) -> Result<Rule, LineRefusal<'a>>
+    requires some { 1 ≤ lanes.count }
+    requires few { lanes.count ≤ 2 }
     ensures told { ReportsLine
-        (ExchangeSays (nat_eq lanes 1) (nasch_program brake) (rickert_program crossing)) result }
-    ensures suits { IfOk result (λ rule. IsRuleFor lanes rule) }
+        (ExchangeSays (nat_eq lanes.count 1) (nasch_program brake) (rickert_program crossing)) result }
+    ensures suits { IfOk result (λ rule. IsRuleFor lanes.count rule) }
 {
-    if lanes == 1 {
-        return Err(LineFault::Wrong(Cause::OneLane));
+    if lanes.count == 1 {
+        return Err(lanes.too_few());
     }
     match rickert(alloc, brake, crossing) {
         Ok(rule) => Ok(rule),
-        Err(_) => Err(LineFault::Memory),
+        Err(_) => Err(LineRefusal::memory()),
     }
 }
 
 /// What is wrong with the line `code X` of a change program on a road of one lane.
-fn code_misplacement(alloc: Global, line: &[u8]) -> LineFault
+fn code_misplacement(alloc: Global, lanes: Lanes, line: &[u8]) -> LineRefusal<'_>
     ensures { ReportsCause (code_misplacement (word_after (codes "code ") line.now)) result }
 {
-    let digits = match word_after(b"code ", line) {
+    let digits = match program::code_digits(line) {
         Ok(digits) => digits,
-        Err(cause) => return LineFault::Wrong(cause),
+        Err(objection) => return LineRefusal::of(objection),
     };
-    match hex::decode(alloc, digits) {
-        Ok(_) => LineFault::Wrong(Cause::OneLane),
-        Err(FromHexError::OutOfMemory) => LineFault::Memory,
-        Err(_) => LineFault::Wrong(Cause::Hex),
+    match hex::decode(alloc, digits.bytes()) {
+        Ok(_) => lanes.too_few(),
+        Err(FromHexError::OutOfMemory) => LineRefusal::memory(),
+        Err(_) => LineRefusal::of(digits.no_hex()),
     }
 }
 
 /// What is wrong with a change part on a road of one lane.
-fn misplacement(alloc: Global, rest: Rest<'_>) -> TextFault
+fn misplacement(alloc: Global, lanes: Lanes, rest: Rest<'_>) -> Refusal<'_>
     ensures { ReportsFault (misplacement rest.entry.number rest.entry.left) result }
 {
     let first = rest.number();
-    let (line, after) = match rest.next_line() {
+    let (line, after) = match rest.next_line(LineName::Change) {
         Ok(found) => found,
-        Err(fault) => return fault,
+        Err(refusal) => return refusal,
     };
     if program::heads(Kind::Change, line) {
         match after.part() {
-            Ok(_) => TextFault::At {
-                line: first,
-                cause: Cause::OneLane,
-            },
-            Err(fault) => fault,
+            Ok(_) => lanes.too_few().at(first, LineNames::none()),
+            Err(refusal) => refusal,
         }
     } else {
-        code_misplacement(alloc, line).at(first)
+        code_misplacement(alloc, lanes, line).at(first, LineNames::none())
     }
 }
 
 /// A change part, which is a fault on a road of one lane.
-fn change_by(alloc: Global, one_lane: bool, rest: Rest<'_>) -> Result<(Change, Rest<'_>), TextFault>
-    ensures { Reports (change_by one_lane rest.entry) result }
+fn change_by(alloc: Global, lanes: Lanes, rest: Rest<'_>) -> Result<(Change, Rest<'_>), Refusal<'_>>
+    ensures { Reports (change_by (nat_eq lanes.count 1) rest.entry) result }
 {
-    if one_lane {
-        Err(misplacement(alloc, rest))
+    if lanes.count == 1 {
+        Err(misplacement(alloc, lanes, rest))
     } else {
         program::accepted_part::<ChangeKind>(alloc, rest)
     }
@@ -122,25 +138,27 @@ fn next_is_change(rest: &Rest<'_>) -> bool
 /// A change part, if there is one.
 fn change_part(
     alloc: Global,
-    lanes: u32,
+    lanes: Lanes,
     rest: Rest<'_>,
-) -> Result<(Option<Change>, Rest<'_>), TextFault>
-    ensures { Reports (change_part lanes rest.entry) result }
+) -> Result<(Option<Change>, Rest<'_>), Refusal<'_>>
+    ensures { Reports (change_part lanes.count rest.entry) result }
 {
     if next_is_change(&rest) {
-        let (change, rest) = change_by(alloc, lanes == 1, rest)?;
+        let (change, rest) = change_by(alloc, lanes, rest)?;
         Ok((Some(change), rest))
-    } else {
+    } else if lanes.count == 1 {
         Ok((None, rest))
+    } else {
+        Ok((None, rest.or(LineName::Change)))
     }
 }
 
 /// Own programs: a motion part, and perhaps a change part.
-fn own_rule(alloc: Global, lanes: u32, rest: Rest<'_>) -> Result<(Rule, Rest<'_>), TextFault>
-    requires some { 1 ≤ lanes }
-    requires few { lanes ≤ 2 }
-    ensures told { Reports (own_rule lanes rest.entry) result }
-    ensures suits { IfOk result (λ found. IsRuleFor lanes found.0) }
+fn own_rule(alloc: Global, lanes: Lanes, rest: Rest<'_>) -> Result<(Rule, Rest<'_>), Refusal<'_>>
+    requires some { 1 ≤ lanes.count }
+    requires few { lanes.count ≤ 2 }
+    ensures told { Reports (own_rule lanes.count rest.entry) result }
+    ensures suits { IfOk result (λ found. IsRuleFor lanes.count found.0) }
 {
     let (motion, rest) = program::accepted_part::<MotionKind>(alloc, rest)?;
     let (change, rest) = change_part(alloc, lanes, rest)?;
@@ -148,33 +166,33 @@ fn own_rule(alloc: Global, lanes: u32, rest: Rest<'_>) -> Result<(Rule, Rest<'_>
 }
 
 /// What a line says, and the rest after it.
-fn of_line(
+fn of_line<'a>(
     number: u32,
-    say: Result<Rule, LineFault>,
-    rest: Rest<'_>,
-) -> Result<(Rule, Rest<'_>), TextFault>
-    ensures { MatchResult say
+    say: Result<Rule, LineRefusal<'a>>,
+    rest: Rest<'a>,
+) -> Result<(Rule, Rest<'a>), Refusal<'a>>
+    ensures { MatchResult say.entry
         (λ rule. result ≡ Ok (rule, rest.entry))
         (λ fault. result ≡ Err (fault_at number fault)) }
 {
     match say {
         Ok(rule) => Ok((rule, rest)),
-        Err(fault) => Err(fault.at(number)),
+        Err(refusal) => Err(refusal.at(number, LineNames::none())),
     }
 }
 
 /// The rule of a line that was read, or of the programs after it; `number` is that of the line.
 pub fn rule_from(
     alloc: Global,
-    lanes: u32,
+    lanes: Lanes,
     number: u32,
     line: RuleLine<Chance>,
     rest: Rest<'_>,
-) -> Result<(Rule, Rest<'_>), TextFault>
-    requires some { 1 ≤ lanes }
-    requires few { lanes ≤ 2 }
-    ensures told { Reports (rule_from lanes number line rest.entry) result }
-    ensures suits { IfOk result (λ found. IsRuleFor lanes found.0) }
+) -> Result<(Rule, Rest<'_>), Refusal<'_>>
+    requires some { 1 ≤ lanes.count }
+    requires few { lanes.count ≤ 2 }
+    ensures told { Reports (rule_from lanes.count number line rest.entry) result }
+    ensures suits { IfOk result (λ found. IsRuleFor lanes.count found.0) }
 {
     match line {
         RuleLine::Nasch { brake } => of_line(number, nasch_rule(alloc, brake), rest),
@@ -189,13 +207,13 @@ pub fn rule_from(
 }
 
 /// A rule for a road of so many lanes: a line `rule ..`, and own programs after it.
-pub fn rule(alloc: Global, lanes: u32, rest: Rest<'_>) -> Result<(Rule, Rest<'_>), TextFault>
-    requires some { 1 ≤ lanes }
-    requires few { lanes ≤ 2 }
-    ensures told { Reports (rule lanes rest.entry) result }
-    ensures suits { IfOk result (λ found. IsRuleFor lanes found.0) }
+pub fn rule(alloc: Global, lanes: Lanes, rest: Rest<'_>) -> Result<(Rule, Rest<'_>), Refusal<'_>>
+    requires some { 1 ≤ lanes.count }
+    requires few { lanes.count ≤ 2 }
+    ensures told { Reports (rule lanes.count rest.entry) result }
+    ensures suits { IfOk result (λ found. IsRuleFor lanes.count found.0) }
 {
     let number = rest.number();
-    let (line, rest) = rest.read_line(rule_line)?;
+    let (line, rest) = rest.read_line(LineName::Rule, rule_line)?;
     rule_from(alloc, lanes, number, line, rest)
 }

@@ -1,11 +1,9 @@
 //! Lines that state rules: words come before numbers, and these are read from left to right.
 
 ghost use Rattle.std.specs.Prelude.{◌≡◌, ◌<◌, ◌≤◌, IfOk, OnOk, option_map};
-ghost use Rattle.trlab_jobs.specs.RuleLines.{rule_words, chance_of, rule_numbers, rule_line, later_words, admit_step, later_line, stored_words, stored_later};
+ghost use Rattle.trlab_jobs.specs.RuleLines.{rule_words, chance_of, rule_numbers, rule_line, later_words, admit_step, later_line};
 
-use trlab_lines::cut;
-use trlab_texts::Cause;
-use trlab_texts::word::{as_word, is_word, long_number, number_from, two_words, without_prefix};
+use trlab_texts::{Cause, Excerpt, Objection, Quantity, Wanted};
 use trlab_words::{CERTAIN, Chance};
 
 /// A rule as a line states it, by words or by the chances that they write.
@@ -22,28 +20,28 @@ pub enum RuleLine<T> {
 }
 
 /// The words of a rule line, where they are those of a rule.
-fn rule_words(line: &[u8]) -> Option<RuleLine<&[u8]>>
-    ensures { option_map stored_words result ≡ rule_words line.now }
+fn rule_words<'a>(line: &Excerpt<'a>) -> Option<RuleLine<Excerpt<'a>>>
+    ensures { result ≡ rule_words line.now }
 {
-    if let Some(words) = without_prefix(b"rule nasch ", line) {
-        return match as_word(words) {
+    if let Some(words) = line.after(b"rule nasch ") {
+        return match words.as_word() {
             Some(brake) => Some(RuleLine::Nasch { brake }),
             None => None,
         };
     }
-    if let Some(words) = without_prefix(b"rule vdr ", line) {
-        return match two_words(words) {
+    if let Some(words) = line.after(b"rule vdr ") {
+        return match words.two_words() {
             Some((moving, stopped)) => Some(RuleLine::Vdr { moving, stopped }),
             None => None,
         };
     }
-    if let Some(words) = without_prefix(b"rule rickert ", line) {
-        return match two_words(words) {
+    if let Some(words) = line.after(b"rule rickert ") {
+        return match words.two_words() {
             Some((brake, crossing)) => Some(RuleLine::Rickert { brake, crossing }),
             None => None,
         };
     }
-    if line == b"rule own".as_slice() {
+    if line.bytes() == b"rule own".as_slice() {
         Some(RuleLine::Own)
     } else {
         None
@@ -51,18 +49,18 @@ fn rule_words(line: &[u8]) -> Option<RuleLine<&[u8]>>
 }
 
 /// The chance that a word writes, in parts of 2^31.
-fn chance_of(word: &[u8]) -> Result<Chance, Cause>
-    ensures { result ≡ chance_of word.now }
+fn chance_of(word: Excerpt<'_>) -> Result<Chance, Objection<'_>>
+    ensures { result ≡ chance_of word.entry }
 {
-    match Chance::new(number_from(0, CERTAIN, word)?) {
+    match Chance::new(word.number(0, CERTAIN, Quantity::Probability)?) {
         Some(chance) => Ok(chance),
         None => unreachable!(),
     }
 }
 
 /// The numbers of a rule line, from left to right.
-fn rule_numbers(words: RuleLine<&[u8]>) -> Result<RuleLine<Chance>, Cause>
-    ensures { result ≡ rule_numbers (stored_words words.entry) }
+fn rule_numbers<'a>(words: RuleLine<Excerpt<'a>>) -> Result<RuleLine<Chance>, Objection<'a>>
+    ensures { result ≡ rule_numbers words.entry }
 {
     match words {
         RuleLine::Nasch { brake } => Ok(RuleLine::Nasch {
@@ -83,41 +81,43 @@ fn rule_numbers(words: RuleLine<&[u8]>) -> Result<RuleLine<Chance>, Cause>
 }
 
 /// A line `rule ..`: its words, and then its numbers.
-pub fn rule_line(line: &[u8]) -> Result<RuleLine<Chance>, Cause>
+pub fn rule_line(line: &[u8]) -> Result<RuleLine<Chance>, Objection<'_>>
     ensures { result ≡ rule_line line.now }
 {
-    match rule_words(line) {
+    match rule_words(&Excerpt::of(line)) {
         Some(words) => rule_numbers(words),
-        None => Err(Cause::Line),
+        None => Err(Objection::no_line()),
     }
 }
 
 /// The words of a line `at s rule ..`: that of the step, and those of the rule.
-fn later_words(line: &[u8]) -> Option<(&[u8], RuleLine<&[u8]>)>
-    ensures { option_map stored_later result ≡ later_words line.now }
+fn later_words<'a>(line: &Excerpt<'a>) -> Option<(Excerpt<'a>, RuleLine<Excerpt<'a>>)>
+    ensures { result ≡ later_words line.now }
 {
-    let (step, rule) = cut(without_prefix(b"at ", line)?, b' ')?;
-    if !is_word(step) {
+    let (step, words) = line.after(b"at ")?.cut(b' ')?;
+    if !step.is_word() {
         return None;
     }
-    Some((step, rule_words(rule)?))
+    let rule = rule_words(&words)?;
+    Some((step, rule))
 }
 
 /// The step of a later rule, where there is room for the rule, and the step is from `least` on and below
 /// `steps`.
-fn admit_step(room: u32, steps: u32, least: u32, step: u64) -> Result<u32, Cause>
+fn admit_step<'a>(room: u32, steps: u32, least: u32, step: u64) -> Result<u32, Objection<'a>>
     ensures value { result ≡ admit_step room steps least step }
     ensures room { OnOk result (0 < room) }
     ensures rises { IfOk result (λ from. least ≤ from) }
     ensures within { IfOk result (λ from. from < steps) }
 {
     if room == 0 {
-        return Err(Cause::TooMany);
+        return Err(Objection::bare(Cause::TooMany));
     }
     if u64::from(least) <= step && step < u64::from(steps) {
         Ok(step as u32)
     } else {
-        Err(Cause::Order)
+        let wanted = Wanted::Step { least, steps };
+        Err(Objection::new(Cause::Order, b"", wanted))
     }
 }
 
@@ -127,16 +127,16 @@ pub fn later_line(
     steps: u32,
     least: u32,
     line: &[u8],
-) -> Result<(u32, RuleLine<Chance>), Cause>
+) -> Result<(u32, RuleLine<Chance>), Objection<'_>>
     ensures value { result ≡ later_line room steps least line.now }
     ensures room { OnOk result (0 < room) }
     ensures rises { IfOk result (λ at. least ≤ at.0) }
     ensures within { IfOk result (λ at. at.0 < steps) }
 {
-    let Some((step, rule)) = later_words(line) else {
-        return Err(Cause::Line);
+    let Some((step, rule)) = later_words(&Excerpt::of(line)) else {
+        return Err(Objection::no_line());
     };
-    let step = long_number(step)?;
+    let step = step.long_number()?;
     let rule = rule_numbers(rule)?;
     let from = admit_step(room, steps, least, step)?;
     Ok((from, rule))

@@ -4,13 +4,13 @@ ghost use Rattle.std.specs.Prelude.{◌≡◌, ◌≤◌, IfOk};
 ghost use Rattle.trlab_bounds.specs.declared.roads.TheConstants.{GREATEST_LENGTH, MOST_LANES};
 ghost use Rattle.trlab_bounds.specs.declared.runs.TheConstants.{MOST_STEPS};
 ghost use Rattle.trlab_texts.specs.Reading.{Reports, line, exactly};
+ghost use Rattle.trlab_texts.specs.LineNames.{name_and_space};
 ghost use Rattle.trlab_texts.specs.Words.{number_within, word_after};
 ghost use Rattle.trlab_jobs.specs.Shapes.{shape, span};
 
 use trlab_bounds::roads::{GREATEST_LENGTH, GREATEST_LIMIT, MOST_LANES};
 use trlab_bounds::runs::MOST_STEPS;
-use trlab_texts::word::number_after;
-use trlab_texts::{Cause, Rest, TextFault};
+use trlab_texts::{Excerpt, LineName, Objection, Quantity, Refusal, Rest};
 
 /// What the roads of a sweep have in common.
 #[derive(Clone, Copy)]
@@ -34,39 +34,39 @@ pub struct Span {
 
 /// The line that is a name and a number from `low` to `high`.
 #[tactic(auto, using(crate::proofs::Ranges::number_low, crate::proofs::Ranges::number_high))]
-fn number_line(name: &[u8], low: u32, high: u32, line: &[u8]) -> Result<u32, Cause>
-    ensures value { result ≡ number_within low high (word_after name.now line.now) }
+fn number_line(name: LineName, low: u32, high: u32, line: &[u8]) -> Result<u32, Objection<'_>>
+    ensures value { result ≡ number_within low high (word_after (name_and_space name) line.now) }
     ensures low { IfOk result (λ n. low ≤ n) }
     ensures high { IfOk result (λ n. n ≤ high) }
 {
-    number_after(name, low, high, line)
+    Excerpt::number_after(name, low, high, Quantity::Other, line)
 }
 
 /// The number from `low` to `high` of the line with this name, which must stand here.
-fn number<'a>(
-    name: &[u8],
+fn number(
+    name: LineName,
     low: u32,
     high: u32,
-    rest: Rest<'a>,
-) -> Result<(u32, Rest<'a>), TextFault>
+    rest: Rest<'_>,
+) -> Result<(u32, Rest<'_>), Refusal<'_>>
     ensures told { Reports
-        (line (exactly (λ text. number_within low high (word_after name.now text))) rest.entry) result }
+        (line (exactly (λ text. number_within low high (word_after (name_and_space name) text))) rest.entry) result }
     ensures low { IfOk result (λ found. low ≤ found.0) }
     ensures high { IfOk result (λ found. found.0 ≤ high) }
 {
-    rest.read_line(|text| number_line(name, low, high, text))
+    rest.read_line(name, |text| number_line(name, low, high, text))
 }
 
 /// The lines `limit n`, `length n` and `lanes n`.
-pub fn read_shape(rest: Rest<'_>) -> Result<(Shape, Rest<'_>), TextFault>
+pub fn read_shape(rest: Rest<'_>) -> Result<(Shape, Rest<'_>), Refusal<'_>>
     ensures told { Reports (shape rest.entry) result }
     ensures cells { IfOk result (λ found. found.0.cells ≤ GREATEST_LENGTH) }
     ensures some { IfOk result (λ found. 1 ≤ found.0.lanes) }
     ensures few { IfOk result (λ found. found.0.lanes ≤ MOST_LANES) }
 {
-    let (limit, rest) = number(b"limit ", 1, GREATEST_LIMIT, rest)?;
-    let (cells, rest) = number(b"length ", 1, GREATEST_LENGTH, rest)?;
-    let (lanes, rest) = number(b"lanes ", 1, MOST_LANES, rest)?;
+    let (limit, rest) = number(LineName::Limit, 1, GREATEST_LIMIT, rest)?;
+    let (cells, rest) = number(LineName::Length, 1, GREATEST_LENGTH, rest)?;
+    let (lanes, rest) = number(LineName::Lanes, 1, MOST_LANES, rest)?;
     Ok((
         Shape {
             limit,
@@ -78,12 +78,12 @@ pub fn read_shape(rest: Rest<'_>) -> Result<(Shape, Rest<'_>), TextFault>
 }
 
 /// The lines `warm n` and `measure n`.
-pub fn read_span(rest: Rest<'_>) -> Result<(Span, Rest<'_>), TextFault>
+pub fn read_span(rest: Rest<'_>) -> Result<(Span, Rest<'_>), Refusal<'_>>
     ensures told { Reports (span rest.entry) result }
     ensures warm { IfOk result (λ found. found.0.warm ≤ MOST_STEPS) }
     ensures measure { IfOk result (λ found. found.0.measure ≤ MOST_STEPS) }
 {
-    let (warm, rest) = number(b"warm ", 0, MOST_STEPS, rest)?;
-    let (measure, rest) = number(b"measure ", 1, MOST_STEPS, rest)?;
+    let (warm, rest) = number(LineName::Warm, 0, MOST_STEPS, rest)?;
+    let (measure, rest) = number(LineName::Measure, 1, MOST_STEPS, rest)?;
     Ok((Span { warm, measure }, rest))
 }

@@ -16,7 +16,7 @@ use std::alloc::Global;
 use std::marker::Model;
 use trlab_bounds::texts::TEXT_LIMIT;
 use trlab_rules::Rule;
-use trlab_texts::{Cause, Rest, TextFault};
+use trlab_texts::{Cause, LineName, Objection, Refusal, Rest, TextFault};
 use trlab_words::Key;
 
 /// What a sweep text says. It can be run: the rule is for the lanes, and there is room for the cars of
@@ -77,26 +77,26 @@ impl Model for Setup {
 }
 
 /// The line `sweep 1`.
-fn sweep_line(line: &[u8]) -> Result<(), Cause>
+fn sweep_line(line: &[u8]) -> Result<(), Objection<'_>>
     ensures { result ≡ sweep_line line.now }
 {
     if line == b"sweep 1".as_slice() {
         Ok(())
     } else {
-        Err(Cause::Line)
+        Err(Objection::no_line())
     }
 }
 
 /// The key after the line `sweep 1`.
-fn heading(rest: Rest<'_>) -> Result<([u8; 32], Rest<'_>), TextFault>
+fn heading(rest: Rest<'_>) -> Result<([u8; 32], Rest<'_>), Refusal<'_>>
     ensures { Reports (heading rest.entry) result }
 {
-    let ((), rest) = rest.read_line(sweep_line)?;
-    rest.read_line(key_line)
+    let ((), rest) = rest.read_line(LineName::Sweep, sweep_line)?;
+    rest.read_line(LineName::Key, key_line)
 }
 
 /// The lines before the points.
-fn read_setup(alloc: Global, rest: Rest<'_>) -> Result<(Setup, Rest<'_>), TextFault>
+fn read_setup(alloc: Global, rest: Rest<'_>) -> Result<(Setup, Rest<'_>), Refusal<'_>>
     ensures told { Reports (setup rest.entry) result }
     ensures cells { IfOk result (λ found. found.0.shape.cells ≤ GREATEST_LENGTH) }
     ensures few { IfOk result (λ found. found.0.shape.lanes ≤ MOST_LANES) }
@@ -105,7 +105,10 @@ fn read_setup(alloc: Global, rest: Rest<'_>) -> Result<(Setup, Rest<'_>), TextFa
 {
     let (key, rest) = heading(rest)?;
     let (shape, rest) = read_shape(rest)?;
-    let (rule, rest) = rule::rule(alloc, shape.lanes, rest)?;
+    let count = shape.lanes;
+    let line = rest.line_before();
+    let lanes = rule::Lanes { count, line };
+    let (rule, rest) = rule::rule(alloc, lanes, rest)?;
     let (span, rest) = read_span(rest)?;
     Ok((
         Setup {
@@ -119,7 +122,7 @@ fn read_setup(alloc: Global, rest: Rest<'_>) -> Result<(Setup, Rest<'_>), TextFa
 }
 
 /// Reads the lines of a text that is not too long.
-fn read_lines(alloc: Global, text: &[u8]) -> Result<Sweep, TextFault>
+fn read_lines(alloc: Global, text: &[u8]) -> Result<Sweep, Refusal<'_>>
     requires { length text.now ≤ TEXT_LIMIT }
     ensures told { Reports (SweepLinesSay text.now) result }
     ensures stored { IfOk result IsStoredSweep }
@@ -145,21 +148,36 @@ fn read_lines(alloc: Global, text: &[u8]) -> Result<Sweep, TextFault>
     })
 }
 
-/// Reads a sweep text.
+/// Reads a sweep text, and says what it wanted where it refuses one.
 ///
 /// # Errors
 ///
 /// The first fault of the text, at its line, which is 0 where the text is too long; or that memory
 /// ran out.
-pub fn read_sweep(alloc: Global, text: &[u8]) -> Result<Sweep, TextFault>
+pub fn parse_sweep(alloc: Global, text: &[u8]) -> Result<Sweep, Refusal<'_>>
     ensures told { Reports (SweepText text.now) result }
     ensures stored { IfOk result IsStoredSweep }
 {
     if text.len() > TEXT_LIMIT {
-        return Err(TextFault::At {
+        return Err(Refusal::bare(TextFault::At {
             line: 0,
             cause: Cause::TooBig,
-        });
+        }));
     }
     read_lines(alloc, text)
+}
+
+/// Reads a sweep text.
+///
+/// # Errors
+///
+/// The fault with which `parse_sweep` refuses it.
+pub fn read_sweep(alloc: Global, text: &[u8]) -> Result<Sweep, TextFault>
+    ensures told { Reports (SweepText text.now) result }
+    ensures stored { IfOk result IsStoredSweep }
+{
+    match parse_sweep(alloc, text) {
+        Ok(sweep) => Ok(sweep),
+        Err(refusal) => Err(refusal.fault()),
+    }
 }

@@ -7,5 +7,6 @@ pub mod Programs
 pub mod OneReading
 pub mod OneProgram
 pub mod Said
+pub mod Places
 pub mod SomeReading
 pub mod SomeProgram

@@ -1,11 +1,19 @@
 //! Texts in lines: their words and numbers, the programs in them, and their first fault.
 #![tactic(auto)]
 
+mod excerpt;
 mod fault;
 pub mod laws;
+mod line_name;
 pub mod program;
+mod refusal;
 mod rest;
+mod wanted;
 pub mod word;
 
+pub use excerpt::Excerpt;
 pub use fault::{Cause, LineFault, TextFault};
+pub use line_name::{LineName, LineNames};
+pub use refusal::{LineRefusal, Objection, Refusal};
 pub use rest::Rest;
+pub use wanted::{Quantity, Wanted};

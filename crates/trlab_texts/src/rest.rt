@@ -1,14 +1,17 @@
 //! What is left of a text while it is read line by line.
 
-ghost use Rattle.std.specs.Prelude.{◌≡◌, ◌+◌, ◌<◌, ◌^◌, [], ◌∷◌, None, length, MatchOption, MatchResult, IsTrue, ◌↔◌};
+ghost use Rattle.std.specs.Prelude.{◌≡◌, ◌+◌, ◌-◌, ◌<◌, ◌^◌, [], ◌∷◌, None, length, MatchOption, MatchResult, IsTrue, ◌↔◌};
 ghost use Rattle.trlab_lines.specs.Lines.{lines_of};
 ghost use Rattle.trlab_texts.specs.Lines.{IsNextLine, Rest as RestOfLines, start};
 ghost use Rattle.trlab_texts.specs.Programs.{IsPart, part_of};
 ghost use Rattle.std.specs.Fn.{FnOnceReturnsAt};
+ghost use Rattle.trlab_texts.specs.declared.fault.Cause.{Cause};
+ghost use Rattle.trlab_texts.specs.declared.fault.TextFault.{TextFault};
 ghost use Rattle.trlab_texts.specs.Reading.{Reports, line};
 ghost use Rattle.trlab_texts.specs.Words.{next_word_is};
 
-use crate::fault::{Cause, TextFault};
+use crate::line_name::{LineName, LineNames};
+use crate::refusal::{Objection, Refusal};
 use crate::word::head_word;
 use std::marker::Model;
 use trlab_lines::next_line;
@@ -18,6 +21,8 @@ use trlab_lines::next_line;
 pub struct Rest<'a> {
     left: &'a [u8],
     number: u32,
+    /// The lines for which the next one could have been another.
+    asked: LineNames,
 }
 
 impl<'a> Model for Rest<'a> {
@@ -37,6 +42,7 @@ impl<'a> Rest<'a> {
         Rest {
             left: text,
             number: 1,
+            asked: LineNames::none(),
         }
     }
 
@@ -47,11 +53,34 @@ impl<'a> Rest<'a> {
         self.number
     }
 
+    /// The number of the line before the next one; 0 if there is none.
+    pub fn line_before(&self) -> u32
+        ensures { result ≡ self.now.number - 1 }
+    {
+        self.number.saturating_sub(1)
+    }
+
     /// Is no line left?
     pub fn is_end(&self) -> bool
         ensures { IsTrue result ↔ (self.now.left ≡ []) }
     {
         self.left.is_empty()
+    }
+
+    /// The same rest, whose next line may also have this name.
+    pub fn or(self, name: LineName) -> Rest<'a>
+        ensures { result ≡ self.entry }
+    {
+        let Rest {
+            left,
+            number,
+            asked,
+        } = self;
+        Rest {
+            left,
+            number,
+            asked: asked.with(name),
+        }
     }
 
     /// Whether a line is left whose first word is this one.
@@ -64,59 +93,68 @@ impl<'a> Rest<'a> {
         }
     }
 
+    /// The names that the next line may have, of which this is one.
+    pub fn names_with(&self, name: LineName) -> LineNames {
+        self.asked.with(name)
+    }
+
+    /// The refusal of a text that has ended here, where a line of this name is missing.
+    pub fn ended(&self, name: LineName) -> Refusal<'a>
+        ensures { result ≡ TextFault.At self.now.number Cause.Line }
+    {
+        Refusal::no_line(self.number, self.names_with(name))
+    }
+
     /// The next line, if there is one, and the rest after it.
     pub fn next(self) -> Option<(&'a [u8], Rest<'a>)>
         ensures { MatchOption result (self.entry.left ≡ [])
             (λ found. IsNextLine self.entry found.0.now found.1) }
     {
-        let Rest { left, number } = self;
+        let Rest { left, number, .. } = self;
         let (line, rest) = next_line(left)?;
         Some((
             line,
             Rest {
                 left: rest,
                 number: number + 1,
+                asked: LineNames::none(),
             },
         ))
     }
 
-    /// The line that must stand here, and the rest after it.
+    /// The line that must be here, and the rest after it; it has this name, or another that was asked for.
     ///
     /// # Errors
     ///
     /// `Cause::Line` at the number of that line, where no line is left.
-    pub fn next_line(self) -> Result<(&'a [u8], Rest<'a>), TextFault>
+    pub fn next_line(self, name: LineName) -> Result<(&'a [u8], Rest<'a>), Refusal<'a>>
         ensures { MatchResult result
             (λ found. IsNextLine self.entry found.0.now found.1)
             (λ fault. (self.entry.left ≡ []) × (fault ≡ TextFault.At self.entry.number Cause.Line)) }
     {
-        let fault = TextFault::At {
-            line: self.number(),
-            cause: Cause::Line,
-        };
-        self.next().ok_or(fault)
+        let ended = self.ended(name);
+        self.next().ok_or(ended)
     }
 
-    /// What the next line says by a rule, and the rest after it.
+    /// What the next line says by a rule, and the rest after it; the line has this name.
     ///
     /// # Errors
     ///
     /// That of `next_line`, or the cause that the rule finds, at the number of the line.
-    pub fn read_line<T, F: FnOnce(&'a [u8]) -> Result<T, Cause>>(
+    pub fn read_line<T, F: FnOnce(&'a [u8]) -> Result<T, Objection<'a>>>(
         self,
+        name: LineName,
         rule: F,
-    ) -> Result<(T, Rest<'a>), TextFault>
+    ) -> Result<(T, Rest<'a>), Refusal<'a>>
         requires { F.IsAlwaysCallable rule }
         ensures { Reports (line (FnOnceReturnsAt F.FnOnce rule) self.entry) result }
     {
         let number = self.number();
-        let (text, after) = self.next_line()?;
+        let names = self.names_with(name);
+        let (text, after) = self.next_line(name)?;
         match rule(text) {
             Ok(value) => Ok((value, after)),
-            Err(cause) => Err(TextFault::At {
-                line: number,
-                cause,
-            }),
+            Err(refusal) => Err(refusal.at(number, names)),
         }
     }
 
@@ -125,13 +163,17 @@ impl<'a> Rest<'a> {
     /// # Errors
     ///
     /// `Cause::Line` one line past the last, where no line is `end`: the text has ended too early.
-    pub fn part(self) -> Result<(&'a [u8], Rest<'a>), TextFault>
+    pub fn part(self) -> Result<(&'a [u8], Rest<'a>), Refusal<'a>>
         ensures { MatchResult result
             (λ found. IsPart self.entry (lines_of found.0.now) found.1)
             (λ fault. (part_of self.entry.left ≡ None)
             × (fault ≡ TextFault.At (self.entry.number + length self.entry.left) Cause.Line)) }
     {
-        let Rest { left: text, number } = self;
+        let Rest {
+            left: text,
+            number,
+            ..
+        } = self;
         let mut left = text;
         let mut lines = 0;
         while let Some((line, rest)) = next_line(left) {
@@ -141,14 +183,13 @@ impl<'a> Rest<'a> {
                 let after = Rest {
                     left: rest,
                     number: number + lines,
+                    asked: LineNames::none(),
                 };
                 return Ok((part, after));
             }
             left = rest;
         }
-        Err(TextFault::At {
-            line: number + lines,
-            cause: Cause::Line,
-        })
+        let names = LineNames::none().with(LineName::End);
+        Err(Refusal::no_line(number + lines, names))
     }
 }

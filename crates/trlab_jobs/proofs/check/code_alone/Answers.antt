@@ -11,7 +11,7 @@ returns-then-is_empty c =
 pub returns-else-is_empty : goal.returns-else-is_empty
 returns-else-is_empty c =
     let ended = end_test c.args.rest.now c.is_empty.result c.is_empty.ensures in
-    code_before_others c.args.line.now (lines_of c.args.rest.now) c.in-Ok.code c.in-Ok.ensures (λ none. let test = ended.1 none in cc)
+    rw c.no_line.ensures (code_before_others c.args.line.now (lines_of c.args.rest.now) c.in-Ok.code c.in-Ok.ensures (λ none. let test = ended.1 none in cc))
 
 pub returns-in-Err : goal.returns-in-Err
-returns-in-Err c = rw c.at.ensures (no_code_alone c.args.line.now (lines_of c.args.rest.now) c.in-Err.fault c.in-Err.ensures)
+returns-in-Err c = rw c.at.ensures (no_code_alone c.args.line.now (lines_of c.args.rest.now) c.in-Err.refusal c.in-Err.ensures)

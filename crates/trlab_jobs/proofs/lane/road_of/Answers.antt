@@ -1,9 +1,7 @@
-use Rattle.std.proofs.Common.{arith}
-use Rattle.std.proofs.lemmas.Grind.{common_steps}
 use Rattle.trlab_jobs.proofs.lane.road_of.Goals as goal
 
-pub returns-in-Ok-clause-told : goal.returns-in-Ok-clause-told
-returns-in-Ok-clause-told c = grind (arith, common_steps)
+pub returns-in-None-clause-told : goal.returns-in-None-clause-told
+returns-in-None-clause-told c = rw (c.in-None.is, ← c.bytes-picture.ensures) c.shown.ensures.told
 
-pub returns-in-Err : goal.returns-in-Err
-returns-in-Err c = grind (arith, common_steps)
+pub returns-in-Some-clause-told : goal.returns-in-Some-clause-told
+returns-in-Some-clause-told c = rw (c.in-Some.is, ← c.bytes-picture.ensures, ← c.bytes.ensures) (rw c.requires at c.shown-in-Some.ensures.told)

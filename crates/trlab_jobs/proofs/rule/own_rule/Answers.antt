@@ -21,21 +21,21 @@ after_motion lanes motion = change_part lanes >>= after_change motion
 pub returns-in_err-motion-clause-told : goal.returns-in_err-motion-clause-told
 returns-in_err-motion-clause-told c =
     let fault = handed_on c.from_residual.result c.in_err-motion.field-0.0 c.from_residual.ensures.0 c.from_residual.ensures.1 in
-    rw fault (stops (part Motion) (after_motion c.args.lanes) c.args.rest c.in_err-motion.field-0.0 c.in_err-motion.ensures)
+    rw fault (stops (part Motion) (after_motion c.args.lanes.count) c.args.rest c.in_err-motion.field-0.0 c.in_err-motion.ensures)
 
 pub returns-in_err-change-clause-told : goal.returns-in_err-change-clause-told
 returns-in_err-change-clause-told c =
     let fault = handed_on c.from_residual-in_err-change.result c.in_err-change.field-0.0 c.from_residual-in_err-change.ensures.0 c.from_residual-in_err-change.ensures.1 in
-    rw fault (goes_on (part Motion) (after_motion c.args.lanes) c.args.rest c.in_ok-motion.rest c.in_ok-motion.motion (Err c.in_err-change.field-0.0) c.in_ok-motion.ensures
-    (stops (change_part c.args.lanes) (after_change c.in_ok-motion.motion) c.in_ok-motion.rest c.in_err-change.field-0.0 c.in_err-change.ensures))
+    rw fault (goes_on (part Motion) (after_motion c.args.lanes.count) c.args.rest c.in_ok-motion.rest c.in_ok-motion.motion (Err c.in_err-change.field-0.0) c.in_ok-motion.ensures
+    (stops (change_part c.args.lanes.count) (after_change c.in_ok-motion.motion) c.in_ok-motion.rest c.in_err-change.field-0.0 c.in_err-change.ensures))
 
 pub returns-clause-told : goal.returns-clause-told
 returns-clause-told c =
     let own : Programs = record { motion = c.in_ok-motion.motion; change = c.in_ok-change.change } in
-    rw c.new.ensures.value (goes_on (part Motion) (after_motion c.args.lanes) c.args.rest c.in_ok-motion.rest c.in_ok-motion.motion (Ok (own, c.in_ok-change.rest)) c.in_ok-motion.ensures
-    (goes_on (change_part c.args.lanes) (after_change c.in_ok-motion.motion) c.in_ok-motion.rest c.in_ok-change.rest c.in_ok-change.change (Ok (own, c.in_ok-change.rest)) c.in_ok-change.ensures refl))
+    rw c.new.ensures.value (goes_on (part Motion) (after_motion c.args.lanes.count) c.args.rest c.in_ok-motion.rest c.in_ok-motion.motion (Ok (own, c.in_ok-change.rest)) c.in_ok-motion.ensures
+    (goes_on (change_part c.args.lanes.count) (after_change c.in_ok-motion.motion) c.in_ok-motion.rest c.in_ok-change.rest c.in_ok-change.change (Ok (own, c.in_ok-change.rest)) c.in_ok-change.ensures refl))
 
 pub returns-clause-suits : goal.returns-clause-suits
 returns-clause-suits c =
-    let two = on_two_lanes c.args.lanes c.in_ok-motion.rest c.in_ok-change.rest c.in_ok-change.change c.requires.some c.requires.few c.in_ok-change.ensures in
+    let two = on_two_lanes c.args.lanes.count c.in_ok-motion.rest c.in_ok-change.rest c.in_ok-change.change c.requires.some c.requires.few c.in_ok-change.ensures in
     record { motion = c.new.ensures.rule.motion; change = c.new.ensures.rule.change; two_lanes = rw c.new.ensures.value two }

@@ -1,13 +1,12 @@
 use Rattle.std.proofs.Common.{arith}
 use Rattle.std.proofs.lemmas.Grind.{common_steps}
-use Rattle.trlab_jobs.specs.RuleLines.{stored_words}
 use Rattle.trlab_jobs.proofs.LaterWords.{later_said}
 use Rattle.trlab_jobs.proofs.rule_line.later_line.Goals as goal
 
 pub returns-clause-value : goal.returns-clause-value
 returns-clause-value c =
-    later_said c.args.room c.args.steps c.args.least c.args.line.now (c.in-Some.step.now, stored_words c.in-Some.rule) c.in_ok-step.step c.in_ok-from.from c.in_ok-rule.rule
-    c.in-Some.ensures c.in_ok-step.ensures c.in_ok-rule.ensures c.in_ok-from.ensures.value
+    later_said c.args.room c.args.steps c.args.least c.args.line.now (c.in-Some.step, c.in-Some.rule) c.in_ok-step.step c.in_ok-from.from c.in_ok-rule.rule
+    (rw c.of.ensures at c.in-Some.ensures) c.in_ok-step.ensures c.in_ok-rule.ensures c.in_ok-from.ensures.value
 
 pub returns-clause-rises : goal.returns-clause-rises
 returns-clause-rises c = c.in_ok-from.ensures.rises

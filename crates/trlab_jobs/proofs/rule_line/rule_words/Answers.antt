@@ -35,28 +35,28 @@ returns-in-None c = ap (option_map (λ (brake : List ℕ). Nasch brake)) c.in-No
 
 pub returns-in-Some-two_words : goal.returns-in-Some-two_words
 returns-in-Some-two_words c =
-    ap (option_map (λ (two : List ℕ × List ℕ). Vdr two.0 two.1)) c.in-Some-two_words.ensures ∙ by_vdr c.args.line.now _ c.in_default.ensures c.in-Some-without_prefix.ensures
+    ap (option_map (λ (two : List ℕ × List ℕ). Vdr two.0 two.1)) c.in-Some-two_words.ensures ∙ by_vdr c.args.line.now _ c.in_default.ensures c.in-Some-after.ensures
 
 pub returns-in-None-two_words : goal.returns-in-None-two_words
 returns-in-None-two_words c =
-    ap (option_map (λ (two : List ℕ × List ℕ). Vdr two.0 two.1)) c.in-None-two_words.ensures ∙ by_vdr c.args.line.now _ c.in_default.ensures c.in-Some-without_prefix.ensures
+    ap (option_map (λ (two : List ℕ × List ℕ). Vdr two.0 two.1)) c.in-None-two_words.ensures ∙ by_vdr c.args.line.now _ c.in_default.ensures c.in-Some-after.ensures
 
 pub returns-in-Some-two_words-2 : goal.returns-in-Some-two_words-2
 returns-in-Some-two_words-2 c =
     ap (option_map (λ (two : List ℕ × List ℕ). Rickert two.0 two.1)) c.in-Some-two_words-2.ensures
-    ∙ by_rickert c.args.line.now _ c.in_default.ensures c.in_default-without_prefix.ensures c.in-Some-without_prefix-2.ensures
+    ∙ by_rickert c.args.line.now _ c.in_default.ensures c.in_default-after.ensures c.in-Some-after-2.ensures
 
 pub returns-in-None-two_words-2 : goal.returns-in-None-two_words-2
 returns-in-None-two_words-2 c =
     ap (option_map (λ (two : List ℕ × List ℕ). Rickert two.0 two.1)) c.in-None-two_words-2.ensures
-    ∙ by_rickert c.args.line.now _ c.in_default.ensures c.in_default-without_prefix.ensures c.in-Some-without_prefix-2.ensures
+    ∙ by_rickert c.args.line.now _ c.in_default.ensures c.in_default-after.ensures c.in-Some-after-2.ensures
 
 pub returns-then-eq : goal.returns-then-eq
 returns-then-eq c =
-    let own = rw c.as_slice.ensures at c.if-eq.ensures in
-    ap own_if own ∙ by_rickert c.args.line.now None c.in_default.ensures c.in_default-without_prefix.ensures c.in_default-without_prefix-2.ensures
+    let own = rw (c.as_slice.ensures, c.bytes.ensures) at c.if-eq.ensures in
+    ap own_if own ∙ by_rickert c.args.line.now None c.in_default.ensures c.in_default-after.ensures c.in_default-after-2.ensures
 
 pub returns-else-eq : goal.returns-else-eq
 returns-else-eq c =
-    let other = rw c.as_slice.ensures at c.if-eq.ensures in
-    ap own_if other ∙ by_rickert c.args.line.now None c.in_default.ensures c.in_default-without_prefix.ensures c.in_default-without_prefix-2.ensures
+    let other = rw (c.as_slice.ensures, c.bytes.ensures) at c.if-eq.ensures in
+    ap own_if other ∙ by_rickert c.args.line.now None c.in_default.ensures c.in_default-after.ensures c.in_default-after-2.ensures

@@ -9,8 +9,8 @@ use Rattle.trlab_texts.proofs.program.part.program_part.Goals as goal
 pub returns-in-Err : goal.returns-in-Err
 returns-in-Err c =
     rw c.at.ensures
-    (in_one_line c.args.kind c.args.rest c.in_ok-line.after c.in_ok-line.line.now (Err (fault_at c.number-first.result c.in-Err.fault)) c.in_ok-line.ensures (sym c.if-heads.ensures)
-    (line_fails (code_line_of c.args.kind) c.args.rest c.in_ok-line.after c.in_ok-line.line.now c.number-first.result c.in-Err.fault c.in_ok-line.ensures c.number-first.ensures c.in-Err.ensures))
+    (in_one_line c.args.kind c.args.rest c.in_ok-line.after c.in_ok-line.line.now (Err (fault_at c.number-first.result c.in-Err.refusal)) c.in_ok-line.ensures (sym c.if-heads.ensures)
+    (line_fails (code_line_of c.args.kind) c.args.rest c.in_ok-line.after c.in_ok-line.line.now c.number-first.result c.in-Err.refusal c.in_ok-line.ensures c.number-first.ensures c.in-Err.ensures))
 
 pub returns-in-Ok : goal.returns-in-Ok
 returns-in-Ok c =

@@ -16,4 +16,4 @@ loop-line-preserved c = record {
 }
 
 pub returns : goal.returns
-returns c = rw (← c.self.view_is) (part_missing _ _ c.self.inside.number _ c.loop-line.invariant.searched c.in_default.ensures.lines)
+returns c = rw (← c.self.view_is, c.no_line.ensures) (part_missing _ _ c.self.inside.number _ c.loop-line.invariant.searched c.in_default.ensures.lines)

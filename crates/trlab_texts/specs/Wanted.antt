@@ -1,0 +1,52 @@
+-- What a reader wanted where it refused a file.
+use Rattle.std.specs.Prelude.{◌≡◌, ℕ, ◌≤◌, List, length, Err}
+use Rattle.trlab_code.specs.declared.kind.Kind.{Kind}
+use Rattle.trlab_road.specs.declared.fault.RoadFault.TheVariants.{Length, SpeedAboveLimit}
+use Rattle.trlab_verify.specs.Verdict.{IsRefused}
+use Rattle.trlab_texts.specs.declared.fault.Cause.{Cause}
+use Rattle.trlab_texts.specs.declared.fault.Cause.TheVariants.{Line, Number as NoNumber, Key, OneLane, Order, TooMany, Work as TooMuchWork, Hex, TooBig, Program as InProgram, Code, Road, StandardRefused, Verdict}
+use Rattle.trlab_texts.specs.declared.fault.LineFault.{LineFault}
+use Rattle.trlab_texts.specs.declared.fault.LineFault.TheVariants.{Wrong, Memory as NoMemory}
+use Rattle.trlab_texts.specs.declared.fault.TextFault.{TextFault}
+use Rattle.trlab_texts.specs.declared.fault.TextFault.TheVariants.{At, Memory}
+use Rattle.trlab_texts.specs.declared.wanted.Wanted.{Wanted as Wish}
+use Rattle.trlab_texts.specs.declared.wanted.Wanted.TheVariants.{Nothing, Lines, Number, Digits, SecondLane, Step, Work, Cells, Speed, Program}
+use Rattle.trlab_texts.specs.Places.{IsAt}
+use Rattle.trlab_texts.specs.Words.{number_of, within}
+
+-- in place of a word of a line, of this size, a number is wanted, and it is none of the range
+abbrev pub IsNoNumberAt : List ℕ → ℕ → ℕ → ℕ → ℕ → Type 0
+IsNoNumberAt line at size least most = (word : List ℕ)
+    × (IsAt line at word × ((length word ≡ size) × (within least most (number_of word) ≡ Err NoNumber)))
+
+-- what is wanted for each cause, in a line; other pairs of the two never come
+abbrev pub IsWantedIn : List ℕ → Cause → Wish → Type 0
+IsWantedIn line Line (Lines names) = Unit {0}
+IsWantedIn line NoNumber (Number at size least most quantity) = IsNoNumberAt line at size least most
+IsWantedIn line Key (Digits at) = at ≤ length line
+IsWantedIn line Hex (Digits at) = at ≤ length line
+IsWantedIn line OneLane (SecondLane first) = Unit {0}
+IsWantedIn line Order (Step least steps) = Unit {0}
+IsWantedIn line TooMuchWork (Work points steps) = Unit {0}
+IsWantedIn line (Road Length) (Cells first) = Unit {0}
+IsWantedIn line (Road (SpeedAboveLimit lane place)) (Speed limit) = Unit {0}
+IsWantedIn line (Verdict reason) (Program code at) = (kind : Kind) × IsRefused kind code at reason
+IsWantedIn line TooMany Nothing = Unit {0}
+IsWantedIn line TooBig Nothing = Unit {0}
+IsWantedIn line (InProgram why) Nothing = Unit {0}
+IsWantedIn line (Code fault) Nothing = Unit {0}
+IsWantedIn line (Road Length) Nothing = ⊥
+IsWantedIn line (Road (SpeedAboveLimit lane place)) Nothing = ⊥
+IsWantedIn line (Road fault) Nothing = Unit {0}
+IsWantedIn line StandardRefused Nothing = Unit {0}
+IsWantedIn line cause wanted = ⊥
+
+-- the same of a fault of a line; where memory ran out nothing is wanted
+abbrev pub IsWantedAt : List ℕ → LineFault → Wish → Type 0
+IsWantedAt line (Wrong cause) wanted = IsWantedIn line cause wanted
+IsWantedAt line NoMemory wanted = wanted ≡ Nothing
+
+-- the same of a fault of a text
+abbrev pub IsWanted : List ℕ → TextFault → Wish → Type 0
+IsWanted line (At number cause) wanted = IsWantedIn line cause wanted
+IsWanted line Memory wanted = wanted ≡ Nothing

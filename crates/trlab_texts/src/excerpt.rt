@@ -1,0 +1,220 @@
+//! Excerpts of lines, which know where in the line they begin.
+
+ghost use Rattle.std.specs.Prelude.{◌≡◌, Err};
+ghost use Rattle.trlab_lines.specs.Cutting.{cut, without_prefix};
+ghost use Rattle.trlab_texts.specs.Words.{as_word, is_word, number_of, number_within, two_words, within, word_after};
+ghost use Rattle.trlab_bounds.specs.declared.texts.TheConstants.{LONGEST_NUMBER};
+ghost use Rattle.trlab_texts.specs.LineNames.{name_and_space};
+
+use crate::fault::Cause;
+use crate::line_name::LineName;
+use crate::refusal::Objection;
+use crate::wanted::{Quantity, Wanted};
+use crate::word;
+use std::marker::Model;
+use trlab_bounds::texts::LONGEST_NUMBER;
+
+/// Some bytes of a line, and where in the line they begin.
+#[derive(Drop)]
+pub struct Excerpt<'a> {
+    line: &'a [u8],
+    at: usize,
+    bytes: &'a [u8],
+}
+
+impl<'a> Model for Excerpt<'a> {
+    ghost use Rattle.std.specs.Prelude.{ℕ, List};
+    ghost use Rattle.trlab_texts.specs.Places.{IsAt};
+
+    ghost Value = { List ℕ };
+
+    ghost view = { λ excerpt. excerpt.bytes.now };
+
+    ghost invariant = { λ excerpt. IsAt excerpt.line.now excerpt.at excerpt.bytes.now };
+}
+
+impl<'a> Excerpt<'a> {
+    /// The whole line.
+    pub fn of(line: &'a [u8]) -> Excerpt<'a>
+        ensures { result ≡ line.now }
+    {
+        Excerpt {
+            line,
+            at: 0,
+            bytes: line,
+        }
+    }
+
+    /// The one word of a line after its name, which ends with a space.
+    ///
+    /// # Errors
+    ///
+    /// `Cause::Line` where anything else is there.
+    pub fn word_after(name: &[u8], line: &'a [u8]) -> Result<Excerpt<'a>, Objection<'a>>
+        ensures { result ≡ word_after name.now line.now }
+    {
+        match Excerpt::of(line).after(name) {
+            Some(word) => {
+                if word.is_word() {
+                    Ok(word)
+                } else {
+                    Err(Objection::no_line())
+                }
+            }
+            None => Err(Objection::no_line()),
+        }
+    }
+
+    /// The number from `low` to `high` that is the one word of a line after its name.
+    ///
+    /// # Errors
+    ///
+    /// `Cause::Line` where no one word is after the name, and else `Cause::Number`.
+    pub fn number_after(
+        name: LineName,
+        low: u32,
+        high: u32,
+        quantity: Quantity,
+        line: &'a [u8],
+    ) -> Result<u32, Objection<'a>>
+        ensures { result ≡ number_within low high (word_after (name_and_space name) line.now) }
+    {
+        let word = Excerpt::word_after(name.name_and_space(), line)?;
+        word.number(low, high, quantity)
+    }
+
+    /// The bytes themselves.
+    pub fn bytes(&self) -> &'a [u8]
+        ensures { result.now ≡ self.now }
+    {
+        self.bytes
+    }
+
+    /// What follows a prefix.
+    pub fn after(&self, prefix: &[u8]) -> Option<Excerpt<'a>>
+        ensures { result ≡ without_prefix prefix.now self.now }
+    {
+        match word::without_prefix(prefix, self.bytes) {
+            Some(rest) => Some(Excerpt {
+                line: self.line,
+                at: self.at + prefix.len(),
+                bytes: rest,
+            }),
+            None => None,
+        }
+    }
+
+    /// What is before the first byte of this kind, and what is after it.
+    pub fn cut(&self, byte: u8) -> Option<(Excerpt<'a>, Excerpt<'a>)>
+        ensures { result ≡ cut byte self.now }
+    {
+        match trlab_lines::cut(self.bytes, byte) {
+            Some((front, back)) => {
+                let before = Excerpt {
+                    line: self.line,
+                    at: self.at,
+                    bytes: front,
+                };
+                let after = Excerpt {
+                    line: self.line,
+                    at: self.at + front.len() + 1,
+                    bytes: back,
+                };
+                Some((before, after))
+            }
+            None => None,
+        }
+    }
+
+    /// Is it one word?
+    pub fn is_word(&self) -> bool
+        ensures { result ≡ is_word self.now }
+    {
+        word::is_word(self.bytes)
+    }
+
+    /// The excerpt, where it is one word.
+    pub fn as_word(self) -> Option<Excerpt<'a>>
+        ensures { result ≡ as_word self.entry }
+    {
+        if self.is_word() { Some(self) } else { None }
+    }
+
+    /// The two words of which it consists, with one space between them.
+    pub fn two_words(&self) -> Option<(Excerpt<'a>, Excerpt<'a>)>
+        ensures { result ≡ two_words self.now }
+    {
+        match self.cut(b' ') {
+            Some((first, second)) => {
+                if first.is_word() && second.is_word() {
+                    Some((first, second))
+                } else {
+                    None
+                }
+            }
+            None => None,
+        }
+    }
+
+    /// The number from `low` to `high` that it writes.
+    ///
+    /// # Errors
+    ///
+    /// `Cause::Number` for anything else.
+    #[tactic(auto, using(crate::proofs::Places::only_number))]
+    pub fn number(self, low: u32, high: u32, quantity: Quantity) -> Result<u32, Objection<'a>>
+        ensures { result ≡ within low high (number_of self.entry) }
+    {
+        match word::number_from(low, high, self.bytes) {
+            Ok(n) => Ok(n),
+            Err(_) => Err(self.no_number(u64::from(low), u64::from(high), quantity)),
+        }
+    }
+
+    /// The number that it writes, where it has no more digits than a number may have.
+    ///
+    /// # Errors
+    ///
+    /// `Cause::Number` for anything else.
+    #[tactic(auto, using(crate::proofs::Places::only_number))]
+    pub fn long_number(self) -> Result<u64, Objection<'a>>
+        ensures { result ≡ within 0 LONGEST_NUMBER (number_of self.entry) }
+    {
+        match word::long_number(self.bytes) {
+            Ok(n) => Ok(n),
+            Err(_) => Err(self.no_number(0, LONGEST_NUMBER, Quantity::Other)),
+        }
+    }
+
+    /// That these bytes are no key.
+    pub fn no_key(self) -> Objection<'a>
+        ensures { result ≡ Cause.Key }
+    {
+        let wanted = Wanted::Digits { at: self.at };
+        Objection::new(Cause::Key, self.line, wanted)
+    }
+
+    /// That these bytes are no bytes in hexadecimal digits.
+    pub fn no_hex(self) -> Objection<'a>
+        ensures { result ≡ Cause.Hex }
+    {
+        let wanted = Wanted::Digits { at: self.at };
+        Objection::new(Cause::Hex, self.line, wanted)
+    }
+
+    /// That these bytes are no number of this range.
+    fn no_number(self, least: u64, most: u64, quantity: Quantity) -> Objection<'a>
+        requires { within least most (number_of self) ≡ Err Cause.Number }
+        ensures { result ≡ Cause.Number }
+    {
+        let Excerpt { line, at, bytes } = self;
+        let wanted = Wanted::Number {
+            at,
+            length: bytes.len(),
+            least,
+            most,
+            quantity,
+        };
+        Objection::new(Cause::Number, line, wanted)
+    }
+}
