@@ -1,6 +1,6 @@
 -- What may be wrong with a line: never that a program of a standard rule is refused.
-use Rattle.std.proofs.Common.{◌≡◌, ◌≢◌, ℕ, ◌+◌, ◌*◌, ◌<◌, ◌≤◌, ◌==◌, ◌&&◌, Bool, true, false, List, [], ◌∷◌, sym, subst, arith, if◌then◌else◌}
-use Rattle.std.specs.Prelude.{Option, None, Some, Result, Ok, Err, IfErr, codes, nat_le, nat_lt, ok_or, option_map}
+use Rattle.std.proofs.Common.{◌≡◌, ◌≢◌, ℕ, ◌+◌, ◌*◌, ◌<◌, ◌==◌, ◌&&◌, Bool, true, false, List, [], ◌∷◌, sym, subst, arith, if◌then◌else◌}
+use Rattle.std.specs.Prelude.{Option, None, Some, Result, Ok, Err, IfErr, codes, nat_le, nat_lt, ok_or}
 use Rattle.std.specs.Str.{bytes_eq}
 use Rattle.hex.specs.Hex.{decode_of, decode_sized}
 use Rattle.hex.specs.declared.error.FromHexError.{FromHexError}
@@ -23,7 +23,6 @@ use Rattle.trlab_verify.specs.Verdict.{IsRefused}
 use Rattle.trlab_jobs.proofs.ReasonNumbers.{numbered_from_one}
 use Rattle.trlab_texts.specs.declared.fault.Cause.{Cause}
 use Rattle.trlab_texts.specs.declared.fault.Cause.TheVariants.{Line, Number, Key, OneLane, Order, TooMany, Work, Hex, TooBig, Program as InProgram, Code, Road, StandardRefused, Verdict}
-use Rattle.trlab_texts.specs.Causes.{cause_number}
 use Rattle.trlab_texts.specs.Words.{is_word, number_of, one_word, number_within, within, word_after}
 use Rattle.trlab_texts.specs.Reading.{Fault, Rule, at_line, exactly}
 use Rattle.trlab_texts.specs.Programs.{BytesSay, CodeSays, DigitsSay, as_kind, code_line, code_line_of, of_kind}

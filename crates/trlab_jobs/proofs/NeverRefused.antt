@@ -1,6 +1,6 @@
 -- No text has the fault that a program of a standard rule is refused, since the verifier accepts them all.
 use Rattle.std.proofs.Common.{◌≡◌, ℕ, zero, suc, ◌+◌, Bool, true, false, List, [], ◌∷◌, length, sym, subst}
-use Rattle.std.specs.Prelude.{Option, None, Some, Result, Ok, Err, IfErr, MatchOption, codes, nat_eq, nat_lt, option_to_list}
+use Rattle.std.specs.Prelude.{Option, None, Some, Result, Ok, Err, codes, nat_eq, nat_lt, option_to_list}
 use Rattle.std.specs.Str.{bytes_eq}
 use Rattle.hex.specs.Hex.{decode_of}
 use Rattle.hex.specs.declared.error.FromHexError.{FromHexError}
@@ -19,24 +19,22 @@ use Rattle.trlab_rules.specs.Rules.{Programs}
 use Rattle.trlab_rules.specs.Standard.{nasch_program, vdr_program, rickert_program}
 use Rattle.trlab_step.specs.Run.{Sheet}
 use Rattle.trlab_texts.specs.declared.fault.Cause.{Cause}
-use Rattle.trlab_texts.specs.declared.fault.Cause.TheVariants.{Line, TooBig, Verdict, Road}
+use Rattle.trlab_texts.specs.declared.fault.Cause.TheVariants.{Line, TooBig}
 use Rattle.trlab_texts.specs.Lines.{Rest, start}
 use Rattle.trlab_texts.specs.Words.{next_word_is, word_after}
-use Rattle.trlab_texts.specs.Reading.{Fault, Rule, Reading, GoesOn, LineSays, SizedTextSays, TextSays, at_line, before, exactly, in_line, line, of_line, perhaps, say, ◌>>=◌}
+use Rattle.trlab_texts.specs.Reading.{Fault, Rule, Reading, GoesOn, LineSays, SizedTextSays, at_line, before, exactly, in_line, line, of_line, perhaps, say, ◌>>=◌}
 use Rattle.trlab_texts.specs.Programs.{HeadingSays, Part, PartSays, VerdictSays, after_line, block, code_line_of, heading, part, part_of, program_after, program_part, verdict}
-use Rattle.trlab_jobs.specs.declared.check.Question.{Question}
 use Rattle.trlab_jobs.specs.declared.rule_line.RuleLine.{RuleLine}
 use Rattle.trlab_jobs.specs.declared.rule_line.RuleLine.TheVariants.{Nasch, Vdr, Rickert, Own}
-use Rattle.trlab_jobs.specs.Check.{Check, CheckLinesSay, CheckText, HeadedLinesSay, QuestionSays, check_of, heading_kind, lone_program, no_more_after, question_of}
-use Rattle.trlab_jobs.specs.Counts.{counts}
-use Rattle.trlab_jobs.specs.Job.{Job, JobText, LinesSay, job, key_line, limit_line, road_line, steps_line}
+use Rattle.trlab_jobs.specs.Check.{Check, CheckLinesSay, CheckText, HeadedLinesSay, check_of, heading_kind, lone_program, no_more_after, question_of}
+use Rattle.trlab_jobs.specs.Job.{JobText, LinesSay, job, key_line, limit_line, road_line, steps_line}
 use Rattle.trlab_jobs.specs.Lanes.{LanesSay, lane_word, lanes, last_line, road_of, second_lane}
 use Rattle.trlab_jobs.specs.Later.{later_from, later_rule, later_rules, to_the_end}
 use Rattle.trlab_jobs.specs.Laws.{IsOtherCause, NeverRefusesStandardRules}
 use Rattle.trlab_jobs.specs.RuleLines.{later_line, rule_line}
-use Rattle.trlab_jobs.specs.RuleParts.{BothSay, ExchangeSays, MotionSays, block_misplacement, change_by, change_part, code_misplacement, digits_misplacement, misplacement, next_is_change, own_rule, part_misplacement, rule, rule_from}
+use Rattle.trlab_jobs.specs.RuleParts.{ExchangeSays, MotionSays, block_misplacement, change_by, change_part, code_misplacement, digits_misplacement, misplacement, next_is_change, own_rule, part_misplacement, rule, rule_from}
 use Rattle.trlab_jobs.specs.Shapes.{all_cells, all_steps, lanes_line, length_line, measure_line, shape, span, warm_line}
-use Rattle.trlab_jobs.specs.Sweep.{Setup, Sweep, SweepLinesSay, SweepText, heading as sweep_heading, setup, sweep_line, with_counts}
+use Rattle.trlab_jobs.specs.Sweep.{Setup, SweepLinesSay, SweepText, heading as sweep_heading, setup, sweep_line, with_counts}
 use Rattle.trlab_jobs.proofs.JobLines.{after_all, after_key, after_lanes, after_limit, after_road, after_rule, after_steps}
 use Rattle.trlab_jobs.proofs.LineCauses.{Fine, FineAnswer, FineRule, at_line_fine, code_line_fine, code_line_of_fine, counts_fine, exactly_fine, hex_other, key_line_fine, lane_word_fine, lanes_line_fine, later_line_fine, length_line_fine, limit_line_fine, line_other, measure_line_fine, one_lane_other, program_other, road_line_fine, road_other, rule_line_fine, steps_line_fine, sweep_line_fine, too_big_other, verdict_other, warm_line_fine, word_fine}
 use Rattle.trlab_jobs.proofs.SweepLines.{after_cells, after_limit as after_sweep_limit, after_key as after_sweep_key, after_rule as after_sweep_rule, after_shape, after_warm}

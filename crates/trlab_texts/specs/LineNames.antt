@@ -1,5 +1,5 @@
 -- The lines of job and sweep files by their first word.
-use Rattle.std.specs.Prelude.{ℕ, List, ◌∷◌, [], ◌++◌, codes}
+use Rattle.std.specs.Prelude.{ℕ, List, ◌++◌, codes}
 use Rattle.trlab_texts.specs.declared.line_name.LineName.{LineName}
 use Rattle.trlab_texts.specs.declared.line_name.LineName.TheVariants.{Road, Sweep, Key, Limit, Length, Lanes, Lane, Rule, Motion, Change, Steps, At, Warm, Measure, Cars, End}
 
