@@ -9,7 +9,7 @@ ghost use Rattle.trlab_campaign.specs.Refusal.{fault_line};
 
 use itoa::Buffer;
 use std::alloc::{AllocError, Global};
-use trlab_pages::Page;
+use trlab_lines::Page;
 use trlab_road::Road;
 use trlab_texts::Cause;
 

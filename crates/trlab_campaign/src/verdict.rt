@@ -12,7 +12,7 @@ use std::alloc::{AllocError, Global};
 use trlab_asm::disassemble;
 use trlab_code::{Code, Kind};
 use trlab_jobs::{Check, Question};
-use trlab_pages::Page;
+use trlab_lines::Page;
 use trlab_verify::{VerifyFault, verify_change, verify_motion};
 
 /// The verdict on a program, as it is written.

@@ -4,10 +4,10 @@ use Rattle.std.specs.Str.{bytes_eq}
 use Rattle.clap.specs.Words.{Kinds, Row, Text as Word, first_of}
 use Rattle.clap.specs.declared.error.kind.ErrorKind.{ErrorKind}
 use Rattle.clap.specs.declared.error.kind.ErrorKind.TheVariants.{InvalidValue, MissingRequiredArgument, UnknownArgument}
-use Rattle.trlab_repairs.specs.declared.subject.Subject.{Subject}
-use Rattle.trlab_repairs.specs.declared.subject.Subject.TheVariants.{Job, Sweep, Check}
-use Rattle.trlab_sentences.specs.declared.topics.Topic.{Topic}
-use Rattle.trlab_sentences.specs.declared.topics.Topic.TheVariants.{Cause, Reason}
+use Rattle.trlab_diagnosis.specs.declared.subject.Subject.{Subject}
+use Rattle.trlab_diagnosis.specs.declared.subject.Subject.TheVariants.{Job, Sweep, Check}
+use Rattle.trlab_explain.specs.declared.topics.Topic.{Topic}
+use Rattle.trlab_explain.specs.declared.topics.Topic.TheVariants.{Cause, Reason}
 use Rattle.trlab_command_line.specs.Numbers.{number_in}
 use Rattle.trlab_command_line.specs.declared.arguments.explain.Explaining.{Explaining}
 use Rattle.trlab_command_line.specs.declared.arguments.explain.Explaining.TheVariants.{Text, Number}

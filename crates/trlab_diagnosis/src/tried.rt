@@ -1,14 +1,15 @@
 //! Repairs that are tried, one after another.
 
 ghost use Rattle.std.specs.Prelude.{IfOk, IfSome};
-ghost use Rattle.trlab_repairs.specs.Repairs.{Helps};
+ghost use Rattle.trlab_diagnosis.specs.Repairs.{Helps};
 
 use crate::draft::Draft;
+use crate::repair::{Repair, where_it_helps};
+use crate::subject::Subject;
 use std::alloc::{AllocError, Global};
-use trlab_repairs::{Repair, Subject, where_it_helps};
 
 /// The longest text that is read again and again, so that no explanation takes long.
-pub const LONGEST_ASKED: usize = 524288;
+const LONGEST_ASKED: usize = 524288;
 
 /// How many repairs are tried at most: each is a reading of the whole text.
 pub const MOST_TRIED: usize = 5;

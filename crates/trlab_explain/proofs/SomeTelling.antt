@@ -8,7 +8,7 @@ use Rattle.trlab_jobs.proofs.SomeText.{something as job_says}
 use Rattle.trlab_jobs.proofs.SomeSweep.{something as sweep_says}
 use Rattle.trlab_jobs.proofs.SomeCheck.{something as check_says}
 use Rattle.trlab_campaign.specs.CheckOutput.{refused_line}
-use Rattle.trlab_repairs.specs.declared.subject.Subject.TheVariants.{Job, Sweep, Check}
+use Rattle.trlab_diagnosis.specs.declared.subject.Subject.TheVariants.{Job, Sweep, Check}
 use Rattle.trlab_explain.specs.Explanations.{BeginsWith, TellsCheck, TellsFault, TellsProgram, TellsText, fault_head}
 use Rattle.trlab_explain.specs.Laws.{TellsSomething}
 

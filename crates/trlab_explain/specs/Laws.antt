@@ -1,6 +1,6 @@
 -- Laws of explanations.
 use Rattle.std.specs.Prelude.{ℕ, Bool, List}
-use Rattle.trlab_repairs.specs.declared.subject.Subject.{Subject}
+use Rattle.trlab_diagnosis.specs.declared.subject.Subject.{Subject}
 use Rattle.trlab_explain.specs.Explanations.{TellsAs}
 
 -- of any text something can be told, whatever it is read as

@@ -1,2 +1,4 @@
+pub mod Numbers
+pub mod Quotes
 pub mod Explanations
 pub mod Laws

@@ -3,14 +3,14 @@
 
 ghost use Rattle.std.specs.Prelude.{◌≡◌, ◌++◌, OnOk, option_map};
 ghost use Rattle.trlab_campaign.specs.Refusal.{fault_line};
-ghost use Rattle.trlab_sentences.specs.Quotes.{quote_line};
+ghost use Rattle.trlab_explain.specs.Quotes.{quote_line};
 ghost use Rattle.trlab_explain.specs.Explanations.{BeginsWith};
 
+use crate::lines::push_quote;
 use std::alloc::AllocError;
 use trlab_campaign::push_fault_line;
 pub use trlab_campaign::push_refused_line;
-use trlab_pages::Page;
-use trlab_sentences::push_quote;
+use trlab_lines::Page;
 use trlab_texts::Cause;
 
 /// Adds how a fault of a text is told, with its line, where there is one.

@@ -1,3 +1,4 @@
 pub mod Lines
 pub mod Cutting
 pub mod Numbers
+pub mod Plain

@@ -10,8 +10,8 @@ use crate::arguments::matches::given_number;
 use clap::error::ErrorKind;
 use clap::{ArgMatches, Error};
 use std::alloc::{AllocError, Global};
-use trlab_repairs::Subject;
-use trlab_sentences::Topic;
+use trlab_diagnosis::Subject;
+use trlab_explain::Topic;
 
 /// What is explained.
 #[derive(Clone, Copy)]

@@ -4,11 +4,11 @@ use crate::alike::Choice;
 use crate::candidates::Candidates;
 use crate::candidates::program::is_program_head;
 use crate::draft::Put;
+use crate::line::Place;
 use crate::operands::{OperandWord, operand_at_fault};
 use std::alloc::{AllocError, Global};
 use trlab_asm::Why;
 use trlab_lines::{label_and_rest, next_line, without_comment};
-use trlab_repairs::{Place, Slip};
 
 /// A choice of labels once one more line was looked at, before which `at` bytes stand.
 fn choice_after(
@@ -51,9 +51,14 @@ pub fn label_candidate(list: &mut Candidates<'_>) -> Result<(), AllocError> {
     let Some(OperandWord { at, word, .. }) = operand_at_fault(list.line, Why::NoLabel) else {
         return Ok(());
     };
-    let label = nearest_label(list.alloc, &list.place, word)?;
+    let label = nearest_label(list.alloc, &list.fault.place, word)?;
     if let Some((start, length)) = label.found {
-        list.in_line(Slip::Label, at, word.len(), Put::Copied(start, length));
+        list.in_line(
+            "probably a misspelled label.",
+            at,
+            word.len(),
+            Put::Copied(start, length),
+        );
     }
     Ok(())
 }

@@ -1,0 +1,80 @@
+//! The causes of numbers, and the reasons of causes.
+
+ghost use Rattle.std.specs.Prelude.{◌≡◌, IfSome, is_some, nat_eq};
+ghost use Rattle.std.specs.List.{find};
+ghost use Rattle.trlab_texts.specs.Causes.{cause_number};
+ghost use Rattle.trlab_explain.specs.Numbers.{is_known};
+ghost use Rattle.trlab_explain.specs.declared.topics.Topic.TheVariants.{Cause as OfCause};
+
+use trlab_asm::Why;
+use trlab_code::CodeFault;
+use trlab_notes::Reason;
+use trlab_road::RoadFault;
+use trlab_texts::Cause;
+
+/// By how much the number of a cause is above that of its reason.
+const BEFORE_REASONS: u32 = 40;
+
+/// The causes that a text may be refused for; of those that name a place in it, one for any place.
+const CAUSES: [Cause; 30] = [
+    Cause::Line,
+    Cause::Number,
+    Cause::Key,
+    Cause::OneLane,
+    Cause::Order,
+    Cause::TooMany,
+    Cause::Work,
+    Cause::Hex,
+    Cause::TooBig,
+    Cause::Program(Why::Word),
+    Cause::Program(Why::Operand),
+    Cause::Program(Why::Number),
+    Cause::Program(Why::LabelTwice),
+    Cause::Program(Why::NoLabel),
+    Cause::Program(Why::TooLong),
+    Cause::Program(Why::Empty),
+    Cause::Code(CodeFault::Short),
+    Cause::Code(CodeFault::Magic),
+    Cause::Code(CodeFault::Version),
+    Cause::Code(CodeFault::Kind),
+    Cause::Code(CodeFault::Count),
+    Cause::Code(CodeFault::Opcode(0)),
+    Cause::Code(CodeFault::Field(0)),
+    Cause::Code(CodeFault::Trailing),
+    Cause::Code(CodeFault::NeedlessVersion),
+    Cause::Road(RoadFault::Length),
+    Cause::Road(RoadFault::Character { lane: 0, place: 0 }),
+    Cause::Road(RoadFault::SpeedAboveLimit { lane: 0, place: 0 }),
+    Cause::Road(RoadFault::TooManyCars),
+    Cause::StandardRefused,
+];
+
+/// The reason of a cause, where the verifier refuses a program.
+pub fn reason_of(cause: Cause) -> Option<Reason> {
+    match cause {
+        Cause::Verdict(number) => Reason::from_number(number),
+        _ => None,
+    }
+}
+
+/// The first cause of the list that has this number.
+fn listed(number: u32) -> Option<Cause>
+    ensures { result ≡ find (λ cause. nat_eq (cause_number cause) number) CAUSES }
+{
+    CAUSES
+        .iter()
+        .copied()
+        .find(|cause| cause.number() == u64::from(number))
+}
+
+/// The cause of a number, where a text may be refused for it.
+pub fn cause_numbered(number: u32) -> Option<Cause>
+    ensures known { is_some result ≡ is_known OfCause number }
+    ensures number { IfSome result (λ cause. cause_number cause ≡ number) }
+{
+    if let Some(cause) = listed(number) {
+        return Some(cause);
+    }
+    let reason = Reason::from_number(number.checked_sub(BEFORE_REASONS)?)?;
+    Some(Cause::Verdict(reason.number()))
+}

@@ -1,9 +1,0 @@
-use Rattle.std.proofs.lemmas.List.Elements.{All-same}
-use Rattle.trlab_pages.specs.Plain.{IsPlain}
-use Rattle.std.proofs.Common.{◌∙◌, decimal}
-use Rattle.trlab_pages.proofs.Digits.{plain_digits}
-use Rattle.trlab_pages.proofs.page.Page.number.Goals as goal
-
-pub put-requires : goal.put-requires
-put-requires c =
-    All-same IsPlain c.as_bytes.result.now (decimal c.args.number) (c.as_bytes.ensures.value ∙ c.in_ok-digits.ensures.ok) (plain_digits c.args.number c.ranges.number.fits)

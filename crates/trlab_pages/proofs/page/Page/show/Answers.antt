@@ -1,5 +1,0 @@
-use Rattle.std.proofs.Common.{rules}
-use Rattle.trlab_pages.proofs.page.Page.show.Goals as goal
-
-pub push-requires : goal.push-requires
-push-requires c = search rules

@@ -1,9 +1,0 @@
--- How a line of a text is shown.
-use Rattle.std.specs.Prelude.{ℕ, List, [], ◌∷◌, ◌++◌, codes, decimal, Option, None, Some}
-use Rattle.trlab_pages.specs.Plain.{quoted}
-
--- a line of the text with its number; nothing where the text has no such line
-abbrev pub quote_line : ℕ → Option (List ℕ) → List ℕ
-quote_line number None = []
-quote_line number (Some line) =
-    codes "line " ++ (decimal number ++ (codes ": " ++ (quoted line ++ (10 ∷ []))))
