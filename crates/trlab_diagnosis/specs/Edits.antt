@@ -2,7 +2,6 @@
 use Rattle.std.specs.Prelude.{◌≡◌, ℕ, ◌+◌, ◌<◌, List, ◌++◌, drop, length, take, Option, None, Some, Result, Ok, Err}
 use Rattle.trlab_lines.specs.Lines.{lines_of}
 use Rattle.trlab_texts.specs.declared.fault.Cause.{Cause}
-use Rattle.trlab_texts.specs.declared.fault.Cause.TheVariants.{Line}
 use Rattle.trlab_texts.specs.Reading.{Fault}
 use Rattle.trlab_jobs.specs.Job.{Job as JobSaid, JobText}
 use Rattle.trlab_jobs.specs.Sweep.{Sweep as SweepSaid, SweepText}
@@ -36,14 +35,3 @@ IsAfter lines number mended (Some fault) =
 abbrev pub GetsFurther : List ℕ → ℕ → Subject → List ℕ → Type 0
 GetsFurther text number subject mended = (fault : Option (ℕ × Cause))
     × HasFirst subject mended fault × IsAfter (lines_of text) number (lines_of mended) fault
-
--- the first fault, if there is one, is not that a line up to the one of a number is the wrong line
-abbrev pub IsPast : ℕ → Option (ℕ × Cause) → Type 0
-IsPast number None = Unit {0}
-IsPast number (Some fault) = fault.1 ≡ Line → number < fault.0
-
--- a line of this number may stand after others, and each of these is the one that must stand there,
--- whatever is wrong in them
-abbrev pub MayFollow : Subject → List ℕ → ℕ → List ℕ → Type 0
-MayFollow subject above number line = (fault : Option (ℕ × Cause))
-    × HasFirst subject (above ++ line) fault × IsPast number fault

@@ -1,7 +1,9 @@
 -- What a text is meant to be.
-use Rattle.std.specs.Prelude.{ℕ, Bool, List, [], ◌∷◌, codes, map, if◌then◌else◌}
+use Rattle.std.specs.Prelude.{◌≡◌, ◌≤◌, ℕ, Bool, List, [], ◌∷◌, codes, map, nat_eq, Option, None, Some, MatchOption, if◌then◌else◌}
+use Rattle.std.specs.List.{list_any}
 use Rattle.std.specs.Str.{bytes_eq}
 use Rattle.std.specs.Char.{to_ascii_lowercase}
+use Rattle.strsim.specs.Edits.{damerau}
 use Rattle.trlab_texts.specs.Words.{head_word}
 use Rattle.trlab_diagnosis.specs.declared.subject.Subject.{Subject}
 use Rattle.trlab_diagnosis.specs.declared.subject.Subject.TheVariants.{Job, Sweep, Check}
@@ -10,12 +12,29 @@ use Rattle.trlab_diagnosis.specs.declared.subject.Subject.TheVariants.{Job, Swee
 abbrev pub is_named : List ℕ → List ℕ → Bool
 is_named word name = bytes_eq (map to_ascii_lowercase word) (map to_ascii_lowercase name)
 
--- by the first word of a text: a job where it is `road`, a sweep where it is `sweep`, and else a check
-abbrev pub subject_named : List ℕ → Subject
-subject_named word =
-    if is_named word (codes "road") then Job else if is_named word (codes "sweep") then Sweep else Check
+-- the first words of programs
+abbrev pub program_words : List (List ℕ)
+program_words = codes "motion" ∷ codes "change" ∷ codes "code" ∷ codes "notes" ∷ []
 
--- by the lines of a text, which is a check where there are none
-abbrev pub subject_of : List (List ℕ) → Subject
-subject_of [] = Check
-subject_of (text ∷ left) = subject_named (head_word text)
+-- the text that begins with this word: a job with `road`, a sweep with `sweep`, a check with a program
+abbrev pub subject_named : List ℕ → Option Subject
+subject_named word =
+    if is_named word (codes "road") then Some Job
+    else if is_named word (codes "sweep") then Some Sweep
+    else if list_any (is_named word) program_words then Some Check else None
+
+-- one edit at most leads from a word to this name
+abbrev pub IsNearly : List ℕ → List ℕ → Type 0
+IsNearly word name = damerau nat_eq word name ≤ 1
+
+-- a text that begins with no such word may be one whose first word is misspelled, or else it is a check
+abbrev pub MayBe : List ℕ → Subject → Type 0
+MayBe word Job = IsNearly word (codes "road")
+MayBe word Sweep = IsNearly word (codes "sweep")
+MayBe word Check = Unit {0}
+
+-- what a text is meant to be, by its first word
+abbrev pub IsMeant : List (List ℕ) → Subject → Type 0
+IsMeant [] subject = subject ≡ Check
+IsMeant (line ∷ left) subject =
+    MatchOption (subject_named (head_word line)) (MayBe (head_word line) subject) (λ named. subject ≡ named)

@@ -1,12 +1,12 @@
 //! Names that are spelled nearly alike.
 
-use crate::line_name::LineName;
 use crate::rules::RuleForm;
 use crate::subject::is_named;
 use std::alloc::{AllocError, Global};
 use strsim::generic_damerau_levenshtein;
 use trlab_asm::{Mnemonic, input_text, mnemonic_text, register_text};
 use trlab_code::{Input, Register};
+use trlab_texts::LineName;
 
 /// The longest word whose nearest name is looked for: names are shorter.
 const LONGEST_WORD: usize = 32;

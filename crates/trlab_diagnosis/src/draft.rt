@@ -1,9 +1,13 @@
 //! Drafts: repairs that may be tried, of which nothing is written yet.
 
-use crate::digits::KEY_DIGITS;
 use crate::edit::Edit;
-use crate::repair::{Change, Repair, Slip};
+use crate::fault::bytes_at;
+use crate::repair::{Change, Repair};
+use crate::subject::Subject;
 use std::alloc::{AllocError, Global};
+
+/// The number of digits of a key.
+pub const KEY_DIGITS: usize = 64;
 
 /// What replaces the bytes that go.
 #[derive(Clone, Copy)]
@@ -24,13 +28,15 @@ pub enum Put {
     Lane(usize),
     /// The digits that go, with zeros in front of them up to the length of a key.
     Padded,
+    /// Nothing: the text is for another command.
+    ReadAs(Subject),
 }
 
-/// A repair that may be tried: some bytes at a place of a text are replaced by others. Where the text is for
-/// another command nothing changes.
+/// A repair that may be tried: some bytes at a place of a text are replaced by others.
 #[derive(Clone, Copy)]
 pub struct Draft {
-    pub slip: Slip,
+    /// The likely mistake, in words.
+    pub mistake: &'static str,
     /// How many bytes stand before the change.
     pub at: usize,
     /// How many bytes are replaced.
@@ -92,13 +98,6 @@ fn put_padded(bytes: &mut Vec<u8>, digits: &[u8]) -> Result<(), AllocError> {
     bytes.extend_from_slice(digits)
 }
 
-/// Bytes of a text, by how many stand before them and how many they are, as far as it has them.
-fn bytes_at(text: &[u8], at: usize, count: usize) -> &[u8] {
-    let (_, after) = text.split_at(at.min(text.len()));
-    let (bytes, _) = after.split_at(count.min(after.len()));
-    bytes
-}
-
 /// Adds what replaces these bytes of a text.
 fn put_all(
     alloc: Global,
@@ -119,6 +118,7 @@ fn put_all(
         Put::Copied(at, count) => bytes.extend_from_slice(bytes_at(text, at, count)),
         Put::Lane(cells) => put_lane(bytes, cells),
         Put::Padded => put_padded(bytes, gone),
+        Put::ReadAs(_) => Ok(()),
     }
 }
 
@@ -130,21 +130,21 @@ impl Draft {
     /// Where memory ran out.
     pub fn repair(self, alloc: Global, text: &[u8]) -> Result<Repair, AllocError> {
         let Draft {
-            slip,
+            mistake,
             at,
             gone,
             put,
         } = self;
-        if let Slip::OtherCommand(other) = slip {
+        if let Put::ReadAs(other) = put {
             return Ok(Repair {
-                slip,
+                mistake,
                 change: Change::ReadAs(other),
             });
         }
         let mut bytes = Vec::new(alloc);
         put_all(alloc, &mut bytes, put, text, bytes_at(text, at, gone))?;
         Ok(Repair {
-            slip,
+            mistake,
             change: Change::Edited(Edit {
                 at,
                 gone,

@@ -1,18 +1,18 @@
-//! Texts as they are meant, and what a refused one most likely needs: which line may stand where its fault is,
-//! what is wrong with the line that stands there, and a repair, where one helps of those that are likely: each
-//! is tried. Nothing is judged here: the readers are asked.
+//! Texts as they are meant, and what a refused one most likely needs: what is found at its fault, and a repair,
+//! where one helps of those that are likely. Nothing is judged here: the readers say what they wanted, and each
+//! repair is tried with them.
 #![tactic(auto)]
 
 mod alike;
 mod candidates;
-mod digits;
 mod draft;
 mod edit;
-mod finding;
+mod fault;
+mod found;
+mod fraction;
 mod instruction;
 mod line;
 mod line_name;
-mod numbers;
 mod odd;
 mod operands;
 mod repair;
@@ -20,17 +20,14 @@ mod reread;
 mod rules;
 mod subject;
 mod tried;
-mod wanted;
 
 pub use candidates::likely_repair;
 pub use edit::Edit;
-pub use finding::{Finding, finding_of};
+pub use fault::{Fault, bytes_at};
+pub use found::found_at;
 pub use instruction::name_and_operands;
 pub use line::Place;
-pub use line_name::LineName;
-pub use odd::Oddity;
-pub use operands::Operand;
-pub use repair::{Change, Repair, Slip};
+pub use line_name::named;
+pub use repair::{Change, Repair};
 pub use rules::after_rule;
 pub use subject::{Subject, subject_of};
-pub use wanted::wanted_at;

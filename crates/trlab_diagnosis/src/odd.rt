@@ -46,3 +46,17 @@ pub fn oddity_of(line: &[u8]) -> Option<Oddity>
         None
     }
 }
+
+/// What is odd about a line, in words.
+pub fn odd_words(oddity: Oddity) -> &'static str {
+    match oddity {
+        Oddity::ByteOrderMark => "the file begins with a byte order mark: save it as plain ASCII.",
+        Oddity::CarriageReturn =>
+            "the line ends with a carriage return (Windows line ending): use LF only.",
+        Oddity::Empty => "the line is empty: empty lines are allowed only inside programs.",
+        Oddity::Tab => "the line contains a tab: separate words with one space.",
+        Oddity::FirstSpace => "the line begins with a space.",
+        Oddity::FinalSpace => "the line ends with a space.",
+        Oddity::Comment => "the line has a comment: comments are allowed only inside programs.",
+    }
+}

@@ -2,10 +2,10 @@
 
 use crate::alike::is_spelled;
 use crate::instruction::{name_and_operands, start_of_name};
-use crate::numbers::{CHANCE, Range};
 use trlab_asm::{INPUTS, Mnemonic, REGISTERS, Why, is_label, mnemonic_named};
-use trlab_bounds::programs::{GREATEST_NUMBER, WORDS};
+use trlab_bounds::programs::{CERTAIN, GREATEST_NUMBER, WORDS};
 use trlab_lines::{cut, is_numeral, only_word, without_indent};
+use trlab_texts::word::long_number;
 
 /// What an operand of an instruction has to be.
 #[derive(Clone, Copy)]
@@ -28,23 +28,19 @@ pub enum Operand {
     Target,
 }
 
-/// A number from a least one to a greatest.
-fn number(least: u64, most: u64) -> Option<Range> {
-    Some(Range {
-        name: b"number",
-        least,
-        most,
-    })
+/// Whether a word is a number from a least one to a greatest.
+fn is_within(word: &[u8], least: u64, most: u64) -> bool {
+    matches!(long_number(word), Ok(number) if least <= number && number <= most)
 }
 
 impl Operand {
-    /// What number it has to be, if it is one.
-    pub fn range(self) -> Option<Range> {
+    /// The least and the greatest number that it may be, if it is one.
+    pub fn range(self) -> Option<(u64, u64)> {
         match self {
-            Operand::Number => number(0, GREATEST_NUMBER as u64),
-            Operand::Divisor => number(1, GREATEST_NUMBER as u64),
-            Operand::Word => number(0, (WORDS as u64).saturating_sub(1)),
-            Operand::Chance => Some(CHANCE),
+            Operand::Number => Some((0, GREATEST_NUMBER as u64)),
+            Operand::Divisor => Some((1, GREATEST_NUMBER as u64)),
+            Operand::Word => Some((0, (WORDS as u64).saturating_sub(1))),
+            Operand::Chance => Some((0, CERTAIN as u64)),
             Operand::Register | Operand::Result | Operand::Input | Operand::Target => None,
         }
     }
@@ -68,7 +64,7 @@ impl Operand {
     fn is_at_fault(self, word: &[u8], why: Why) -> bool {
         match (why, self.range()) {
             (Why::Operand, _) => !self.has_form(word),
-            (Why::Number, Some(range)) => !range.has(word),
+            (Why::Number, Some((least, most))) => !is_within(word, least, most),
             (Why::NoLabel, None) => matches!(self, Operand::Target),
             _ => false,
         }

@@ -17,65 +17,11 @@ pub enum Change {
     ReadAs(Subject),
 }
 
-/// What the writer of a text most likely got wrong.
-#[derive(Clone, Copy)]
-pub enum Slip {
-    /// The text begins with a byte order mark.
-    ByteOrderMark,
-    /// The line has a carriage return.
-    CarriageReturn,
-    /// There is a blank too many, or a tab.
-    Blanks,
-    /// A comment stands outside a program.
-    Comment,
-    /// A comment begins as in other languages, and not with `;`.
-    OtherComment,
-    /// The line is empty.
-    Empty,
-    /// The text is for another command.
-    OtherCommand(Subject),
-    /// A name is misspelled, or is what other laboratories say.
-    Name,
-    /// The first line of a program is missing.
-    Heading,
-    /// A line is missing above this one.
-    Missing,
-    /// The line stands too late, or a second time.
-    Late,
-    /// The text has ended too early.
-    Ended,
-    /// The program has no line `end`.
-    Endless,
-    /// The line `end` has something beside it, or is misspelled.
-    End,
-    /// A check text has a line `end`, where none belongs.
-    NeedlessEnd,
-    /// A chance is not written in parts of 2^31.
-    Parts,
-    /// A share of the cells stands for a count of cars.
-    Count,
-    /// A number is not written in digits alone.
-    Digits,
-    /// A key has too few digits.
-    ShortKey,
-    /// A label is misspelled.
-    Label,
-    /// There are no commas between operands.
-    Comma,
-    /// The number of an instruction has no `@` in front.
-    Target,
-    /// The rule needs two lanes.
-    Lanes,
-    /// A car is a capital letter.
-    Letter,
-    /// The version is 2, and no instruction reads `headspeed`.
-    Version,
-}
-
 /// What most likely mends a fault.
 #[derive(Drop)]
 pub struct Repair {
-    pub slip: Slip,
+    /// The likely mistake, in words.
+    pub mistake: &'static str,
     pub change: Change,
 }
 

@@ -1,8 +1,8 @@
 //! What the readers of texts say of a changed text.
 
-ghost use Rattle.std.specs.Prelude.{◌≡◌, ◌++◌, IfOk, true};
+ghost use Rattle.std.specs.Prelude.{◌≡◌, IfOk, true};
 ghost use Rattle.trlab_lines.specs.Lines.{lines_of};
-ghost use Rattle.trlab_diagnosis.specs.Edits.{GetsFurther, HasFirst, IsAfter, IsPast, MayFollow};
+ghost use Rattle.trlab_diagnosis.specs.Edits.{GetsFurther, HasFirst, IsAfter};
 
 use crate::line::count_lines;
 use crate::subject::Subject;
@@ -67,36 +67,4 @@ pub fn gets_further(
 {
     let fault = first_fault(alloc, subject, mended)?;
     Ok(is_after(text, number, mended, fault))
-}
-
-/// Whether the first fault of a text, if it has one, is not that a line up to the one of a number is the
-/// wrong line.
-fn is_past(number: u32, fault: Option<(u32, Cause)>) -> bool
-    ensures { result ≡ true → IsPast number fault }
-{
-    match fault {
-        Some((line, Cause::Line)) => number < line,
-        _ => true,
-    }
-}
-
-/// Whether a line, of this number, may stand after others, whatever is wrong in it.
-///
-/// # Errors
-///
-/// Where memory ran out.
-pub fn may_follow(
-    alloc: Global,
-    subject: Subject,
-    above: &[u8],
-    number: u32,
-    line: &[u8],
-) -> Result<bool, AllocError>
-    ensures { IfOk result (λ is_so. is_so ≡ true → MayFollow subject above.now number line.now) }
-{
-    let mut text = Vec::new(alloc);
-    text.extend_from_slice(above)?;
-    text.extend_from_slice(line)?;
-    let fault = first_fault(alloc, subject, &text)?;
-    Ok(is_past(number, fault))
 }

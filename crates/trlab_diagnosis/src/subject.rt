@@ -1,9 +1,12 @@
 //! Which texts there are.
 
-ghost use Rattle.std.specs.Prelude.{◌≡◌};
+ghost use Rattle.std.specs.Prelude.{◌≡◌, ◌≢◌, [], IfOk, true};
 ghost use Rattle.trlab_lines.specs.Lines.{lines_of};
-ghost use Rattle.trlab_diagnosis.specs.Subjects.{is_named, subject_of};
+ghost use Rattle.trlab_texts.specs.Words.{head_word};
+ghost use Rattle.trlab_diagnosis.specs.Subjects.{IsMeant, IsNearly, MayBe, is_named, subject_named};
 
+use std::alloc::{AllocError, Global};
+use strsim::generic_damerau_levenshtein;
 use trlab_lines::next_line;
 use trlab_texts::word::head_word;
 
@@ -25,20 +28,67 @@ pub fn is_named(word: &[u8], name: &[u8]) -> bool
     word.eq_ignore_ascii_case(name)
 }
 
-/// What a text is meant to be, by its first word: a job where that is `road`, a sweep where it is `sweep`, and
-/// else a check.
-pub fn subject_of(text: &[u8]) -> Subject
-    ensures { result ≡ subject_of (lines_of text.now) }
+/// The text that begins with this word: a job with `road`, a sweep with `sweep`, a check with a program.
+pub fn subject_named(word: &[u8]) -> Option<Subject>
+    ensures { result ≡ subject_named word.now }
+{
+    if is_named(word, b"road") {
+        Some(Subject::Job)
+    } else if is_named(word, b"sweep") {
+        Some(Subject::Sweep)
+    } else if is_named(word, b"motion")
+        || is_named(word, b"change")
+        || is_named(word, b"code")
+        || is_named(word, b"notes")
+    {
+        Some(Subject::Check)
+    } else {
+        None
+    }
+}
+
+/// The longest word that may be a misspelled name.
+const LONGEST_WORD: usize = 16;
+
+/// Whether a word is this name but for one edit: a letter more or less, another one, or two that changed places.
+fn is_nearly(alloc: Global, word: &[u8], name: &[u8]) -> Result<bool, AllocError>
+    requires { name.now ≢ [] }
+    ensures { IfOk result (λ is_so. is_so ≡ true → IsNearly word.now name.now) }
+{
+    if word.is_empty() || word.len() > LONGEST_WORD {
+        return Ok(false);
+    }
+    let edits = generic_damerau_levenshtein(alloc, word, name)?;
+    Ok(edits <= 1)
+}
+
+/// What a text is whose first word is none of the known ones.
+fn misspelled_subject(alloc: Global, word: &[u8]) -> Result<Subject, AllocError>
+    ensures { IfOk result (MayBe word.now) }
+{
+    if is_nearly(alloc, word, b"road")? {
+        Ok(Subject::Job)
+    } else if is_nearly(alloc, word, b"sweep")? {
+        Ok(Subject::Sweep)
+    } else {
+        Ok(Subject::Check)
+    }
+}
+
+/// What a text is meant to be, by its first word, also if that is misspelled; else it is a check.
+///
+/// # Errors
+///
+/// If memory runs out.
+pub fn subject_of(alloc: Global, text: &[u8]) -> Result<Subject, AllocError>
+    ensures { IfOk result (IsMeant (lines_of text.now)) }
 {
     let Some((line, _)) = next_line(text) else {
-        return Subject::Check;
+        return Ok(Subject::Check);
     };
     let word = head_word(line);
-    if is_named(word, b"road") {
-        Subject::Job
-    } else if is_named(word, b"sweep") {
-        Subject::Sweep
-    } else {
-        Subject::Check
+    match subject_named(word) {
+        Some(subject) => Ok(subject),
+        None => misspelled_subject(alloc, word),
     }
 }

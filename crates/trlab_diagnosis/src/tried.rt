@@ -9,7 +9,7 @@ use crate::subject::Subject;
 use std::alloc::{AllocError, Global};
 
 /// The longest text that is read again and again, so that no explanation takes long.
-pub const LONGEST_ASKED: usize = 524288;
+const LONGEST_ASKED: usize = 524288;
 
 /// How many repairs are tried at most: each is a reading of the whole text.
 pub const MOST_TRIED: usize = 5;

@@ -10,7 +10,7 @@ use Rattle.trlab_jobs.specs.Sweep.{Sweep as SweepSaid, SweepText}
 use Rattle.trlab_campaign.specs.CheckOutput.{refused_line}
 use Rattle.trlab_campaign.specs.Refusal.{Outputs, fault_line}
 use Rattle.trlab_diagnosis.specs.Quoting.{line_at}
-use Rattle.trlab_diagnosis.specs.Subjects.{subject_of}
+use Rattle.trlab_diagnosis.specs.Subjects.{IsMeant}
 use Rattle.trlab_diagnosis.specs.declared.subject.Subject.{Subject}
 use Rattle.trlab_diagnosis.specs.declared.subject.Subject.TheVariants.{Job, Sweep, Check}
 use Rattle.trlab_explain.specs.Quotes.{quote_line}
@@ -55,15 +55,19 @@ TellsAs Sweep text refused out =
 TellsAs Check text refused out =
     (says : Result CheckSaid Fault) × CheckText text says × TellsCheck text says refused out
 
--- the whole explanations that there may be of a text that is read so, each with whether it is refused:
--- plain text, whatever bytes the text has
-abbrev pub ExplainsAs : Subject → List ℕ → Outputs
-ExplainsAs subject text refused out = TellsAs subject text refused out × All IsPlain out
+-- what a text is read as: what is wanted, or else what it is meant to be
+abbrev pub IsReadAs : Option Subject → List ℕ → Subject → Type 0
+IsReadAs (Some wanted) text subject = subject ≡ wanted
+IsReadAs None text subject = IsMeant (lines_of text) subject
 
--- the same of a text that is read as what is wanted, or else as what it is meant as
+-- what is told of a text, by what is wanted
+abbrev pub Tells : Option Subject → List ℕ → Outputs
+Tells wanted text refused out = (subject : Subject) × IsReadAs wanted text subject × TellsAs subject text refused out
+
+-- the whole explanations that there may be of a text, each with whether it is refused: plain text, whatever
+-- bytes the text has
 abbrev pub Explains : Option Subject → List ℕ → Outputs
-Explains (Some subject) text = ExplainsAs subject text
-Explains None text = ExplainsAs (subject_of (lines_of text)) text
+Explains wanted text refused out = Tells wanted text refused out × All IsPlain out
 
 -- how the page on a number begins
 abbrev pub topic_front : Topic → ℕ → List ℕ

@@ -7,7 +7,7 @@ ghost use Rattle.trlab_explain.specs.Explanations.{BeginsWith, TellsProgram};
 ghost use Rattle.trlab_campaign.specs.CheckOutput.{refused_line};
 
 use crate::head::{push_below, push_refused_line};
-use crate::verdict::{accepted_page, refused_words};
+use crate::verdict::{Verdict, verdict_page};
 use std::alloc::{AllocError, Global};
 use trlab_code::{Code, Kind};
 use trlab_jobs::Check;
@@ -26,7 +26,8 @@ fn refused_page(
 {
     let mut page = Page::new(alloc);
     push_refused_line(&mut page, at, reason)?;
-    push_below(&mut page, refused_words(alloc, text, code, reason))?;
+    let verdict = Verdict::Refused(at, reason);
+    push_below(&mut page, verdict_page(alloc, text, code, verdict))?;
     Ok(page)
 }
 
@@ -59,14 +60,24 @@ pub fn explain_program(alloc: Global, text: &[u8], check: Check) -> Result<(bool
         Kind::Motion => match verify_motion(alloc, code) {
             Ok(motion) => Ok((
                 false,
-                accepted_page(alloc, text, motion.code(), motion.budget())?,
+                verdict_page(
+                    alloc,
+                    text,
+                    motion.code(),
+                    Verdict::Accepted(motion.budget()),
+                )?,
             )),
             Err((code, fault)) => explain_refusal(alloc, text, &code, fault),
         },
         Kind::Change => match verify_change(alloc, code) {
             Ok(change) => Ok((
                 false,
-                accepted_page(alloc, text, change.code(), change.budget())?,
+                verdict_page(
+                    alloc,
+                    text,
+                    change.code(),
+                    Verdict::Accepted(change.budget()),
+                )?,
             )),
             Err((code, fault)) => explain_refusal(alloc, text, &code, fault),
         },

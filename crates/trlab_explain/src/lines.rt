@@ -41,40 +41,6 @@ pub fn push_both(page: &mut Page, front: &str, after: &str) -> Result<(), AllocE
     page.line(after)
 }
 
-/// Words with room for others.
-#[derive(Clone, Copy)]
-pub struct Filled<'a> {
-    /// The words: `$` stands for the word, quoted; `%` for the word, whole; `&` for what is put, whole; and `#`
-    /// for the first number, and then for the second.
-    pub words: &'static str,
-    pub word: &'a [u8],
-    pub put: &'a [u8],
-    pub first: u64,
-    pub second: u64,
-}
-
-/// Adds a line of words, with what stands in their room.
-///
-/// # Errors
-///
-/// Where memory ran out.
-pub fn push_filled(page: &mut Page, filled: Filled<'_>) -> Result<(), AllocError> {
-    let mut number = filled.first;
-    for byte in filled.words.as_bytes() {
-        match *byte {
-            b'$' => page.quote(filled.word)?,
-            b'%' => page.show_all(filled.word)?,
-            b'&' => page.show_all(filled.put)?,
-            b'#' => {
-                page.number(number)?;
-                number = filled.second;
-            }
-            _ => page.show_all(&[*byte])?,
-        }
-    }
-    page.end_line()
-}
-
 /// Adds a line of several pieces.
 ///
 /// # Errors

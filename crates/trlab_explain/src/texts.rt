@@ -9,10 +9,15 @@ use crate::head::{push_below, push_fault_head};
 use crate::job::job_page;
 use crate::sweep::sweep_page;
 use std::alloc::{AllocError, Global};
-use trlab_diagnosis::{Place, Subject};
-use trlab_jobs::{read_check, read_job, read_sweep};
+use trlab_diagnosis::{Fault, Place, Subject};
+use trlab_jobs::{parse_check, parse_job, parse_sweep};
 use trlab_lines::Page;
-use trlab_texts::{Cause, TextFault};
+use trlab_texts::{Cause, Refusal, TextFault, Wanted};
+
+/// What a reader wanted, and the end of the line in which it counts places.
+fn wanted<'a>(refusal: &'a Refusal<'a>) -> (&'a Wanted, &'a [u8]) {
+    (refusal.wanted(), refusal.line())
+}
 
 /// That a text is refused for its first fault, and the page on it.
 ///
@@ -25,6 +30,7 @@ pub fn explain_fault(
     text: &[u8],
     line: u32,
     cause: Cause,
+    wanted: (&Wanted, &[u8]),
 ) -> Result<(bool, Page), AllocError>
     ensures { IfOk result (λ told.
         TellsFault text.now (record { line = line; cause = cause }) told.0 told.1) }
@@ -32,7 +38,15 @@ pub fn explain_fault(
     let place = Place::at(text, line);
     let mut page = Page::new(alloc);
     push_fault_head(&mut page, line, place.line, cause)?;
-    push_below(&mut page, fault_words(alloc, subject, place, cause))?;
+    let (wanted, within) = wanted;
+    let fault = Fault {
+        subject,
+        place,
+        cause,
+        wanted,
+        within,
+    };
+    push_below(&mut page, fault_words(alloc, &fault))?;
     Ok((true, page))
 }
 
@@ -40,12 +54,14 @@ pub fn explain_fault(
 fn explain_job(alloc: Global, text: &[u8]) -> Result<(bool, Page), AllocError>
     ensures { IfOk result (λ told. TellsAs Subject.Job text.now told.0 told.1) }
 {
-    match read_job(alloc, text) {
+    match parse_job(alloc, text) {
         Ok(job) => Ok((false, job_page(alloc, text, &job)?)),
-        Err(TextFault::At { line, cause }) => {
-            explain_fault(alloc, Subject::Job, text, line, cause)
-        }
-        Err(TextFault::Memory) => Err(AllocError),
+        Err(refusal) => match refusal.fault() {
+            TextFault::At { line, cause } => {
+                explain_fault(alloc, Subject::Job, text, line, cause, wanted(&refusal))
+            }
+            TextFault::Memory => Err(AllocError),
+        },
     }
 }
 
@@ -53,12 +69,14 @@ fn explain_job(alloc: Global, text: &[u8]) -> Result<(bool, Page), AllocError>
 fn explain_sweep(alloc: Global, text: &[u8]) -> Result<(bool, Page), AllocError>
     ensures { IfOk result (λ told. TellsAs Subject.Sweep text.now told.0 told.1) }
 {
-    match read_sweep(alloc, text) {
+    match parse_sweep(alloc, text) {
         Ok(sweep) => Ok((false, sweep_page(alloc, text, &sweep)?)),
-        Err(TextFault::At { line, cause }) => {
-            explain_fault(alloc, Subject::Sweep, text, line, cause)
-        }
-        Err(TextFault::Memory) => Err(AllocError),
+        Err(refusal) => match refusal.fault() {
+            TextFault::At { line, cause } => {
+                explain_fault(alloc, Subject::Sweep, text, line, cause, wanted(&refusal))
+            }
+            TextFault::Memory => Err(AllocError),
+        },
     }
 }
 
@@ -66,12 +84,14 @@ fn explain_sweep(alloc: Global, text: &[u8]) -> Result<(bool, Page), AllocError>
 fn explain_check(alloc: Global, text: &[u8]) -> Result<(bool, Page), AllocError>
     ensures { IfOk result (λ told. TellsAs Subject.Check text.now told.0 told.1) }
 {
-    match read_check(alloc, text) {
+    match parse_check(alloc, text) {
         Ok(check) => explain_program(alloc, text, check),
-        Err(TextFault::At { line, cause }) => {
-            explain_fault(alloc, Subject::Check, text, line, cause)
-        }
-        Err(TextFault::Memory) => Err(AllocError),
+        Err(refusal) => match refusal.fault() {
+            TextFault::At { line, cause } => {
+                explain_fault(alloc, Subject::Check, text, line, cause, wanted(&refusal))
+            }
+            TextFault::Memory => Err(AllocError),
+        },
     }
 }
 

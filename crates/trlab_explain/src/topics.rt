@@ -1,16 +1,16 @@
 //! What a number means that refused texts and programs tell.
 
-ghost use Rattle.std.specs.Prelude.{◌≡◌, ◌++◌, IfOk, OnOk, not, true};
+ghost use Rattle.std.specs.Prelude.{◌≡◌, ◌++◌, IfOk, OnOk, false, not, true};
 ghost use Rattle.trlab_campaign.specs.Ending.{EndsSo, LeavesWriter};
 ghost use Rattle.trlab_explain.specs.Explanations.{BeginsWith, TellsNumber, topic_front};
 ghost use Rattle.trlab_explain.specs.Numbers.{is_known};
 
 use crate::explain::write_told;
-use crate::fault::causes::meaning_of_cause;
-use crate::fault::push_hint;
+use crate::fault::causes::cause_words;
+use crate::fault::push_check;
 use crate::lines::push_both;
 use crate::numbered::{cause_numbered, reason_of};
-use crate::verdict::reasons::{advice_on_reason, meaning_of_reason};
+use crate::verdict::reasons::reason_words;
 use std::alloc::{AllocError, AllocGlobal, Global};
 use trlab_campaign::{End, Sink};
 use trlab_code::Kind;
@@ -29,8 +29,8 @@ pub enum Topic {
 
 /// Adds what is advised for a reason.
 fn push_advice(page: &mut Page, reason: Reason) -> Result<(), AllocError> {
-    let motion = advice_on_reason(reason, Kind::Motion);
-    let change = advice_on_reason(reason, Kind::Change);
+    let motion = reason_words(reason, Kind::Motion).advice;
+    let change = reason_words(reason, Kind::Change).advice;
     if motion == change {
         return push_both(page, "Advice: ", motion);
     }
@@ -38,26 +38,22 @@ fn push_advice(page: &mut Page, reason: Reason) -> Result<(), AllocError> {
     push_both(page, "Advice for a change program: ", change)
 }
 
-/// Adds the reason of a cause, and what is advised for it, where the verifier refuses a program.
-fn push_reason_of(page: &mut Page, cause: Cause) -> Result<(), AllocError> {
-    let Some(reason) = reason_of(cause) else {
-        return Ok(());
-    };
-    push_both(page, "The reason: ", meaning_of_reason(reason))?;
-    push_advice(page, reason)
-}
-
-/// Adds what is told of a cause after its number.
+/// Adds what is said of a cause after its number.
 fn push_cause(page: &mut Page, cause: Cause) -> Result<(), AllocError> {
-    page.line(meaning_of_cause(cause))?;
-    push_reason_of(page, cause)?;
-    push_hint(page, cause)?;
+    let words = cause_words(cause);
+    page.line(words.meaning)?;
+    if let Some(reason) = reason_of(cause) {
+        let meaning = reason_words(reason, Kind::Motion).meaning;
+        push_both(page, "The reason: ", meaning)?;
+        push_advice(page, reason)?;
+    }
+    push_check(page, words.check)?;
     page.line("To find it in your file: `trlab explain < FILE`. All causes: docs/ERRORS.md.")
 }
 
-/// Adds what is told of a reason after its number.
+/// Adds what is said of a reason after its number.
 fn push_reason(page: &mut Page, reason: Reason) -> Result<(), AllocError> {
-    page.line(meaning_of_reason(reason))?;
+    page.line(reason_words(reason, Kind::Motion).meaning)?;
     push_advice(page, reason)?;
     page.line("To find it in your file: `trlab explain < FILE`. All reasons: docs/ERRORS.md.")
 }

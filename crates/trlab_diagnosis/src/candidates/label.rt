@@ -6,7 +6,6 @@ use crate::candidates::program::is_program_head;
 use crate::draft::Put;
 use crate::line::Place;
 use crate::operands::{OperandWord, operand_at_fault};
-use crate::repair::Slip;
 use std::alloc::{AllocError, Global};
 use trlab_asm::Why;
 use trlab_lines::{label_and_rest, next_line, without_comment};
@@ -52,9 +51,14 @@ pub fn label_candidate(list: &mut Candidates<'_>) -> Result<(), AllocError> {
     let Some(OperandWord { at, word, .. }) = operand_at_fault(list.line, Why::NoLabel) else {
         return Ok(());
     };
-    let label = nearest_label(list.alloc, &list.place, word)?;
+    let label = nearest_label(list.alloc, &list.fault.place, word)?;
     if let Some((start, length)) = label.found {
-        list.in_line(Slip::Label, at, word.len(), Put::Copied(start, length));
+        list.in_line(
+            "probably a misspelled label.",
+            at,
+            word.len(),
+            Put::Copied(start, length),
+        );
     }
     Ok(())
 }

@@ -1,19 +1,19 @@
 //! Candidates for a line that is not the one that must stand there.
 
 use crate::alike::nearest;
-use crate::candidates::Candidates;
 use crate::candidates::number::density_candidate;
 use crate::candidates::program::end_candidates;
+use crate::candidates::{COMMENT, Candidates, LATE, MISSPELLED};
 use crate::draft::{Put, has_odd_blanks};
 use crate::instruction::name_and_operands;
-use crate::line_name::{CHECK_NAMES, LineName, is_name_of_line};
-use crate::repair::Slip;
+use crate::line_name::{CHECK_NAMES, is_name_of_line, listed, stands_alone};
 use crate::rules::{RULES, after_rule};
-use crate::subject::{Subject, is_named, subject_of};
+use crate::subject::{Subject, is_named, subject_named};
 use std::alloc::AllocError;
 use trlab_asm::mnemonic_named;
 use trlab_lines::cut;
 use trlab_texts::word::{head_word, without_prefix};
+use trlab_texts::{LineName, Wanted};
 
 /// The longest line that is rewritten.
 const LONGEST_LINE: usize = 120;
@@ -39,7 +39,10 @@ const OTHER_WORDS: [(&[u8], LineName); 14] = [
 /// Adds a line with the blanks that it should have: none at an end, and one space between two words.
 fn blanks_candidate(list: &mut Candidates<'_>) {
     if list.line.len() <= LONGEST_LINE && has_odd_blanks(list.line) {
-        list.whole_line(Slip::Blanks, Put::Spaced);
+        list.whole_line(
+            "separate words with one space, with none at either end of the line.",
+            Put::Spaced,
+        );
     }
 }
 
@@ -64,19 +67,24 @@ fn comment_candidate(list: &mut Candidates<'_>, byte: u8) {
     let kept = end_of_words(front);
     let gone = list.line.len().saturating_sub(kept);
     if kept == 0 {
-        list.without_line(Slip::Comment);
+        list.without_line(COMMENT);
     } else {
-        list.in_line(Slip::Comment, kept, gone, Put::Bytes(b""));
+        list.in_line(COMMENT, kept, gone, Put::Bytes(b""));
     }
 }
 
 /// Adds what is odd about a line, whatever has to stand there.
 fn odd_candidates(list: &mut Candidates<'_>) {
     if without_prefix(b"\xef\xbb\xbf", list.line).is_some() {
-        list.in_line(Slip::ByteOrderMark, 0, 3, Put::Bytes(b""));
+        list.in_line(
+            "the file begins with a byte order mark: save it as plain ASCII.",
+            0,
+            3,
+            Put::Bytes(b""),
+        );
     }
     if list.line.is_empty() {
-        list.without_line(Slip::Empty);
+        list.without_line("empty lines are allowed only inside programs.");
     }
     blanks_candidate(list);
     comment_candidate(list, b';');
@@ -87,7 +95,7 @@ fn odd_candidates(list: &mut Candidates<'_>) {
 fn first_word_candidate(list: &mut Candidates<'_>, name: Option<&'static [u8]>) {
     if let Some(name) = name {
         let word = head_word(list.line);
-        list.in_line(Slip::Name, 0, word.len(), Put::Bytes(name));
+        list.in_line(MISSPELLED, 0, word.len(), Put::Bytes(name));
     }
 }
 
@@ -122,7 +130,7 @@ fn rule_candidate(list: &mut Candidates<'_>) -> Result<(), AllocError> {
     let name = head_word(rest);
     if let Some(meant) = nearest(list.alloc, name, &RULES)? {
         let at = list.line.len().saturating_sub(rest.len());
-        list.in_line(Slip::Name, at, name.len(), Put::Bytes(meant));
+        list.in_line(MISSPELLED, at, name.len(), Put::Bytes(meant));
     }
     Ok(())
 }
@@ -130,26 +138,36 @@ fn rule_candidate(list: &mut Candidates<'_>) -> Result<(), AllocError> {
 /// Adds the first line of a program above an instruction.
 fn heading_candidates(list: &mut Candidates<'_>, wanted: &[LineName]) {
     for line in &[LineName::Motion, LineName::Change] {
-        if list.subject == Subject::Check || wanted.contains(line) {
-            list.above(Slip::Heading, *line);
+        if list.fault.subject == Subject::Check || wanted.contains(line) {
+            list.above("the first line of the program is missing.", *line);
         }
     }
 }
 
 /// Adds above the place each line that may stand there and needs no program after it.
-fn lone_candidates(list: &mut Candidates<'_>, slip: Slip, wanted: &[LineName]) {
+fn lone_candidates(list: &mut Candidates<'_>, mistake: &'static str, wanted: &[LineName]) {
     for line in wanted {
-        if line.stands_alone() {
-            list.above(slip, *line);
+        if stands_alone(*line) {
+            list.above(mistake, *line);
         }
     }
 }
 
-/// Adds the command that reads a text with this first line, where it is another one.
+/// Adds the command that reads a text with this first word, where it is another one.
 fn command_candidate(list: &mut Candidates<'_>) {
-    let other = subject_of(list.line);
-    if list.place.number == 1 && other != list.subject {
-        list.edit(Slip::OtherCommand(other), 0, 0, Put::Bytes(b""));
+    if list.fault.place.number != 1 {
+        return;
+    }
+    match subject_named(head_word(list.line)) {
+        Some(other) if other != list.fault.subject => {
+            list.edit(
+                "this input is for another command.",
+                0,
+                0,
+                Put::ReadAs(other),
+            );
+        }
+        _ => {}
     }
 }
 
@@ -158,7 +176,7 @@ fn check_candidates(list: &mut Candidates<'_>) -> Result<(), AllocError> {
     let word = head_word(list.line);
     let name = nearest(list.alloc, word, &CHECK_NAMES)?;
     first_word_candidate(list, name);
-    list.without_line(Slip::Late);
+    list.without_line(LATE);
     Ok(())
 }
 
@@ -167,29 +185,38 @@ fn ended_candidates(list: &mut Candidates<'_>, wanted: &[LineName]) -> Result<()
     if wanted.contains(&LineName::End) {
         return end_candidates(list);
     }
-    lone_candidates(list, Slip::Ended, wanted);
+    lone_candidates(
+        list,
+        "the file ends too early: a line is missing, for example this one.",
+        wanted,
+    );
     Ok(())
 }
 
-/// Adds candidates for a line that is not the one that must stand there, where these may.
-pub fn line_candidates(list: &mut Candidates<'_>, wanted: &[LineName]) -> Result<(), AllocError> {
-    if list.place.line.is_none() {
-        return ended_candidates(list, wanted);
+/// Adds candidates for a line that is not one of those that would be valid there.
+pub fn line_candidates(list: &mut Candidates<'_>) -> Result<(), AllocError> {
+    let wanted = match list.fault.wanted {
+        Wanted::Lines(names) => listed(list.alloc, *names)?,
+        _ => Vec::new(list.alloc),
+    };
+    if list.fault.place.line.is_none() {
+        return ended_candidates(list, &wanted);
     }
     if mnemonic_named(name_and_operands(list.line).0).is_some() {
-        heading_candidates(list, wanted);
+        heading_candidates(list, &wanted);
         return Ok(());
     }
     odd_candidates(list);
     command_candidate(list);
-    if list.subject == Subject::Check {
+    if list.fault.subject == Subject::Check {
         return check_candidates(list);
     }
-    name_candidates(list, wanted)?;
+    name_candidates(list, &wanted)?;
     rule_candidate(list)?;
     if is_name_of_line(head_word(list.line)) {
-        lone_candidates(list, Slip::Missing, wanted);
-        list.without_line(Slip::Late);
+        let missing = "a line is missing above this one, for example this one.";
+        lone_candidates(list, missing, &wanted);
+        list.without_line(LATE);
     }
     Ok(())
 }

@@ -1,13 +1,12 @@
 //! Candidates for the operands of an instruction.
 
 use crate::alike::{Spelled, nearest};
-use crate::candidates::Candidates;
 use crate::candidates::number::{chance_candidates, whole_candidates};
 use crate::candidates::program::other_comment_candidates;
+use crate::candidates::{Candidates, MISSPELLED};
 use crate::draft::Put;
 use crate::instruction::{name_and_operands, start_of_name};
 use crate::operands::{Operand, OperandWord, operand_at_fault};
-use crate::repair::Slip;
 use std::alloc::AllocError;
 use trlab_asm::{INPUTS, REGISTERS, Why};
 use trlab_lines::{is_numeral, without_indent};
@@ -24,7 +23,7 @@ fn name_candidate<T: Spelled>(
         return Ok(());
     }
     if let Some(meant) = nearest(list.alloc, word, names)? {
-        list.in_line(Slip::Name, at, word.len(), Put::Bytes(meant));
+        list.in_line(MISSPELLED, at, word.len(), Put::Bytes(meant));
     }
     Ok(())
 }
@@ -36,7 +35,12 @@ fn word_candidate(list: &mut Candidates<'_>, found: OperandWord<'_>) -> Result<(
         Operand::Register | Operand::Result => return name_candidate(list, &REGISTERS, at, word),
         Operand::Input => return name_candidate(list, &INPUTS, at, word),
         Operand::Target if is_numeral(word) => {
-            list.in_line(Slip::Target, at, 0, Put::Bytes(b"@"));
+            list.in_line(
+                "put `@` before the number of an instruction.",
+                at,
+                0,
+                Put::Bytes(b"@"),
+            );
         }
         Operand::Target => {}
         Operand::Chance => chance_candidates(list, at, word),
@@ -53,7 +57,7 @@ fn comma_candidate(list: &mut Candidates<'_>) {
         .len()
         .saturating_add(operands.len().saturating_sub(gone));
     let at = start_of_name(list.line).saturating_add(before);
-    list.in_line(Slip::Comma, at, gone, Put::Listed);
+    list.in_line("separate operands with commas.", at, gone, Put::Listed);
 }
 
 /// Adds candidates for a line whose operands are wrong.

@@ -1,15 +1,14 @@
 //! Candidates for the lines of programs.
 
 use crate::alike::{edits_within, is_spelled, nearest};
-use crate::candidates::Candidates;
+use crate::candidates::{Candidates, END, ENDLESS, MISSPELLED, OTHER_COMMENT};
 use crate::draft::Put;
 use crate::instruction::{name_and_operands, start_of_name};
-use crate::line_name::LineName;
-use crate::repair::Slip;
 use crate::subject::Subject;
 use std::alloc::{AllocError, Global};
 use trlab_asm::{MNEMONICS, is_label, mnemonic_named};
 use trlab_lines::{cut, label_and_rest, next_line, without_comment};
+use trlab_texts::LineName;
 use trlab_texts::word::head_word;
 
 /// The first words of the lines after which a program begins.
@@ -90,14 +89,14 @@ fn ending_of(alloc: Global, text: &[u8]) -> Result<Ending, AllocError> {
 
 /// Adds the line `end` where it may be missing in the last program of a text, which has ended.
 pub fn end_candidates(list: &mut Candidates<'_>) -> Result<(), AllocError> {
-    let Ending { beside, next } = ending_of(list.alloc, list.place.text)?;
+    let Ending { beside, next } = ending_of(list.alloc, list.fault.place.text)?;
     if let Some((at, length)) = beside {
-        list.edit(Slip::End, at, length, Put::Bytes(b"end"));
+        list.edit(END, at, length, Put::Bytes(b"end"));
     }
     if let Some(at) = next {
-        list.edit(Slip::Endless, at, 0, Put::Bytes(b"end\n"));
+        list.edit(ENDLESS, at, 0, Put::Bytes(b"end\n"));
     }
-    list.above(Slip::Endless, LineName::End);
+    list.above(ENDLESS, LineName::End);
     Ok(())
 }
 
@@ -105,21 +104,23 @@ pub fn end_candidates(list: &mut Candidates<'_>) -> Result<(), AllocError> {
 pub fn other_comment_candidates(list: &mut Candidates<'_>) {
     let line = without_comment(list.line);
     if let Some((front, _)) = cut(line, b'#') {
-        list.in_line(Slip::OtherComment, front.len(), 1, Put::Byte(b';'));
+        list.in_line(OTHER_COMMENT, front.len(), 1, Put::Byte(b';'));
     }
     if let Some((front, rest)) = cut(line, b'/') {
         if rest.first() == Some(&b'/') {
-            list.in_line(Slip::OtherComment, front.len(), 2, Put::Byte(b';'));
+            list.in_line(OTHER_COMMENT, front.len(), 2, Put::Byte(b';'));
         }
     }
 }
 
 /// Puts `end` in the place of a line that is like it, or drops that in a check text, which has no such line.
 fn like_end_candidate(list: &mut Candidates<'_>) {
-    if list.subject == Subject::Check {
-        list.without_line(Slip::NeedlessEnd);
+    if list.fault.subject == Subject::Check {
+        list.without_line(
+            "`trlab check` takes no line `end`: the program ends where the input ends.",
+        );
     } else {
-        list.whole_line(Slip::End, Put::Bytes(b"end"));
+        list.whole_line(END, Put::Bytes(b"end"));
     }
 }
 
@@ -128,8 +129,8 @@ pub fn word_candidates(list: &mut Candidates<'_>) -> Result<(), AllocError> {
     other_comment_candidates(list);
     let (label, _) = label_and_rest(without_comment(list.line));
     let (name, _) = name_and_operands(list.line);
-    if list.subject != Subject::Check && is_spelled(&NEXT_NAMES, name) {
-        list.above(Slip::Endless, LineName::End);
+    if list.fault.subject != Subject::Check && is_spelled(&NEXT_NAMES, name) {
+        list.above(ENDLESS, LineName::End);
     }
     if is_like_end(list.alloc, list.line)? {
         like_end_candidate(list);
@@ -139,7 +140,7 @@ pub fn word_candidates(list: &mut Candidates<'_>) -> Result<(), AllocError> {
     }
     if let Some(meant) = nearest(list.alloc, name, &MNEMONICS)? {
         let at = start_of_name(list.line);
-        list.in_line(Slip::Name, at, name.len(), Put::Bytes(meant));
+        list.in_line(MISSPELLED, at, name.len(), Put::Bytes(meant));
     }
     Ok(())
 }

@@ -1,8 +1,8 @@
 //! The forms of the lines of texts, in words.
 
 use std::alloc::AllocError;
-use trlab_diagnosis::LineName;
 use trlab_lines::Page;
+use trlab_texts::{LineName, LineNames};
 
 /// The valid inputs of `trlab check`.
 pub const EXPECTED_OF_CHECK: &str =
@@ -36,17 +36,19 @@ fn form_of_line(line: LineName) -> &'static str {
     }
 }
 
-/// Adds the lines that may stand at a place of a job or sweep text.
+/// Adds the lines that would be valid at a place of a job or sweep input.
 ///
 /// # Errors
 ///
-/// Where memory ran out.
-pub fn push_wanted(page: &mut Page, wanted: &[LineName]) -> Result<(), AllocError> {
-    let mut is_first = true;
-    for line in wanted {
-        page.say(if is_first { "Expected: " } else { "or " })?;
-        page.line(form_of_line(*line))?;
-        is_first = false;
+/// If memory runs out.
+pub fn push_wanted(page: &mut Page, wanted: LineNames) -> Result<(), AllocError> {
+    let mut front = "Expected: ";
+    for line in &LineName::ALL {
+        if wanted.has(*line) {
+            page.say(front)?;
+            page.line(form_of_line(*line))?;
+            front = "or ";
+        }
     }
     Ok(())
 }

@@ -4,7 +4,7 @@
 use crate::lines::{push_both, push_count, push_meaning, push_pieces};
 use crate::verdict::marks::push_known;
 use crate::verdict::placed::{Placed, push_instruction};
-use crate::verdict::reasons::{advice_on_reason, meaning_of_reason};
+use crate::verdict::reasons::reason_words;
 use std::alloc::{AllocError, Global};
 use trlab_asm::register_text;
 use trlab_code::{Instr, Register};
@@ -163,38 +163,32 @@ fn push_note(page: &mut Page, refused: &Refused<'_>) -> Result<(), AllocError> {
 /// Adds why a program is refused.
 fn push_refusal(page: &mut Page, refused: &Refused<'_>) -> Result<(), AllocError> {
     push_instruction(page, refused.program, refused.at)?;
-    let meaning = meaning_of_reason(refused.reason);
-    push_meaning(page, "Reason ", u64::from(refused.reason.number()), meaning)?;
+    let words = reason_words(refused.reason, refused.program.code.kind());
+    push_meaning(
+        page,
+        "Reason ",
+        u64::from(refused.reason.number()),
+        words.meaning,
+    )?;
     if refused.reason == Reason::Unreachable {
         push_skip(page, refused)?;
     } else {
         push_note(page, refused)?;
         push_ways(page, refused)?;
     }
-    let advice = advice_on_reason(refused.reason, refused.program.code.kind());
-    push_both(page, "Advice: ", advice)
+    push_both(page, "Advice: ", words.advice)
 }
 
-/// The refused instruction, by the reason and by how many instructions have notes: one to which no way leads
-/// has none.
-fn refused_at(reason: Reason, notes: usize) -> u32 {
-    let notes = u32::try_from(notes).unwrap_or(u32::MAX);
-    if reason == Reason::Unreachable {
-        notes
-    } else {
-        notes.saturating_sub(1)
-    }
-}
-
-/// Adds why a program is refused for a reason.
+/// Adds why a program is refused at an instruction for a reason.
 ///
 /// # Errors
 ///
-/// Where memory ran out.
+/// If memory runs out.
 pub fn push_refused(
     alloc: Global,
     page: &mut Page,
     program: Placed<'_>,
+    at: u32,
     reason: Reason,
 ) -> Result<(), AllocError> {
     let Some(notes) = notes_of_refused(alloc, program.code)? else {
@@ -204,7 +198,7 @@ pub fn push_refused(
         page,
         &Refused {
             program,
-            at: refused_at(reason, notes.len()),
+            at,
             reason,
             notes: &notes,
         },

@@ -1,13 +1,6 @@
-//! Numbers as they may be written, and the ranges of those of a text's lines.
+//! Numbers as they may be written: fractions, percentages, and powers of ten.
 
-use crate::rules::rule_named;
-use trlab_bounds::programs::CERTAIN;
-use trlab_bounds::roads::{GREATEST_LENGTH, GREATEST_LIMIT, MOST_LANES};
-use trlab_bounds::runs::MOST_STEPS;
-use trlab_bounds::texts::LONGEST_NUMBER;
-use trlab_jobs::limits::MOST_CARS;
 use trlab_lines::{cut, digits_value, is_numeral};
-use trlab_texts::word::{head_word, long_number};
 
 /// The most digits of a part of a number that is read as a fraction.
 const MOST_FRACTION_DIGITS: usize = 9;
@@ -109,89 +102,4 @@ pub fn nearest_part(fraction: Fraction, whole: u32) -> Option<u32> {
     let twice = over.saturating_mul(u128::from(whole)).saturating_mul(2);
     let part = twice.saturating_add(under) / under.saturating_mul(2).max(1);
     u32::try_from(part).ok()
-}
-
-/// What number has to stand somewhere.
-#[derive(Clone, Copy)]
-pub struct Range {
-    /// The name of its line, `chance` or `number`.
-    pub name: &'static [u8],
-    pub least: u64,
-    pub most: u64,
-}
-
-/// A chance.
-pub const CHANCE: Range = Range {
-    name: b"chance",
-    least: 0,
-    most: CERTAIN as u64,
-};
-
-impl Range {
-    /// Whether a word is such a number.
-    pub fn has(self, word: &[u8]) -> bool {
-        matches!(long_number(word), Ok(number) if self.least <= number && number <= self.most)
-    }
-}
-
-/// The lines of a name and a number, with the least and the greatest of each.
-const LINES: [(&[u8], u64, u64); 8] = [
-    (b"limit", 1, GREATEST_LIMIT as u64),
-    (b"length", 1, GREATEST_LENGTH as u64),
-    (b"lanes", 1, MOST_LANES as u64),
-    (b"steps", 0, MOST_STEPS as u64),
-    (b"warm", 0, MOST_STEPS as u64),
-    (b"measure", 1, MOST_STEPS as u64),
-    (b"cars", 0, MOST_CARS as u64),
-    (b"at", 0, LONGEST_NUMBER),
-];
-
-/// What number has to stand after a word of a line.
-fn range_after(word: &[u8]) -> Option<Range> {
-    for line in &LINES {
-        if line.0 == word {
-            return Some(Range {
-                name: line.0,
-                least: line.1,
-                most: line.2,
-            });
-        }
-    }
-    match rule_named(word) {
-        Some(_) => Some(CHANCE),
-        None => None,
-    }
-}
-
-/// A word of a line that has to be a number.
-#[derive(Clone, Copy)]
-pub struct NumberWord<'a> {
-    /// How many bytes of the line stand before it.
-    pub at: usize,
-    pub word: &'a [u8],
-    /// What number it has to be.
-    pub range: Range,
-}
-
-/// The first word of a line that has to be a number and is none in its range.
-pub fn first_wrong_number(line: &[u8]) -> Option<NumberWord<'_>> {
-    let mut left = line;
-    let mut range = None;
-    for _ in 0..8 {
-        let word = head_word(left);
-        match (range_after(word), range) {
-            (Some(found), _) => range = Some(found),
-            (None, Some(range)) if word != b"rule".as_slice() && !range.has(word) => {
-                return Some(NumberWord {
-                    at: line.len().saturating_sub(left.len()),
-                    word,
-                    range,
-                });
-            }
-            _ => {}
-        }
-        let (_, rest) = cut(left, b' ')?;
-        left = rest;
-    }
-    None
 }
