@@ -12,12 +12,7 @@ use std::alloc::{AllocError, Global};
 use trlab_diagnosis::{Fault, Place, Subject};
 use trlab_jobs::{parse_check, parse_job, parse_sweep};
 use trlab_lines::Page;
-use trlab_texts::{Cause, Refusal, TextFault, Wanted};
-
-/// What a reader wanted, and the end of the line in which it counts places.
-fn wanted<'a>(refusal: &'a Refusal<'a>) -> (&'a Wanted, &'a [u8]) {
-    (refusal.wanted(), refusal.line())
-}
+use trlab_texts::{Cause, TextFault, Wanted};
 
 /// That a text is refused for its first fault, and the page on it.
 ///
@@ -56,12 +51,15 @@ fn explain_job(alloc: Global, text: &[u8]) -> Result<(bool, Page), AllocError>
 {
     match parse_job(alloc, text) {
         Ok(job) => Ok((false, job_page(alloc, text, &job)?)),
-        Err(refusal) => match refusal.fault() {
-            TextFault::At { line, cause } => {
-                explain_fault(alloc, Subject::Job, text, line, cause, wanted(&refusal))
+        Err(refusal) => {
+            let (fault, within, wanted) = refusal.into_parts();
+            match fault {
+                TextFault::At { line, cause } => {
+                    explain_fault(alloc, Subject::Job, text, line, cause, (&wanted, within))
+                }
+                TextFault::Memory => Err(AllocError),
             }
-            TextFault::Memory => Err(AllocError),
-        },
+        }
     }
 }
 
@@ -71,12 +69,15 @@ fn explain_sweep(alloc: Global, text: &[u8]) -> Result<(bool, Page), AllocError>
 {
     match parse_sweep(alloc, text) {
         Ok(sweep) => Ok((false, sweep_page(alloc, text, &sweep)?)),
-        Err(refusal) => match refusal.fault() {
-            TextFault::At { line, cause } => {
-                explain_fault(alloc, Subject::Sweep, text, line, cause, wanted(&refusal))
+        Err(refusal) => {
+            let (fault, within, wanted) = refusal.into_parts();
+            match fault {
+                TextFault::At { line, cause } => {
+                    explain_fault(alloc, Subject::Sweep, text, line, cause, (&wanted, within))
+                }
+                TextFault::Memory => Err(AllocError),
             }
-            TextFault::Memory => Err(AllocError),
-        },
+        }
     }
 }
 
@@ -86,12 +87,15 @@ fn explain_check(alloc: Global, text: &[u8]) -> Result<(bool, Page), AllocError>
 {
     match parse_check(alloc, text) {
         Ok(check) => explain_program(alloc, text, check),
-        Err(refusal) => match refusal.fault() {
-            TextFault::At { line, cause } => {
-                explain_fault(alloc, Subject::Check, text, line, cause, wanted(&refusal))
+        Err(refusal) => {
+            let (fault, within, wanted) = refusal.into_parts();
+            match fault {
+                TextFault::At { line, cause } => {
+                    explain_fault(alloc, Subject::Check, text, line, cause, (&wanted, within))
+                }
+                TextFault::Memory => Err(AllocError),
             }
-            TextFault::Memory => Err(AllocError),
-        },
+        }
     }
 }
 
