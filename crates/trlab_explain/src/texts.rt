@@ -14,7 +14,8 @@ use trlab_jobs::{parse_check, parse_job, parse_sweep};
 use trlab_lines::Page;
 use trlab_texts::{Cause, TextFault, Wanted};
 
-/// That a text is refused for its first fault, and the page on it.
+/// That a text is refused for its first fault, and the page on it. `wanted` comes with the end of the line in
+/// which its places are counted.
 ///
 /// # Errors
 ///
