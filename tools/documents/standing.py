@@ -10,9 +10,9 @@ import subprocess
 
 from finder import TOP
 
-ARCHITECTURE = "docs/ARCHITECTURE.md"
-MAPS = ARCHITECTURE, "docs/EXTENDING.md"
-DECISIONS = "docs/DECISIONS.md"
+ARCHITECTURE = "docs/dev/ARCHITECTURE.md"
+MAPS = ARCHITECTURE, "docs/dev/EXTENDING.md"
+DECISIONS = "docs/dev/DECISIONS.md"
 # It speaks of crates by the names of their day.
 OF_OLD = "CHANGELOG.md"
 MOST_WORDS_OF_A_DECISION = 60
@@ -20,13 +20,13 @@ MOST_WORDS_OF_A_DECISION = 60
 MOST_WORDS = {
     "CHANGELOG.md": 1000,
     "CONTRIBUTING.md": 1750,
-    "docs/ARCHITECTURE.md": 2900,
-    "docs/BOOK.md": 1750,
-    "docs/DECISIONS.md": 3900,
-    "docs/EMBEDDING.md": 900,
-    "docs/EXTENDING.md": 1600,
+    "docs/dev/ARCHITECTURE.md": 2900,
+    "docs/dev/BOOK.md": 1750,
+    "docs/dev/DECISIONS.md": 3900,
+    "docs/dev/EMBEDDING.md": 900,
+    "docs/dev/EXTENDING.md": 1600,
     "docs/GLOSSARY.md": 2800,
-    "docs/GUARANTEES.md": 5000,
+    "docs/dev/GUARANTEES.md": 5000,
     "docs/LAWS.md": 3900,
     "docs/RELIABILITY.md": 2300,
     "docs/SPEED.md": 830,
