@@ -1,4 +1,4 @@
-"""What follows from trajectories, by numpy: rings of cars, correlations of speeds, and jams.
+"""Results from trajectories with numpy: rings of cars, correlations of speeds, and jams.
 
 `Trajectories` uses these functions if its grids are arrays, and loops over lists otherwise. Both give the same numbers."""
 from __future__ import annotations
@@ -14,7 +14,7 @@ Array = numpy.ndarray[Any, Any]
 
 
 def leaders(cars: Trajectories, places: int) -> Any:
-    """The car that is so many places ahead on the same lane, indexed `[step][car]`."""
+    """The car `places` places ahead on the same lane, indexed `[step][car]`."""
     ring = numpy.argsort(cars.lane * cars.length + cars.cell, axis=1)  # the cars of each step, lane by lane and by cell
     place, on = numpy.arange(cars.cars), numpy.take_along_axis(cars.lane, ring, axis=1)
     on_lane_0 = (on == 0).sum(axis=1, keepdims=True)
@@ -48,7 +48,7 @@ def sums_of_speeds(cars: Trajectories, places: int, later: int) -> Tuple[int, ..
 def jams(cars: Trajectories) -> Iterator[Tuple[int, int, int, int]]:
     """The first row, the last row, the number of cars and the size of each jam, by first row and car.
 
-    A stop is what one car does from its first stopped step to its last one. Stops are joined to jams."""
+    A stop is the time of one car from its first stopped step to its last one. Stops that touch form a jam."""
     stopped = (cars.speed == 0).T
     begins, ends = stopped.copy(), stopped.copy()
     begins[:, 1:] &= ~stopped[:, :-1]
@@ -76,7 +76,7 @@ def _touching(cars: Trajectories, stopped: Array, begins: Array) -> Tuple[Array,
 
 
 def _joined(count: int, one: Array, other: Array) -> Array:
-    """For each of so many numbers the least one that pairs of them connect it to."""
+    """For each of the numbers below `count`, the smallest number to which pairs connect it."""
     root = numpy.arange(count)
     while len(one):
         low, high = numpy.minimum(one, other), numpy.maximum(one, other)
@@ -89,7 +89,7 @@ def _joined(count: int, one: Array, other: Array) -> Array:
 
 
 def _different(jam: Array, car: Array, heads: Array) -> Any:
-    """How many different cars each jam has."""
+    """The number of different cars in each jam."""
     order = numpy.lexsort((car, jam))
     is_new = (numpy.diff(jam[order], prepend=-1) != 0) | (numpy.diff(car[order], prepend=-1) != 0)
     return numpy.add.reduceat(is_new.astype(numpy.int64), heads)

@@ -65,8 +65,8 @@ def pictures(job: Job, every: int, first: int, words: List[str]) -> Iterator[Pic
     """Every `every`-th picture from the step `first` on, one by one, of a job of more steps than one input has, with these
     options of `trlab run`.
 
-    The program is asked for the last picture of each input too, so it leaves out the other pictures only as far as the
-    steps of an input allow."""
+    The last picture of each input is needed too. So the program prints every picture whose step is a multiple of a number
+    that divides `every`, `first` and the steps of an input."""
     whole("every", every, 1), whole("first", first, 0)
     options = ["--every", str(gcd(every, first, MOST_STEPS)), *words]
     last: List[Picture] = []
@@ -100,7 +100,7 @@ def _narrow_windows(job: Job, width: int, first: int, words: List[str]) -> Itera
 
 
 def _last_picture(job: Job, words: List[str]) -> Picture:
-    """The last picture of an input, the only one for which the program is asked."""
+    """The last picture of an input. The program prints no other one."""
     (last,) = pictures_in(ask_by_line(["run", "--from", str(job.steps), *words], job.text()))
     return last
 

@@ -69,7 +69,7 @@ class Frame(Sequence[Any]):
         mean: the standard deviation of the n values divided by the square root of n, or NaN if n is 1. `count` is n.
         The errors are right if the values are independent, as those of different keys are.
 
-        A column of texts is kept if all rows that are averaged together have the same text."""
+        A column of strings is kept if all rows that are averaged together have the same string."""
         if axis not in self.axes:
             raise ValueError(f"{axis!r} is not an axis of the frame: these are {', '.join(self.axes)}")
         others = [name for name in self.axes if name != axis]
@@ -88,7 +88,7 @@ class Frame(Sequence[Any]):
         return Frame(others, rows)
 
     def _is_name(self, name: str, groups: Iterable[Sequence[Any]]) -> bool:
-        """Whether a column has texts only, and a single one in each group of rows."""
+        """Whether a column has only strings, and a single one in each group of rows."""
         is_text = all(isinstance(getattr(row, name), str) for row in self._rows)
         return is_text and all(len({getattr(row, name) for row in group}) == 1 for group in groups)
 

@@ -61,8 +61,8 @@ class _PointColumns(NamedTuple):
 class Point(_PointColumns, _Counted):
     """A row of a sweep's table: the counts on one road during the measured steps.
 
-    `distance` is in cells; `stopped` and `changes` count over cars and steps; `flow` is in millionths of a car a step,
-    rounded down."""
+    `distance` is in cells; `stopped` and `changes` count over cars and steps; `flow` is in millionths of a car per
+    step, rounded down."""
 
     __slots__ = ()
 
@@ -176,7 +176,7 @@ class Table(ResultList[Row]):
 
 
 class Pictures(ResultList[Picture]):
-    """The pictures of a run, of step 0 and after each step, or of every n-th step.
+    """The pictures of a run: of step 0 and after each step, or of every n-th step.
 
     They can be used like a list, and can be changed. Pictures of a run are kept as one byte per cell, and a `Picture` is
     made each time you ask for one."""

@@ -9,7 +9,7 @@ from .units import Chance, parts, whole
 
 @dataclass(frozen=True)
 class Nasch:
-    """The rule of Nagel and Schreckenberg (1992). `brake` is the chance to be slower by one cell a step, 0 to 1."""
+    """The rule of Nagel and Schreckenberg (1992). `brake` is the probability to brake by one cell per step, 0 to 1."""
 
     brake: Chance
 
@@ -24,7 +24,7 @@ class Nasch:
 class SlowToStart:
     """The rule of Barlovic, Santen, Schadschneider and Schreckenberg (1998).
 
-    `brake` is the chance to brake of a car that moves, `stopped` that of a stopped car, 0 to 1."""
+    `brake` is the braking probability of moving cars, `stopped` that of stopped cars, 0 to 1."""
 
     brake: Chance
     stopped: Chance
@@ -54,7 +54,7 @@ class Rickert:
 
 @dataclass(frozen=True)
 class Own:
-    """Driver programs of one's own: their text as `check` takes it, or one line `code X`.
+    """Your own driver programs: the text that `trlab check` takes, or one line `code X`.
 
     `change` is for two lanes; without it no car crosses."""
 

@@ -80,7 +80,7 @@ class Job:
         return _text(lines)
 
     def run(self, workers: int = 1, every: int = 1, first: int = 0) -> Pictures:
-        """The pictures of the road, of step 0 and after each step; or those of the steps `first`, `first + every` and so
+        """The pictures of the road: of step 0 and after each step, or of the steps `first`, `first + every` and so
         on, as `trlab run` writes them. The other pictures are never made, so a long run fits in memory:
 
             job.run(every=100, first=5000).space_time()
@@ -120,7 +120,8 @@ class Job:
 
 @dataclass(frozen=True)
 class Sweep:
-    """Roads of one shape under one rule, one for each of the `cars`, or for each of the `densities` in cars per cell.
+    """Roads of the same shape with the same rule, one for each of the `cars`, or for each of the `densities` in cars
+    per cell.
 
     `warm` steps are not counted, and then `measure` steps are. `limit` is the maximum speed in cells per step, `length`
     the cells of a lane. Equal numbers of cars are repetitions: each point draws random words of its own. There is no
@@ -198,7 +199,7 @@ class Sweep:
         return _text(lines + [f"cars {cars}" for cars in counts])
 
     def parts(self) -> List[Sweep]:
-        """The sweeps within the limits of one input, each of as many points as possible, that are this sweep together.
+        """The sweeps within the limits of one input, each of as many points as possible, that together are this sweep.
 
         The first has the key of this sweep. Part n, from 1 on, has the SHA-256 of the ASCII bytes of `trlab part KEY n`,
         with the key as 64 lower-case hexadecimal digits and n in decimal, because point i of an input draws the random
@@ -216,7 +217,7 @@ class Sweep:
         return sweeping.jobs(self)
 
     def sweep(self, runners: int = 1, workers: int = 1) -> Table[Point]:
-        """The table, a row for each point in their order. `runners` points are run at the same time, each with `workers`
+        """The table, one row per point, in their order. `runners` points are run at the same time, each with `workers`
         threads; the table does not depend on these numbers."""
         if sweeping.is_of_jobs(self):
             return sweeping.table_of_jobs(self, runners, workers)
@@ -226,8 +227,8 @@ class Sweep:
 
 
 class Accepted(NamedTuple):
-    """A driver program that the verifier accepts: the greatest number of instructions that a car needs in a step, and
-    the program as the laboratory writes it."""
+    """A driver program that the verifier accepts: the maximum number of instructions per car and step, and the
+    program in canonical form."""
 
     budget: int
     program: str

@@ -150,7 +150,7 @@ class Trajectories:
 
     @property
     def _by_numpy(self) -> Any:
-        """The same results by numpy, if the grids are arrays."""
+        """The module that computes the same results with numpy, or None if the grids are lists."""
         if isinstance(self.cell, list):
             return None
         from . import along
