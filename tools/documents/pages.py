@@ -17,7 +17,7 @@ def words_are_few():
     """No page has more words outside its blocks than it may have."""
     for name, most in MOST_WORDS_OUTSIDE_BLOCKS.items():
         words = len(standing.FENCED.sub("", standing.content(name)).split())
-        yield words <= most, f"{name} has {words} words outside its blocks, and is to have {most} at most"
+        yield words <= most, f"{name} has {words} words outside its blocks, and may have {most} at most"
 
 
 def index_has_all_pages():
@@ -42,7 +42,7 @@ def speed_is_of_the_table():
     section = re.search(r"^## Speed\n(.*?)^## ", standing.content("README.md"), re.M | re.S)[1]
     row = CITED_ROW.search(standing.content("docs/SPEED.md"))[0]
     cited = NUMBER.findall(section)
-    yield len(cited) == 2, "README.md cites another count of speeds than two"
+    yield len(cited) == 2, "README.md has to cite two speeds"
     for number in cited:
         yield number in NUMBER.findall(row), f"README.md cites the speed {number}, which is not in the row of docs/SPEED.md"
 

@@ -1,7 +1,7 @@
 """What documents say of each other and of the sources: numbers of decisions, links, versions, crates, files, names,
 clauses, sources that are shown, a figure; and how they are written: short lines, in the English of today.
 
-Each function yields a verdict and what is wrong where it is no."""
+Each function yields verdicts, each with a message in case it is False."""
 import contextlib
 import functools
 import os
@@ -13,7 +13,7 @@ from finder import TOP
 ARCHITECTURE = "docs/dev/ARCHITECTURE.md"
 MAPS = ARCHITECTURE, "docs/dev/EXTENDING.md"
 DECISIONS = "docs/dev/DECISIONS.md"
-# It speaks of crates by the names of their day.
+# It uses the names that crates had at the time.
 OF_OLD = "CHANGELOG.md"
 MOST_WORDS_OF_A_DECISION = 60
 # Pages grow with every change, and each sentence seems useful. A page at its limit needs a cut before an addition.
@@ -46,7 +46,7 @@ OLD_FORMS = re.compile(
 CITED_AT_HOME = re.compile(r"\((\d{1,3}(?:,\s+\d{1,3})*)\)")
 CITED_ELSEWHERE = re.compile(r"DECISIONS\.md\)?,?\s+((?:\d{1,3}(?:,\s+|\s+and\s+|\s+to\s+)?)+)")
 DECISION = re.compile(r"^\*\*(\d+)\. (.*?)(?=\n\n|\n*\Z)", re.M | re.S)
-# A list would be numbered anew by whatever shows the page.
+# A viewer of the page would renumber the items of a list.
 DECISION_IN_A_LIST = re.compile(r"^(\d+)\. \*\*", re.M)
 LAYER = re.compile(r"^# (.*)\n((?:trlab_\w+:.*\n)+)", re.M)
 CRATE = re.compile(r"`(trlab_\w+)(/[\w./]+)?`")
@@ -93,7 +93,7 @@ def decisions():
 
 
 def decisions_are_short():
-    """Each number is of one decision, and each decision is short. Numbers are for good, so some are missing."""
+    """Each number is of one decision, and each decision is short. Numbers are permanent, so some are missing."""
     numbers = [number for number, _ in decisions()]
     for number, text in decisions():
         is_short = len(text.split()) <= MOST_WORDS_OF_A_DECISION
@@ -260,7 +260,7 @@ def pages_are_short():
     """Each page with a word limit keeps to it. Bars of tables count, as for `wc -w`; what a script writes does not."""
     for page, most in MOST_WORDS.items():
         words = len(WRITTEN_BY_A_SCRIPT.sub("", content(page)).split())
-        yield words <= most, f"{page} has {words} words, and is to have {most} at most"
+        yield words <= most, f"{page} has {words} words, and may have {most} at most"
 
 
 def prose(name):

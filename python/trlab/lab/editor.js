@@ -2,7 +2,7 @@
 
 import { upTo } from "./job.js";
 
-/** The sentences of an explanation that propose a change of a line: the place in the line, what goes there, and what comes. */
+/** The sentences of an explanation that propose a change of a line: its place in the line, the text to remove, and the text to insert. */
 const CHANGES = [
   [/^Above line (\d+), add the line `(.*)`\.$/, (line, put) => [0, "", put + "\n"]],
   [/^At the (end), add the line `(.*)`\.$/, (line, put) => [0, "", put + "\n"]],
