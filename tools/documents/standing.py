@@ -30,6 +30,7 @@ MOST_WORDS = {
     "docs/LAWS.md": 3900,
     "docs/RELIABILITY.md": 2300,
     "docs/SPEED.md": 830,
+    "docs/TEXTS.md": 2550,
 }
 MOST_CHARACTERS = 110
 # A paragraph is indented by a list in a list at most.
