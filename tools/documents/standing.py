@@ -28,6 +28,7 @@ MOST_WORDS = {
     "docs/GLOSSARY.md": 2800,
     "docs/dev/GUARANTEES.md": 5000,
     "docs/LAWS.md": 3900,
+    "docs/PROGRAMS.md": 3000,
     "docs/RELIABILITY.md": 2300,
     "docs/SPEED.md": 830,
     "docs/TEXTS.md": 2550,
