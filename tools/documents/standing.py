@@ -27,7 +27,7 @@ MOST_WORDS = {
     "docs/dev/EXTENDING.md": 1600,
     "docs/GLOSSARY.md": 2800,
     "docs/dev/GUARANTEES.md": 5000,
-    "docs/LAWS.md": 3900,
+    "docs/LAWS.md": 2800,
     "docs/PROGRAMS.md": 3000,
     "docs/RELIABILITY.md": 2300,
     "docs/SPEED.md": 830,
