@@ -31,7 +31,7 @@ MOST_WORDS = {
     "docs/PROGRAMS.md": 3000,
     "docs/RELIABILITY.md": 2300,
     "docs/SPEED.md": 830,
-    "docs/STUDIES.md": 3200,
+    "docs/STUDIES.md": 2850,
     "docs/TEXTS.md": 2550,
 }
 MOST_CHARACTERS = 110
