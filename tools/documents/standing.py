@@ -28,7 +28,7 @@ MOST_WORDS = {
     "docs/GLOSSARY.md": 2800,
     "docs/dev/GUARANTEES.md": 5000,
     "docs/LAWS.md": 2800,
-    "docs/PROGRAMS.md": 3000,
+    "docs/PROGRAMS.md": 2900,
     "docs/RELIABILITY.md": 2300,
     "docs/SPEED.md": 830,
     "docs/STUDIES.md": 2850,
