@@ -44,11 +44,7 @@ not_true : (b : Bool) → (b ≡ true → ⊥) → b ≡ false
 not_true true never = absurd (never refl)
 not_true false never = refl
 
--- no step is shown before the first
-pub none_before : (every from step : ℕ) → step < from → every_from every from step ≡ false
-none_before every from step before = not_true _ (λ is. let at = apart every from step is in omega (arith, before, at.1))
-
--- nor between the last and the end of the run
+-- no step is shown between the last and the end of the run
 pub none_after : (every from steps last step : ℕ) → 1 ≤ every → from ≤ steps → last ≡ steps - (steps - from) % every → last < step → step ≤ steps → every_from every from step ≡ false
 none_after every from steps last step some past is after within = not_true _ shown_is_absurd
   where

@@ -34,11 +34,6 @@ last_part line bytes front rest at is e = record {
   place = length-append is.before front ∙ ap (λ n. n + length front) is.place;
 }
 
--- bytes are within their line
-pub within_line : (line bytes : List ℕ) (at : ℕ) → IsAt line at bytes → at + length bytes ≤ length line
-within_line line bytes at is =
-    omega (arith, is.place, ap (λ l. length l) is.parts, length-append is.before (bytes ++ is.after), length-append bytes is.after)
-
 -- what is behind a prefix
 pub behind_prefix : (line bytes prefix rest : List ℕ) (at : ℕ) → IsAt line at bytes → Some rest ≡ without_prefix prefix bytes → IsAt line (at + length prefix) rest
 behind_prefix line bytes prefix rest at is e = last_part line bytes prefix rest at is (behind_front prefix bytes rest (sym e))
